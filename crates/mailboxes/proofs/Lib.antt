@@ -13,6 +13,8 @@ mod DramWords
 mod IncomingSlots
 mod JoinedSeats
 mod LinkEnds
+mod Once
+mod FullEnds
 mod LinkSlots
 mod NewSeats
 mod OneStates

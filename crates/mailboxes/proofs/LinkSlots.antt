@@ -2,7 +2,8 @@
 use Rattle.std.proofs.Common.{◌≡◌, ℕ, ◌+◌, ◌-◌, ◌*◌, ◌/◌, ◌%◌, ◌<◌, Bool, true, false, cond, ltb, zero, suc}
 use Rattle.std.proofs.Common.{sym, refl, ap, ◌∙◌, subst, arith, lt-ltb, le-ltb}
 use Rattle.std.proofs.Common.{List, [], ◌∷◌, ◌++◌, Some}
-use Rattle.std.specs.Prelude.{slice_get}
+use Rattle.std.specs.Prelude.{flat_map, option_map, slice_get}
+use Rattle.std.proofs.lemmas.Option.{slice_get-map}
 use Rattle.std.proofs.lemmas.Nat.{div-add-mod', mod_below}
 use Rattle.std.proofs.lemmas.Bool.{ltb-false}
 use Rattle.network.specs.declared.message.Node.{Node}
@@ -12,7 +13,8 @@ use Rattle.seat_views.proofs.Lemmas.{some_is}
 use Rattle.seat_rule.specs.declared.views.SetUp.{SetUp}
 use Rattle.seat_rule.specs.Rule.{source, target, node_of}
 use Rattle.seat_rule.specs.Plays.{ones}
-use Rattle.mailboxes.specs.Places.{link_to, found_full, AllFoundFull}
+use Rattle.mailboxes.specs.Places.{link_to, links_of, once, found_full, AllFoundFull}
+use Rattle.mailboxes.proofs.Once.{in_once}
 
 -- A link from a seat to a node is the one of its number.
 module _ (z : SetUp) (number l : ℕ) (to : Node) (some_cores : 0 < z.config.cores) where
@@ -64,30 +66,26 @@ after_link : (link i : ℕ) (later : List (ℕ × ℕ)) (x : ℕ × ℕ) → sli
     slice_get (ones link 4 ++ later) (suc (suc (suc (suc i)))) ≡ Some x
 after_link link i later x is = is
 
-module _ (cores banks number : ℕ) where
-  abbrev look : Message → ℕ → ℕ × ℕ
-  look m s = (4 * link_to cores banks number m.to + s, 1)
-
-  looked_at : (ms : List Message) (i : ℕ) (m : Message) (s : ℕ) → slice_get ms i ≡ Some m → s < 4 →
-      (j : ℕ) × (slice_get (found_full cores banks number ms) j ≡ Some (look m s))
-  looked_at [] i m s is lt = let none = is in cc
-  looked_at (x ∷ ms) zero m s is lt = (
-    s,
-    at_link (link_to cores banks number x.to) s (found_full cores banks number ms) lt
-        ∙ ap (λ y. Some (look y s)) (some_is is),
-  )
-  looked_at (x ∷ ms) (suc i) m s is lt =
-      let later = looked_at ms i m s is lt in (
-        suc (suc (suc (suc later.0))),
-        after_link (link_to cores banks number x.to) later.0 (found_full cores banks number ms) (look m s) later.1,
-      )
+looked_at : (links : List ℕ) (i link s : ℕ) → slice_get links i ≡ Some link → s < 4 →
+    (j : ℕ) × (slice_get (flat_map (λ l. ones l 4) links) j ≡ Some (4 * link + s, 1))
+looked_at [] i link s is lt = let none = is in cc
+looked_at (x ∷ xs) zero link s is lt =
+    (s, at_link x s (flat_map (λ l. ones l 4) xs) lt ∙ ap (λ l. Some (4 * l + s, 1)) (some_is is))
+looked_at (x ∷ xs) (suc i) link s is lt =
+    let later = looked_at xs i link s is lt in
+    (suc (suc (suc (suc later.0))), after_link x later.0 (flat_map (λ l. ones l 4) xs) (4 * link + s, 1) later.1)
 
 pub all_full : (z : SetUp) (number : ℕ) (ms : List Message) → 0 < z.config.cores →
     AllFoundFull z number ms (found_full z.config.cores z.config.banks number ms)
 all_full z number ms some = record {
   each = λ i m is k few from to.
-      let found = looked_at z.config.cores z.config.banks number ms i m (k % 4) is (omega arith) in
-      let link = linked z number (k / 4) m.to some from to in
-      let slot : 4 * link_to z.config.cores z.config.banks number m.to + k % 4 ≡ k = omega (arith, link) in
+      let links = links_of z.config.cores z.config.banks number ms in
+      let link = link_to z.config.cores z.config.banks number m.to in
+      let here = in_once links i link
+      (slice_get-map (λ (n : Message). link_to z.config.cores z.config.banks number n.to) ms i
+      ∙ ap (option_map (λ (n : Message). link_to z.config.cores z.config.banks number n.to)) is) in
+      let found = looked_at (once links) here.0 link (k % 4) here.1 (omega arith) in
+      let is_link = linked z number (k / 4) m.to some from to in
+      let slot : 4 * link + k % 4 ≡ k = omega (arith, is_link) in
       (found.0, found.1 ∙ ap (λ l. Some (l, 1)) slot);
 }

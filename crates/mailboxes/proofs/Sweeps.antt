@@ -1,14 +1,22 @@
 -- One more message that was not put, or was, after others that were not.
 use Rattle.std.proofs.Common.{◌≡◌, ℕ, ◌+◌, ◌*◌, List, [], ◌∷◌, ◌++◌, append_assoc, append-nil, take}
-use Rattle.std.proofs.Common.{Some, sym, ap, ◌∙◌, subst}
-use Rattle.std.specs.Prelude.{slice_get, remove}
-use Rattle.std.proofs.lemmas.List.{take_more}
+use Rattle.std.proofs.Common.{Some, sym, ap, ◌∙◌, subst, ◌==◌, Bool, true, false, get_or}
+use Rattle.std.specs.Prelude.{flat_map, slice_get, remove}
+use Rattle.std.specs.List.{list_any}
+use Rattle.std.proofs.lemmas.List.{map-append, take_more}
+use Rattle.std.proofs.lemmas.Grind.{flat_map-append}
 use Rattle.std.proofs.lemmas.Option.{get_or_from_slice_get, slice_get_within}
 use Rattle.network.specs.declared.message.Message.{Message}
 use Rattle.seat_rule.specs.Plays.{ones}
 use Rattle.mailboxes.specs.declared.mailbox.Mailbox.{Mailbox}
-use Rattle.mailboxes.specs.Places.{link_to, found_full}
-use Rattle.mailboxes.specs.BoxMoves.{hold, Stays, SameIncoming, PutInto, PutNothing}
+use Rattle.mailboxes.specs.declared.machine.Machine.{Machine}
+use Rattle.network.specs.declared.message.Node.{Node}
+use Rattle.inbox.specs.declared.queue.Queue.{Queue}
+use Rattle.inbox.specs.Queues.{values_of}
+use Rattle.mailboxes.specs.Places.{AllLinked, end_of, found_full, has_link_to, link_to, links_of, once}
+use Rattle.mailboxes.proofs.FullEnds.{Marks}
+use Rattle.mailboxes.proofs.Once.{once_more, once_same}
+use Rattle.mailboxes.specs.BoxMoves.{hold, IsAt, Stands, Stays, SameIncoming, PutInto, PutNothing}
 
 incoming_on : (p q r : Mailbox) → SameIncoming p q → SameIncoming q r → SameIncoming p r
 incoming_on p q r s t =
@@ -24,36 +32,49 @@ pub link_on : (p q : Mailbox) → Stays p q → (m : Message) →
     link_to q.cores q.banks q.number m.to ≡ link_to p.cores p.banks p.number m.to
 link_on p q s m = λ i. link_to (s.cores i) (s.banks i) (s.number i) m.to
 
-full_more : (cores banks number : ℕ) (ms : List Message) (m : Message) →
-    found_full cores banks number (ms ++ m ∷ []) ≡
-    found_full cores banks number ms ++ ones (link_to cores banks number m.to) 4
-full_more cores banks number [] m = append-nil (ones (link_to cores banks number m.to) 4)
-full_more cores banks number (x ∷ xs) m =
-    let first = ones (link_to cores banks number x.to) 4 in
-    ap (λ z. first ++ z) (full_more cores banks number xs m)
-    ∙ sym (append_assoc first (found_full cores banks number xs) (ones (link_to cores banks number m.to) 4))
+-- the links of one more message
+pub links_more : (cores banks number : ℕ) (ms : List Message) (i : ℕ) (m : Message) → slice_get ms i ≡ Some m →
+    links_of cores banks number (take (i + 1) ms) ≡
+    links_of cores banks number (take i ms) ++ link_to cores banks number m.to ∷ []
+links_more cores banks number ms i m here =
+    ap (links_of cores banks number) (take_more ms i m (slice_get_within ms i m here)
+    ∙ ap (λ x. take i ms ++ x ∷ []) (get_or_from_slice_get ms i m m here))
+    ∙ map-append (λ (n : Message). link_to cores banks number n.to) (take i ms) (m ∷ [])
 
--- the slots of one more link were found full
-pub swept_more : (p q r : Mailbox) (ms xs ys : List Message) (i link : ℕ) (m : Message) → slice_get ms i ≡ Some m →
-    link ≡ link_to p.cores p.banks p.number m.to →
-    PutNothing (found_full p.cores p.banks p.number (take i ms)) p ms q xs → PutNothing (ones link 4) q xs r ys →
-    PutNothing (found_full p.cores p.banks p.number (take (i + 1) ms)) p ms r ys
-swept_more p q r ms xs ys i link m here is n t =
-    let before : List Message = take i ms in
-    let one : take (i + 1) ms ≡ before ++ m ∷ [] =
-    take_more ms i m (slice_get_within ms i m here)
-    ∙ ap (λ x. before ++ x ∷ []) (get_or_from_slice_get ms i m m here) in
-    let more : found_full p.cores p.banks p.number (take (i + 1) ms) ≡
-    found_full p.cores p.banks p.number before ++ ones link 4 =
-    ap (found_full p.cores p.banks p.number) one ∙ full_more p.cores p.banks p.number before m
-    ∙ ap (λ l. found_full p.cores p.banks p.number before ++ ones l 4) (sym is) in (
-      t.0 ∙ ap (λ zs. zs ++ ones link 4) n.0
-          ∙ append_assoc (hold p).looks (found_full p.cores p.banks p.number before) (ones link 4)
-          ∙ ap (λ zs. (hold p).looks ++ zs) (sym more),
-      t.1 ∙ n.1,
-      t.2 ∙ n.2,
-      incoming_on p q r n.3 t.3,
-    )
+-- the slots of one more link were found full, or its link was found full before
+module _ (p : Mailbox) (ms : List Message) (i : ℕ) (m : Message) (here : slice_get ms i ≡ Some m) where
+  abbrev links : ℕ → List ℕ
+  links n = links_of p.cores p.banks p.number (take n ms)
+
+  abbrev swept : ℕ → List (ℕ × ℕ)
+  swept n = found_full p.cores p.banks p.number (take n ms)
+
+  abbrev to_go : ℕ
+  to_go = link_to p.cores p.banks p.number m.to
+
+  pub swept_more : (q r : Mailbox) (xs ys : List Message) (link : ℕ) → link ≡ to_go →
+      list_any (λ l. l == to_go) (links i) ≡ false → PutNothing (swept i) p ms q xs → PutNothing (ones link 4) q xs r ys →
+      PutNothing (swept (i + 1)) p ms r ys
+  swept_more q r xs ys link is new n t =
+      let more : swept (i + 1) ≡ swept i ++ ones link 4 =
+      ap (λ ls. flat_map (λ l. ones l 4) (once ls)) (links_more p.cores p.banks p.number ms i m here)
+      ∙ ap (λ ls. flat_map (λ l. ones l 4) ls) (once_more (links i) to_go new)
+      ∙ flat_map-append (λ l. ones l 4) (once (links i)) (to_go ∷ [])
+      ∙ ap (λ zs. swept i ++ zs) (append-nil (ones to_go 4)) ∙ ap (λ l. swept i ++ ones l 4) (sym is) in (
+        t.0 ∙ ap (λ zs. zs ++ ones link 4) n.0 ∙ append_assoc (hold p).looks (swept i) (ones link 4)
+            ∙ ap (λ zs. (hold p).looks ++ zs) (sym more),
+        t.1 ∙ n.1,
+        t.2 ∙ n.2,
+        incoming_on p q r n.3 t.3,
+      )
+
+  pub swept_same : (q : Mailbox) (xs : List Message) → list_any (λ l. l == to_go) (links i) ≡ true →
+      PutNothing (swept i) p ms q xs → PutNothing (swept (i + 1)) p ms q xs
+  swept_same q xs there n =
+      let same : swept i ≡ swept (i + 1) =
+      sym (ap (λ ls. flat_map (λ l. ones l 4) (once ls)) (links_more p.cores p.banks p.number ms i m here)
+      ∙ ap (λ ls. flat_map (λ l. ones l 4) ls) (once_same (links i) to_go there)) in
+      (n.0 ∙ ap (λ zs. (hold p).looks ++ zs) same, n.1, n.2, n.3)
 
 -- a message was put after looks that found nothing free
 pub put_more : (p q r : Mailbox) (ms xs ys : List Message) (looks : List (ℕ × ℕ)) (i s link own : ℕ) (m : Message) →
@@ -68,3 +89,20 @@ put_more p q r ms xs ys looks i s link own m is n t =
           ∙ append_assoc (hold p).looks looks (ones link s ++ (4 * link + s, 0) ∷ []),
       incoming_on p q r n.3 t.5,
     )
+
+-- nothing was put of the messages so far: the slots of their links were found full
+abbrev pub SweptTo : Machine → Mailbox → Queue Message → ℕ → Mailbox → Queue Message → Type 0
+SweptTo m p out n q left = IsAt m q × Stays p q
+    × PutNothing (found_full p.cores p.banks p.number (take n (values_of out))) p (values_of out) q (values_of left)
+    × (left ≡ out) × ((hold q).outbox ≡ values_of left) × AllLinked q.cores q.banks q.number (values_of left)
+    × Stands m q
+
+-- the mark of a message's link
+pub own_mark : (p q : Mailbox) (full : List Bool) (links : List ℕ) (e : ℕ) (to : Node) → Stays p q → e ≡ end_of to →
+    has_link_to q.cores q.banks q.number to ≡ true → Marks p.cores p.banks p.number full links →
+    (has_link_to p.cores p.banks p.number to ≡ true)
+    × (get_or full e false ≡ list_any (λ l. l == link_to p.cores p.banks p.number to) links)
+own_mark p q full links e to s at lead marks =
+    let there : has_link_to p.cores p.banks p.number to ≡ true =
+    sym (λ i. has_link_to (s.cores i) (s.banks i) (s.number i) to) ∙ lead in
+    (there, ap (λ n. get_or full n false) at ∙ marks to there)

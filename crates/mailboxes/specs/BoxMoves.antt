@@ -1,6 +1,7 @@
 -- What the calls of a mailbox change.
 use Rattle.std.specs.Prelude.{◌≡◌, ℕ, ◌+◌, ◌*◌, ◌%◌, ◌<◌, Bool, true, false, List, [], ◌∷◌, ◌++◌, take}
-use Rattle.std.specs.Prelude.{Some, None, slice_get, remove}
+use Rattle.std.specs.Prelude.{Some, None, slice_get, remove, ◌==◌}
+use Rattle.std.specs.List.{list_any}
 use Rattle.network.specs.declared.message.Message.{Message}
 use Rattle.seat_rule.specs.declared.views.Hold.{Hold}
 use Rattle.seat_rule.specs.Rule.{node_of, seat_count}
@@ -10,7 +11,7 @@ use Rattle.mailboxes.specs.declared.mailbox.Mailbox.{Mailbox}
 use Rattle.seat_rule.specs.declared.views.SetUp.{SetUp}
 use Rattle.mailboxes.specs.declared.taken.Take.{Take}
 use Rattle.mailboxes.specs.declared.taken.Take.TheVariants.{Taken, Nothing, HandFull}
-use Rattle.mailboxes.specs.Places.{link_to, incoming, incoming_count, found_full, found_empty}
+use Rattle.mailboxes.specs.Places.{link_to, links_of, incoming, incoming_count, found_full, found_empty}
 
 -- what the proofs know of the seat
 abbrev pub hold : Mailbox → Hold
@@ -67,11 +68,13 @@ PutAt link i true p out q left = (s : ℕ) × (m : Message) × PutInto link [] i
 PutAt link i false p out q left = PutNothing (ones link 4) p out q left
 
 -- the oldest message of the outbox whose link has a free slot was put there: the slots of the links of all older ones
--- were found full. Or nothing was put, and the slots of the links of all messages were found full
+-- were found full, and its own link is none of theirs. So messages of one link go out in their order. Or nothing was
+-- put, and the slots of the links of all messages were found full. No slot was looked at twice
 abbrev pub Puts : Bool → Mailbox → List Message → Mailbox → List Message → Type 0
 Puts true p out q left =
     (i : ℕ) × (s : ℕ) × (m : Message) × PutInto (link_to p.cores p.banks p.number m.to)
     (found_full p.cores p.banks p.number (take i out)) i s m p out q left
+    × (list_any (λ l. l == link_to p.cores p.banks p.number m.to) (links_of p.cores p.banks p.number (take i out)) ≡ false)
 Puts false p out q left = PutNothing (found_full p.cores p.banks p.number out) p out q left
 
 -- the message m of this slot is in the hand: the slot was found full. Before, these looks were made

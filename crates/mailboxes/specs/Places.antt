@@ -1,6 +1,7 @@
 -- Where a seat is among the others: at which table, at which links, and which slots come in to it.
 use Rattle.std.specs.Prelude.{◌≡◌, ℕ, zero, suc, ◌+◌, ◌-◌, ◌*◌, ◌/◌, ◌%◌, ◌<◌, ◌≤◌, ◌==◌, ◌&&◌, Bool, true}
-use Rattle.std.specs.Prelude.{false, cond, nat_lt, nat_le, List, [], ◌∷◌, ◌++◌, Some, slice_get}
+use Rattle.std.specs.Prelude.{false, cond, not, nat_lt, nat_le, List, [], ◌∷◌, ◌++◌, map, filter, flat_map, Some}
+use Rattle.std.specs.Prelude.{slice_get}
 use Rattle.atomic_table.specs.Seated.{TableId}
 use Rattle.network.specs.declared.message.Node.{Node}
 use Rattle.network.specs.declared.message.Node.TheVariants.{Core, Bank, Dram}
@@ -34,6 +35,12 @@ link_to cores banks number (Core c) = cores * banks + ((number - cores) * cores 
 link_to cores banks number (Bank b) = number * banks + b
 link_to cores banks number (Dram d) = 0
 
+-- the core or bank that a link goes to
+abbrev pub end_of : Node → ℕ
+end_of (Core c) = c
+end_of (Bank b) = b
+end_of (Dram b) = b
+
 -- there is a link from the seat to where each of these messages goes
 abbrev pub AllLinked : ℕ → ℕ → ℕ → List Message → Type 0
 AllLinked cores banks number ms =
@@ -63,11 +70,18 @@ incoming_link cores banks number i =
 abbrev pub incoming : ℕ → ℕ → ℕ → ℕ → ℕ
 incoming cores banks number i = 4 * incoming_link cores banks number (i / 4) + i % 4
 
--- all four slots of the link of each message were found full, one message after the other
+-- the links on which messages go, in the messages' order
+abbrev pub links_of : ℕ → ℕ → ℕ → List Message → List ℕ
+links_of cores banks number ms = map (λ m. link_to cores banks number m.to) ms
+
+-- each number once, where it comes first
+abbrev pub once : List ℕ → List ℕ
+once [] = []
+once (x ∷ xs) = x ∷ filter (λ y. not (x == y)) (once xs)
+
+-- all four slots of each link of these messages were found full, one link after the other, and none was looked at twice
 abbrev pub found_full : ℕ → ℕ → ℕ → List Message → List (ℕ × ℕ)
-found_full cores banks number [] = []
-found_full cores banks number (m ∷ ms) =
-    ones (link_to cores banks number m.to) 4 ++ found_full cores banks number ms
+found_full cores banks number ms = flat_map (λ link. ones link 4) (once (links_of cores banks number ms))
 
 -- n incoming slots from this one on, going round, were found empty
 abbrev pub found_empty : ℕ → ℕ → ℕ → ℕ → ℕ → List (ℕ × ℕ)

@@ -3,7 +3,8 @@ ghost use Rattle.std.specs.Prelude.{◌≡◌, ◌+◌, ◌*◌, ◌≤◌, ◌<
 ghost use Rattle.machine_table.specs.SetUp.{is_good};
 ghost use Rattle.seat_rule.specs.declared.views.SetUp.{SetUp};
 ghost use Rattle.seat_rule.specs.Rule.{slot_count, source, target, node_of, to_of};
-ghost use Rattle.mailboxes.specs.Places.{has_link_to, link_to, incoming, incoming_count, incoming_link};
+ghost use Rattle.mailboxes.specs.Places.{end_of, has_link_to, link_to, incoming};
+ghost use Rattle.mailboxes.specs.Places.{incoming_count, incoming_link};
 
 use machine_table::Config;
 use network::Node;
@@ -23,6 +24,20 @@ pub fn link_to(config: &Config, number: u32, to: &Node) -> usize
     match to {
         Node::Core(core) => cores * banks + ((number as usize - cores) * cores + *core as usize),
         Node::Bank(bank) => number as usize * banks + *bank as usize,
+        Node::Dram(_) => unreachable!(),
+    }
+}
+
+/// The number of the core or bank that a seat has a link to.
+pub fn end_of(config: &Config, number: u32, to: &Node) -> usize
+    requires good { is_good config.now ≡ true }
+    requires link { has_link_to config.now.cores config.now.banks number to.now ≡ true }
+    ensures end { result ≡ end_of to.now }
+    ensures within { result < 64 }
+{
+    match to {
+        Node::Core(core) => *core as usize,
+        Node::Bank(bank) => *bank as usize,
         Node::Dram(_) => unreachable!(),
     }
 }

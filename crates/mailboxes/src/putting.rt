@@ -1,12 +1,12 @@
 //! A seat puts its messages into slots.
-ghost use Rattle.std.specs.Prelude.{◌≡◌, ℕ, false, Some, slice_get};
+ghost use Rattle.std.specs.Prelude.{◌≡◌, ◌<◌, ℕ, false, true, Some, slice_get};
 ghost use Rattle.network.specs.declared.message.Message.{Message};
 ghost use Rattle.seat_rule.specs.Rule.{target, node_of};
 ghost use Rattle.inbox.specs.Queues.{IsAfter, IsIn, values_of};
-ghost use Rattle.mailboxes.specs.Places.{AllLinked, StartsAt, link_to};
+ghost use Rattle.mailboxes.specs.Places.{AllLinked, StartsAt, end_of, has_link_to, link_to};
 ghost use Rattle.mailboxes.specs.BoxMoves.{IsAt, Stands, Stays, PutAt, Puts, hold};
 
-use crate::ends::link_to;
+use crate::ends::{end_of, link_to};
 use crate::links::find_free;
 use crate::machine::Machine;
 use crate::mailbox::Mailbox;
@@ -19,7 +19,8 @@ use seat_rule::parts::seats_stand;
 
 impl Mailbox {
     /// Puts the oldest message of the outbox whose link has a free slot, into the first one that is found free; false
-    /// if there is no such message.
+    /// if there is no such message. A link whose four slots were found full is passed over for younger messages, so
+    /// messages of one link go out in their order, and no slot is looked at twice.
     pub fn put(&mut self, machine: &Machine, outbox: &mut Queue<Message>) -> bool
         requires seat { IsAt machine.now self.old }
         requires stands { Stands machine.now self.old }
@@ -34,34 +35,41 @@ impl Mailbox {
         ensures put { Puts result self.old (values_of outbox.old) self.new (values_of outbox.new) }
     {
         let mut next = outbox.front();
+        // Whether the link to the core or bank of a number was found full.
+        let mut full = [false; 64];
         for index in 0..outbox.len() {
             let Some(cell) = next else {
                 return false;
             };
-            let link = self.link_at(machine, outbox, cell);
-            if self.put_at(machine, outbox, cell, index as usize, link) {
+            let (link, end) = self.link_at(machine, outbox, cell);
+            if !full[end] && self.put_at(machine, outbox, cell, index as usize, link) {
                 return true;
             }
+            full[end] = true;
             next = outbox.next(cell);
         }
         false
     }
 
-    // The link of the message of a cell of the outbox.
-    fn link_at(&self, machine: &Machine, outbox: &Queue<Message>, cell: Cell) -> usize
+    // The link of the message of a cell of the outbox, and the core or bank to which it goes.
+    fn link_at(&self, machine: &Machine, outbox: &Queue<Message>, cell: Cell) -> (usize, usize)
         requires seat { IsAt machine.now self.now }
         requires linked { AllLinked self.now.cores self.now.banks self.now.number
             (values_of outbox.now) }
         requires cell { IsIn cell outbox.now }
-        ensures link { StartsAt machine.now.set_up result self.now.number }
+        ensures link { StartsAt machine.now.set_up result.0 self.now.number }
+        ensures end { result.1 < 64 }
         ensures message { (m : Message) × ((k : ℕ) → IsAfter k cell outbox.now →
             slice_get (values_of outbox.now) k ≡ Some m) ×
-            (m.to ≡ node_of machine.now.set_up (target machine.now.set_up result)) ×
-            (result ≡ link_to self.now.cores self.now.banks self.now.number m.to) }
+            (m.to ≡ node_of machine.now.set_up (target machine.now.set_up result.0)) ×
+            (result.0 ≡ link_to self.now.cores self.now.banks self.now.number m.to) ×
+            (result.1 ≡ end_of m.to) × (has_link_to self.now.cores self.now.banks self.now.number
+            m.to ≡ true) }
     {
         slots_are_few(&machine.set_up.config);
         let to = outbox.get(cell).to;
-        link_to(&machine.set_up.config, self.number, &to)
+        let config = &machine.set_up.config;
+        (link_to(config, self.number, &to), end_of(config, self.number, &to))
     }
 
     // Puts the message of a cell of the outbox, which comes after `index` others, into a slot of its link.

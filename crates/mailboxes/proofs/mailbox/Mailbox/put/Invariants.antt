@@ -1,19 +1,17 @@
-use Rattle.std.specs.Prelude.{◌≡◌, List, take, drop}
+use Rattle.std.specs.Prelude.{◌≡◌, length, take, drop}
 use Rattle.line_arena.specs.CellLists.{first_cell}
-use Rattle.network.specs.declared.message.Message.{Message}
 use Rattle.inbox.specs.Queues.{values_of}
-use Rattle.mailboxes.specs.Places.{AllLinked, found_full}
-use Rattle.mailboxes.specs.BoxMoves.{IsAt, Stands, Stays, PutNothing, hold}
+use Rattle.mailboxes.specs.Places.{links_of}
+use Rattle.mailboxes.proofs.FullEnds.{Marks}
+use Rattle.mailboxes.proofs.Sweeps.{SweptTo}
 use Rattle.mailboxes.proofs.mailbox.Mailbox.put.Given as goal
 
--- the slots of the links of all messages so far were found full
+-- the slots of the links of all messages so far were found full, and the marks tell which links these are
 abbrev pub invariant-loop-index : goal.invariant-loop-index
 invariant-loop-index l =
-    let p = l.initial.self in
-    let ms : List Message = values_of l.initial.outbox in
-    IsAt l.machine l.self × Stays p l.self
-    × PutNothing (found_full p.cores p.banks p.number (take l.index ms)) p ms l.self (values_of l.outbox)
-    × (l.next ≡ first_cell (drop l.index l.initial.outbox)) × (l.outbox ≡ l.initial.outbox)
-    × ((hold l.self).outbox ≡ values_of l.outbox)
-    × AllLinked l.self.cores l.self.banks l.self.number (values_of l.outbox)
-    × Stands l.machine l.self
+    let p = l.initial.self in (
+      SweptTo l.machine p l.initial.outbox l.index l.self l.outbox
+      × (l.next ≡ first_cell (drop l.index l.initial.outbox)) × (length l.full ≡ 64)
+      × Marks p.cores p.banks p.number l.full
+        (links_of p.cores p.banks p.number (take l.index (values_of l.initial.outbox)))
+    )

@@ -25,10 +25,10 @@ use std::alloc::{AllocError, Global};
 /// message of the outbox goes to a seat to which there is a link.
 #[derive(Drop)]
 pub struct BankSeat {
-    pub mail: Mailbox,
-    pub part: SendingBank,
-    /// Whether a sum of times didn't fit: the seat's calls that can refuse then answer Stopped.
-    pub is_stopped: bool,
+    pub(crate) mail: Mailbox,
+    pub(crate) part: SendingBank,
+    // Whether a sum of times didn't fit: the seat's calls that can refuse then answer Stopped.
+    pub(crate) is_stopped: bool,
     pub ghost tied: { BankTied mail.seat.me.0.mine part.bank part.dram part.outbox } by { Prim.hlevel (props, codes, stored_dram.the_row.coded) },
     pub ghost linked: { AllLinked mail.cores mail.banks mail.number part.outbox.messages },
 }

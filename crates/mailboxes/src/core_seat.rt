@@ -22,12 +22,12 @@ use std::alloc::{AllocError, Global};
 /// and its records. Each message of the outbox goes to a seat to which there is a link.
 #[derive(Drop)]
 pub struct CoreSeat {
-    pub mail: Mailbox,
-    pub part: SendingCore,
-    pub issued: Vec<Op>,
-    pub records: Vec<Record>,
-    /// Whether a sum of times didn't fit: the seat's calls that can refuse then answer Stopped.
-    pub is_stopped: bool,
+    pub(crate) mail: Mailbox,
+    pub(crate) part: SendingCore,
+    pub(crate) issued: Vec<Op>,
+    pub(crate) records: Vec<Record>,
+    // Whether a sum of times didn't fit: the seat's calls that can refuse then answer Stopped.
+    pub(crate) is_stopped: bool,
     pub ghost tied: { CoreTied mail.seat.me.0.mine part.core issued.items records.items part.outbox },
     pub ghost linked: { AllLinked mail.cores mail.banks mail.number part.outbox.messages },
     pub ghost room: { length records.items + length (listed part.core.open_op) ≤ vec_capacity records },

@@ -21,6 +21,7 @@ mod ends;
 mod evicting;
 pub mod laws;
 mod links;
+mod look_ups;
 mod machine;
 mod mailbox;
 mod opened_dram;

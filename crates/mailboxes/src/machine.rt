@@ -13,8 +13,8 @@ use std::alloc::Global;
 /// A machine that threads share: the slots of all links, and the word that counts completions.
 #[derive(Drop)]
 pub struct Machine {
-    pub table: Table<Option<Message>, View<Hold>, SetUp, Law, Global>,
-    pub set_up: SetUp,
+    pub(crate) table: Table<Option<Message>, View<Hold>, SetUp, Law, Global>,
+    pub(crate) set_up: SetUp,
     pub ghost good: { is_good set_up.config ≡ true },
     pub ghost keyed: { table.shared.key ≡ set_up },
     pub ghost sized: { Belongs table.shared.table_id table.shared.table_id set_up },

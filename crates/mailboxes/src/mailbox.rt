@@ -11,16 +11,16 @@ use network::Message;
 /// or to its bank or the DRAM behind that.
 #[derive(Drop)]
 pub struct Mailbox {
-    pub seat: SlotSeat,
-    /// The seat's number: first come the cores, and then the banks.
-    pub number: u32,
-    /// How many cores and banks the machine has.
-    pub cores: u32,
-    pub banks: u32,
-    /// The message that was taken last, until it is served, and the messages that wait for the part.
-    pub inbox: Inbox<Message>,
-    /// Where the next look for a message begins, among the slots that come in.
-    pub cursor: usize,
+    pub(crate) seat: SlotSeat,
+    // The seat's number: first come the cores, and then the banks.
+    pub(crate) number: u32,
+    // How many cores and banks the machine has.
+    pub(crate) cores: u32,
+    pub(crate) banks: u32,
+    // The message that was taken last, until it is served, and the messages that wait for the part.
+    pub(crate) inbox: Inbox<Message>,
+    // Where the next look for a message begins, among the slots that come in.
+    pub(crate) cursor: usize,
     pub ghost tied: { BoxTied seat number inbox.hand inbox.held },
     pub ghost own: { AllOwn cores number inbox },
     pub ghost turned: { cursor < 256 },

@@ -7,14 +7,14 @@ use llc_bank::Bank;
 /// A core, and what its seat sends by.
 #[derive(Drop)]
 pub struct SendingCore {
-    pub core: Core,
-    pub outbox: Outbox,
+    pub(crate) core: Core,
+    pub(crate) outbox: Outbox,
 }
 
 /// A bank with the DRAM behind it, and what their seat sends by.
 #[derive(Drop)]
 pub struct SendingBank {
-    pub bank: Bank,
-    pub dram: Dram,
-    pub outbox: Outbox,
+    pub(crate) bank: Bank,
+    pub(crate) dram: Dram,
+    pub(crate) outbox: Outbox,
 }

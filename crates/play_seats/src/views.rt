@@ -48,15 +48,15 @@ pub(crate) struct BankView<'a> {
 /// A core's seat that is open.
 pub(crate) fn open_core(seat: &CoreSeat) -> CoreView<'_> {
     CoreView {
-        core: &seat.part.core,
-        issued: seat.issued.as_slice(),
-        records: seat.records.len(),
+        core: seat.core(),
+        issued: seat.issued(),
+        records: seat.completed(),
         mail: Mail {
-            inbox: &seat.mail.inbox,
-            outbox: &seat.part.outbox,
+            inbox: seat.inbox(),
+            outbox: seat.outbox(),
             open: Some(Open {
-                cursor: seat.mail.cursor,
-                is_stopped: seat.is_stopped,
+                cursor: seat.cursor(),
+                is_stopped: seat.is_stopped(),
                 room: None,
             }),
         },
@@ -66,14 +66,14 @@ pub(crate) fn open_core(seat: &CoreSeat) -> CoreView<'_> {
 /// A bank's seat that is open.
 pub(crate) fn open_bank(seat: &BankSeat) -> BankView<'_> {
     BankView {
-        bank: &seat.part.bank,
-        dram: &seat.part.dram,
+        bank: seat.bank(),
+        dram: seat.dram(),
         mail: Mail {
-            inbox: &seat.mail.inbox,
-            outbox: &seat.part.outbox,
+            inbox: seat.inbox(),
+            outbox: seat.outbox(),
             open: Some(Open {
-                cursor: seat.mail.cursor,
-                is_stopped: seat.is_stopped,
+                cursor: seat.cursor(),
+                is_stopped: seat.is_stopped(),
                 room: seat.make_room(),
             }),
         },

@@ -15,10 +15,10 @@ pub fn bank_turn(machine: &Machine, seat: &mut BankSeat) -> Told
         (seat.new.mail.number ≡ seat.old.mail.number) }
     ensures turn { BankHadTurn machine.now seat.old result seat.new }
 {
-    let was_stopped = seat.is_stopped;
+    let was_stopped = seat.is_stopped();
     make_room(machine, seat);
     let moved = seat.turn(machine);
-    told_of_turn(was_stopped, seat.is_stopped, moved)
+    told_of_turn(was_stopped, seat.is_stopped(), moved)
 }
 
 // Evicts the line that makes room for the oldest held request that waits for room, if there is one.

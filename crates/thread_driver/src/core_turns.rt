@@ -26,10 +26,10 @@ pub fn core_turn<P: Program>(machine: &Machine, seat: &mut CoreSeat, program: &m
     ensures turn { CoreHadTurn P.acts machine.now
         seat.old program.old result seat.new program.new }
 {
-    let was_stopped = seat.is_stopped;
+    let was_stopped = seat.is_stopped();
     let done = do_next(machine, seat, program);
     let moved = turn(machine, seat);
-    told_of(was_stopped, seat.is_stopped, done, moved)
+    told_of(was_stopped, seat.is_stopped(), done, moved)
 }
 
 /// Whether a core's seat has no open operation and its program no next step.

@@ -40,7 +40,7 @@ pub(crate) fn core_pass<P: Program, G: Gate>(
         if ends_all(&all) {
             break;
         }
-        let seat = cores[i].mail.number as u64;
+        let seat = u64::from(cores[i].number());
         gate.before(seat, turn as u64);
         let told = core_turn(machine, &mut cores[i], &mut programs[i]);
         gate.after(seat, turn as u64);
@@ -66,7 +66,7 @@ pub(crate) fn bank_pass<G: Gate>(
         if ends_all(&all) {
             break;
         }
-        let seat = banks[i].mail.number as u64;
+        let seat = u64::from(banks[i].number());
         gate.before(seat, turn as u64);
         let told = bank_turn(machine, &mut banks[i]);
         gate.after(seat, turn as u64);

@@ -56,7 +56,7 @@ pub(crate) fn make_place(machine: &Machine, seat: &mut CoreSeat)
     let Some((op, _)) = seat.open_op() else {
         return;
     };
-    let line = seat.part.core.line_of(op);
+    let line = seat.core().line_of(op);
     let Some(victim) = seat.victim(line) else {
         return;
     };

@@ -180,12 +180,11 @@ impl Core {
     }
 
     /// Keeps the lines of all copies in rising order from now on, so that `free_copy` takes no memory.
-    /// `LineSets::keep_order` tells what that takes and moves. Where the memory is refused nothing changes, and the
-    /// answers are the same.
-    pub fn keep_order(&mut self)
+    /// `LineSets::keep_order` tells what that takes and moves. Where the memory is refused nothing changes.
+    pub fn keep_order(&mut self) -> Result<(), AllocError>
         ensures { self.new ≡ self.old }
     {
-        self.cache.keep_order();
+        self.cache.keep_order()
     }
 
     /// Keeps the lines in rising order no longer, and gives the memory for that back.

@@ -311,20 +311,24 @@ impl System {
 
     /// Each core and each bank keeps its lines in rising order from now on, so that `free_copy` and `entry` take no
     /// memory. `line_sets::LineSets::keep_order` tells what that takes of memory, for each core and each bank, and
-    /// what moves when a line comes or goes. A core or bank that is refused the memory goes on as before, and all
-    /// answers are the same. If the machine keeps them so already, this does nothing.
-    pub fn keep_order(&mut self)
+    /// what moves when a line comes or goes. If one is refused the memory, no part keeps its lines so from then on. If
+    /// the machine keeps them so already, this does nothing.
+    pub fn keep_order(&mut self) -> Result<(), AllocError>
         ensures { self.new ≡ self.old }
     {
         if self.has_order {
-            return;
+            return Ok(());
         }
-        self.state.keep_order();
+        if let Err(error) = self.state.keep_order() {
+            self.state.forget_order();
+            return Err(error);
+        }
         self.has_order = true;
+        Ok(())
     }
 
-    /// Whether lines are kept in rising order: `keep_order` was called, and neither `forget_order` nor `reopen` after
-    /// it. No contract sees that, since no other answer depends on it.
+    /// Whether lines are kept in rising order: `keep_order` answered Ok, and neither `forget_order` nor `reopen` was
+    /// called after it. No contract sees that, since no other answer depends on it.
     pub fn keeps_order(&self) -> bool {
         self.has_order
     }

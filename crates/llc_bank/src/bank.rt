@@ -282,12 +282,11 @@ impl Bank {
     }
 
     /// Keeps the lines that are Shared or Exclusive in rising order from now on, so that `settled_line` takes no
-    /// memory. `LineSets::keep_order` tells what that takes and moves. Where the memory is refused nothing changes,
-    /// and the answers are the same.
-    pub fn keep_order(&mut self)
+    /// memory. `LineSets::keep_order` tells what that takes and moves. Where the memory is refused nothing changes.
+    pub fn keep_order(&mut self) -> Result<(), AllocError>
         ensures { self.new ≡ self.old }
     {
-        self.table.keep_order();
+        self.table.keep_order()
     }
 
     /// Keeps the lines in rising order no longer, and gives the memory for that back.

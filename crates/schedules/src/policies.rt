@@ -20,7 +20,7 @@ use std::alloc::Global;
 
 /// Drives the machine as `drive_round` and `drive_seed` do, and gives the end alone: there is a list of events, but it
 /// isn't kept, and no event takes memory for it. So the end is NoMemory only before an event that asks for memory, an
-/// issue or the first store of a line in its DRAM, or where the schedule lists messages or lines. Afterwards the
+/// issue or the first store of a line in its DRAM, or where the schedule lists messages or orders lines. Afterwards the
 /// machine keeps its lines in rising order exactly if it did before.
 pub fn run_to_end<P: Program>(
     alloc: Global,
@@ -46,7 +46,6 @@ pub fn run_to_end<P: Program>(
         Policy::Seed(seed) => {
             let mut schedule = Seeds::new(seed);
             let had_order = system.keeps_order();
-            system.keep_order();
             let end = finish(&mut schedule, system, programs, &mut log, limit);
             order_as_before(system, had_order);
             end

@@ -28,10 +28,10 @@ pub(crate) fn order_as_before(system: &mut System, had_order: bool)
 /// `limit` turns were made, times are exhausted or allocation failed. A seed is any number of 64 bits; one seed gives
 /// one list of events. The events are those that the schedule has, each by the machine and the programs as they then
 /// are, and so is the end, unless it is NoMemory; it is never Stalled. NoMemory comes before an event alone, or where
-/// an eviction was drawn, whose line is found in a list. What was given to the machine is in the list,
-/// and nothing else. Whatever the end, each core that had no open operation before was issued what its program gave, in
-/// order, and the program was told what each completed operation received, in order. While the run goes on the machine
-/// keeps its lines in rising order (`System::keep_order`); afterwards it does so exactly if it did before.
+/// an eviction was drawn. From the first such one on the machine keeps its lines in rising order
+/// (`System::keep_order`); after the run it does so exactly if it did before. What was given to the machine is in the
+/// list, and nothing else. Whatever the end, each core that had no open operation before was issued what its program
+/// gave, in order, and the program was told what each completed operation received, in order.
 pub fn drive_seed<P: Program>(
     alloc: Global,
     system: &mut System,
@@ -50,7 +50,6 @@ pub fn drive_seed<P: Program>(
 {
     let mut schedule = Seeds::new(seed);
     let had_order = system.keeps_order();
-    system.keep_order();
     let driven = drive(alloc, system, programs, &mut schedule, limit);
     order_as_before(system, had_order);
     driven

@@ -86,8 +86,7 @@ class Tester:
     def sweep(self, what, words, name, how, usual, allowed):
         """Refuses the 1st, 2nd, .. until nothing is left to refuse; then the answer is the usual one.
 
-        It may be so earlier, if the program can do without what was refused: a sort then sorts in place, and a run by
-        seeds finds its lines by a walk.
+        It may be so earlier, if the program can do without what was refused: a sort then sorts in place.
         """
         number = done_without = counted = 0
         while True:
@@ -120,8 +119,8 @@ class Told:
     earlier.
     """
 
-    def __init__(self, words, is_alone=False):
-        self.texts, self.is_single, self.at = told_of(words, is_alone), "--runs" not in words, 0
+    def __init__(self, words):
+        self.texts, self.is_single, self.at = told_of(words), "--runs" not in words, 0
 
     def __call__(self, ran):
         if ran.answer() == NO_MEMORY:
@@ -159,7 +158,7 @@ def growths(tester):
     Refused alone, some growths are those of a run, whose report then says that it ended with a failed allocation.
     """
     for what, words, usual in runs():
-        counted = tester.sweep(what, words, "growth", "", (0, usual, ""), Told(words, is_alone=True))
+        counted = tester.sweep(what, words, "growth", "", (0, usual, ""), Told(words))
         tester.expect(counted > 0, f"{what}: no refused run was told")
         tester.sweep(what, words, "growth", "+", (0, usual, ""), Told(words))
     with tempfile.TemporaryDirectory() as folder:

@@ -4,14 +4,16 @@ ghost use Rattle.std.specs.Prelude.{◌≡◌};
 use crate::machine_state::MachineState;
 use core_pts::Core;
 use llc_bank::Bank;
+use std::alloc::AllocError;
 
 // All cores keep the lines of their copies in order.
-fn keep_in_cores(cores: &mut [Core])
+fn keep_in_cores(cores: &mut [Core]) -> Result<(), AllocError>
     ensures { cores.new ≡ cores.old }
 {
     for at in 0..cores.len() {
-        cores[at].keep_order();
+        cores[at].keep_order()?;
     }
+    Ok(())
 }
 
 // No core keeps them so.
@@ -24,12 +26,13 @@ fn forget_in_cores(cores: &mut [Core])
 }
 
 // All banks keep the lines that nothing is under way for in order.
-fn keep_in_banks(banks: &mut [Bank])
+fn keep_in_banks(banks: &mut [Bank]) -> Result<(), AllocError>
     ensures { banks.new ≡ banks.old }
 {
     for at in 0..banks.len() {
-        banks[at].keep_order();
+        banks[at].keep_order()?;
     }
+    Ok(())
 }
 
 // No bank keeps them so.
@@ -42,12 +45,12 @@ fn forget_in_banks(banks: &mut [Bank])
 }
 
 impl MachineState {
-    // All parts keep their lines in rising order, as far as there is memory.
-    pub(crate) fn keep_order(&mut self)
+    // All parts keep their lines in rising order. Where the memory is refused, those that were asked before do.
+    pub(crate) fn keep_order(&mut self) -> Result<(), AllocError>
         ensures { self.new ≡ self.old }
     {
-        keep_in_cores(&mut self.cores);
-        keep_in_banks(&mut self.banks);
+        keep_in_cores(&mut self.cores)?;
+        keep_in_banks(&mut self.banks)
     }
 
     // No part keeps them so.

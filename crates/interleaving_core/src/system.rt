@@ -311,20 +311,24 @@ impl System {
 
     /// From now on each core and each bank keeps its lines in rising order, so that `free_copy` and `entry` allocate
     /// nothing. `line_sets::LineSets::keep_order` states what that allocates, for each core and each bank, and what
-    /// moves when a line comes or goes. If the allocation for a core or bank fails, it goes on as before, and all
-    /// answers are the same. If the machine keeps them so already, the call does nothing.
-    pub fn keep_order(&mut self)
+    /// moves when a line comes or goes. If an allocation fails, no part keeps its lines so from then on. If the machine
+    /// keeps them so already, the call does nothing.
+    pub fn keep_order(&mut self) -> Result<(), AllocError>
         ensures { self.new ≡ self.old }
     {
         if self.has_order {
-            return;
+            return Ok(());
         }
-        self.state.keep_order();
+        if let Err(error) = self.state.keep_order() {
+            self.state.forget_order();
+            return Err(error);
+        }
         self.has_order = true;
+        Ok(())
     }
 
-    /// Whether lines are kept in rising order: `keep_order` was called, and neither `forget_order` nor `reopen` after
-    /// it. No contract sees that, since no other answer depends on it.
+    /// Whether lines are kept in rising order: `keep_order` answered Ok, and neither `forget_order` nor `reopen` was
+    /// called after it. No contract sees that, since no other answer depends on it.
     pub fn keeps_order(&self) -> bool {
         self.has_order
     }

@@ -7,6 +7,7 @@ use Rattle.std.proofs.lemmas.List.{get_or_past, length-append, length-map}
 use Rattle.line_arena.specs.Arenas.{Lists, IsOnce}
 use Rattle.line_arena.specs.CellLists.{look_up}
 use Rattle.line_arena.specs.ListLaws.{LookUpLaws}
+use Rattle.ranked_lines.specs.Rising.{HasRoom}
 use Rattle.line_sets.specs.Order.{find, is_there, lines_passing, IsDistinct}
 use Rattle.line_sets.specs.SetTable.{all_listed, count_of, drop_line, look, put, put_within, set_at}
 use Rattle.line_sets.specs.Stored.{entries_of, sets_of, tags_of, IsStored}
@@ -46,7 +47,7 @@ module _ {X : Type 0} (passes : X → Bool) where
       let all = sum-drop_line passes length (λ _. 1) refl length-more sets i line h once in
       let was = counted-as passes line (look sets i line) in omega (arith, all, was)
 
-  -- no more than 16 lines in each of 1,024 sets
+  -- no more lines in each set than ways
   one-at-most : (x : X) → count_of passes (Some x) ≤ 1
   one-at-most x = cond_both (passes x) 1 0 (λ n. n ≤ 1) (λ e. omega arith) (λ e. omega arith)
 
@@ -56,13 +57,21 @@ module _ {X : Type 0} (passes : X → Bool) where
       let more = listed-more passes length (λ _. 1) refl length-more p ps in let later = listed-few ps in
       let one = one-at-most p.1 in omega (arith, more, later, one)
 
-  all-few : (sets : List (List (ℕ × X))) → ((i : ℕ) → i < length sets → length (set_at sets i) ≤ 16) →
-      length (all_listed passes sets) ≤ length sets * 16
-  all-few [] h = omega arith
-  all-few (ps ∷ sets) h =
+  all-few : (n : ℕ) (sets : List (List (ℕ × X))) → ((i : ℕ) → i < length sets → length (set_at sets i) ≤ n) →
+      length (all_listed passes sets) ≤ length sets * n
+  all-few n [] h = omega arith
+  all-few n (ps ∷ sets) h =
       let more = length-append (lines_passing passes ps) (all_listed passes sets) in let few = listed-few ps in
-      let first = h 0 (omega arith) in let later = all-few sets (λ i lt. h (suc i) (omega (arith, lt))) in
+      let first = h 0 (omega arith) in let later = all-few n sets (λ i lt. h (suc i) (omega (arith, lt))) in
       omega (arith, more, few, first, later)
+
+  set-short : (ways : ℕ) (a : Lists (ℕ × X)) (rows : List (List (ℕ × ℕ))) → IsStored ways a rows → (i : ℕ) →
+      i < length (sets_of a.lists) → length (set_at (sets_of a.lists) i) ≤ ways
+  set-short ways a rows stored i lt =
+      let h : i < length a.lists = omega (arith, lt, length-sets a.lists) in
+      let at : length (set_at (sets_of a.lists) i) ≡ length (get_or a.lists i []) =
+      ap length (entries-at a.lists i h) ∙ length-map (get_or a.lists i []) (λ (p : ℕ × (ℕ × X)). (p.1.0, p.1.1)) in
+      let within = (stored.fits i h).within in omega (arith, at, within)
 
   -- no line is twice in a set of a table
   distinct-entries : (xs : List (ℕ × (ℕ × X))) → IsDistinct (tags_of xs) → IsDistinct (entries_of xs)
@@ -87,12 +96,23 @@ module _ {X : Type 0} (passes : X → Bool) where
       length (all_listed passes (sets_of a.lists)) ≤ 16384
   listed-fits ways a rows stored =
       let long = length-sets a.lists in let small = stored.small in let narrow = stored.narrow in
-      let few = all-few (sets_of a.lists) (λ i lt.
-      (let h : i < length a.lists = omega (arith, lt, long) in
-      let at : length (set_at (sets_of a.lists) i) ≡ length (get_or a.lists i []) =
-      ap length (entries-at a.lists i h) ∙ length-map (get_or a.lists i []) (λ (p : ℕ × (ℕ × X)). (p.1.0, p.1.1)) in
-      let within = (stored.fits i h).within in omega (arith, at, within, narrow))) in
+      let few = all-few 16 (sets_of a.lists) (λ i lt.
+      (let short = set-short ways a rows stored i lt in omega (arith, short, narrow))) in
       omega (arith, few, long, small)
+
+  -- an order with room for a line in each cell still has it after a change that keeps it while it has room
+  less-room : (m n : ℕ) (blocks : Option ℕ) → m ≤ n → HasRoom n blocks → HasRoom m blocks
+  less-room m n None le room = tt
+  less-room m n (Some k) le room = omega (arith, le, room)
+
+  pub still-room : (ways : ℕ) (a : Lists (ℕ × X)) (rows : List (List (ℕ × ℕ))) (n : ℕ) (old new : Option ℕ) →
+      IsStored ways a rows → n ≡ a.cells → HasRoom a.cells old →
+      (HasRoom (length (all_listed passes (sets_of a.lists))) old → new ≡ old) → HasRoom n new
+  still-room ways a rows n old new stored same room kept =
+      let few = all-few ways (sets_of a.lists) (set-short ways a rows stored) in
+      let cells = stored.cells ∙ ap (λ k. k * ways) (sym (length-sets a.lists)) in
+      rw same (rw (kept (less-room (length (all_listed passes (sets_of a.lists))) a.cells old
+      (omega (arith, few, cells)) room)) room)
 
   -- a table without lines
   pub none-listed : (n : ℕ) → all_listed passes (replicate n []) ≡ []

@@ -38,15 +38,16 @@ pub struct LineSets<V: Listed> {
 impl<V: Listed> Model for LineSets<V> {
     ghost use Rattle.std.specs.Prelude.{◌≡◌, length};
     ghost use Rattle.line_sets.specs.SetTable.{Sets, all_listed};
-    ghost use Rattle.ranked_lines.specs.Rising.{IsOrderOf};
+    ghost use Rattle.ranked_lines.specs.Rising.{room_of, HasRoom, IsOrderOf};
     ghost use Rattle.line_sets.specs.Stored.{sets_of, IsStored};
 
     ghost Value = { Sets V };
 
     ghost view = { λ table. record { ways = table.ways; sets = sets_of table.arena.lists } };
 
-    // The count and the order, if it is kept, are those of the listed lines.
-    ghost invariant = { λ table. IsStored table.ways table.arena table.rows × (table.listed ≡ length (all_listed V.is_listed (sets_of table.arena.lists))) × IsOrderOf table.order (all_listed V.is_listed (sets_of table.arena.lists)) };
+    // The count and the order, if it is kept, are those of the listed lines. A kept order has room for all lines that
+    // there may be, so it stays kept whatever line comes.
+    ghost invariant = { λ table. IsStored table.ways table.arena table.rows × (table.listed ≡ length (all_listed V.is_listed (sets_of table.arena.lists))) × IsOrderOf table.order (all_listed V.is_listed (sets_of table.arena.lists)) × HasRoom table.arena.cells (room_of table.order) };
 }
 
 impl<V: Copy + Listed> LineSets<V> {
@@ -270,18 +271,15 @@ impl<V: Copy + Listed> LineSets<V> {
     /// comes to the listed ones or leaves them moves at most 1,024 bytes. If a block is split, joined with the next
     /// one or left empty, the blocks behind it are moved, too. Of blocks before others that is at most once in 32
     /// such changes, on the whole. Where the memory is refused the order is kept or not kept as it was before the
-    /// call, and the answers are the same.
-    pub fn keep_order(&mut self)
+    /// call. No other answer depends on it.
+    pub fn keep_order(&mut self) -> Result<(), AllocError>
         ensures { self.new ≡ self.old }
     {
-        let Ok(numbers) = self.numbers() else {
-            return;
-        };
+        let numbers = self.numbers()?;
         let most = self.sets() * self.ways;
-        let Ok(order) = RankedLines::of(self.rows.allocator(), &numbers, most) else {
-            return;
-        };
+        let order = RankedLines::of(self.rows.allocator(), &numbers, most)?;
         self.order = order;
+        Ok(())
     }
 
     /// Keeps the listed lines in rising order no longer, and gives the memory for that back.

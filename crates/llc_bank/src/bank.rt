@@ -282,12 +282,11 @@ impl Bank {
     }
 
     /// Keeps the lines that are Shared or Exclusive in rising order from now on, so that `settled_line` allocates
-    /// nothing. `LineSets::keep_order` states what that allocates and moves. If the allocation fails, nothing changes,
-    /// and the answers are the same.
-    pub fn keep_order(&mut self)
+    /// nothing. `LineSets::keep_order` states what that allocates and moves. If the allocation fails, nothing changes.
+    pub fn keep_order(&mut self) -> Result<(), AllocError>
         ensures { self.new ≡ self.old }
     {
-        self.table.keep_order();
+        self.table.keep_order()
     }
 
     /// Stops keeping the lines in rising order, and frees the memory for that.

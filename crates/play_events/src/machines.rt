@@ -55,10 +55,10 @@ fn step(system: &mut System, event: Event, out: &mut Reply) {
 
 /// Starts keeping lines in order, or stops.
 fn keep(system: &mut System, is_kept: bool, out: &mut Reply) {
-    if is_kept {
-        system.keep_order();
-    } else {
+    if !is_kept {
         system.forget_order();
+    } else if system.keep_order().is_err() {
+        return out.word(NO_MEMORY);
     }
     put_order(system, out);
 }

@@ -1,17 +1,17 @@
 -- Rising lists that a number is put into or taken out of, by index and by how often each number is there.
-use Rattle.std.proofs.Common.{◌≡◌, ◌≢◌, ℕ, zero, suc, ◌+◌, ◌-◌, ◌<◌, ◌≤◌, true, false, cond, eqb, leb, ltb, List, []}
-use Rattle.std.proofs.Common.{◌∷◌, leb-true, not, Bool, length, get_or, inl, inr, Option, None, Some, refl, sym, ap}
+use Rattle.std.proofs.Common.{◌≡◌, ◌≢◌, ℕ, zero, suc, ◌+◌, ◌-◌, ◌*◌, ◌<◌, ◌≤◌, true, false, cond, eqb, leb, ltb, List}
+use Rattle.std.proofs.Common.{[], ◌∷◌, leb-true, not, Bool, length, get_or, inl, inr, Option, None, Some, refl, sym, ap}
 use Rattle.std.proofs.Common.{◌∙◌, arith}
-use Rattle.std.specs.Prelude.{IfSome}
+use Rattle.std.specs.Option.{is_some}
 use Rattle.std.specs.List.{insert, prefix_len, remove, slice_get}
 use Rattle.std.specs.List.Sorted.{IsNonDecreasing, IsPartitionPoint}
 use Rattle.std.proofs.lemmas.Bool.{cases_Bool, cases_eq, cases_lt, cond_both, eq-eqb, le-leb, lt-ltb, ltb-true}
 use Rattle.std.proofs.lemmas.Bool.{ltb-false, ne_eqb}
 use Rattle.std.proofs.lemmas.List.Sums.{prefix_len_is}
-use Rattle.ranked_lines.specs.Rising.{all_but, is_but, put_in, sorted, take_out, tally, AllFrom, IsExchanged, IsOrderOf}
-use Rattle.ranked_lines.specs.Rising.{Rises}
-use Rattle.ranked_lines.proofs.SortedLists.{one-sorted, rises-put_in, rises-sorted, tally-none, tally-put_in}
-use Rattle.ranked_lines.proofs.SortedLists.{tally-sorted}
+use Rattle.ranked_lines.specs.Rising.{all_but, is_but, put_in, room_of, sorted, take_out, tally, AllFrom, HasRoom}
+use Rattle.ranked_lines.specs.Rising.{IsExchanged, IsOrderOf, Rises}
+use Rattle.ranked_lines.proofs.SortedLists.{length-sorted, one-sorted, rises-put_in, rises-sorted, tally-none}
+use Rattle.ranked_lines.proofs.SortedLists.{tally-put_in, tally-sorted}
 
 -- what rises doesn't decrease
 from-at : (x : ℕ) (ys : List ℕ) (j d : ℕ) → AllFrom x ys → j < length ys → x ≤ get_or ys j d
@@ -201,33 +201,22 @@ order-left line xs zs ys e h = ap (take_out line) e
     cond_both (eqb line c) 0 0 (λ n. n ≡ 0) (λ e. refl) (λ e. refl) in
     omega (arith, first, second, both, taken, none)))
 
-pub order-some : (o : Option (List ℕ)) (ys xs : List ℕ) → o ≡ Some ys → IsOrderOf o xs → ys ≡ sorted xs
-order-some o ys xs e h = rw e at h
-
-pub order-kept : (o : Option (List ℕ)) (line n m : ℕ) (xs zs : List ℕ) → n ≡ m → IsOrderOf o xs →
+pub order-kept : (o : Option (List ℕ × ℕ)) (line n m : ℕ) (xs zs : List ℕ) → n ≡ m → IsOrderOf o xs →
     IsExchanged line n m xs zs → IsOrderOf o zs
 order-kept None line n m xs zs e h f = tt
-order-kept (Some ys) line n m xs zs e h f = order-same line m xs zs ys h (rw e at f)
+order-kept (Some kept) line n m xs zs e h f = order-same line m xs zs kept.0 h (rw e at f)
 
-order-more : (o : Option (List ℕ)) (line n m : ℕ) (xs zs ys : List ℕ) → n ≢ m → n ≤ m → m ≤ 1 → o ≡ Some ys →
-    IsOrderOf o xs → IsExchanged line n m xs zs → put_in line ys ≡ sorted zs
-order-more o line n m xs zs ys ne le one e h f =
+order-more : (line n m : ℕ) (xs zs ys : List ℕ) → n ≢ m → n ≤ m → m ≤ 1 → ys ≡ sorted xs →
+    IsExchanged line n m xs zs → put_in line ys ≡ sorted zs
+order-more line n m xs zs ys ne le one h f =
     let low : n ≡ 0 = omega (arith, ne, le, one) in let high : m ≡ 1 = omega (arith, ne, le, one) in
-    order-entered line xs zs ys (order-some o ys xs e h) (rw high at (rw low at f))
+    order-entered line xs zs ys h (rw high at (rw low at f))
 
-order-fewer : (o : Option (List ℕ)) (line n m : ℕ) (xs zs ys : List ℕ) → m < n → n ≤ 1 → o ≡ Some ys →
-    IsOrderOf o xs → IsExchanged line n m xs zs → take_out line ys ≡ sorted zs
-order-fewer o line n m xs zs ys lt one e h f =
+order-fewer : (line n m : ℕ) (xs zs ys : List ℕ) → m < n → n ≤ 1 → ys ≡ sorted xs →
+    IsExchanged line n m xs zs → take_out line ys ≡ sorted zs
+order-fewer line n m xs zs ys lt one h f =
     let low : m ≡ 0 = omega (arith, lt, one) in let high : n ≡ 1 = omega (arith, lt, one) in
-    order-left line xs zs ys (order-some o ys xs e h) (rw high at (rw low at f))
-
-pub order-exchanged : (o : Option (List ℕ)) (line n m : ℕ) (xs zs ys : List ℕ) → n ≢ m → n ≤ 1 → m ≤ 1 →
-    o ≡ Some ys → IsOrderOf o xs → IsExchanged line n m xs zs →
-    cond (ltb m n) (take_out line ys) (put_in line ys) ≡ sorted zs
-order-exchanged o line n m xs zs ys ne before after e h f =
-    cond_both (ltb m n) (take_out line ys) (put_in line ys) (λ us. us ≡ sorted zs)
-    (λ t. order-fewer o line n m xs zs ys (ltb-true m n t) before e h f)
-    (λ t. let le = ltb-false m n t in order-more o line n m xs zs ys ne le after e h f)
+    order-left line xs zs ys h (rw high at (rw low at f))
 
 pub rises-exchanged : (goes : Bool) (x : ℕ) (ys : List ℕ) → Rises ys →
     Rises (cond goes (take_out x ys) (put_in x ys))
@@ -339,15 +328,32 @@ from-but b (y ∷ ys) at r le = elim (cases_lt y b) [
         omega (arith, f, g) in
         ap (λ n. slice_get (y ∷ ys) n) same ∙ later k (omega (arith, h))
 
--- the number that is looked up, of a list that is kept in order
-pub looked-at : (o : Option (List ℕ)) (but : Option ℕ) (at : ℕ) (xs ys : List ℕ) → o ≡ Some ys → IsOrderOf o xs →
-    slice_get (sorted (all_but but xs)) at ≡ slice_get (all_but but ys) at
-looked-at o but at xs ys e h =
-    ap (λ zs. slice_get zs at) (sorted-all_but but xs ∙ ap (all_but but) (sym (order-some o ys xs e h)))
+-- what is kept of a list
+module _ (o : Option (List ℕ × ℕ)) (kept : List ℕ × ℕ) (xs : List ℕ) (e : o ≡ Some kept) (h : IsOrderOf o xs) where
+  order-some : kept.0 ≡ sorted xs
+  order-some = rw e at h
+
+  pub order-exchanged : (line n m : ℕ) (zs : List ℕ) → n ≢ m → n ≤ 1 → m ≤ 1 → IsExchanged line n m xs zs →
+      cond (ltb m n) (take_out line kept.0) (put_in line kept.0) ≡ sorted zs
+  order-exchanged line n m zs ne before after f =
+      cond_both (ltb m n) (take_out line kept.0) (put_in line kept.0) (λ us. us ≡ sorted zs)
+      (λ t. order-fewer line n m xs zs kept.0 (ltb-true m n t) before order-some f)
+      (λ t. let le = ltb-false m n t in order-more line n m xs zs kept.0 ne le after order-some f)
+
+  -- a line that comes has room
+  pub room-left : (n m : ℕ) → n ≢ m → (n < m → HasRoom (length xs) (room_of o)) → ltb m n ≡ false →
+      length kept.0 + 32 < kept.1 * 32
+  room-left n m ne room comes =
+      let lt : n < m = (let le = ltb-false m n comes in omega (arith, le, ne)) in
+      let long = ap length order-some ∙ length-sorted xs in
+      let wide : length xs + 32 < kept.1 * 32 = rw e at (room lt) in omega (arith, long, wide)
+
+  -- the number that is looked up
+  pub looked-at : (but : Option ℕ) (at : ℕ) → slice_get (all_but but kept.0) at
+      ≡ cond (is_some o) (slice_get (sorted (all_but but xs)) at) None
+  looked-at but at =
+      ap (λ zs. slice_get zs at) (ap (all_but but) order-some ∙ sym (sorted-all_but but xs))
+      ∙ ap (λ p. cond (is_some p) (slice_get (sorted (all_but but xs)) at) None) (sym e)
 
 pub if-true : (b : Bool) (zs us vs : List ℕ) → b ≡ true → zs ≡ cond b us vs → zs ≡ us
 if-true b zs us vs t e = rw t at e
-
-pub some-answer : (o p : Option ℕ) → p ≡ o → IfSome o (λ x. p ≡ Some x)
-some-answer None p e = tt
-some-answer (Some x) p e = e

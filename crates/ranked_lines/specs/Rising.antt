@@ -1,5 +1,5 @@
 -- Numbers in rising order, and lists without one number.
-use Rattle.std.specs.Prelude.{◌≡◌, ℕ, ◌+◌, ◌≤◌, ◌==◌, nat_le, nat_lt, length, Bool, false, not, List, [], ◌∷◌}
+use Rattle.std.specs.Prelude.{◌≡◌, ℕ, ◌+◌, ◌*◌, ◌<◌, ◌≤◌, ◌==◌, nat_le, nat_lt, length, Bool, false, not, List, [], ◌∷◌}
 use Rattle.std.specs.Prelude.{filter, Option, Some, None, if◌then◌else◌}
 use Rattle.std.specs.List.{prefix_len}
 
@@ -51,7 +51,17 @@ abbrev pub IsExchanged : ℕ → ℕ → ℕ → List ℕ → List ℕ → Type 
 IsExchanged line before after xs ys =
     (c : ℕ) → tally c ys + (if line == c then before else 0) ≡ tally c xs + (if line == c then after else 0)
 
--- the lines in rising order, if they are kept so
-abbrev pub IsOrderOf : Option (List ℕ) → List ℕ → Type 0
+-- what is kept is the lines in rising order and the number of blocks that there is room for, or nothing
+abbrev pub IsOrderOf : Option (List ℕ × ℕ) → List ℕ → Type 0
 IsOrderOf None xs = Unit {0}
-IsOrderOf (Some ys) xs = ys ≡ sorted xs
+IsOrderOf (Some kept) xs = kept.0 ≡ sorted xs
+
+-- how many blocks there is room for, if lines are kept
+abbrev pub room_of : Option (List ℕ × ℕ) → Option ℕ
+room_of None = None
+room_of (Some kept) = Some kept.1
+
+-- that many blocks, if there are any, have room for n numbers and one more: for 32 in each but one
+abbrev pub HasRoom : ℕ → Option ℕ → Type 0
+HasRoom n None = Unit {0}
+HasRoom n (Some blocks) = n + 32 < blocks * 32

@@ -1,8 +1,9 @@
 -- The entry of a seeded turn's list that is made.
-use Rattle.std.proofs.Common.{◌≡◌, ◌+◌, ◌%◌, ◌<◌, ℕ, Bool, true, false, List, [], ◌∷◌, ◌++◌}
-use Rattle.std.proofs.Common.{length, map, get_or, Some, sym, ap, ◌∙◌, arith}
+use Rattle.std.proofs.Common.{◌≡◌, ◌+◌, ◌%◌, ◌<◌, ℕ, zero, suc, Bool, true, false, List, [], ◌∷◌, ◌++◌}
+use Rattle.std.proofs.Common.{length, map, get_or, Some, refl, sym, ap, ◌∙◌, arith}
 use Rattle.std.proofs.Common.{◌≢◌}
 use Rattle.std.specs.Prelude.{slice_get}
+use Rattle.std.specs.List.{flat_map, range_with_len}
 use Rattle.std.proofs.Math.Nat.{mod-lt}
 use Rattle.std.proofs.Common.{inl, inr, set, get_or-set_same, get_or-set_other}
 use Rattle.std.proofs.lemmas.Bool.{cases_eq, false≢true}
@@ -66,17 +67,27 @@ module _ (eviction : ℕ → ℕ → Event) (lines : ℕ → List ℕ) where
       ∙ get_or-map (λ l. Does (eviction holder l)) (sorted (lines holder)) at line Over sorted_inside
       ∙ ap (λ l. Does (eviction holder l)) (get_or_from_slice_get (sorted (lines holder)) at line line is)
 
-  -- so there is an entry
-  pub line_is_there : (n b holder at : ℕ) → holder < n → at < length (lines holder) →
-      length (line_events eviction lines holder) + at ≡ b % length (line_events eviction lines n) →
+  -- where there are lines, one is chosen
+  entry_is : (holders : List ℕ) (k : ℕ) → k < length (flat_map piece holders) →
+      is_end (get_or (flat_map piece holders) k Over) ≡ false
+  unfolding is_end
+  entry_is [] k lt = absurd (omega (arith, lt))
+  entry_is (holder ∷ holders) k lt = go (sorted (lines holder)) k (entry_is holders) lt
+    where
+      go : (ls : List ℕ) (k : ℕ) → ((i : ℕ) → i < length (flat_map piece holders) →
+          is_end (get_or (flat_map piece holders) i Over) ≡ false) →
+          k < length (map (λ line. Does (eviction holder line)) ls ++ flat_map piece holders) →
+          is_end (get_or (map (λ line. Does (eviction holder line)) ls ++ flat_map piece holders) k Over) ≡ false
+      go [] k later lt = later k lt
+      go (l ∷ ls) zero later lt = refl
+      go (l ∷ ls) (suc k) later lt = go ls k later (omega (arith, lt))
+
+  pub line_is_there : (n b : ℕ) → 0 < length (line_events eviction lines n) →
       choice_at (line_events eviction lines n) b ≢ Over
   unfolding is_end
-  line_is_there n b holder at below within here over =
-      let sorted_inside : at < length (sorted (lines holder)) = rw (length-sorted (lines holder)) within in
-      let line : ℕ = get_or (sorted (lines holder)) at 0 in
-      let is : choice_at (line_events eviction lines n) b ≡ Does (eviction holder line) =
-      line_at n b holder at line below within (slice_get-get_or (sorted (lines holder)) at 0 sorted_inside) here in
-      false≢true (ap is_end (sym is ∙ over))
+  line_is_there n b some over =
+      let at : ℕ = b % length (line_events eviction lines n) in
+      false≢true (sym (entry_is (range_with_len 0 n) at (mod-lt b some)) ∙ ap is_end over)
 
 -- a list of counts, after that of one more holder was written
 pub one_count_more : (counts : List ℕ) (lengths : ℕ → ℕ) (n count : ℕ) → n < length counts → count ≡ lengths n →

@@ -20,8 +20,8 @@ use std::alloc::Global;
 
 /// Drives the machine as `drive_round` and `drive_seed` do, and gives the end alone: it keeps no list of events, and
 /// allocates nothing for one. So the end is NoMemory only before an event that allocates, an issue or the first store
-/// of a line in its DRAM, or where the schedule lists messages or lines. Afterwards the machine keeps its lines in
-/// rising order exactly if it did before.
+/// of a line in its DRAM, or where the schedule lists messages or orders lines. Afterwards the machine keeps its lines
+/// in rising order exactly if it did before.
 pub fn run_to_end<P: Program>(
     alloc: Global,
     system: &mut System,
@@ -46,7 +46,6 @@ pub fn run_to_end<P: Program>(
         Policy::Seed(seed) => {
             let mut schedule = Seeds::new(seed);
             let had_order = system.keeps_order();
-            system.keep_order();
             let end = finish(&mut schedule, system, programs, &mut log, limit);
             order_as_before(system, had_order);
             end

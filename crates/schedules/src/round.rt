@@ -116,7 +116,7 @@ impl<P: Program> Schedule<P> for Rounds {
         self.stage = RoundStage::Stepping(0);
     }
 
-    fn choose(&mut self, system: &System, programs: &mut [P]) -> Result<Choice, AllocError> {
+    fn choose(&mut self, system: &mut System, programs: &mut [P]) -> Result<Choice, AllocError> {
         match self.stage {
             RoundStage::Stepping(core) => {
                 if core < self.cores {

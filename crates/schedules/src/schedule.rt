@@ -43,9 +43,10 @@ pub(crate) trait Schedule<P: Program> {
 
     // What comes next. An error, where memory was refused, comes only where the turn isn't over and what there is has
     // to be listed.
-    fn choose(&mut self, system: &System, programs: &mut [P]) -> Result<Choice, AllocError>
+    fn choose(&mut self, system: &mut System, programs: &mut [P]) -> Result<Choice, AllocError>
+        ensures machine { system.new ≡ system.old }
         ensures same { programs.new ≡ programs.old }
-        ensures chosen { IsChosen (rule.next system.now programs.old self.old) (rule.lists self.old)
+        ensures chosen { IsChosen (rule.next system.old programs.old self.old) (rule.lists self.old)
             self.old result self.new }
         ensures fewer { IfOk result (λ choice.
             Fewer left ready rule.behind self.old choice self.new) };

@@ -181,16 +181,21 @@ fn line_count<H: Holder>(system: &System, counts: &mut [usize]) -> u128
     total
 }
 
-// The eviction of a line. Each holder is asked once how many it has; there are at most 64 cores and eight banks.
-fn evict<H: Holder>(system: &System, b: u32) -> Result<Choice, AllocError>
-    ensures { PicksOne (choice_at
-        (line_events H.eviction (H.lines system.now) (H.holders system.now)) b) result }
+// The eviction of a line. Each holder is asked once how many it has; there are at most 64 cores and eight banks. From
+// the first one on the machine keeps lines in rising order, so that a line is found without a list of them.
+fn evict<H: Holder>(system: &mut System, b: u32) -> Result<Choice, AllocError>
+    ensures machine { system.new ≡ system.old }
+    ensures picked { PicksOne (choice_at
+        (line_events H.eviction (H.lines system.old) (H.holders system.old)) b) result }
 {
     let holders = H::holders(system);
     let mut counts = [0; 64];
     let total = line_count::<H>(system, &mut counts);
     if total == 0 {
         return Ok(Choice::Over);
+    }
+    if let Err(error) = system.keep_order() {
+        return Err(error);
     }
     let mut at = place_in(b, total) as usize;
     for holder in 0..holders {
@@ -328,7 +333,7 @@ impl<P: Program> Schedule<P> for Seeds {
         self.drawn = Some((a, b));
     }
 
-    fn choose(&mut self, system: &System, programs: &mut [P]) -> Result<Choice, AllocError> {
+    fn choose(&mut self, system: &mut System, programs: &mut [P]) -> Result<Choice, AllocError> {
         let Some((a, b)) = self.drawn else {
             return Ok(Choice::Over);
         };

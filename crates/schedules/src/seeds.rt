@@ -28,10 +28,10 @@ pub(crate) fn order_as_before(system: &mut System, had_order: bool)
 /// is done, `limit` turns were made, times are exhausted or allocation failed. A seed is any number of 64 bits; one
 /// seed gives one list of events. The events are those of the schedule, each by the machine and the programs as they
 /// then are, and so is the end, unless it is NoMemory; it is never Stalled. NoMemory comes only before an event, or
-/// where the schedule has drawn an eviction, whose line it finds in a list. The list has the events that the machine
+/// where the schedule has drawn an eviction. From the first eviction on the machine keeps its lines in rising order
+/// (`System::keep_order`); after the run it does so exactly if it did before. The list has the events that the machine
 /// was given, and no others. At any end, each core that had no open operation before was issued what its program gave,
-/// in order, and the program received what each completed operation did, in order. During the run the machine keeps
-/// its lines in rising order (`System::keep_order`); afterwards it does so exactly if it did before.
+/// in order, and the program received what each completed operation did, in order.
 pub fn drive_seed<P: Program>(
     alloc: Global,
     system: &mut System,
@@ -50,7 +50,6 @@ pub fn drive_seed<P: Program>(
 {
     let mut schedule = Seeds::new(seed);
     let had_order = system.keeps_order();
-    system.keep_order();
     let driven = drive(alloc, system, programs, &mut schedule, limit);
     order_as_before(system, had_order);
     driven

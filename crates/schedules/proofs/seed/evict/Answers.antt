@@ -7,6 +7,11 @@ use Rattle.schedules.proofs.seed.evict.Goals as goal
 pub line_count-total-requires : goal.line_count-total-requires
 line_count-total-requires g c = omega (arith, c.holders-holders.ensures.value, c.holders-holders.ensures.bound)
 
+pub returns-in-Err-clause-picked : goal.returns-in-Err-clause-picked
+returns-in-Err-clause-picked g c =
+    line_is_there g.H.Holder.eviction (g.H.Holder.lines c.args.system.now) (g.H.Holder.holders c.args.system.now)
+    c.args.b (omega (arith, c.if-total-eq0.false, c.line_count-total.ensures.total))
+
 pub line-requires : goal.line-requires
 line-requires g c =
     let l = c.loop-holder in
@@ -14,10 +19,10 @@ line-requires g c =
     omega (arith, c.loop-holder-test.true, c.holders-holders.ensures.value) in
     let is = get_or_from_slice_get c.line_count-total.new.counts l.holder _ 0
     (c.line_count-total.ensures.each l.holder below) in
-    omega (arith, is, c.if-at-count.true)
+    rw c.keep_order.ensures (omega (arith, is, c.if-at-count.true))
 
-pub returns-in-Ok : goal.returns-in-Ok
-returns-in-Ok g c =
+pub returns-in-Ok-clause-picked : goal.returns-in-Ok-clause-picked
+returns-in-Ok-clause-picked g c =
     let a = c.args in
     let l = c.loop-holder in
     let below : l.holder < g.H.Holder.holders c.args.system.now =
@@ -25,20 +30,13 @@ returns-in-Ok g c =
     let is = get_or_from_slice_get c.line_count-total.new.counts l.holder _ 0
     (c.line_count-total.ensures.each l.holder below) in
     line_at g.H.Holder.eviction (g.H.Holder.lines a.system.now) (g.H.Holder.holders a.system.now) a.b l.holder l.at
-    c.in-Ok.line below (omega (arith, is, c.if-at-count.true)) (c.in-Ok.ensures)
+    c.in-Ok.line below (omega (arith, is, c.if-at-count.true)) (rw c.keep_order.ensures at c.in-Ok.ensures)
     (l.invariant ∙ ap (λ n. a.b % n) c.line_count-total.ensures.total) ∙ ap Does (sym c.eviction.ensures)
 
-pub returns-in-Err : goal.returns-in-Err
-returns-in-Err g c =
-    let a = c.args in
-    let l = c.loop-holder in
-    let below : l.holder < g.H.Holder.holders c.args.system.now =
-    omega (arith, c.loop-holder-test.true, c.holders-holders.ensures.value) in
-    let is = get_or_from_slice_get c.line_count-total.new.counts l.holder _ 0
-    (c.line_count-total.ensures.each l.holder below) in
-    line_is_there g.H.Holder.eviction (g.H.Holder.lines a.system.now) (g.H.Holder.holders a.system.now) a.b l.holder
-    l.at below (omega (arith, is, c.if-at-count.true))
-    (l.invariant ∙ ap (λ n. a.b % n) c.line_count-total.ensures.total)
+pub returns-in-Err-line-clause-picked : goal.returns-in-Err-line-clause-picked
+returns-in-Err-line-clause-picked g c =
+    line_is_there g.H.Holder.eviction (g.H.Holder.lines c.args.system.now) (g.H.Holder.holders c.args.system.now)
+    c.args.b (omega (arith, c.if-total-eq0.false, c.line_count-total.ensures.total))
 
 pub loop-holder-preserved : goal.loop-holder-preserved
 loop-holder-preserved g c =

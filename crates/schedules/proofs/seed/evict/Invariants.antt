@@ -4,4 +4,4 @@ use Rattle.schedules.proofs.seed.evict.Given as goal
 
 abbrev pub invariant-loop-holder : goal.invariant-loop-holder
 invariant-loop-holder g l =
-    length (line_events g.H.Holder.eviction (g.H.Holder.lines l.system) l.holder) + l.at ≡ l.b % l.total
+    length (line_events g.H.Holder.eviction (g.H.Holder.lines l.fn.system) l.holder) + l.at ≡ l.b % l.total

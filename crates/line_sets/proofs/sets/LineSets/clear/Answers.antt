@@ -14,6 +14,7 @@ invariant_of-self g c =
           (ap (λ b. sets_of b.lists) c.clear.ensures ∙ sets-empty n)
           ∙ ap length (none-listed g.V.Listed.is_listed n)),
       rw c.none.ensures tt,
+      rw c.none.ensures tt,
     )
 
 pub returns : goal.returns

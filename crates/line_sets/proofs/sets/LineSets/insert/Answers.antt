@@ -1,6 +1,7 @@
-use Rattle.std.proofs.Common.{arith, sym, ap, ◌∙◌, not}
+use Rattle.std.proofs.Common.{arith, refl, sym, ap, ◌∙◌, not}
 use Rattle.std.specs.Option.{is_some}
-use Rattle.line_sets.proofs.ListedCounts.{counted-new, counted-put, in-count, next-fits, was-counted}
+use Rattle.line_sets.proofs.ListedCounts.{counted-new, counted-put, in-count, next-fits, still-room}
+use Rattle.line_sets.proofs.ListedCounts.{was-counted}
 use Rattle.line_sets.specs.SetTable.{count_of}
 use Rattle.line_sets.proofs.ListedTallies.{tallied-put}
 use Rattle.line_sets.proofs.StoredSets.{table_of, below, has-room, is-free, is-found, is-missing, is-ok, if-ok}
@@ -41,10 +42,12 @@ invariant_of-self g c =
       counted-new g.V.Listed.is_listed w a rs c.args.set c.args.line c.self.inside.listed c.self.invariant.0 h
           c.self.invariant.1 c.args.value c.count_of-after.result _
           (is-missing w a rs c.args.set c.args.line c.self.invariant.0 h none) c.count_of-after.ensures.count new.are,
-      c.change.ensures _ _ c.self.invariant.2 (tallied-put g.V.Listed.is_listed w a rs c.args.set c.args.line
+      c.change.ensures.order _ _ c.self.invariant.2 (tallied-put g.V.Listed.is_listed w a rs c.args.set c.args.line
           c.self.invariant.0 h c.args.value 0 c.count_of-after.result _
           (sym (ap (count_of g.V.Listed.is_listed) (is-missing w a rs c.args.set c.args.line c.self.invariant.0 h none)))
           c.count_of-after.ensures.count new.are),
+      still-room g.V.Listed.is_listed w a rs _ _ _ c.self.invariant.0 (ap (λ b. b.cells) after) c.self.invariant.3
+          (λ room. c.change.ensures.kept _ c.self.invariant.2 (λ lt. room)),
     )
 
 pub returns-in_default : goal.returns-in_default
@@ -91,9 +94,11 @@ invariant_of-self-2 g c =
       counted-put g.V.Listed.is_listed w a rs c.args.set c.args.line c.self.inside.listed c.self.invariant.0 h
           c.self.invariant.1 c.args.value c.count_of-before.result c.count_of-after-2.result _ was
           c.count_of-after-2.ensures.count new.are,
-      c.change-2.ensures _ _ c.self.invariant.2 (tallied-put g.V.Listed.is_listed w a rs c.args.set c.args.line
+      c.change-2.ensures.order _ _ c.self.invariant.2 (tallied-put g.V.Listed.is_listed w a rs c.args.set c.args.line
           c.self.invariant.0 h c.args.value c.count_of-before.result c.count_of-after-2.result _ was
           c.count_of-after-2.ensures.count new.are),
+      still-room g.V.Listed.is_listed w a rs _ _ _ c.self.invariant.0 (ap (λ b. b.cells) after) c.self.invariant.3
+          (λ room. c.change-2.ensures.kept _ c.self.invariant.2 (λ lt. room)),
     )
 
 pub returns : goal.returns
@@ -129,9 +134,11 @@ invariant_of-self-then-is_none g c =
       counted-put g.V.Listed.is_listed w a rs c.args.set c.args.line c.self.inside.listed c.self.invariant.0 h
           c.self.invariant.1 c.args.value c.count_of-before.result c.count_of-after-2.result _ was
           c.count_of-after-2.ensures.count new.are,
-      c.change-2.ensures _ _ c.self.invariant.2 (tallied-put g.V.Listed.is_listed w a rs c.args.set c.args.line
+      c.change-2.ensures.order _ _ c.self.invariant.2 (tallied-put g.V.Listed.is_listed w a rs c.args.set c.args.line
           c.self.invariant.0 h c.args.value c.count_of-before.result c.count_of-after-2.result _ was
           c.count_of-after-2.ensures.count new.are),
+      still-room g.V.Listed.is_listed w a rs _ _ _ c.self.invariant.0 refl c.self.invariant.3
+          (λ room. c.change-2.ensures.kept _ c.self.invariant.2 (λ lt. room)),
     )
 
 pub returns-then-is_none : goal.returns-then-is_none

@@ -18,4 +18,5 @@ invariant_of-result g c = (
       (ap (λ a. sets_of a.lists) c.in-Ok.ensures.made ∙ sets-empty c.args.sets)
       ∙ ap length (none-listed g.V.Listed.is_listed c.args.sets)),
   rw c.none.ensures tt,
+  rw c.none.ensures tt,
 )

@@ -1,6 +1,6 @@
 use Rattle.std.proofs.Common.{sym, ap, ◌∙◌}
 use Rattle.std.specs.Option.{is_some}
-use Rattle.line_sets.proofs.ListedCounts.{counted-drop_line, in-count, was-counted}
+use Rattle.line_sets.proofs.ListedCounts.{counted-drop_line, in-count, still-room, was-counted}
 use Rattle.line_sets.proofs.ListedTallies.{tallied-drop_line}
 use Rattle.line_sets.proofs.StoredSets.{table_of, below, is-found, is-missing, nothing-cut, cut-off, second-of}
 use Rattle.line_sets.proofs.sets.LineSets.remove.Goals as goal
@@ -13,6 +13,7 @@ invariant_of-self g c =
           (sym c.take.ensures.value ∙ c.in_default.is) c.take.ensures.after).stored,
       c.self.invariant.1,
       c.self.invariant.2,
+      c.self.invariant.3,
     )
 
 pub returns-in_default-clause-value : goal.returns-in_default-clause-value
@@ -51,8 +52,10 @@ invariant_of-self-2 g c =
       counted-drop_line g.V.Listed.is_listed w a rs c.args.set c.args.line c.self.inside.listed c.self.invariant.0 h
           c.self.invariant.1 c.count_of-before.result _ was
           new.are,
-      c.change.ensures _ _ c.self.invariant.2 (tallied-drop_line g.V.Listed.is_listed w a rs c.args.set c.args.line
-          c.self.invariant.0 h c.count_of-before.result _ was new.are),
+      c.change.ensures.order _ _ c.self.invariant.2 (tallied-drop_line g.V.Listed.is_listed w a rs c.args.set
+          c.args.line c.self.invariant.0 h c.count_of-before.result _ was new.are),
+      still-room g.V.Listed.is_listed w a rs _ _ _ c.self.invariant.0 (ap (λ b. b.cells) c.unlink-line.ensures.after)
+          c.self.invariant.3 (λ room. c.change.ensures.kept _ c.self.invariant.2 (λ lt. room)),
     )
 
 pub returns-clause-value : goal.returns-clause-value

@@ -1,6 +1,6 @@
 use Rattle.std.proofs.Common.{arith, refl, sym, ap, ◌∙◌, true≢false}
 use Rattle.std.specs.Option.{is_some}
-use Rattle.line_sets.proofs.ListedCounts.{counted-put_within, in-count, next-fits, was-counted}
+use Rattle.line_sets.proofs.ListedCounts.{counted-put_within, in-count, next-fits, still-room, was-counted}
 use Rattle.line_sets.proofs.ListedTallies.{tallied-put_within}
 use Rattle.line_sets.proofs.StoredSets.{table_of, below, is-found, is-missing, written, written-in}
 use Rattle.line_sets.proofs.sets.LineSets.replace.Goals as goal
@@ -54,9 +54,11 @@ invariant_of-self g c =
           c.self.invariant.1 c.args.value c.count_of-before.result c.count_of-after.result _
           (rw (← c.self.view_is) at c.requires.there) was
           c.count_of-after.ensures.count after.are,
-      c.change.ensures _ _ c.self.invariant.2 (tallied-put_within g.V.Listed.is_listed w a rs c.args.set c.args.line
-          c.self.invariant.0 h c.args.value c.count_of-before.result c.count_of-after.result _
+      c.change.ensures.order _ _ c.self.invariant.2 (tallied-put_within g.V.Listed.is_listed w a rs c.args.set
+          c.args.line c.self.invariant.0 h c.args.value c.count_of-before.result c.count_of-after.result _
           (rw (← c.self.view_is) at c.requires.there) was c.count_of-after.ensures.count after.are),
+      still-room g.V.Listed.is_listed w a rs _ _ _ c.self.invariant.0 refl c.self.invariant.3
+          (λ room. c.change.ensures.kept _ c.self.invariant.2 (λ lt. room)),
     )
 
 pub returns-in-Some : goal.returns-in-Some

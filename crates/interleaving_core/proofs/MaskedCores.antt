@@ -6,12 +6,16 @@ use Rattle.std.specs.List.{slice_get}
 use Rattle.std.specs.Int.{bit_at}
 use Rattle.std.proofs.lemmas.Bool.{cases_eq, cases_lt}
 use Rattle.std.proofs.lemmas.Nat.Bits.{bit_at_ones, bit_at_ones_above, bit_at-zero, ones_shr}
+use Rattle.physiological_order.specs.declared.operation.Record.{Record}
 use Rattle.core_pts.specs.CoreTable.{CoreState}
 use Rattle.machine_table.specs.declared.config.Config.{Config}
+use Rattle.machine_table.specs.declared.event.Answer.{Answer}
+use Rattle.machine_table.specs.declared.event.Answer.TheVariants as answer
 use Rattle.machine_table.specs.Opening.{cores_from}
 use Rattle.machine_theorem.proofs.Lemmas.{get-set_other, get-set_same}
 use Rattle.interleaving_core.specs.declared.core_masks.CoreMasks.{CoreMasks}
 use Rattle.interleaving_core.specs.CoreMasks.{AreMasks, IsMask, is_idle_of, is_trying_of}
+use Rattle.interleaving_core.specs.PartChanges.{StandsAfter}
 
 -- what is read where something was written
 pub read_back : {X : Type 0} (xs : List X) (i : ℕ) (x read : X) → i < length xs → read ≡ get_or (set xs i x) i read →
@@ -68,6 +72,18 @@ module _ (masks : CoreMasks) (cores : List CoreState) (at : ℕ) (old core : Cor
     trying = same_mask is_trying_of masks.trying cores at old core here are.trying
         (ap₂ (λ o b. is_some o && not b) same_op same_out);
   }
+
+-- a core whose request is out doesn't try
+pub none_out : (b : Bool) → ◌≡◌ {A = ℕ} 0 (cond (b && false) 1 0)
+none_out true = refl
+none_out false = refl
+
+-- after an answer that is neither a completion nor a request it stands as before
+pub stands_same : (given : Answer) (old core : CoreState) → ((done : Record) → given ≢ answer.Completed done) →
+    given ≢ answer.Requested → StandsAfter given old core → core ≡ old
+stands_same (answer.Completed done) old core not_done not_out stands = absurd (not_done done refl)
+stands_same answer.Requested old core not_done not_out stands = absurd (not_out refl)
+stands_same _ old core not_done not_out stands = stands
 
 -- a machine opens with cores that have no operation
 module _ (config : Config) where

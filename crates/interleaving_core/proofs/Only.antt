@@ -30,7 +30,7 @@ use Rattle.machine_table.specs.declared.event.Answer.TheVariants as answer
 use Rattle.machine_table.specs.declared.event.Refusal.TheVariants as refusal
 use Rattle.machine_table.specs.Change.{Change, Keeps, Exhausts, Drops, Makes, Completes, attempt, attempt_open}
 use Rattle.machine_table.specs.Change.{attempted_op, reacted, copy_evicted, entry_evicted, advanced}
-use Rattle.interleaving_core.specs.PartChanges.{applied, stops, with_record}
+use Rattle.interleaving_core.specs.PartChanges.{StandsAfter, applied, stops, with_record}
 use Rattle.interleaving_core.specs.Reservation.{owed_for}
 use Rattle.interleaving_core.proofs.ClosedOps.{Closes, attempt_closes}
 
@@ -100,34 +100,33 @@ module _ (core : CoreState) where
         by_open None opens = ((λ records. refl), refl)
         by_open (Some op) opens = attempted_only op opens (core_table.attempt core) (attempt_closes core)
 
-    -- where it waits the core is unchanged
-    abbrev Waits : Change CoreState → Type 0
-    Waits change = (applied core mail change).0 ≡ answer.Waiting → (applied core mail change).1 ≡ core
+    -- the core stands as its answer says
+    abbrev Stands : Change CoreState → Type 0
+    Stands change = let x = applied core mail change in StandsAfter x.0 core x.1
 
-    asked_waits : (b : Bool) (after : CoreState) (new : Mail) →
-        Waits (cond b (Makes answer.Requested after new) (Keeps (answer.Refused refusal.NetworkFull)))
-    asked_waits true after new waits = absurd (let z : answer.Requested ≡ answer.Waiting = waits in cc)
-    asked_waits false after new waits = refl
+    asked_stands : (b : Bool) (new : Mail) → Stands
+        (cond b (Makes answer.Requested (record core { is_out = true }) new) (Keeps (answer.Refused refusal.NetworkFull)))
+    asked_stands true new = refl
+    asked_stands false new = refl
 
-    attempted_waits : (op : Op) (tries : Option Attempt × CoreState) →
-        Waits (attempted_op c number capacity mail core op tries)
-    attempted_waits op (None, after) waits = refl
-    attempted_waits op (Some (attempted.Completed received ts), after) waits =
-        absurd (let z : answer.Completed _ ≡ answer.Waiting = waits in cc)
-    attempted_waits op (Some (attempted.NeedShared pts version), after) waits =
-        asked_waits (has_capacity capacity mail) _ _ waits
-    attempted_waits op (Some (attempted.NeedExclusive version), after) waits =
-        asked_waits (has_capacity capacity mail) _ _ waits
-    attempted_waits op (Some attempted.NoRoom, after) waits = refl
-    attempted_waits op (Some attempted.Waiting, after) waits = refl
-    attempted_waits op (Some attempted.Idle, after) waits = refl
+    attempted_stands : (op : Op) (tries : Option Attempt × CoreState) → Closes tries →
+        Stands (attempted_op c number capacity mail core op tries)
+    attempted_stands op (None, after) closes = refl
+    attempted_stands op (Some (attempted.Completed received ts), after) closes = closes
+    attempted_stands op (Some (attempted.NeedShared pts version), after) closes =
+        asked_stands (has_capacity capacity mail) _
+    attempted_stands op (Some (attempted.NeedExclusive version), after) closes =
+        asked_stands (has_capacity capacity mail) _
+    attempted_stands op (Some attempted.NoRoom, after) closes = refl
+    attempted_stands op (Some attempted.Waiting, after) closes = refl
+    attempted_stands op (Some attempted.Idle, after) closes = refl
 
-    pub attempt_waits : Waits (attempt c number capacity mail core)
-    attempt_waits = by_open core.open_op
+    pub attempt_stands : Stands (attempt c number capacity mail core)
+    attempt_stands = by_open core.open_op
       where
-        by_open : (o : Option Op) → Waits (attempt_open c number capacity mail core o)
-        by_open None waits = refl
-        by_open (Some op) waits = attempted_waits op (core_table.attempt core) waits
+        by_open : (o : Option Op) → Stands (attempt_open c number capacity mail core o)
+        by_open None = refl
+        by_open (Some op) = attempted_stands op (core_table.attempt core) (attempt_closes core)
 
   -- what holds of the core and of each core that a change makes
   pub kept : (made : CoreState → Type 0) → made core → (mail : Mail) (change : Change CoreState) →

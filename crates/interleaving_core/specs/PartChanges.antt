@@ -5,6 +5,7 @@ use Rattle.physiological_order.specs.declared.operation.Record.{Record}
 use Rattle.network.specs.declared.part.Reaction.{Reaction}
 use Rattle.network.specs.declared.part.Reaction.TheVariants.{Done, Dropped, Held, HeldAfter}
 use Rattle.network.specs.Mail.{Mail}
+use Rattle.core_pts.specs.CoreTable.{CoreState}
 use Rattle.machine_table.specs.declared.event.Answer.{Answer}
 use Rattle.machine_table.specs.declared.event.Answer.TheVariants as answer
 use Rattle.machine_table.specs.declared.event.Refusal.{Refusal}
@@ -31,6 +32,12 @@ with_record records _ = records
 abbrev pub stops : Answer → Bool
 stops (answer.Refused Exhausted) = true
 stops _ = false
+
+-- how a core stands after an attempt that was answered so: without an operation, with its request out, or as before
+abbrev pub StandsAfter : Answer → CoreState → CoreState → Type 0
+StandsAfter (answer.Completed done) old core = core.open_op ≡ None
+StandsAfter answer.Requested old core = core ≡ record old { is_out = true }
+StandsAfter _ old core = core ≡ old
 
 -- a plain answer as an answer
 abbrev pub answer_of : PlainAnswer → Answer

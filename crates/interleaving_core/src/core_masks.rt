@@ -5,6 +5,7 @@ ghost use Rattle.core_pts.specs.CoreTable.{CoreState};
 ghost use Rattle.machine_table.specs.declared.config.Config.{Config};
 ghost use Rattle.machine_table.specs.Opening.{cores_from};
 ghost use Rattle.interleaving_core.specs.CoreMasks.{AreMasks};
+ghost use Rattle.interleaving_core.specs.PartChanges.{StandsAfter};
 
 use core_pts::Core;
 use machine_table::Answer;
@@ -40,21 +41,25 @@ pub(crate) fn note(masks: &mut CoreMasks, number: u32, core: &Core)
     masks.trying = with_bit(masks.trying, number, is_open & !is_out);
 }
 
-/// The same after an attempt. While it waits the core is as before.
+/// Notes what an attempt of the core of a number was answered. Only a completion and a request change the sets.
 #[inline(always)]
-pub(crate) fn note_attempt(masks: &mut CoreMasks, number: u32, core: &Core, answer: &Answer)
+pub(crate) fn note_attempt(masks: &mut CoreMasks, number: u32, answer: &Answer)
     requires { number < 64 }
-    ensures { (cores : List CoreState) (old : CoreState) → slice_get cores number ≡ Some old →
-        (answer.now ≡ Answer.Waiting → core.now ≡ old) → AreMasks masks.old cores →
-        AreMasks masks.new (slice_set cores number core.now) }
+    ensures { (cores : List CoreState) (old core : CoreState) → slice_get cores number ≡ Some old →
+        StandsAfter answer.now old core → AreMasks masks.old cores →
+        AreMasks masks.new (slice_set cores number core) }
 {
-    if matches!(*answer, Answer::Waiting) {
-        return;
+    match answer {
+        Answer::Completed(_) => {
+            masks.idle = with_bit(masks.idle, number, true);
+            masks.trying = with_bit(masks.trying, number, false);
+        }
+        Answer::Requested => masks.trying = with_bit(masks.trying, number, false),
+        _ => {}
     }
-    note(masks, number, core);
 }
 
-/// The same after a delivery, which leaves the open operation as it is.
+/// Notes how the core of a number stands after a delivery, which leaves the open operation as it is.
 #[inline(always)]
 pub(crate) fn note_delivery(masks: &mut CoreMasks, number: u32, core: &Core)
     requires { number < 64 }

@@ -6,10 +6,13 @@ use crate::records::stop;
 use machine_table::{Answer, Refusal};
 use physiological_order::Record;
 
-/// The answers that have no record. It takes two bytes, where an `Answer`, which may have a record, takes 72.
+/// The answers that have no record. It takes two bytes, where an `Answer`, which may have a record, takes 72. The order
+/// is that of `Answer`, with a refusal in place of a completion, so that `answer_of` needs no jump.
 #[derive(Clone, Copy)]
 pub(crate) enum PlainAnswer {
     Issued,
+    /// Nothing changes, or the machine is stopped if times are exhausted.
+    Refused(Refusal),
     /// A request was sent.
     Requested,
     /// The request is out, and the copy does not serve the operation yet.
@@ -29,15 +32,16 @@ pub(crate) enum PlainAnswer {
     /// The bank asks the owner to return the line; the line stays.
     Recalled,
     Advanced,
-    /// Nothing changes, or the machine is stopped if times are exhausted.
-    Refused(Refusal),
 }
 
-/// A plain answer as an answer.
+/// A plain answer as an answer. Once a refusal is ruled out, the others keep their numbers, which takes no jump.
 #[inline(always)]
 pub(crate) fn answer_of(plain: PlainAnswer) -> Answer
     ensures { result ≡ answer_of plain }
 {
+    if let PlainAnswer::Refused(why) = plain {
+        return Answer::Refused(why);
+    }
     match plain {
         PlainAnswer::Issued => Answer::Issued,
         PlainAnswer::Requested => Answer::Requested,

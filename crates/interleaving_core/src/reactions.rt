@@ -1,5 +1,5 @@
 //! A message in flight is delivered to its part.
-ghost use Rattle.std.specs.Prelude.{◌≡◌, ◌<◌, ◌||◌, ℕ, IfOk, IsSome, IsTrue, OnErr};
+ghost use Rattle.std.specs.Prelude.{◌≡◌, ◌<◌, ◌||◌, ℕ, false, IfOk, IsSome, IsTrue, OnErr};
 ghost use Rattle.network.specs.Flight.{IsWithMail, SameNetwork};
 ghost use Rattle.network.specs.Mail.{Mail, answered, has_capacity, has_number, sent, taken};
 ghost use Rattle.network.specs.NumberedMessages.{at_number};
@@ -75,7 +75,6 @@ pub(crate) fn conclude(
         Ok(reaction) => {
             let delivery = delivery_of(&reaction);
             settle(flight, number, reaction);
-            stop_after(is_stopped, delivery);
             delivery
         }
     }
@@ -106,10 +105,12 @@ fn can_send(flight: &InFlight, sends: Option<(Node, bool)>) -> bool
     }
 }
 
-// What a reaction to a delivered message is answered.
+// What a reaction to a delivered message is answered. It stops no machine.
 #[inline(always)]
 fn delivery_of(reaction: &Reaction) -> PlainAnswer
-    ensures { (mail : Mail) (n : ℕ) → answer_of result ≡ (settled_answer mail n reaction.now).0 }
+    ensures answer { (mail : Mail) (n : ℕ) →
+        answer_of result ≡ (settled_answer mail n reaction.now).0 }
+    ensures goes_on { stops (answer_of result) ≡ false }
 {
     match reaction {
         Reaction::Held => PlainAnswer::Held,

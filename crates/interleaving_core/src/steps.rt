@@ -58,7 +58,7 @@ impl MachineState {
         }
         let count = self.records.len();
         let answer = operations::attempt(&mut self.cores[at], &mut self.flight, core, count);
-        note_attempt(&mut self.masks, core, &self.cores[at], &answer);
+        note_attempt(&mut self.masks, core, &answer);
         keep(&mut self.records, &answer);
         stop(&mut self.is_stopped, &answer);
         plain_of(&answer)

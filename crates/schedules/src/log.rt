@@ -156,7 +156,9 @@ impl Log {
             || is_progress answer.now) }
     {
         self.keep(event);
-        self.has_progressed = self.has_progressed || is_progress(answer);
+        if !self.has_progressed {
+            self.has_progressed = is_progress(answer);
+        }
     }
 }
 

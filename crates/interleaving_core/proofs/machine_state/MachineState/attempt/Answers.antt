@@ -3,19 +3,16 @@ use Rattle.std.proofs.lemmas.Option.{slice_get_read}
 use Rattle.network.specs.Mail.{Mail}
 use Rattle.core_pts.specs.CoreTable.{CoreState}
 use Rattle.machine_table.specs.declared.event.Answer.{Answer}
-use Rattle.machine_table.specs.declared.event.Answer.TheVariants as answer
 use Rattle.machine_table.specs.Machine.{Machine}
 use Rattle.machine_table.specs.Change.{attempt}
 use Rattle.machine_table.specs.Transition.{attempt_at}
 use Rattle.machine_theorem.specs.Kept.{Invariant}
 use Rattle.interleaving_core.specs.contracts.machine_state.MachineState.{the_view}
-use Rattle.interleaving_core.specs.PartChanges.{applied, with_record}
+use Rattle.interleaving_core.specs.PartChanges.{StandsAfter, applied, with_record}
 use Rattle.interleaving_core.specs.Reservation.{owed_for}
 use Rattle.interleaving_core.proofs.ChangedParts.{made_so, set_same}
 use Rattle.interleaving_core.proofs.LastRecord.{told_in}
-use Rattle.interleaving_core.specs.CoreMasks.{AreMasks}
-use Rattle.interleaving_core.proofs.MaskedCores.{read_back}
-use Rattle.interleaving_core.proofs.Only.{OneLess, SameOpen, attempt_only, attempt_waits, balanced}
+use Rattle.interleaving_core.proofs.Only.{OneLess, SameOpen, attempt_only, attempt_stands, balanced}
 use Rattle.interleaving_core.proofs.OpenCounts.{owed_set}
 use Rattle.interleaving_core.proofs.Endpoints.{still_fitted}
 use Rattle.interleaving_core.proofs.Parts.{core_below, core_banks}
@@ -63,18 +60,15 @@ invariant_of-self c =
     c.self.inside.flight.mail)) in
     let all = owed_set c.self.inside.cores.items c.args.core c.index_mut.result.now c.attempt-answer.new.core here in
     let kept = ap length c.keep.ensures.records in
-    let read = read_back c.self.inside.cores.items c.args.core c.attempt-answer.new.core c.index.result.now
-    (omega (arith, c.if-at-len.false, c.len.ensures)) c.index.ensures in
-    let waits : c.attempt-answer.result ≡ answer.Waiting → c.index.result.now ≡ c.index_mut.result.now =
-    λ is. read ∙ subst (λ (x : Answer × CoreState × Mail). x.0 ≡ answer.Waiting →
-    x.1 ≡ c.index_mut.result.now) (sym c.attempt-answer.ensures.done)
-    (attempt_waits c.index_mut.result.now c.args.core c.len-count.result c.self.inside.flight.capacity
-    c.self.inside.flight.mail) is in
+    let stands = subst (λ (x : Answer × CoreState × Mail). StandsAfter x.0 c.index_mut.result.now x.1)
+    (sym c.attempt-answer.ensures.done)
+    (attempt_stands c.index_mut.result.now c.args.core c.len-count.result c.self.inside.flight.capacity
+    c.self.inside.flight.mail) in
     still_fitted c.self.inside.config c.self.inside.flight c.self.inside.cores.items c.self.inside.records.items _
     c.self.invariant _ _ _ _ _ c.attempt-answer.ensures.set_up
     (omega (arith, count, all, kept, c.keep.ensures.capacity, c.self.invariant.reserved))
-    (subst (λ (x : CoreState). AreMasks c.note_attempt.new.masks (set c.self.inside.cores.items c.args.core x)) read
-    (c.note_attempt.ensures c.self.inside.cores.items c.index_mut.result.now here waits c.self.invariant.masked))
+    (c.note_attempt.ensures c.self.inside.cores.items c.index_mut.result.now c.attempt-answer.new.core here stands
+    c.self.invariant.masked)
 
 pub returns : goal.returns
 returns c =

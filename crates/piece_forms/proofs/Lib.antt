@@ -1,0 +1,4 @@
+mod Places
+mod Laws
+mod Loops
+pub mod Lemmas

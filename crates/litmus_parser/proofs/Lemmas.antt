@@ -8,7 +8,6 @@ pub use Rattle.litmus_parser.proofs.BlockFault.{block_explains, block_place}
 pub use Rattle.litmus_parser.proofs.BlockFound.{block_takes}
 -- What is read as the condition is in the grammar, what is in it is read, and a fault has its cause.
 pub use Rattle.litmus_parser.proofs.ConditionLaws.{condition_takes, condition_again, condition_explains}
-pub use Rattle.litmus_parser.proofs.ConditionLaws.{condition_spares}
 -- A reading leads on, or its fault has its cause.
 pub use Rattle.litmus_parser.proofs.Causes.{Explains, Onto, bind_explains, found_explains, repeat_counted}
 pub use Rattle.litmus_parser.proofs.Causes.{test_explains, told}

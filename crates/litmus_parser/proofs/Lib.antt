@@ -21,5 +21,8 @@ mod VerdictFault
 mod RowFault
 mod TableFault
 mod ConditionSteps
+mod ConditionLooks
+mod ConditionMeaning
+mod ConditionFault
 mod ConditionLaws
 pub mod Lemmas

@@ -1,4 +1,4 @@
--- The condition, as a form.
+-- The condition, as a form of which the readings are made. GrammarCondition says what it means.
 use Rattle.std.specs.Prelude.{ℕ, zero, suc, ◌+◌, ◌==◌, nat_lt, nat_le, not, Bool, if◌then◌else◌, List, [], ◌∷◌}
 use Rattle.std.specs.Prelude.{◌++◌, length, Option, Some, None, Result, Ok, Err}
 use Rattle.std.specs.Str.{bytes_eq}
@@ -13,6 +13,7 @@ use Rattle.litmus_lexer.specs.declared.errors.Kind.TheVariants.{TooLarge, ValueR
 use Rattle.piece_forms.specs.Forms.{Verdict, Takes, Refuses, Form, ◌>>=◌, one, word, sign, perhaps, no_more, Gives, many}
 use Rattle.litmus_parser.specs.Names.{Names, address_of, is_present}
 use Rattle.litmus_parser.specs.Trees.{Tree, Is, Both, Either}
+use Rattle.litmus_parser.specs.GrammarCondition.{Sight}
 use Rattle.litmus_parser.specs.declared.expressions.Connective.{Connective}
 use Rattle.litmus_parser.specs.declared.expressions.Connective.TheVariants.{And, Or}
 use Rattle.litmus_parser.specs.declared.atoms.Start.{Start}
@@ -21,13 +22,9 @@ use Rattle.litmus_parser.specs.declared.syntax.Item.{Item}
 use Rattle.litmus_parser.specs.declared.syntax.Name.{Name}
 use Rattle.litmus_parser.specs.declared.syntax.Name.TheVariants.{Register, Location}
 
--- the locations so far, and how many atoms there are so far
-abbrev pub Sight : Type 0
-Sight = Names × ℕ
-
--- a part of an expression, after what was seen so far
-abbrev pub Part : Type 1
-Part = Sight → Form (Tree × Sight)
+-- the form of a part of an expression, after what was seen so far
+abbrev pub PartForm : Type 1
+PartForm = Sight → Form (Tree × Sight)
 
 -- whether the initial block sets the thread's register to an address
 abbrev pub Addresses : Type 0
@@ -90,7 +87,7 @@ rest_of_atom name = do
 -- ---- expressions
 
 -- factor := T : xR = N | L = N | ( expr )
-abbrev pub rest_of_factor : Addresses → Part → Start × Sight → Form (Tree × Sight)
+abbrev pub rest_of_factor : Addresses → PartForm → Start × Sight → Form (Tree × Sight)
 rest_of_factor holds inner (OfThread t, sight) = do
   _ ← one (sign BadCondition COLON)
   r ← register (holds t)
@@ -115,33 +112,33 @@ abbrev pub further : Connective → Form Bool
 further connective = perhaps (λ w. bytes_eq w (sign_of connective))
 
 -- a further part, joined to what stands before it
-abbrev pub joined : Connective → Part → Tree × Sight → Form (Tree × Sight)
+abbrev pub joined : Connective → PartForm → Tree × Sight → Form (Tree × Sight)
 joined connective part left = part left.1 >>= λ right. Gives (join_of connective left.0 right.0, right.1)
 
 -- parts with the connective's sign between each two
-abbrev pub chain : Connective → Part → Part
+abbrev pub chain : Connective → PartForm → PartForm
 chain connective part sight = part sight >>=
     many (further connective) (joined connective part) MOST_ATOMS
 
 -- expr := term { \/ term }, term := factor { /\ factor }, with parentheses at most that deep
-abbrev pub expression : Part → Part
+abbrev pub expression : PartForm → PartForm
 expression factor = chain Or (chain And factor)
 
-abbrev pub too_deep : Part
+abbrev pub too_deep : PartForm
 too_deep sight = one (λ piece. Refuses TooLarge)
 
-abbrev pub factor_with : Addresses → ℕ → ℕ → Part → Part
+abbrev pub factor_with : Addresses → ℕ → ℕ → PartForm → PartForm
 factor_with holds threads depth inner sight = one (start threads depth sight) >>= rest_of_factor holds inner
 
 -- what stands in parentheses, with further ones at most that deep
-unfoldable pub inner : Addresses → ℕ → ℕ → Part
+unfoldable pub inner : Addresses → ℕ → ℕ → PartForm
 inner holds threads zero = too_deep
 inner holds threads (suc depth) = expression (factor_with holds threads depth (inner holds threads depth))
 
-abbrev pub factor : Addresses → ℕ → ℕ → Part
+abbrev pub factor : Addresses → ℕ → ℕ → PartForm
 factor holds threads depth = factor_with holds threads depth (inner holds threads depth)
 
-abbrev pub part_of : Connective → Addresses → ℕ → ℕ → Part
+abbrev pub part_of : Connective → Addresses → ℕ → ℕ → PartForm
 part_of And holds threads depth = factor holds threads depth
 part_of Or holds threads depth = chain And (factor holds threads depth)
 

@@ -19,6 +19,9 @@ pub mod GrammarWords
 pub mod GrammarBlock
 pub mod GrammarForms
 pub mod GrammarTable
+pub mod GrammarCondition
 pub mod BlockParts
+pub mod ConditionParts
 pub mod BlockFaults
+pub mod ConditionFaults
 pub mod TableFaults

@@ -9,8 +9,7 @@ use Rattle.litmus_lexer.specs.declared.errors.Kind.TheVariants.{MixedWidth, Addr
 use Rattle.litmus_lexer.specs.declared.errors.Kind.TheVariants.{BadCondition, CutShort}
 use Rattle.litmus_parser.specs.BlockFaults.{BlockCause}
 use Rattle.litmus_parser.specs.TableFaults.{HeaderCause, RowsCause}
-use Rattle.litmus_parser.specs.ReadingEnd.{ConditionCause}
-use Rattle.litmus_parser.proofs.Lemmas.{condition_spares}
+use Rattle.litmus_parser.specs.ConditionFaults.{ConditionCause}
 use Rattle.litmus_reader.specs.Faults.{FaultBefore, FaultIn, Fault, empty, first_line, header_line, header_ends, above}
 use Rattle.litmus_reader.specs.Faults.{block, header_row, absent_thread, rows, condition, too_large, in_part, bad_byte}
 use Rattle.litmus_reader.specs.Faults.{cut_short}
@@ -54,8 +53,7 @@ told_in (rows {kind = kind} {items = items} {threads = threads} {first = first} 
     cause) = other_kind kind (λ k. RowsCause items threads first pieces k n) (λ c. c) cause
 told_in (condition {kind = kind} {items = items} {names = names} {threads = threads} {first = first} {n = n}
     {pieces = pieces} has none cause) =
-    other_kind kind (λ k. ConditionCause items threads names first pieces k n) (condition_spares items threads
-    names first pieces n) cause
+    other_kind kind (λ k. ConditionCause items threads names first pieces k n) (λ c. c.5) cause
 
 told_of : {text : List ℕ} {kind : Kind} {n : ℕ} → Fault text kind n → is_memory kind ≡ false
 told_of (too_large more) = refl

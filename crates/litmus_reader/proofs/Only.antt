@@ -120,7 +120,7 @@ parts_again text test h =
     let b = block_again o.0 (pieces_of h.body) h.items h.named h.table few h.block in
     let t = table_again h.items b.0 b.1 h.table test.threads h.body_rows test.cells h.rest b.3 h.header_row
     h.threads_there h.rows (quantifier-ahead h.rest h.condition.1 h.condition.0 test.quantifier
-    h.condition.3 h.condition.4) in
+    h.condition.4 h.condition.5) in
     let c = condition_again h.items b.0 test.threads t.0 h.rest h.named test.quantifier test.tree test.locations
     (alike-address b.0 h.items b.3) h.condition in
     rw (o.1, b.2, t.1, c, b.3, ← h.items_are, ← h.seen) refl

@@ -14,11 +14,11 @@ use Rattle.litmus_parser.specs.Extents.{is_allowed, line_feeds, inner_line_feeds
 use Rattle.litmus_parser.specs.Keywords.{BeginsCondition}
 use Rattle.litmus_parser.specs.GrammarBlock.{IsBlock}
 use Rattle.litmus_parser.specs.GrammarTable.{IsHeaderRow, AreRows}
-use Rattle.litmus_parser.specs.ReadingEnd.{IsCondition}
+use Rattle.litmus_parser.specs.GrammarCondition.{IsCondition}
 use Rattle.litmus_parser.specs.BlockParts.{InLines}
 use Rattle.litmus_parser.specs.BlockFaults.{BlockCause}
 use Rattle.litmus_parser.specs.TableFaults.{HeaderCause, RowsCause}
-use Rattle.litmus_parser.specs.ReadingEnd.{ConditionCause}
+use Rattle.litmus_parser.specs.ConditionFaults.{ConditionCause}
 use Rattle.litmus_parser.specs.declared.syntax.Name.TheVariants.{Register}
 use Rattle.litmus_parser.specs.declared.syntax.Item.{Item}
 use Rattle.litmus_parser.specs.declared.syntax.Cell.{Cell}

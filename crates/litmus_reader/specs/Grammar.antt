@@ -9,7 +9,7 @@ use Rattle.litmus_parser.specs.Names.{Names}
 use Rattle.litmus_parser.specs.Extents.{is_allowed}
 use Rattle.litmus_parser.specs.GrammarBlock.{IsBlock}
 use Rattle.litmus_parser.specs.GrammarTable.{IsHeaderRow, AreRows}
-use Rattle.litmus_parser.specs.ReadingEnd.{IsCondition}
+use Rattle.litmus_parser.specs.GrammarCondition.{IsCondition}
 use Rattle.litmus_parser.specs.declared.syntax.Name.{Name}
 use Rattle.litmus_parser.specs.declared.syntax.Name.TheVariants.{Register, Location}
 use Rattle.litmus_parser.specs.declared.syntax.Item.{Item}

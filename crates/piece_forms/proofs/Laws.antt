@@ -1,5 +1,5 @@
 -- A form is read exactly where pieces stand in it, and a fault has its cause.
-use Rattle.std.proofs.Common.{◌≡◌, ℕ, zero, suc, ◌+◌, ◌⊎◌, Bool, true, false, List, [], ◌++◌, Option, Some}
+use Rattle.std.proofs.Common.{◌≡◌, ℕ, ◌+◌, ◌⊎◌, List, [], ◌++◌, Option, Some}
 use Rattle.std.proofs.Common.{None, Result, Ok, Err, refl, sym, ap, ◌∙◌, append_assoc, inl, inr, arith}
 use Rattle.litmus_lexer.specs.Pieces.{Piece}
 use Rattle.litmus_lexer.specs.declared.errors.Kind.{Kind}
@@ -8,8 +8,7 @@ use Rattle.text_lines.specs.Reading.{◌>>=◌}
 use Rattle.litmus_lexer.specs.Reading.{fails, fault_at}
 use Rattle.piece_forms.specs.Places.{next_piece, behind_next, ends_ahead, line_ends}
 use Rattle.piece_forms.specs.Forms.{Verdict, Takes, Leaves, Refuses, Form, Gives, At, InOrder, said, Passes, Stands}
-use Rattle.piece_forms.specs.Forms.{either, many}
-use Rattle.piece_forms.specs.Faults.{IsRefused, Cause, Spares}
+use Rattle.piece_forms.specs.Faults.{IsRefused, Cause}
 use Rattle.piece_forms.specs.Reading.{decided, reads}
 use Rattle.piece_forms.proofs.Places.{line-ends-append, next-append, Over, over}
 
@@ -207,31 +206,3 @@ explains f line pieces e h =
           let a = again f (o.front ++ others) x rest s line in
           let both = sym a.1 ∙ o.fails_on line others ahead in absurd cc;
     }
-
--- ---- a kind of fault that no look tells
-
-pub spared : (kind : Kind) {A : Type 0} (f : Form A) (pieces there : List Piece) → Spares kind f →
-    IsRefused f pieces kind there → ⊥
-spared kind (Gives x) pieces there s r = absurd r
-spared kind (At look end) pieces there s r = s (next_piece pieces) r.0
-spared kind (InOrder f g) pieces there s (inl r) = spared kind f pieces there s.0 r
-spared kind (InOrder f g) pieces there s (inr (y, middle, stands, r)) = spared kind (g y) middle there (s.1 y) r
-
-either-spares : (kind : Kind) {A : Type 0} (f g : Form A) (b : Bool) → Spares kind f → Spares kind g →
-    Spares kind (either f g b)
-either-spares kind f g true s t = s
-either-spares kind f g false s t = t
-
-pub many-spares : (kind : Kind) {A : Type 0} (one_more : Form Bool) (step : A → Form A) → Spares kind one_more →
-    ((x : A) → Spares kind (step x)) → (k : ℕ) (x : A) → Spares kind (many one_more step k x)
-unfolding many
-many-spares kind one_more step s t zero x = tt
-many-spares kind one_more step s t (suc k) x = (
-  (
-    s,
-    λ more. either-spares kind (InOrder (step x) (λ y. Gives (true, y))) (Gives (false, x)) more
-        (t x, λ y. tt) tt,
-  ),
-  λ r. either-spares kind (many one_more step k r.1) (Gives r.1) r.0 (many-spares kind one_more step s t k r.1)
-      tt,
-)

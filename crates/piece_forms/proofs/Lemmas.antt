@@ -1,6 +1,8 @@
 -- What the proofs of this crate give to the crates above: they import this file and no other of this folder.
 
 -- What is read stands in the form; what stands in it is read; and a fault has its cause.
-pub use Rattle.piece_forms.proofs.Laws.{takes, again, explains, spared, many-spares}
+pub use Rattle.piece_forms.proofs.Laws.{takes, again, explains}
+-- How many lines end in pieces one after another.
+pub use Rattle.piece_forms.proofs.Places.{line-ends-append}
 -- A loop over the steps of a form.
 pub use Rattle.piece_forms.proofs.Loops.{many-fails, many-goes, many-stops, many-out}

@@ -37,7 +37,7 @@ over (LineEnd ∷ pieces) piece e =
       split = ap (λ f. LineEnd ∷ f) o.split;
       next = o.next;
       behind = o.behind;
-      ends = λ u. ap (λ n. n + 1) (o.ends u);
+      ends = λ u. ap (λ n. 1 + n) (o.ends u);
     }
 over (Word w ∷ pieces) piece e =
     record { front = Word w ∷ []; split = refl; next = λ u. e; behind = λ u. refl; ends = λ u. refl }

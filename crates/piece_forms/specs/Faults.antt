@@ -1,5 +1,5 @@
 -- Why pieces don't stand in a form: the first piece that is refused, and in which line it stands.
-use Rattle.std.specs.Prelude.{◌≡◌, ◌≢◌, ℕ, ◌+◌, ◌⊎◌, List, ◌++◌, Option}
+use Rattle.std.specs.Prelude.{◌≡◌, ℕ, ◌+◌, ◌⊎◌, List, ◌++◌}
 use Rattle.litmus_lexer.specs.Pieces.{Piece}
 use Rattle.litmus_lexer.specs.declared.errors.Kind.{Kind}
 use Rattle.piece_forms.specs.Places.{next_piece, ends_ahead, line_ends}
@@ -22,9 +22,3 @@ pub record Cause {A : Type 0} (form : Form A) (line : ℕ) (pieces : List Piece)
   pub line_is : n ≡ line + line_ends front + ends_ahead there
   pub no_way : (others : List Piece) → next_piece others ≡ next_piece there
       → (x : A) (rest : List Piece) → Stands form (front ++ others) x rest → ⊥
-
--- no look of the form refuses a piece, or the end, by this kind
-abbrev pub Spares : Kind → {A : Type 0} → Form A → Type 0
-Spares kind (Gives x) = Unit {0}
-Spares kind (At look end) = (next : Option Piece) → said look end next ≢ Refuses kind
-Spares kind (InOrder {A = Y} f g) = Spares kind f × ((y : Y) → Spares kind (g y))

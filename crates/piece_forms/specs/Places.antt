@@ -19,13 +19,13 @@ behind_next (Sign b ∷ pieces) = pieces
 -- how many lines end before it, or before the end of the text
 unfoldable pub ends_ahead : List Piece → ℕ
 ends_ahead [] = 0
-ends_ahead (LineEnd ∷ pieces) = ends_ahead pieces + 1
+ends_ahead (LineEnd ∷ pieces) = 1 + ends_ahead pieces
 ends_ahead (Word w ∷ pieces) = 0
 ends_ahead (Sign b ∷ pieces) = 0
 
 -- how many lines end in these pieces
 unfoldable pub line_ends : List Piece → ℕ
 line_ends [] = 0
-line_ends (LineEnd ∷ pieces) = line_ends pieces + 1
+line_ends (LineEnd ∷ pieces) = 1 + line_ends pieces
 line_ends (Word w ∷ pieces) = line_ends pieces
 line_ends (Sign b ∷ pieces) = line_ends pieces

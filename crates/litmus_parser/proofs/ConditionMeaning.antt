@@ -1,20 +1,26 @@
--- Pieces stand in the form of the condition exactly where the grammar has them.
-use Rattle.std.proofs.Common.{◌≡◌, ◌≢◌, ℕ, zero, suc, ◌+◌, ◌<◌, ◌≤◌, ◌⊎◌, ◌↔◌, Bool, true, false, cond, List, [], ◌∷◌}
-use Rattle.std.proofs.Common.{Option, Some, None, Ok, refl, sym, ap, subst, ◌∙◌, inl, inr, arith}
+-- Pieces stand in the form of the condition exactly where the grammar has them; what it refuses isn't wanted there.
+use Rattle.std.proofs.Common.{◌≡◌, ◌≢◌, ℕ, zero, suc, ◌+◌, ◌<◌, ◌≤◌, ◌⊎◌, ◌↔◌, Bool, true, false, ◌||◌, eqb, List, []}
+use Rattle.std.proofs.Common.{◌∷◌, Option, Some, None, Ok, refl, sym, ap, subst, ◌∙◌, inl, inr, arith}
 use Rattle.std.specs.Str.{bytes_eq}
-use Rattle.std.proofs.lemmas.Bool.{true≢false, false≢true}
+use Rattle.std.proofs.lemmas.Bool.{cond_both, true≢false, false_from_ne_true, and_parts, eqb-true}
 use Rattle.std.proofs.lemmas.Slice.Eq.{bytes_eq-Decides}
 use Rattle.litmus_lexer.specs.Pieces.{Piece, Word, Sign, LineEnd}
-use Rattle.litmus_lexer.specs.Spelling.{small_of}
+use Rattle.litmus_lexer.specs.Spelling.{is_and, is_or}
+use Rattle.litmus_lexer.specs.declared.errors.Kind.{Kind}
 use Rattle.litmus_lexer.specs.declared.errors.Kind.TheVariants.{BadCondition}
-use Rattle.piece_forms.specs.Places.{next_piece}
-use Rattle.piece_forms.specs.Forms.{Takes, Leaves, Refuses, Gives, said, Passes, Stands, is_word, no_more, either}
-use Rattle.piece_forms.specs.Forms.{turn, many}
+use Rattle.piece_forms.specs.Places.{next_piece, behind_next}
+use Rattle.piece_forms.specs.Forms.{Takes, Leaves, Refuses, Gives, said, Stands, is_word as has_word, either, turn, many}
+use Rattle.piece_forms.specs.Forms.{Form, ◌>>=◌}
+use Rattle.piece_forms.proofs.Lemmas.{Leads, leads-given, leads-then, leads-wide, Tells, leads-at, Onto, leads-many}
 use Rattle.litmus_parser.specs.Names.{Names}
 use Rattle.litmus_parser.specs.Trees.{Tree, Is, Both, Either}
-use Rattle.litmus_parser.specs.GrammarWords.{Next, AtTextEnd, IsLitmusValue}
+use Rattle.litmus_parser.specs.GrammarWords.{Next, AtTextEnd}
 use Rattle.litmus_parser.specs.GrammarCondition.{Sight, IsNamed, IsAtom, and_word, or_word, Part, Chained, one as first}
 use Rattle.litmus_parser.specs.GrammarCondition.{more, IsFactor, IsExpression}
+use Rattle.litmus_parser.specs.BlockParts.{is_sign, is_word}
+use Rattle.litmus_parser.specs.ConditionParts.{WantedInCondition, Factor, Colon, RegisterOf, Equals, Value, Closing}
+use Rattle.litmus_parser.specs.ConditionParts.{AtomUpTo, at_factor, thread_there, colon_there, name_there, equals_there}
+use Rattle.litmus_parser.specs.ConditionParts.{Beginning, ChainUpTo, in_first, in_further, FactorUpTo, ExpressionUpTo}
 use Rattle.litmus_parser.specs.Condition.{PartForm, addresses, rest_of_atom, rest_of_factor, sign_of, join_of}
 use Rattle.litmus_parser.specs.Condition.{further, joined, chain, expression, too_deep, factor_with, inner, factor}
 use Rattle.litmus_parser.specs.Condition.{whole}
@@ -25,9 +31,10 @@ use Rattle.litmus_parser.specs.declared.expressions.Connective.TheVariants.{And,
 use Rattle.litmus_parser.specs.declared.syntax.Item.{Item}
 use Rattle.litmus_parser.specs.declared.syntax.Name.{Name}
 use Rattle.litmus_parser.specs.declared.syntax.Name.TheVariants.{Register, Location}
-use Rattle.litmus_parser.proofs.ConditionLooks.{next-there, next-is, sign-takes, sign-stands, value-takes}
-use Rattle.litmus_parser.proofs.ConditionLooks.{value-stands, IsPlain, register-takes, register-stands, StartsWith}
-use Rattle.litmus_parser.proofs.ConditionLooks.{start-takes, thread-stands, location-stands, parenthesis-stands}
+use Rattle.litmus_parser.proofs.WantedFault.{neither}
+use Rattle.litmus_parser.proofs.ConditionLooks.{next-there, next-is, StartsWith, sign-stands, value-stands}
+use Rattle.litmus_parser.proofs.ConditionLooks.{register-stands, start-stands, Refusal, sign-leads, value-leads}
+use Rattle.litmus_parser.proofs.ConditionLooks.{register-leads, start-leads}
 
 -- ---- the sign of a connective
 
@@ -35,32 +42,24 @@ use Rattle.litmus_parser.proofs.ConditionLooks.{start-takes, thread-stands, loca
 abbrev pub Stops : Connective → List Piece → Type 0
 Stops c ps = Stands (further c) ps false ps
 
-further-is : (c : Connective) (ps : List Piece) (b : Bool) (rest : List Piece) → Stands (further c) ps b rest →
-    ((b ≡ true) × Next ps (Word (sign_of c)) rest) ⊎ ((b ≡ false) × (ps ≡ rest))
-further-is c ps b rest = on (next_piece ps) refl
+abbrev Signed : Connective → List Piece → Bool → List Piece → Type 0
+Signed c ps true rest = Next ps (Word (sign_of c)) rest
+Signed c ps false rest = (ps ≡ rest) × Stops c ps
+
+further-leads : (R : Kind → List Piece → Type 0) (c : Connective) (ps : List Piece) →
+    Leads (further c) ps (Signed c ps) R
+further-leads R c ps = leads-at (Signed c ps) R ps (has_word (λ w. bytes_eq w (sign_of c))) (Ok false) on
   where
-    of : (w : List ℕ) → next_piece ps ≡ Some (Word w) → (t : Bool) → bytes_eq w (sign_of c) ≡ t →
-        Passes (cond t (Takes true) (Leaves false)) ps b rest →
-        ((b ≡ true) × Next ps (Word (sign_of c)) rest) ⊎ ((b ≡ false) × (ps ≡ rest))
-    of w e true is s =
-        let same : w ≡ sign_of c = (bytes_eq-Decides w (sign_of c)).0 is in
-        inl (sym s.0, next-there ps (Word (sign_of c)) rest (e ∙ ap (λ v. Some (Word v)) same) s.1)
-    of w e false is s = inr (sym s.0, s.1)
-
     on : (o : Option Piece) → next_piece ps ≡ o →
-        Passes (said (is_word (λ w. bytes_eq w (sign_of c))) (Ok false) o) ps b rest →
-        ((b ≡ true) × Next ps (Word (sign_of c)) rest) ⊎ ((b ≡ false) × (ps ≡ rest))
-    on None e s = inr (sym s.0, s.1)
-    on (Some (Sign d)) e s = inr (sym s.0, s.1)
-    on (Some LineEnd) e s = inr (sym s.0, s.1)
-    on (Some (Word w)) e s = of w e (bytes_eq w (sign_of c)) refl s
-
-pub sign-next : (c : Connective) (ps rest : List Piece) → Stands (further c) ps true rest →
-    Next ps (Word (sign_of c)) rest
-sign-next c ps rest s = elim (further-is c ps true rest s) [
-  | inl h ↦ h.1
-  | inr h ↦ absurd (true≢false h.0)
-]
+        Tells (Signed c ps) R ps (said (has_word (λ w. bytes_eq w (sign_of c))) (Ok false) o)
+    on None e = (refl, rw e (refl, refl))
+    on (Some (Sign b)) e = (refl, rw e (refl, refl))
+    on (Some LineEnd) e = (refl, rw e (refl, refl))
+    on (Some (Word w)) e =
+        cond_both (bytes_eq w (sign_of c)) (Takes true) (Leaves false) (Tells (Signed c ps) R ps)
+        (λ is. next-there ps (Word (sign_of c)) (behind_next ps)
+        (e ∙ ap (λ v. Some (Word v)) ((bytes_eq-Decides w (sign_of c)).0 is)) refl)
+        (λ other. (refl, rw (e, other) (refl, refl)))
 
 next-sign : (c : Connective) (ps rest : List Piece) → Next ps (Word (sign_of c)) rest →
     Stands (further c) ps true rest
@@ -68,146 +67,170 @@ next-sign c ps rest n =
     let i = next-is ps (Word (sign_of c)) rest n in
     rw (i.0, (bytes_eq-Decides (sign_of c) (sign_of c)).1 refl) (refl, i.1)
 
-stays : (c : Connective) (ps rest : List Piece) → Stands (further c) ps false rest → ps ≡ rest
-stays c ps rest s = elim (further-is c ps false rest s) [
-  | inl h ↦ absurd (false≢true h.0)
-  | inr h ↦ h.1
-]
-
 sign-stops : (c : Connective) (b : ℕ) (ps rest : List Piece) → Next ps (Sign b) rest → Stops c ps
 sign-stops c b ps rest n = rw ((next-is ps (Sign b) rest n).0) (refl, refl)
 
-pub or-stops : (ps rest : List Piece) → Next ps or_word rest → Stops And ps
+or-stops : (ps rest : List Piece) → Next ps or_word rest → Stops And ps
 or-stops ps rest n = rw ((next-is ps or_word rest n).0) (refl, refl)
 
-pub end-stops : (c : Connective) (ps : List Piece) → next_piece ps ≡ None → Stops c ps
+end-stops : (c : Connective) (ps : List Piece) → next_piece ps ≡ None → Stops c ps
 end-stops c ps e = rw e (refl, refl)
 
--- ---- what a form means
+pub not-sign : (c : Connective) (ps : List Piece) (p : Piece) → Stops c ps → next_piece ps ≡ Some p →
+    p ≢ Word (sign_of c)
+not-sign c ps p stops e same =
+    let next : next_piece ps ≡ Some (Word (sign_of c)) = e ∙ ap Some same in
+    let is : bytes_eq (sign_of c) (sign_of c) ≡ true = (bytes_eq-Decides (sign_of c) (sign_of c)).1 refl in
+    let passed : (true ≡ false) × (behind_next ps ≡ ps) = rw (next, is) at stops in
+    true≢false passed.0
 
--- pieces stand in the form of a part exactly where the grammar has them, and F holds of what follows
-abbrev pub Means : (List Piece → Type 0) → PartForm → Part → Type 0
-Means F part P = (s : Sight) (ps : List Piece) (x : Tree × Sight) (rest : List Piece) →
-    Stands (part s) ps x rest ↔ P s ps x.0 x.1 rest × F rest
+-- ---- what follows a factor, a term, an expression
+
+abbrev Anything : List Piece → Type 0
+Anything ps = Unit {0}
+
+abbrev EndsTerm : List Piece → Type 0
+EndsTerm ps = Anything ps × Stops And ps
+
+abbrev pub EndsExpression : List Piece → Type 0
+EndsExpression ps = EndsTerm ps × Stops Or ps
+
+ands : (w : List ℕ) → is_and w ≡ true → Word w ≡ and_word
+ands [] e = absurd cc
+ands (a ∷ []) e = absurd cc
+ands (a ∷ b ∷ []) e = let p = and_parts (eqb a 47) (eqb b 92) e in rw (eqb-true a 47 p.0, eqb-true b 92 p.1) refl
+ands (a ∷ b ∷ c ∷ w) e = absurd cc
+
+ors : (w : List ℕ) → is_or w ≡ true → Word w ≡ or_word
+ors [] e = absurd cc
+ors (a ∷ []) e = absurd cc
+ors (a ∷ b ∷ []) e = let p = and_parts (eqb a 92) (eqb b 47) e in rw (eqb-true a 92 p.0, eqb-true b 47 p.1) refl
+ors (a ∷ b ∷ c ∷ w) e = absurd cc
+
+no-sign : (ps : List Piece) → EndsExpression ps → (p : Piece) → next_piece ps ≡ Some p →
+    is_word (λ w. is_and w || is_or w) p ≡ false
+no-sign ps ends (Word w) e =
+    neither (is_and w) (is_or w)
+    (false_from_ne_true (is_and w) (λ is. not-sign And ps (Word w) ends.0.1 e (ands w is)))
+    (false_from_ne_true (is_or w) (λ is. not-sign Or ps (Word w) ends.1 e (ors w is)))
+no-sign ps ends (Sign b) e = refl
+no-sign ps ends LineEnd e = refl
+
+-- ---- parts
 
 -- each part counts one atom at least, and at most 256 are counted
-abbrev pub Counts : Part → Type 0
+abbrev Counts : Part → Type 0
 Counts P = (s : Sight) (ps : List Piece) (tree : Tree) (t : Sight) (rest : List Piece) → P s ps tree t rest →
     (s.1 < t.1) × (t.1 ≤ 256)
 
-pub chain-counts : (P : Part) (sign : Piece) (join : Tree → Tree → Tree) → Counts P → Counts (Chained P sign join)
+chain-counts : (P : Part) (sign : Piece) (join : Tree → Tree → Tree) → Counts P → Counts (Chained P sign join)
 chain-counts P sign join counts s ps tree t rest (first h) = counts s ps tree t rest h
 chain-counts P sign join counts s ps tree t rest (more {b = b} v qs rs c n h) =
     let before = chain-counts P sign join counts s ps _ v qs c in
     let last = counts v rs b t rest h in
     (omega (arith, before.0, last.0), last.1)
 
+-- what stands in the form of a part is in the grammar, and F holds of what follows; what is refused begins so
+abbrev Sound : List Item → ℕ → (List Piece → Type 0) → PartForm → Part → Beginning → Type 0
+Sound items threads F part P B = (s : Sight) (ps : List Piece) →
+    Leads (part s) ps (λ x rest. P s ps x.0 x.1 rest × F rest) (Refusal items threads (B s ps))
+
+-- what is in the grammar stands in the form, where F holds of what follows
+abbrev Complete : (List Piece → Type 0) → PartForm → Part → Type 0
+Complete F part P = (s : Sight) (ps : List Piece) (x : Tree × Sight) (rest : List Piece) →
+    P s ps x.0 x.1 rest → F rest → Stands (part s) ps x rest
+
 -- ---- chains
 
-module _ (c : Connective) (part : PartForm) (P : Part) (F : List Piece → Type 0) (means : Means F part P)
-    (counts : Counts P) (before : (ps rest : List Piece) → Next ps (Word (sign_of c)) rest → F ps) where
-  abbrev pub Chain : Part
+module _ (c : Connective) (part : PartForm) (P : Part) (F : List Piece → Type 0) (counts : Counts P) where
+  abbrev Chain : Part
   Chain = Chained P (Word (sign_of c)) (join_of c)
 
-  abbrev pub Ends : List Piece → Type 0
+  abbrev Ends : List Piece → Type 0
   Ends rest = F rest × Stops c rest
 
-  -- a further part stands behind the sign, or the chain ends here
-  abbrev pub Turn : Tree × Sight → List Piece → Bool × (Tree × Sight) → List Piece → Type 0
-  Turn x ps r rest =
-      ((right : Tree × Sight) × (qs : List Piece) × Next ps (Word (sign_of c)) qs × Stands (part x.1) qs right rest ×
-      (r ≡ (true, (join_of c x.0 right.0, right.1)))) ⊎ ((ps ≡ rest) × Stops c ps × (r ≡ (false, x)))
+  module _ (items : List Item) (threads : ℕ) (B : Beginning) (sound : Sound items threads F part P B) (s : Sight)
+      (ps : List Piece) where
+    abbrev R : Kind → List Piece → Type 0
+    R = Refusal items threads (ChainUpTo P B (Word (sign_of c)) (join_of c) s ps)
 
-  pub turn-is : (x : Tree × Sight) (ps : List Piece) (r : Bool × (Tree × Sight)) (rest : List Piece) →
-      Stands (turn (further c) (joined c part) x) ps r rest → Turn x ps r rest
-  turn-is x ps r rest (true, qs, sign, (y, b, (right, d, stands, (y_is, d_is)), (r_is, b_is))) = inl (
-    right,
-    qs,
-    sign-next c ps qs sign,
-    subst (λ q. Stands (part x.1) qs right q) (d_is ∙ b_is) stands,
-    sym (ap (λ (y : Tree × Sight). (true, y)) y_is ∙ r_is),
-  )
-  turn-is x ps r rest (false, qs, sign, (r_is, q_is)) =
-      let same : ps ≡ qs = stays c ps qs sign in
-      inr (same ∙ q_is, subst (λ q. Stands (further c) ps false q) (sym same) sign, sym r_is)
+    -- the chain goes so far, and has k turns left
+    abbrev Before : ℕ → Tree × Sight → List Piece → Type 0
+    Before k x qs = Chain s ps x.0 x.1 qs × F qs × (256 < x.1.1 + k)
 
-  pub steps-are : (s : Sight) (ps : List Piece) (k : ℕ) (x : Tree × Sight) (qs : List Piece) (y : Tree × Sight)
-      (rest : List Piece) → Chain s ps x.0 x.1 qs → F qs → 256 < x.1.1 + k
-      → Stands (many (further c) (joined c part) k x) qs y rest → Chain s ps y.0 y.1 rest × Ends rest
-  unfolding many
-  steps-are s ps zero x qs y rest so_far f left stands =
-      let few = chain-counts P (Word (sign_of c)) (join_of c) counts s ps x.0 x.1 qs so_far in
-      absurd (omega (arith, few.1, left))
-  steps-are s ps (suc k) x qs y rest so_far f left (r, a, turned, stands) =
-      let On : Bool × (Tree × Sight) → Type 0 =
-      λ r. Stands (either (many (further c) (joined c part) k r.1) (Gives r.1) r.0) a y rest in
-      elim (turn-is x qs r a turned) [
-        | inl h ↦ let p = (means x.1 h.1 h.0 a).0 h.3 in
-            let grows = counts x.1 h.1 h.0.0 h.0.1 a p.0 in
-            steps-are s ps k (join_of c x.0 h.0.0, h.0.1) a y rest (more x.1 qs h.1 so_far h.2 p.0) p.1
-            (omega (arith, left, grows.0)) (subst On h.4 stands)
-        | inr h ↦ let e : (x ≡ y) × (a ≡ rest) = subst On h.2 stands in
-            subst (λ q. Chain s ps y.0 y.1 q × Ends q) (h.0 ∙ e.1)
-            (subst (λ (y : Tree × Sight). Chain s ps y.0 y.1 qs) e.0 so_far, (f, h.1))
-      ]
+    abbrev Whole : Tree × Sight → List Piece → Type 0
+    Whole x rest = Chain s ps x.0 x.1 rest × Ends rest
 
-  -- the form stands up to here, if so many turns lead on from here
-  abbrev Reached : Sight → List Piece → Tree × Sight → List Piece → Type 0
-  Reached s ps x qs = (turns : ℕ) × (256 < x.1.1 + turns) × ((y : Tree × Sight) (rest : List Piece) →
-      Stands (many (further c) (joined c part) turns x) qs y rest → Stands (chain c part s) ps y rest)
+    joined-leads : (k : ℕ) (x : Tree × Sight) (qs m : List Piece) → Before (suc k) x qs →
+        Next qs (Word (sign_of c)) m → Leads (joined c part x) m (Before k) R
+    joined-leads k x qs m (so_far, f, left) sign =
+        leads-then (leads-wide (λ kind there r. (r.0, in_further x.1 qs m so_far sign r.1, r.2)) (sound x.1 m))
+        (λ right rest p.
+        let grows = counts x.1 m right.0 right.1 rest p.0 in
+        leads-given (join_of c x.0 right.0, right.1) rest
+        (more x.1 qs m so_far sign p.0, p.1, omega (arith, left, grows.0)))
 
-  turned : (s : Sight) (ps : List Piece) (x : Tree × Sight) (qs rs : List Piece) (right : Tree × Sight)
-      (rest : List Piece) → Next qs (Word (sign_of c)) rs → P x.1 rs right.0 right.1 rest → F rest
-      → Reached s ps x qs → Reached s ps (join_of c x.0 right.0, right.1) rest
-  unfolding many
-  turned s ps x qs rs right rest sign h f (zero, left, goes) =
-      let grows = counts x.1 rs right.0 right.1 rest h in
-      absurd (omega (arith, grows.0, grows.1, left))
-  turned s ps x qs rs right rest sign h f (suc k, left, goes) =
-      let grows = counts x.1 rs right.0 right.1 rest h in
-      let y : Tree × Sight = (join_of c x.0 right.0, right.1) in
-      let stands = (means x.1 rs right rest).1 (h, f) in (
-        k,
-        omega (arith, grows.0, left),
-        λ z end go. goes z end (
-          (true, y),
-          rest,
-          (true, rs, next-sign c qs rs sign, (y, rest, (right, rest, stands, (refl, refl)), (refl, refl))),
-          go,
-        ),
-      )
+    turn-leads : (k : ℕ) (x : Tree × Sight) (qs : List Piece) → Before (suc k) x qs →
+        Leads (turn (further c) (joined c part) x) qs (Onto (Before k) Whole) R
+    turn-leads k x qs h = leads-then (further-leads R c qs) on
+      where
+        on : (b : Bool) (m : List Piece) → Signed c qs b m →
+            Leads (either (joined c part x >>= λ y. Gives (true, y)) (Gives (false, x)) b) m (Onto (Before k) Whole) R
+        on true m sign = leads-then (joined-leads k x qs m h sign) (λ y rest p. leads-given (true, y) rest p)
+        on false m (same, stops) = leads-given (false, x) m (subst (Whole x) same (h.0, (h.1, stops)))
 
-  reaches : (s : Sight) (ps : List Piece) (tree : Tree) (t : Sight) (qs : List Piece) → F qs → Chain s ps tree t qs →
-      Reached s ps (tree, t) qs
-  reaches s ps tree t qs f (first h) =
-      let grows = counts s ps tree t qs h in (
-        256,
-        omega (arith, grows.0),
-        λ y rest stands. ((tree, t), qs, (means s ps (tree, t) qs).1 (h, f), stands),
-      )
-  reaches s ps tree t rest f (more {a = a} {b = b} v qs rs so_far sign h) =
-      turned s ps (a, v) qs rs (b, t) rest sign h f (reaches s ps a v qs (before qs rs sign) so_far)
+    chain-sound : Leads (chain c part s) ps Whole R
+    chain-sound =
+        leads-then (leads-wide (λ kind there r. (r.0, in_first r.1, r.2)) (sound s ps)) (λ x qs p.
+        let grows = counts s ps x.0 x.1 qs p.0 in
+        leads-many (further c) (joined c part) Before Whole R turn-leads (λ y m h.
+        let few = chain-counts P (Word (sign_of c)) (join_of c) counts s ps y.0 y.1 m h.0 in
+        absurd (omega (arith, few.1, h.2))) 256 x qs (first p.0, p.1, omega (arith, grows.0)))
 
-  stopped : (s : Sight) (ps : List Piece) (x : Tree × Sight) (rest : List Piece) → Stops c rest → x.1.1 ≤ 256 →
-      Reached s ps x rest → Stands (chain c part s) ps x rest
-  unfolding many
-  stopped s ps x rest stops few (zero, left, goes) = absurd (omega (arith, few, left))
-  stopped s ps x rest stops few (suc k, left, goes) =
-      goes x rest ((false, x), rest, (false, rest, stops, (refl, refl)), (refl, refl))
+  module _ (complete : Complete F part P) (before : (ps rest : List Piece) → Next ps (Word (sign_of c)) rest → F ps)
+      (s : Sight) (ps : List Piece) where
+    -- the form stands up to here, if so many turns lead on from here
+    abbrev Reached : Tree × Sight → List Piece → Type 0
+    Reached x qs = (turns : ℕ) × (256 < x.1.1 + turns) × ((y : Tree × Sight) (rest : List Piece) →
+        Stands (many (further c) (joined c part) turns x) qs y rest → Stands (chain c part s) ps y rest)
 
-  pub chain-means : Means Ends (chain c part) Chain
-  chain-means s ps x rest = (takes, stands)
-    where
-      takes : Stands (chain c part s) ps x rest → Chain s ps x.0 x.1 rest × Ends rest
-      takes (y, qs, start, steps) =
-          let p = (means s ps y qs).0 start in
-          let grows = counts s ps y.0 y.1 qs p.0 in
-          steps-are s ps 256 y qs x rest (first p.0) p.1 (omega (arith, grows.0)) steps
+    turned : (x : Tree × Sight) (qs rs : List Piece) (right : Tree × Sight) (rest : List Piece) →
+        Next qs (Word (sign_of c)) rs → P x.1 rs right.0 right.1 rest → F rest
+        → Reached x qs → Reached (join_of c x.0 right.0, right.1) rest
+    unfolding many
+    turned x qs rs right rest sign h f (zero, left, goes) =
+        let grows = counts x.1 rs right.0 right.1 rest h in
+        absurd (omega (arith, grows.0, grows.1, left))
+    turned x qs rs right rest sign h f (suc k, left, goes) =
+        let grows = counts x.1 rs right.0 right.1 rest h in
+        let more_left : 256 < right.1.1 + k = omega (arith, grows.0, left) in
+        let y : Tree × Sight = (join_of c x.0 right.0, right.1) in
+        let joins : Stands (joined c part x >>= λ y. Gives (true, y)) rs (true, y) rest =
+        (y, rest, (right, rest, complete x.1 rs right rest h f, (refl, refl)), (refl, refl)) in (
+          k,
+          more_left,
+          λ z end go. goes z end ((true, y), rest, (true, rs, next-sign c qs rs sign, joins), go),
+        )
 
-      stands : Chain s ps x.0 x.1 rest × Ends rest → Stands (chain c part s) ps x rest
-      stands (h, (f, stops)) =
-          let few = chain-counts P (Word (sign_of c)) (join_of c) counts s ps x.0 x.1 rest h in
-          stopped s ps x rest stops few.1 (reaches s ps x.0 x.1 rest f h)
+    reaches : (tree : Tree) (t : Sight) (qs : List Piece) → F qs → Chain s ps tree t qs → Reached (tree, t) qs
+    reaches tree t qs f (first h) =
+        let grows = counts s ps tree t qs h in
+        (256, omega (arith, grows.0), λ y rest go. ((tree, t), qs, complete s ps (tree, t) qs h f, go))
+    reaches tree t rest f (more {a = a} {b = b} v qs rs so_far sign h) =
+        turned (a, v) qs rs (b, t) rest sign h f (reaches a v qs (before qs rs sign) so_far)
+
+    stopped : (x : Tree × Sight) (rest : List Piece) → Stops c rest → x.1.1 ≤ 256 → Reached x rest →
+        Stands (chain c part s) ps x rest
+    unfolding many
+    stopped x rest stops few (zero, left, goes) = absurd (omega (arith, few, left))
+    stopped x rest stops few (suc k, left, goes) =
+        goes x rest ((false, x), rest, (false, rest, stops, (refl, refl)), (refl, refl))
+
+    chain-complete : (x : Tree × Sight) (rest : List Piece) → Chain s ps x.0 x.1 rest → Ends rest →
+        Stands (chain c part s) ps x rest
+    chain-complete x rest h ends =
+        let few = chain-counts P (Word (sign_of c)) (join_of c) counts s ps x.0 x.1 rest h in
+        stopped x rest ends.1 few.1 (reaches x.0 x.1 rest ends.0 h)
 
 -- ---- the end of the text
 
@@ -225,57 +248,8 @@ end-next (LineEnd ∷ ps) e = end-next ps e
 end-next (Word w ∷ ps) e = absurd e
 end-next (Sign b ∷ ps) e = absurd e
 
-no_more-is : (ps : List Piece) (u : Unit {0}) (rest : List Piece) → Stands (no_more BadCondition) ps u rest →
-    AtTextEnd ps × (ps ≡ rest)
-no_more-is ps u rest = on (next_piece ps) refl
-  where
-    on : (o : Option Piece) → next_piece ps ≡ o → Passes (said (λ p. Refuses BadCondition) (Ok tt) o) ps u rest →
-        AtTextEnd ps × (ps ≡ rest)
-    on None e s = (end-there ps e, s.1)
-    on (Some p) e s = absurd s
-
--- ---- what follows a factor, a term, an expression
-
-abbrev pub Anything : List Piece → Type 0
-Anything ps = Unit {0}
-
-abbrev pub EndsTerm : List Piece → Type 0
-EndsTerm ps = Anything ps × Stops And ps
-
-abbrev pub EndsExpression : List Piece → Type 0
-EndsExpression ps = EndsTerm ps × Stops Or ps
-
 module _ (items : List Item) (threads : ℕ) where
   -- ---- atoms
-
-  -- behind a name
-  atom-is : (s : Sight) (ps : List Piece) (name : Name) (t : Sight) (a : List Piece) (tree : Tree) (rest : List Piece)
-      → IsNamed items threads ps s.0 name t.0 a → s.1 < 256 → t.1 ≡ s.1 + 1 →
-      Stands (rest_of_atom name) a tree rest → IsAtom items threads s ps tree t rest
-  atom-is s ps name t a tree rest named few count (u, b, sign, (n, d, num, (is, same))) =
-      let v = value-takes items threads b n d num in
-      subst (λ tree. IsAtom items threads s ps tree t rest) is (
-        v.0,
-        a,
-        b,
-        named,
-        sign-takes 61 a u b sign,
-        subst (λ q. Next b (Word v.0) q) same v.1,
-        v.2,
-        few,
-        count,
-      )
-
-  pub named-thread : (s : Sight) (ps : List Piece) (w : List ℕ) (th : ℕ) (t : Sight) (a m : List Piece) (v : List ℕ) (r : ℕ) (q : List Piece)
-      → Next ps (Word w) a → small_of 15 w ≡ Some th → th < threads → t.0 ≡ s.0 → Next a (Sign 58) m →
-      Next m (Word v) q → IsPlain items th v r → IsNamed items threads ps s.0 (Register th r) t.0 q
-  named-thread s ps w th t a m v r q next small there same colon reg (is, other, plain) =
-      (w, v, a, m, next, colon, reg, small, there, is, other, plain, same)
-
-  valued : (name : Name) (a b : List Piece) (w : List ℕ) (n : ℕ) (rest : List Piece) → Next a (Sign 61) b →
-      Next b (Word w) rest → IsLitmusValue w n → Stands (rest_of_atom name) a (Is name n) rest
-  valued name a b w n rest sign next is =
-      (tt, b, sign-stands 61 a b sign, (n, rest, value-stands w n b rest next is, (refl, refl)))
 
   atom-counts : Counts (IsAtom items threads)
   atom-counts s ps (Is name n) t rest (v, a, b, named, n1, n2, value, few, count) =
@@ -283,155 +257,194 @@ module _ (items : List Item) (threads : ℕ) where
   atom-counts s ps (Both x y) t rest h = absurd h
   atom-counts s ps (Either x y) t rest h = absurd h
 
-  atom-factor : (depth : ℕ) (s : Sight) (ps : List Piece) (tree : Tree) (t : Sight) (rest : List Piece) →
-      IsAtom items threads s ps tree t rest → IsFactor items threads depth s ps tree t rest
-  atom-factor zero s ps tree t rest h = h
-  atom-factor (suc depth) s ps tree t rest h = inl h
-
-  -- ---- factors
-
-  pub factor-counts : (depth : ℕ) → Counts (IsFactor items threads depth)
+  factor-counts : (depth : ℕ) → Counts (IsFactor items threads depth)
   factor-counts zero s ps tree t rest h = atom-counts s ps tree t rest h
   factor-counts (suc depth) s ps tree t rest (inl h) = atom-counts s ps tree t rest h
   factor-counts (suc depth) s ps tree t rest (inr (a, b, n1, h, n2)) =
       chain-counts (Chained (IsFactor items threads depth) and_word Both) or_word Either
       (chain-counts (IsFactor items threads depth) and_word Both (factor-counts depth)) s a tree t b h
 
-  module _ (depth : ℕ) (inside : PartForm) (s : Sight) (ps : List Piece) (rest : List Piece) where
-    -- what stands in parentheses is a factor
-    abbrev Encloses : Type 0
-    Encloses = (a : List Piece) (e : Tree × Sight) (m : List Piece) → depth ≢ 0 → Next ps (Sign 40) a →
-        Stands (inside s) a e m → Next m (Sign 41) rest → IsFactor items threads depth s ps e.0 e.1 rest
+  atom-factor : (depth : ℕ) (s : Sight) (ps : List Piece) (tree : Tree) (t : Sight) (rest : List Piece) →
+      IsAtom items threads s ps tree t rest → IsFactor items threads depth s ps tree t rest
+  atom-factor zero s ps tree t rest h = h
+  atom-factor (suc depth) s ps tree t rest h = inl h
 
-    rest-takes : Encloses → (p : Piece) (a : List Piece) (b : Start) (t : Sight) (x : Tree × Sight) → Next ps p a →
-        StartsWith threads depth s p (b, t) → Stands (rest_of_factor (addresses items) inside (b, t)) a x rest
-        → IsFactor items threads depth s ps x.0 x.1 rest
-    rest-takes encloses p a (OfThread th) t x next (w, is, few, count, small, there, same)
-        (u, m, colon, (r, q, reg, (tree, d, atom, (x_is, d_is)))) =
-        let g = register-takes items threads th m r q reg in
-        let named = named-thread s ps w th t a m g.0 r q (subst (λ p. Next ps p a) is next) small there same
-        (sign-takes 58 a u m colon) g.1 g.2 in
-        let h = atom-is s ps (Register th r) t q tree d named few count atom in
-        atom-factor depth s ps x.0 x.1 rest (subst (λ q. IsAtom items threads s ps x.0 x.1 q) d_is
-        (subst (λ (y : Tree × Sight). IsAtom items threads s ps y.0 y.1 d) x_is h))
-    rest-takes encloses p a (OfLocation l) t x next (w, is, few, count, numbered) (tree, d, atom, (x_is, d_is)) =
-        let named : IsNamed items threads ps s.0 (Location l) t.0 a =
-        (w, subst (λ p. Next ps p a) is next, numbered) in
-        let h = atom-is s ps (Location l) t a tree d named few count atom in
-        atom-factor depth s ps x.0 x.1 rest (subst (λ q. IsAtom items threads s ps x.0 x.1 q) d_is
-        (subst (λ (y : Tree × Sight). IsAtom items threads s ps y.0 y.1 d) x_is h))
-    rest-takes encloses p a Parenthesis t x next (is, deep, same) (e, m, stands, (u, d, close, (x_is, d_is))) =
-        subst (λ (y : Tree × Sight). IsFactor items threads depth s ps y.0 y.1 rest) x_is
-        (encloses a e m deep (subst (λ p. Next ps p a) is next) (subst (λ t. Stands (inside t) a e m) same stands)
-        (subst (λ q. Next m (Sign 41) q) d_is (sign-takes 41 m u d close)))
+  atom-begins : (depth : ℕ) (s : Sight) (ps : List Piece) (wanted : WantedInCondition) (there : List Piece) →
+      AtomUpTo items threads depth s ps wanted there → FactorUpTo items threads depth s ps wanted there
+  atom-begins zero s ps wanted there h = h
+  atom-begins (suc depth) s ps wanted there h = inl h
 
-    factor-takes : Encloses → (x : Tree × Sight) → Stands (factor_with (addresses items) threads depth inside s) ps x
-        rest → IsFactor items threads depth s ps x.0 x.1 rest
-    factor-takes encloses x ((b, t), a, begins, more_) =
-        let g = start-takes items threads depth s ps (b, t) a begins in
-        rest-takes encloses g.0 a b t x g.1 g.2 more_
+  -- ---- what stands in the form
 
-    atom-stands : (tree : Tree) (t : Sight) → IsAtom items threads s ps tree t rest →
-        Stands (factor_with (addresses items) threads depth inside s) ps (tree, t) rest
-    atom-stands (Is (Register th r) n) t
-        (v, q, b, (w, u, a, m, next, colon, reg, small, there, is, other, plain, same), equals, num, value, few, count) = (
-          (OfThread th, t),
-          a,
-          thread-stands threads depth s ps a w th t next few count small there same,
-          (
-            tt,
+  module _ (depth : ℕ) (s : Sight) (ps : List Piece) where
+    abbrev Upto : WantedInCondition → List Piece → Type 0
+    Upto = FactorUpTo items threads depth s ps
+
+    abbrev Lead : {A : Type 0} → Form A → List Piece → (A → List Piece → Type 0) → Type 0
+    Lead f a P = Leads f a P (Refusal items threads Upto)
+
+    abbrev IsHere : Tree × Sight → List Piece → Type 0
+    IsHere x rest = IsFactor items threads depth s ps x.0 x.1 rest × Anything rest
+
+    atom-leads : (name : Name) (t : Sight) (a : List Piece) → IsNamed items threads ps s.0 name t.0 a → s.1 < 256 →
+        t.1 ≡ s.1 + 1 → Lead (rest_of_atom name >>= λ tree. Gives (tree, t)) a IsHere
+    atom-leads name t a named few count =
+        let up = atom-begins depth s ps in
+        let equals = name_there name t.0 few named in
+        let atom : Lead (rest_of_atom name) a (λ tree rest. IsAtom items threads s ps tree t rest) =
+        leads-then (sign-leads items threads Upto a Equals 61 (up Equals a equals) (λ p e other. other)) (λ u b sign.
+        leads-then (value-leads items threads Upto b (up Value b (equals_there equals sign))) (λ n rest v.
+        leads-given (Is name n) rest (v.0, a, b, named, sign, v.1, v.2, few, count))) in
+        leads-then atom (λ tree rest h. leads-given (tree, t) rest (atom-factor depth s ps tree t rest h, tt))
+
+    rest-leads : (inside : PartForm) → ((a : List Piece) → depth ≢ 0 → Next ps (Sign 40) a →
+        Lead (rest_of_factor (addresses items) inside (Parenthesis, s)) a IsHere)
+        → (b : Start) (t : Sight) (a : List Piece) → StartsWith threads depth s ps (b, t) a →
+        Lead (rest_of_factor (addresses items) inside (b, t)) a IsHere
+    rest-leads inside encloses (OfThread th) t a (w, next, few, count, small, present, same) =
+        let up = atom-begins depth s ps in
+        let thread = thread_there w th few next small present in
+        leads-then (sign-leads items threads Upto a (Colon th) 58 (up (Colon th) a thread) (λ p e other. other))
+        (λ u m colon.
+        leads-then (register-leads items threads Upto m th (up (RegisterOf th) m (colon_there thread colon)))
+        (λ r q g.
+        atom-leads (Register th r) t q (w, g.0, a, m, next, colon, g.1, small, present, g.2.0, g.2.1, g.2.2, same)
+        few count))
+    rest-leads inside encloses (OfLocation l) t a (w, next, few, count, numbered) =
+        atom-leads (Location l) t a (w, next, numbered) few count
+    rest-leads inside encloses Parenthesis t a (next, deep, same) =
+        subst (λ t. Lead (rest_of_factor (addresses items) inside (Parenthesis, t)) a IsHere) (sym same)
+        (encloses a deep next)
+
+    begun-leads : (inside : PartForm) → ((a : List Piece) → depth ≢ 0 → Next ps (Sign 40) a →
+        Lead (rest_of_factor (addresses items) inside (Parenthesis, s)) a IsHere)
+        → Lead (factor_with (addresses items) threads depth inside s) ps IsHere
+    begun-leads inside encloses =
+        leads-then (start-leads items threads Upto ps depth s (atom-begins depth s ps (Factor depth s) ps at_factor))
+        (λ x a begins. rest-leads inside encloses x.0 x.1 a begins)
+
+  enclosed-leads : (depth : ℕ) (form : PartForm) → Sound items threads EndsExpression form
+      (IsExpression items threads depth) (ExpressionUpTo items threads depth)
+      → (s : Sight) (ps a : List Piece) → Next ps (Sign 40) a →
+      Lead (suc depth) s ps (rest_of_factor (addresses items) form (Parenthesis, s)) a (IsHere (suc depth) s ps)
+  enclosed-leads depth form sound s ps a next =
+      leads-then (leads-wide (λ kind there r. (r.0, inr (inl (a, next, r.1)), r.2)) (sound s a)) (λ e m p.
+      leads-then (sign-leads items threads (Upto (suc depth) s ps) m Closing 41
+      (inr (inr (a, e.0, e.1, next, p.0, refl))) (λ q f other.
+      neither (is_sign 41 q) (is_word (λ w. is_and w || is_or w) q) other (no-sign m p.1 q f))) (λ u rest close.
+      leads-given e rest (inr (a, m, next, p.0, close), tt)))
+
+  expression-from : (depth : ℕ) → Sound items threads Anything (factor (addresses items) threads depth)
+      (IsFactor items threads depth) (FactorUpTo items threads depth)
+      → Sound items threads EndsExpression (expression (factor (addresses items) threads depth))
+      (IsExpression items threads depth) (ExpressionUpTo items threads depth)
+  expression-from depth sound =
+      let F : Part = IsFactor items threads depth in
+      let B : Beginning = FactorUpTo items threads depth in
+      let form : PartForm = factor (addresses items) threads depth in
+      let counts : Counts F = factor-counts depth in
+      chain-sound Or (chain And form) (Chained F and_word Both) EndsTerm (chain-counts F and_word Both counts) items
+      threads (ChainUpTo F B and_word Both) (chain-sound And form F Anything counts items threads B sound)
+
+  factor-sound : (depth : ℕ) → Sound items threads Anything (factor (addresses items) threads depth)
+      (IsFactor items threads depth) (FactorUpTo items threads depth)
+  unfolding inner
+  factor-sound zero s ps = begun-leads 0 s ps too_deep (λ a deep next. absurd (deep refl))
+  factor-sound (suc depth) s ps =
+      let form : PartForm = expression (factor (addresses items) threads depth) in
+      begun-leads (suc depth) s ps form
+      (λ a deep next. enclosed-leads depth form (expression-from depth (factor-sound depth)) s ps a next)
+
+  -- ---- what the grammar has
+
+  atom-stands : (depth : ℕ) (inside : PartForm) (s : Sight) (ps : List Piece) (tree : Tree) (t : Sight)
+      (rest : List Piece) → IsAtom items threads s ps tree t rest →
+      Stands (factor_with (addresses items) threads depth inside s) ps (tree, t) rest
+  atom-stands depth inside s ps (Is name n) t rest (v, a, b, named, equals, num, value, few, count) =
+      on name named (tt, b, sign-stands 61 a b equals, (n, rest, value-stands v n b rest num value, (refl, refl)))
+    where
+      on : (name : Name) → IsNamed items threads ps s.0 name t.0 a → Stands (rest_of_atom name) a (Is name n) rest →
+          Stands (factor_with (addresses items) threads depth inside s) ps (Is name n, t) rest
+      on (Register th r) (w, u, m, q, next, colon, reg, small, there, is, other, plain, same) atom =
+          let register = register-stands items th u r q a reg (is, other, plain) in (
+            (OfThread th, t),
             m,
-            sign-stands 58 a m colon,
-            (
-              r,
-              q,
-              register-stands items th u r m q reg (is, other, plain),
-              (Is (Register th r) n, rest, valued (Register th r) q b v n rest equals num value, (refl, refl)),
-            ),
-          ),
-        )
-    atom-stands (Is (Location l) n) t (v, a, b, (w, next, numbered), equals, num, value, few, count) = (
-      (OfLocation l, t),
-      a,
-      location-stands threads depth s ps a w l t next few count numbered,
-      (Is (Location l) n, rest, valued (Location l) a b v n rest equals num value, (refl, refl)),
-    )
-    atom-stands (Both x y) t h = absurd h
-    atom-stands (Either x y) t h = absurd h
+            start-stands threads depth s ps (OfThread th) t m (w, next, few, count, small, there, same),
+            (tt, q, sign-stands 58 m q colon, (r, a, register, (Is (Register th r) n, rest, atom, (refl, refl)))),
+          )
+      on (Location l) (w, next, numbered) atom = (
+        (OfLocation l, t),
+        a,
+        start-stands threads depth s ps (OfLocation l) t a (w, next, few, count, numbered),
+        (Is (Location l) n, rest, atom, (refl, refl)),
+      )
+  atom-stands depth inside s ps (Both x y) t rest h = absurd h
+  atom-stands depth inside s ps (Either x y) t rest h = absurd h
 
-    enclosed-stands : (a : List Piece) (x : Tree × Sight) (b : List Piece) → depth ≢ 0 → Next ps (Sign 40) a →
-        Stands (inside s) a x b → Next b (Sign 41) rest →
-        Stands (factor_with (addresses items) threads depth inside s) ps x rest
-    enclosed-stands a x b deep open_ stands close = (
-      (Parenthesis, s),
-      a,
-      parenthesis-stands threads depth s ps a open_ deep,
-      (x, b, stands, (tt, rest, sign-stands 41 b rest close, (refl, refl))),
-    )
-
-  expression-from : (depth : ℕ) → Means Anything (factor (addresses items) threads depth)
+  expression-stands : (depth : ℕ) → Complete Anything (factor (addresses items) threads depth)
       (IsFactor items threads depth)
-      → Means EndsExpression (expression (factor (addresses items) threads depth)) (IsExpression items threads depth)
-  expression-from depth means =
+      → Complete EndsExpression (expression (factor (addresses items) threads depth))
+      (IsExpression items threads depth)
+  expression-stands depth complete =
       let F : Part = IsFactor items threads depth in
       let form : PartForm = factor (addresses items) threads depth in
-      chain-means Or (chain And form) (Chained F and_word Both) EndsTerm
-      (chain-means And form F Anything means (factor-counts depth) (λ ps rest n. tt))
-      (chain-counts F and_word Both (factor-counts depth)) (λ ps rest n. (tt, or-stops ps rest n))
+      let counts : Counts F = factor-counts depth in
+      chain-complete Or (chain And form) (Chained F and_word Both) EndsTerm (chain-counts F and_word Both counts)
+      (chain-complete And form F Anything counts complete (λ ps rest n. tt)) (λ ps rest n. (tt, or-stops ps rest n))
 
-  pub factor-means : (depth : ℕ) → Means Anything (factor (addresses items) threads depth) (IsFactor items threads depth)
+  factor-stands : (depth : ℕ) → Complete Anything (factor (addresses items) threads depth)
+      (IsFactor items threads depth)
   unfolding inner
-  factor-means zero s ps x rest = (
-    λ stands. (factor-takes 0 too_deep s ps rest (λ a e m deep. absurd (deep refl)) x stands, tt),
-    λ h. atom-stands 0 too_deep s ps rest x.0 x.1 h.0,
+  factor-stands zero s ps x rest h f = atom-stands 0 too_deep s ps x.0 x.1 rest h
+  factor-stands (suc depth) s ps x rest (inl h) f =
+      atom-stands (suc depth) (expression (factor (addresses items) threads depth)) s ps x.0 x.1 rest h
+  factor-stands (suc depth) s ps x rest (inr (a, b, begins, h, close)) f = (
+    (Parenthesis, s),
+    a,
+    start-stands threads (suc depth) s ps Parenthesis s a (begins, λ e. absurd (omega (arith, e)), refl),
+    (
+      x,
+      b,
+      expression-stands depth (factor-stands depth) s a x b h
+          ((tt, sign-stops And 41 b rest close), sign-stops Or 41 b rest close),
+      (tt, rest, sign-stands 41 b rest close, (refl, refl)),
+    ),
   )
-  factor-means (suc depth) s ps x rest =
-      let form : PartForm = expression (factor (addresses items) threads depth) in
-      let means : Means EndsExpression form (IsExpression items threads depth) =
-      expression-from depth (factor-means depth) in (
-        λ stands. (
-          factor-takes (suc depth) form s ps rest
-              (λ a e m deep open_ st close. inr (a, m, open_, ((means s a e m).0 st).0, close)) x stands,
-          tt,
-        ),
-        λ h. elim h.0 [
-          | inl atom ↦ atom-stands (suc depth) form s ps rest x.0 x.1 atom
-          | inr p ↦ enclosed-stands (suc depth) form s ps rest p.0 x p.1 (λ e. absurd (omega (arith, e))) p.2
-              ((means s p.0 x p.1).1 (p.3, ((tt, sign-stops And 41 p.1 rest p.4), sign-stops Or 41 p.1 rest p.4)))
-              p.4
-        ],
-      )
-
-  pub expression-means : (depth : ℕ) → Means EndsExpression (expression (factor (addresses items) threads depth))
-      (IsExpression items threads depth)
-  expression-means depth = expression-from depth (factor-means depth)
 
   -- ---- the whole
 
-  pub whole-means : (names : Names) (ps : List Piece) (x : Tree × Names) (rest : List Piece) →
-      Stands (whole (addresses items) threads names) ps x rest
-      ↔ (atoms : ℕ) × IsExpression items threads 64 (names, 0) ps x.0 (x.1, atoms) rest × AtTextEnd rest
-  whole-means names ps x rest = (takes, stands)
-    where
-      takes : Stands (whole (addresses items) threads names) ps x rest →
-          (atoms : ℕ) × IsExpression items threads 64 (names, 0) ps x.0 (x.1, atoms) rest × AtTextEnd rest
-      takes (e, m, is, (u, d, end, (x_is, d_is))) =
-          let p = ((expression-means 64 (names, 0) ps e m).0 is).0 in
-          let n = no_more-is m u d end in
-          let same : m ≡ rest = n.1 ∙ d_is in (
-            e.1.1,
-            subst (λ (y : Tree × Names). IsExpression items threads 64 (names, 0) ps y.0 (y.1, e.1.1) rest) x_is
-                (subst (λ q. IsExpression items threads 64 (names, 0) ps e.0 e.1 q) same p),
-            subst AtTextEnd same n.0,
-          )
+  module _ (names : Names) (ps : List Piece) where
+    -- an expression up to the end of the text
+    abbrev IsWhole : Tree × Names → List Piece → Type 0
+    IsWhole x rest = (atoms : ℕ) × IsExpression items threads 64 (names, 0) ps x.0 (x.1, atoms) rest × AtTextEnd rest
 
-      stands : (atoms : ℕ) × IsExpression items threads 64 (names, 0) ps x.0 (x.1, atoms) rest × AtTextEnd rest →
-          Stands (whole (addresses items) threads names) ps x rest
-      stands (atoms, is, end) =
-          let none : next_piece rest ≡ None = end-next rest end in (
-            (x.0, (x.1, atoms)),
-            rest,
-            (expression-means 64 (names, 0) ps (x.0, (x.1, atoms)) rest).1
-                (is, ((tt, end-stops And rest none), end-stops Or rest none)),
-            (tt, rest, rw none (refl, refl), (refl, refl)),
-          )
+    -- an expression stands up to there, and a further piece comes next
+    abbrev pub Further : Kind → List Piece → Type 0
+    Further kind there = (e : Tree × Sight) × (p : Piece) × IsExpression items threads 64 (names, 0) ps e.0 e.1
+        there × EndsExpression there × (next_piece there ≡ Some p) × (BadCondition ≡ kind)
+
+    abbrev pub WholeRefused : Kind → List Piece → Type 0
+    WholeRefused kind there =
+        Refusal items threads (ExpressionUpTo items threads 64 (names, 0) ps) kind there ⊎ Further kind there
+
+    pub whole-leads : Leads (whole (addresses items) threads names) ps IsWhole WholeRefused
+    whole-leads =
+        leads-then (leads-wide (λ kind there r. inl r) (expression-from 64 (factor-sound 64) (names, 0) ps)) (λ e m p.
+        leads-then (leads-at (λ u rest. IsExpression items threads 64 (names, 0) ps e.0 e.1 rest × AtTextEnd rest)
+        WholeRefused m (λ piece. Refuses BadCondition) (Ok tt) (elim [
+          | None ↦ λ f. (p.0, end-there m f)
+          | Some q ↦ λ f. inr (e, q, p.0, p.1, f, refl)
+        ])) (λ u rest h. leads-given (e.0, e.1.0) rest (e.1.1, h.0, h.1)))
+
+    pub whole-means : (x : Tree × Names) (rest : List Piece) → Stands (whole (addresses items) threads names) ps x rest
+        ↔ (atoms : ℕ) × IsExpression items threads 64 (names, 0) ps x.0 (x.1, atoms) rest × AtTextEnd rest
+    whole-means x rest = (
+      whole-leads.stands x rest,
+      λ h. let none : next_piece rest ≡ None = end-next rest h.2 in (
+        (x.0, (x.1, h.0)),
+        rest,
+        expression-stands 64 (factor-stands 64) (names, 0) ps (x.0, (x.1, h.0)) rest h.1
+            ((tt, end-stops And rest none), end-stops Or rest none),
+        (tt, rest, rw none (refl, refl), (refl, refl)),
+      ),
+    )

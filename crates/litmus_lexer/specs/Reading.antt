@@ -1,7 +1,6 @@
 -- Reading pieces from left to right, with the first fault that is met.
 use Rattle.std.specs.Prelude.{◌≡◌, ℕ, zero, suc, Bool, ◌+◌, ◌==◌, if◌then◌else◌, List, [], ◌∷◌, Option, Some, None}
 use Rattle.std.specs.Prelude.{Result, Ok, Err}
-use Rattle.std.specs.Str.{bytes_eq}
 use Rattle.text_lines.specs.Reading.{◌>>=◌}
 use Rattle.litmus_lexer.specs.Pieces.{Piece, Word, Sign, LineEnd}
 use Rattle.litmus_lexer.specs.declared.errors.Kind.{Kind}
@@ -100,13 +99,6 @@ passed_at wanted line [] = None
 passed_at wanted line (LineEnd ∷ pieces) = None
 passed_at wanted line (Word w ∷ pieces) = None
 passed_at wanted line (Sign b ∷ pieces) = if b == wanted then Some (line, pieces) else None
-
--- the position after a word that comes next
-unfoldable pub passed_word_at : List ℕ → ℕ → List Piece → Option (ℕ × List Piece)
-passed_word_at wanted line [] = None
-passed_word_at wanted line (LineEnd ∷ pieces) = None
-passed_word_at wanted line (Word w ∷ pieces) = if bytes_eq w wanted then Some (line, pieces) else None
-passed_word_at wanted line (Sign b ∷ pieces) = None
 
 -- what is read after a sign, if there is one
 abbrev pub read_behind_sign : {A B : Type 0} → Option A → B → (A → B) → B

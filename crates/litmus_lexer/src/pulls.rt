@@ -3,7 +3,6 @@
 ghost use Rattle.std.specs.Prelude.{◌≡◌, option_map};
 ghost use Rattle.litmus_lexer.specs.Reading.{Gives, as_word, next_at, next_word_at, sign_at, expect_at, here_at};
 ghost use Rattle.litmus_lexer.specs.Reading.{word_here_at, expect_here_at, start_at, end_line_at, passed_at};
-ghost use Rattle.litmus_lexer.specs.Reading.{passed_word_at};
 ghost use Rattle.litmus_lexer.specs.Views.{view_piece, view_word, view_read, view_position};
 
 use crate::cursor::Cursor;
@@ -126,18 +125,6 @@ pub fn passed<'a>(cursor: &Cursor<'a>, wanted: u8) -> Option<Cursor<'a>>
 {
     match cursor.piece() {
         Some((Token::Sign(sign), after)) if sign == wanted => Some(after),
-        _ => None,
-    }
-}
-
-/// The position after a word, if that word comes next in the line.
-#[tactic(auto, unfolding(crate::specs::Reading::passed_word_at))]
-pub fn passed_word<'a>(cursor: &Cursor<'a>, wanted: &[u8]) -> Option<Cursor<'a>>
-    ensures { option_map view_position result
-        ≡ passed_word_at wanted.now cursor.now.line cursor.now.pieces }
-{
-    match cursor.piece() {
-        Some((Token::Word(word), after)) if word == wanted => Some(after),
         _ => None,
     }
 }

@@ -7,16 +7,11 @@ use Rattle.litmus_lexer.specs.declared.errors.Kind.TheVariants.{CutShort}
 use Rattle.litmus_lexer.specs.declared.errors.LitmusError.{LitmusError}
 use Rattle.text_lines.specs.Reading.{◌>>=◌, found}
 use Rattle.litmus_lexer.specs.Reading.{repeat_at, fault_at}
-use Rattle.litmus_parser.specs.RestLines.{RestAt, line_ends}
+use Rattle.piece_forms.specs.Places.{line_ends}
+use Rattle.piece_forms.proofs.Lemmas.{line-ends-append}
+use Rattle.litmus_parser.specs.RestLines.{RestAt}
 
 -- ---- places
-
-pub line-ends-append : (xs ys : List Piece) → line_ends (xs ++ ys) ≡ line_ends xs + line_ends ys
-unfolding line_ends
-line-ends-append [] ys = omega arith
-line-ends-append (LineEnd ∷ xs) ys = let i = line-ends-append xs ys in omega arith
-line-ends-append (Word w ∷ xs) ys = line-ends-append xs ys
-line-ends-append (Sign b ∷ xs) ys = line-ends-append xs ys
 
 unfoldable pub start : (line : ℕ) (pieces : List Piece) → RestAt line pieces line pieces
 unfolding line_ends

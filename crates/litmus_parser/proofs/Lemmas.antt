@@ -6,12 +6,8 @@ pub use Rattle.litmus_parser.proofs.BlockOnly.{AreAlike, alike-address, alike-al
 pub use Rattle.litmus_parser.proofs.BlockFault.{block_explains, block_place}
 -- What is read as the initial block is in the grammar.
 pub use Rattle.litmus_parser.proofs.BlockFound.{block_takes}
--- A condition that is in the grammar is read.
-pub use Rattle.litmus_parser.proofs.ConditionOnly.{condition_again}
--- A condition that is refused has the cause of its fault in the fault's line.
-pub use Rattle.litmus_parser.proofs.ConditionFault.{condition_explains}
--- What is read as the condition is in the grammar.
-pub use Rattle.litmus_parser.proofs.ConditionFound.{condition_takes}
+-- What is read as the condition is in the grammar, what is in it is read, and a fault has its cause.
+pub use Rattle.litmus_parser.proofs.ConditionLaws.{condition_takes, condition_again, condition_explains}
 -- A reading leads on, or its fault has its cause.
 pub use Rattle.litmus_parser.proofs.Causes.{Explains, Onto, bind_explains, found_explains, repeat_counted}
 pub use Rattle.litmus_parser.proofs.Causes.{test_explains, told}

@@ -1,16 +1,12 @@
-mod AfterLineEnds
-mod Chains
 mod Steps
 mod BlockFound
 mod FormFound
 mod TableFound
-mod ConditionFound
 mod Onward
 mod OnwardHere
 mod FormOnly
 mod TableOnly
 mod WordsOnly
-mod ConditionOnly
 mod BlockOnly
 mod Causes
 mod CausesHere
@@ -18,13 +14,15 @@ mod ReadAnswers
 mod LocationFault
 mod WantedFault
 mod BlockFault
-mod ConditionFault
-mod WaysOn
-mod ConditionWays
 mod FormFault
 mod ShapeFault
 mod HeaderFault
 mod VerdictFault
 mod RowFault
 mod TableFault
+mod ConditionSteps
+mod ConditionLooks
+mod ConditionMeaning
+mod ConditionFault
+mod ConditionLaws
 pub mod Lemmas

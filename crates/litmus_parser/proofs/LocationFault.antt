@@ -15,7 +15,7 @@ use Rattle.litmus_parser.specs.LocationFaults.{IsNew, IsOneTooMany}
 use Rattle.litmus_parser.proofs.Causes.{Explains, test_explains}
 
 -- a name that is found nowhere is new
-new-name : (word : List ℕ) (names : Names) → length names ≤ place_of word names → IsNew word names
+pub new-name : (word : List ℕ) (names : Names) → length names ≤ place_of word names → IsNew word names
 new-name word [] le = tt
 new-name word (name ∷ names) le =
     elim (cases_Bool (bytes_eq name word)) [

@@ -11,10 +11,9 @@ pub mod ReadingRows
 pub mod ReadingTable
 pub mod Trees
 pub mod TreeViews
-pub mod ReadingAtoms
-pub mod ReadingCondition
 pub mod ReadingHeader
 pub mod Extents
+pub mod Condition
 pub mod ReadingEnd
 pub mod GrammarWords
 pub mod GrammarBlock

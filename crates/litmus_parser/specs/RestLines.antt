@@ -1,13 +1,7 @@
 -- Places in a text: what stands in front of one, and in which line it is.
-use Rattle.std.specs.Prelude.{◌≡◌, ℕ, ◌+◌, List, [], ◌∷◌, ◌++◌}
-use Rattle.litmus_lexer.specs.Pieces.{Piece, Word, Sign, LineEnd}
-
--- how many lines end in these pieces
-unfoldable pub line_ends : List Piece → ℕ
-line_ends [] = 0
-line_ends (LineEnd ∷ pieces) = 1 + line_ends pieces
-line_ends (Word w ∷ pieces) = line_ends pieces
-line_ends (Sign b ∷ pieces) = line_ends pieces
+use Rattle.std.specs.Prelude.{◌≡◌, ℕ, ◌+◌, List, ◌++◌}
+use Rattle.litmus_lexer.specs.Pieces.{Piece}
+use Rattle.piece_forms.specs.Places.{line_ends}
 
 -- of pieces that begin in this line, the rest stands in line n
 pub record RestAt (line : ℕ) (pieces : List Piece) (n : ℕ) (rest : List Piece) : Type 0 where

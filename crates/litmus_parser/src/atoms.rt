@@ -1,114 +1,133 @@
-//! The atoms of a condition, and the signs between them.
+//! The atoms of a condition.
 
-ghost use Rattle.std.specs.Prelude.{◌≡◌, ◌<◌, ◌≤◌, length, IfSome, option_map};
-ghost use Rattle.litmus_lexer.specs.Views.{view_read, view_as, view_position};
+ghost use Rattle.std.specs.Prelude.{◌≡◌, ◌≢◌, ◌<◌, IfOk};
+ghost use Rattle.litmus_lexer.specs.Spelling.{small_of};
+ghost use Rattle.litmus_lexer.specs.Views.{view_read};
 ghost use Rattle.litmus_lexer.specs.Reading.{Gives};
+ghost use Rattle.piece_forms.specs.Forms.{one, word};
+ghost use Rattle.piece_forms.specs.Reading.{reads, judged};
 ghost use Rattle.litmus_parser.specs.TreeViews.{tree_of};
-ghost use Rattle.litmus_parser.specs.ReadingAtoms.{joined_at, register_name_at, location_name_at, name_at, atom_at};
-ghost use Rattle.litmus_lexer.specs.Spelling.{is_and, is_or};
+ghost use Rattle.litmus_parser.specs.Condition.{addresses, name, start, register, value, rest_of_atom};
+ghost use Rattle.litmus_parser.specs.declared.atoms.Start.TheVariants.{Parenthesis};
+ghost use Rattle.litmus_lexer.specs.declared.errors.Kind.TheVariants.{BadCondition};
 
-use crate::items::{is_address, location, value};
+use crate::items::{is_address, location};
 use crate::syntax::{Expr, Item, Name};
 use litmus_lexer::{
-    COLON, Cursor, EQUALS, Kind, LAST_THREAD, Locations, MOST_ATOMS, ReadError, expect,
-    passed_word, register, small, word,
+    Cursor, EQUALS, Kind, LAST_THREAD, Locations, MOST_ATOMS, OPENING_PARENTHESIS, ReadError,
+    Token, VALUE_BOUND, is_number, number, register, small,
 };
+use piece_forms::{ahead, expect_sign};
 
-/// The position after an `and` that comes next.
-pub fn and_sign<'a>(cursor: &Cursor<'a>) -> Option<Cursor<'a>>
-    ensures { option_map view_position result ≡ joined_at is_and cursor.now.line cursor.now.pieces }
-{
-    passed_word(&cursor.past_line_ends(), &[b'/', b'\\'])
+/// What a factor begins with.
+#[derive(Clone, Copy)]
+pub enum Start {
+    OfThread(u8),
+    OfLocation(u8),
+    Parenthesis,
 }
 
-/// The position after an `or` that comes next.
-pub fn or_sign<'a>(cursor: &Cursor<'a>) -> Option<Cursor<'a>>
-    ensures { option_map view_position result ≡ joined_at is_or cursor.now.line cursor.now.pieces }
-{
-    passed_word(&cursor.past_line_ends(), &[b'\\', b'/'])
-}
-
-/// The register after the thread's number: one that holds values.
-#[tactic(auto, unfolding(crate::specs::ReadingAtoms::register_name_at))]
-fn register_name<'a>(
-    items: &[Item],
-    threads: u8,
-    thread: u8,
-    cursor: Cursor<'a>,
-) -> Result<(Name, Cursor<'a>), ReadError>
-    ensures { Gives view_read result
-        (register_name_at items.now threads thread cursor.entry.line cursor.entry.pieces) }
-{
-    if thread >= threads {
-        return Err(cursor.fault(Kind::BadCondition));
-    }
-    let after = expect(cursor, COLON, Kind::BadCondition)?;
-    let (word, after) = word(after, Kind::BadCondition)?;
-    let Some(register) = register(word) else {
-        return Err(after.fault(Kind::BadCondition));
-    };
-    if register == 0 {
-        return Err(after.fault(Kind::BadCondition));
-    }
-    if is_address(items, thread, register) {
-        return Err(after.fault(Kind::AddressAsValue));
-    }
-    Ok((Name::Register(thread, register), after))
-}
-
-#[tactic(auto, unfolding(crate::specs::ReadingAtoms::location_name_at))]
-fn location_name<'a>(
-    locations: &mut Locations,
-    first: &[u8],
-    cursor: Cursor<'a>,
-) -> Result<(Name, Cursor<'a>), ReadError>
-    ensures { Gives (view_as (λ read. (read, locations.new))) result
-        (location_name_at first.now locations.old cursor.entry.line cursor.entry.pieces) }
-{
-    let number = location(locations, first, &cursor, Kind::BadCondition)?;
-    Ok((Name::Location(number), cursor))
-}
-
-/// The name that begins with this word.
-#[tactic(auto, unfolding(crate::specs::ReadingAtoms::name_at))]
-fn name<'a>(
-    items: &[Item],
+/// The thread or the location that a word names.
+fn name_start(
     threads: u8,
     locations: &mut Locations,
-    first: &[u8],
-    cursor: Cursor<'a>,
-) -> Result<(Name, Cursor<'a>), ReadError>
-    ensures { Gives (view_as (λ read. (read, locations.new))) result
-        (name_at items.now threads first.now locations.old cursor.entry.line cursor.entry.pieces) }
+    word: &[u8],
+    at: &Cursor<'_>,
+) -> Result<Start, ReadError>
+    ensures read { Gives (λ start. (start, locations.new)) result
+        (judged (name threads (small_of 15 word.now) word.now locations.old) at.now.line) }
+    ensures name { IfOk result (λ start. start ≢ Parenthesis) }
 {
-    match small(first, LAST_THREAD) {
-        Some(thread) => {
-            let (name, after) = register_name(items, threads, thread, cursor)?;
-            Ok((name, after))
-        }
-        None => location_name(locations, first, cursor),
+    match small(word, LAST_THREAD) {
+        Some(thread) if thread < threads => Ok(Start::OfThread(thread)),
+        Some(_) => Err(at.fault(Kind::BadCondition)),
+        None => Ok(Start::OfLocation(location(locations, word, at, Kind::BadCondition)?)),
     }
 }
 
-/// The rest of an atom that begins with this word, and how many atoms there are with it.
-#[tactic(auto, unfolding(crate::specs::ReadingAtoms::atom_at))]
-pub fn atom<'a>(
-    items: &[Item],
+/// What a factor begins with, how many atoms there are with it, and the position after it.
+pub fn factor_start<'a>(
     threads: u8,
+    depth: u8,
     locations: &mut Locations,
     atoms: u16,
-    first: &[u8],
     cursor: Cursor<'a>,
-) -> Result<(Expr, u16, Cursor<'a>), ReadError>
-    ensures { Gives (λ r. ((tree_of r.0, (locations.new, r.1)), r.2.line, r.2.pieces)) result
-        (atom_at items.now threads first.now (locations.old, atoms)
+) -> Result<(Start, u16, Cursor<'a>), ReadError>
+    ensures read { Gives (λ r. ((r.0, (locations.new, r.1)), r.2.line, r.2.pieces)) result
+        (reads (one (start threads depth (locations.old, atoms)))
+        cursor.entry.line cursor.entry.pieces) }
+    ensures deep { IfOk result (λ r. r.0 ≡ Parenthesis → 0 < depth) }
+{
+    match ahead(&cursor) {
+        (Some(Token::Word(word)), after) => {
+            if atoms >= MOST_ATOMS {
+                return Err(after.fault(Kind::TooLarge));
+            }
+            let start = name_start(threads, locations, word, &after)?;
+            Ok((start, atoms + 1, after))
+        }
+        (Some(Token::Sign(OPENING_PARENTHESIS)), after) => {
+            if depth == 0 {
+                return Err(after.fault(Kind::TooLarge));
+            }
+            Ok((Start::Parenthesis, atoms, after))
+        }
+        (Some(_), after) => Err(after.fault(Kind::BadCondition)),
+        (None, end) => Err(end.fault(Kind::CutShort)),
+    }
+}
+
+/// A register of the thread that holds values.
+pub fn value_register<'a>(
+    items: &[Item],
+    thread: u8,
+    cursor: Cursor<'a>,
+) -> Result<(u8, Cursor<'a>), ReadError>
+    ensures { Gives view_read result (reads (register (addresses items.now thread))
         cursor.entry.line cursor.entry.pieces) }
 {
-    if atoms >= MOST_ATOMS {
-        return Err(cursor.fault(Kind::TooLarge));
+    match ahead(&cursor) {
+        (Some(Token::Word(word)), after) => match register(word) {
+            None | Some(0) => Err(after.fault(Kind::BadCondition)),
+            Some(register) => {
+                if is_address(items, thread, register) {
+                    return Err(after.fault(Kind::AddressAsValue));
+                }
+                Ok((register, after))
+            }
+        },
+        (Some(_), after) => Err(after.fault(Kind::BadCondition)),
+        (None, end) => Err(end.fault(Kind::CutShort)),
     }
-    let (name, after) = name(items, threads, locations, first, cursor)?;
-    let after = expect(after, EQUALS, Kind::BadCondition)?;
-    let (value, after) = value(after, Kind::BadCondition)?;
-    Ok((Expr::Is(name, value), atoms + 1, after))
+}
+
+/// A number that is a value.
+fn atom_value<'a>(cursor: Cursor<'a>) -> Result<(u32, Cursor<'a>), ReadError>
+    ensures { Gives view_read result
+        (reads (one (word BadCondition value)) cursor.entry.line cursor.entry.pieces) }
+{
+    match ahead(&cursor) {
+        (Some(Token::Word(word)), after) => {
+            if !is_number(word) {
+                return Err(after.fault(Kind::BadCondition));
+            }
+            let value = number(word);
+            if value == VALUE_BOUND {
+                return Err(after.fault(Kind::ValueRange));
+            }
+            Ok((value, after))
+        }
+        (Some(_), after) => Err(after.fault(Kind::BadCondition)),
+        (None, end) => Err(end.fault(Kind::CutShort)),
+    }
+}
+
+/// The rest of an atom after its name.
+pub fn atom<'a>(name: Name, cursor: Cursor<'a>) -> Result<(Expr, Cursor<'a>), ReadError>
+    ensures { Gives (λ r. (tree_of r.0, r.1.line, r.1.pieces)) result
+        (reads (rest_of_atom name) cursor.entry.line cursor.entry.pieces) }
+{
+    let after = expect_sign(cursor, Kind::BadCondition, EQUALS)?;
+    let (value, after) = atom_value(after)?;
+    Ok((Expr::Is(name, value), after))
 }

@@ -4,12 +4,13 @@ ghost use Rattle.std.specs.Prelude.{◌≡◌};
 ghost use Rattle.litmus_lexer.specs.Views.{view_read};
 ghost use Rattle.litmus_lexer.specs.Reading.{Gives};
 ghost use Rattle.litmus_parser.specs.TreeViews.{tree_of};
-ghost use Rattle.litmus_parser.specs.ReadingEnd.{keyword_at, further_at, whole_at, condition_at};
+ghost use Rattle.litmus_parser.specs.ReadingEnd.{keyword_at, condition_at};
 
-use crate::expressions::{Connective, chain};
+use crate::expressions::{Connective, expression};
 use crate::syntax::{Expr, Item, Quantifier};
 use crate::table::quantifier_named;
 use litmus_lexer::{Cursor, Kind, Locations, MOST_DEPTH, ReadError, word_here};
+use piece_forms::expect_end;
 use std::alloc::Global;
 
 #[tactic(auto, unfolding(crate::specs::ReadingEnd::keyword_at))]
@@ -20,45 +21,6 @@ fn keyword<'a>(cursor: Cursor<'a>) -> Result<(Quantifier, Cursor<'a>), ReadError
     match quantifier_named(word) {
         Some(quantifier) => Ok((quantifier, after)),
         None => Err(after.fault(Kind::BadTable)),
-    }
-}
-
-/// The line of the next piece, if there is one.
-fn further(cursor: &Cursor<'_>) -> Option<usize>
-    ensures { result ≡ further_at cursor.now.line cursor.now.pieces }
-{
-    let at = cursor.past_line_ends();
-    match at.piece() {
-        Some(_) => Some(at.line()),
-        None => None,
-    }
-}
-
-/// An expression, and nothing after it.
-#[tactic(auto, unfolding(crate::specs::ReadingEnd::whole_at))]
-fn whole(
-    alloc: Global,
-    items: &[Item],
-    threads: u8,
-    locations: &mut Locations,
-    cursor: Cursor<'_>,
-) -> Result<Expr, ReadError>
-    ensures { Gives (λ r. (tree_of r, locations.new)) result
-        (whole_at items.now threads locations.old cursor.entry.line cursor.entry.pieces) }
-{
-    let (expr, _, after) = chain(
-        alloc,
-        items,
-        threads,
-        locations,
-        0,
-        MOST_DEPTH,
-        Connective::Or,
-        cursor,
-    )?;
-    match further(&after) {
-        Some(line) => Err(ReadError::at(line, Kind::BadCondition)),
-        None => Ok(expr),
     }
 }
 
@@ -75,6 +37,16 @@ pub fn condition(
         (condition_at items.now threads locations.old cursor.entry.line cursor.entry.pieces) }
 {
     let (quantifier, after) = keyword(cursor)?;
-    let expr = whole(alloc, items, threads, locations, after)?;
+    let (expr, _, after) = expression(
+        alloc,
+        items,
+        threads,
+        locations,
+        0,
+        MOST_DEPTH,
+        Connective::Or,
+        after,
+    )?;
+    expect_end(after, Kind::BadCondition)?;
     Ok((quantifier, expr))
 }

@@ -1,18 +1,16 @@
 //! The expression of a condition.
 
-ghost use Rattle.std.specs.Prelude.{◌≡◌, Ok, IfOk, option_map};
+ghost use Rattle.std.specs.Prelude.{◌≡◌, IfOk};
 ghost use Rattle.litmus_lexer.specs.Reading.{Gives};
+ghost use Rattle.piece_forms.specs.Forms.{turn};
+ghost use Rattle.piece_forms.specs.Reading.{reads};
 ghost use Rattle.litmus_parser.specs.TreeViews.{tree_of};
-ghost use Rattle.litmus_parser.specs.ReadingAtoms.{joined_at};
-ghost use Rattle.litmus_parser.specs.ReadingCondition.{sign_of, join_of, chain_at, part_at, next_part_at, factor_at};
-ghost use Rattle.litmus_lexer.specs.Views.{view_position};
+ghost use Rattle.litmus_parser.specs.Condition.{addresses, sign_of, join_of, further, joined, chain, part_of, factor};
 
-use crate::atoms::{and_sign, atom, or_sign};
-use crate::syntax::{Expr, Item};
-use litmus_lexer::{
-    CLOSING_PARENTHESIS, Cursor, Kind, Locations, MOST_ATOMS, OPENING_PARENTHESIS, ReadError,
-    Token, expect, next,
-};
+use crate::atoms::{Start, atom, factor_start, value_register};
+use crate::syntax::{Expr, Item, Name};
+use litmus_lexer::{CLOSING_PARENTHESIS, COLON, Cursor, Kind, Locations, MOST_ATOMS, ReadError};
+use piece_forms::{expect_sign, over_word};
 use std::alloc::{AllocError, Global};
 
 /// What joins the parts of an expression: `or` its terms, `and` the factors of a term.
@@ -20,17 +18,6 @@ use std::alloc::{AllocError, Global};
 pub enum Connective {
     And,
     Or,
-}
-
-/// The position after the connective's sign, if that comes next.
-fn sign<'a>(connective: Connective, cursor: &Cursor<'a>) -> Option<Cursor<'a>>
-    ensures { option_map view_position result ≡
-        joined_at (sign_of connective) cursor.now.line cursor.now.pieces }
-{
-    match connective {
-        Connective::And => and_sign(cursor),
-        Connective::Or => or_sign(cursor),
-    }
 }
 
 fn join(alloc: Global, connective: Connective, left: Expr, right: Expr) -> Result<Expr, AllocError>
@@ -45,9 +32,19 @@ fn join(alloc: Global, connective: Connective, left: Expr, right: Expr) -> Resul
     })
 }
 
+/// The sign of the connective.
+fn sign(connective: Connective) -> &'static [u8]
+    ensures { result.now ≡ sign_of connective }
+{
+    match connective {
+        Connective::And => &[b'/', b'\\'],
+        Connective::Or => &[b'\\', b'/'],
+    }
+}
+
 /// Parts with the connective between.
 #[cycle(expression)]
-pub fn chain<'a>(
+pub fn expression<'a>(
     alloc: Global,
     items: &[Item],
     threads: u8,
@@ -58,8 +55,8 @@ pub fn chain<'a>(
     cursor: Cursor<'a>,
 ) -> Result<(Expr, u16, Cursor<'a>), ReadError>
     ensures { Gives (λ r. ((tree_of r.0, (locations.new, r.1)), r.2.line, r.2.pieces)) result
-        (chain_at connective items.now threads depth (locations.old, atoms)
-        cursor.entry.line cursor.entry.pieces) }
+        (reads (chain connective (part_of connective (addresses items.now) threads depth)
+        (locations.old, atoms)) cursor.entry.line cursor.entry.pieces) }
 {
     let (first, mut atoms, mut at) = part(
         alloc, items, threads, locations, atoms, depth, connective, cursor,
@@ -76,12 +73,11 @@ pub fn chain<'a>(
             return Ok((left, atoms, at));
         }
     }
-    Err(at.fault(Kind::TooLarge))
+    Ok((left, atoms, at))
 }
 
 /// A further part after the connective's sign, if there is one.
 #[cycle(expression)]
-#[tactic(auto, unfolding(crate::specs::ReadingCondition::next_part_at))]
 fn next_part<'a>(
     alloc: Global,
     items: &[Item],
@@ -93,11 +89,12 @@ fn next_part<'a>(
     left: Expr,
     at: Cursor<'a>,
 ) -> Result<(bool, Expr, u16, Cursor<'a>), ReadError>
-    ensures { Gives (λ r. (r.0, (tree_of r.1, (locations.new, r.2), r.3.line, r.3.pieces))) result
-        (next_part_at connective items.now threads depth
-        (tree_of left, (locations.old, atoms), at.entry.line, at.entry.pieces)) }
+    ensures { Gives (λ r. ((r.0, (tree_of r.1, (locations.new, r.2))), r.3.line, r.3.pieces)) result
+        (reads (turn (further connective)
+        (joined connective (part_of connective (addresses items.now) threads depth))
+        (tree_of left, (locations.old, atoms))) at.entry.line at.entry.pieces) }
 {
-    match sign(connective, &at) {
+    match over_word(&at, sign(connective)) {
         None => Ok((false, left, atoms, at)),
         Some(after) => {
             let (right, atoms, after) = part(
@@ -122,12 +119,12 @@ fn part<'a>(
     cursor: Cursor<'a>,
 ) -> Result<(Expr, u16, Cursor<'a>), ReadError>
     ensures { Gives (λ r. ((tree_of r.0, (locations.new, r.1)), r.2.line, r.2.pieces)) result
-        (part_at connective items.now threads depth (locations.old, atoms)
+        (reads (part_of connective (addresses items.now) threads depth (locations.old, atoms))
         cursor.entry.line cursor.entry.pieces) }
 {
     match connective {
         Connective::And => factor(alloc, items, threads, locations, atoms, depth, cursor),
-        Connective::Or => chain(
+        Connective::Or => expression(
             alloc,
             items,
             threads,
@@ -142,7 +139,7 @@ fn part<'a>(
 
 /// An atom, or an expression in parentheses that may be that deep.
 #[cycle(expression)]
-#[tactic(auto, unfolding(crate::specs::ReadingCondition::factor_at))]
+#[tactic(auto, unfolding(crate::specs::Condition::inner))]
 fn factor<'a>(
     alloc: Global,
     items: &[Item],
@@ -153,17 +150,23 @@ fn factor<'a>(
     cursor: Cursor<'a>,
 ) -> Result<(Expr, u16, Cursor<'a>), ReadError>
     ensures { Gives (λ r. ((tree_of r.0, (locations.new, r.1)), r.2.line, r.2.pieces)) result
-        (factor_at items.now threads depth (locations.old, atoms)
+        (reads (factor (addresses items.now) threads depth (locations.old, atoms))
         cursor.entry.line cursor.entry.pieces) }
 {
-    let (token, after) = next(cursor)?;
-    match token {
-        Token::Word(first) => atom(items, threads, locations, atoms, first, after),
-        Token::Sign(OPENING_PARENTHESIS) => {
-            if depth == 0 {
-                return Err(after.fault(Kind::TooLarge));
-            }
-            let (inner, atoms, after) = chain(
+    let (start, atoms, after) = factor_start(threads, depth, locations, atoms, cursor)?;
+    match start {
+        Start::OfThread(thread) => {
+            let after = expect_sign(after, Kind::BadCondition, COLON)?;
+            let (register, after) = value_register(items, thread, after)?;
+            let (tree, after) = atom(Name::Register(thread, register), after)?;
+            Ok((tree, atoms, after))
+        }
+        Start::OfLocation(number) => {
+            let (tree, after) = atom(Name::Location(number), after)?;
+            Ok((tree, atoms, after))
+        }
+        Start::Parenthesis => {
+            let (inner, atoms, after) = expression(
                 alloc,
                 items,
                 threads,
@@ -173,9 +176,8 @@ fn factor<'a>(
                 Connective::Or,
                 after,
             )?;
-            let after = expect(after, CLOSING_PARENTHESIS, Kind::BadCondition)?;
+            let after = expect_sign(after, Kind::BadCondition, CLOSING_PARENTHESIS)?;
             Ok((inner, atoms, after))
         }
-        _ => Err(after.fault(Kind::BadCondition)),
     }
 }

@@ -1,13 +1,20 @@
 use Rattle.std.proofs.Common.{◌≡◌, ◌+◌, ◌-◌, ◌*◌}
-use Rattle.text_lines.specs.Reading.{◌>>=◌}
-use Rattle.litmus_lexer.specs.Reading.{repeat_at}
-use Rattle.litmus_parser.specs.ReadingCondition.{chain_at, next_part_at, too_many_parts, chain_result}
+use Rattle.piece_forms.specs.Forms.{many}
+use Rattle.piece_forms.specs.Reading.{reads}
+use Rattle.litmus_parser.specs.Condition.{addresses, further, joined, part_of, chain}
 use Rattle.litmus_parser.specs.TreeViews.{tree_of}
-use Rattle.litmus_parser.proofs.Chains.{level}
+use Rattle.litmus_parser.specs.declared.expressions.Connective.{Connective}
+use Rattle.litmus_parser.specs.declared.expressions.Connective.TheVariants.{And, Or}
+use Rattle.std.proofs.Common.{ℕ}
 use Rattle.litmus_parser.proofs.expressions.+expression.Given as goal
 
-abbrev pub decreases-chain : goal.decreases-chain
-decreases-chain l = 7 * l.depth + 3 + level l.connective
+-- a part of a connective is read before the next part, and a chain after both
+abbrev level : Connective → ℕ
+level And = 0
+level Or = 3
+
+abbrev pub decreases-expression : goal.decreases-expression
+decreases-expression l = 7 * l.depth + 3 + level l.connective
 
 abbrev pub decreases-next_part : goal.decreases-next_part
 decreases-next_part l = 7 * l.depth + 2 + level l.connective
@@ -19,9 +26,10 @@ abbrev pub decreases-factor : goal.decreases-factor
 decreases-factor l = 7 * l.depth
 
 -- what is left to read is what all of it reads as
-abbrev pub invariant-chain-loop : goal.invariant-chain-loop
-invariant-chain-loop l =
-    (repeat_at (256 - l.counter) (next_part_at l.fn.connective l.fn.items l.fn.threads l.fn.depth) too_many_parts
-    (tree_of l.left, (l.locations, l.atoms), l.at.line, l.at.pieces) >>= chain_result)
-    ≡ chain_at l.fn.connective l.fn.items l.fn.threads l.fn.depth (l.fn.locations, l.fn.atoms)
-    l.fn.cursor.line l.fn.cursor.pieces
+abbrev pub invariant-expression-loop : goal.invariant-expression-loop
+invariant-expression-loop l =
+    reads (many (further l.fn.connective) (joined l.fn.connective
+    (part_of l.fn.connective (addresses l.fn.items) l.fn.threads l.fn.depth)) (256 - l.counter)
+    (tree_of l.left, (l.locations, l.atoms))) l.at.line l.at.pieces
+    ≡ reads (chain l.fn.connective (part_of l.fn.connective (addresses l.fn.items) l.fn.threads l.fn.depth)
+    (l.fn.locations, l.fn.atoms)) l.fn.cursor.line l.fn.cursor.pieces

@@ -1,0 +1,107 @@
+-- What the steps of reading a condition give, by their tests.
+use Rattle.std.proofs.Common.{◌≡◌, ℕ, zero, suc, ◌+◌, ◌-◌, ◌<◌, Bool, true, false, cond, not, ◌++◌, ltb, leb, List, []}
+use Rattle.std.proofs.Common.{◌∷◌, length, Option, Some, None, Result, Ok, Err, refl, ap, subst, ◌∙◌, arith}
+use Rattle.std.proofs.lemmas.Bool.{lt-leb}
+use Rattle.litmus_lexer.specs.Pieces.{Piece, Word}
+use Rattle.litmus_lexer.specs.Naming.{place_of}
+use Rattle.litmus_lexer.specs.Spelling.{is_location, small_of}
+use Rattle.litmus_lexer.specs.declared.errors.Kind.{Kind}
+use Rattle.litmus_lexer.specs.declared.errors.Kind.TheVariants.{TooLarge, BadCondition}
+use Rattle.litmus_lexer.specs.declared.errors.LitmusError.{LitmusError}
+use Rattle.litmus_lexer.specs.declared.errors.ReadError.{ReadError}
+use Rattle.litmus_lexer.specs.declared.errors.ReadError.TheVariants.{Memory, Fault}
+use Rattle.text_lines.specs.Reading.{◌>>=◌}
+use Rattle.litmus_lexer.specs.Reading.{Fails, fails}
+use Rattle.piece_forms.specs.Places.{next_piece, behind_next, ends_ahead}
+use Rattle.piece_forms.specs.Forms.{one, sign}
+use Rattle.piece_forms.specs.Reading.{decided, judged, reads}
+use Rattle.litmus_parser.specs.Names.{Names}
+use Rattle.litmus_parser.specs.ReadingItems.{location_at}
+use Rattle.litmus_parser.specs.GrammarCondition.{Sight}
+use Rattle.litmus_parser.specs.Condition.{Addresses, location, name, counted, start, chain, part_of, inner, factor}
+use Rattle.litmus_parser.specs.declared.atoms.Start.{Start}
+use Rattle.litmus_parser.specs.declared.atoms.Start.TheVariants.{OfLocation, Parenthesis}
+use Rattle.litmus_parser.specs.declared.expressions.Connective.TheVariants.{Or}
+use Rattle.litmus_parser.specs.Trees.{Tree}
+
+location-cases : (is known full : Bool) (line place new : ℕ) (old more : Names) →
+    judged {A = Start × Names} (cond (not is) (Err BadCondition) (cond known (Ok (OfLocation place, old)) (cond full (Err TooLarge)
+    (Ok (OfLocation new, more))))) line
+    ≡ ((let r : Result (ℕ × Names) LitmusError = cond is (cond known (Ok (place, old)) (cond full (fails TooLarge line)
+    (Ok (new, more)))) (fails BadCondition line) in r) >>= λ l. Ok (OfLocation l.0, l.1))
+location-cases true true full line place new old more = refl
+location-cases true false true line place new old more = refl
+location-cases true false false line place new old more = refl
+location-cases false known full line place new old more = refl
+
+location-judged : (w : List ℕ) (names : Names) (line : ℕ) → judged (location w names) line ≡
+    (location_at BadCondition w line names >>= λ l. Ok (OfLocation l.0, l.1))
+unfolding location_at
+location-judged w names line =
+    location-cases (is_location w) (ltb (place_of w names) (length names)) (leb 64 (length names)) line
+    (place_of w names) (length names) names (names ++ w ∷ [])
+
+fails-on : {A B : Type 0} (e : ReadError) (r : Result A LitmusError) (g : A → Result B LitmusError)
+    (total : Result B LitmusError) → Fails e r → total ≡ (r >>= g) → Fails e total
+fails-on Memory r g total h a = tt
+fails-on (Fault f) r g total h a = a ∙ ap (λ x. x >>= g) h
+
+module _ (threads : ℕ) (w : List ℕ) (names : Names) (line : ℕ) where
+  named : Option ℕ → Result (Start × Names) LitmusError
+  named o = judged (name threads o w names) line
+
+  pub location-read : (o : Option ℕ) (x : ℕ × Names) → o ≡ None → location_at BadCondition w line names ≡ Ok x →
+      judged (name threads o w names) line ≡ Ok (OfLocation x.0, x.1)
+  unfolding named
+  location-read o x none h =
+      ap named none ∙ location-judged w names line
+      ∙ ap (λ (r : Result (ℕ × Names) LitmusError). r >>= λ l. Ok (OfLocation l.0, l.1)) h
+
+  pub location-fails : (o : Option ℕ) (e : ReadError) → o ≡ None → Fails e (location_at BadCondition w line names) →
+      Fails e (judged (name threads o w names) line)
+  unfolding named
+  location-fails o e none h =
+      fails-on e (location_at BadCondition w line names) (λ l. Ok (OfLocation l.0, l.1)) (named o) h
+      (ap named none ∙ location-judged w names line)
+
+counted-read : (r : Result (Start × Names) Kind) (atoms line : ℕ) (pieces : List Piece) →
+    decided (counted atoms r) line pieces ≡ (judged r (line + ends_ahead pieces) >>= λ x.
+    Ok ((x.0, (x.1, atoms + 1)), line + ends_ahead pieces, behind_next pieces))
+counted-read (Ok x) atoms line pieces = refl
+counted-read (Err kind) atoms line pieces = refl
+
+-- an atom begins here, and these lines and pieces follow
+module _ (threads depth atoms line : ℕ) (names : Names) (pieces : List Piece) (w : List ℕ) (at : ℕ)
+    (rest : List Piece) (next : next_piece pieces ≡ Some (Word w)) (few : atoms < 256)
+    (at_is : at ≡ line + ends_ahead pieces) (rest_is : rest ≡ behind_next pieces) where
+  start-is : reads (one (start threads depth (names, atoms))) line pieces ≡
+      (judged (name threads (small_of 15 w) w names) at >>= λ x. Ok ((x.0, (x.1, atoms + 1)), at, rest))
+  start-is =
+      let more : leb 256 atoms ≡ false = lt-leb _ _ few in
+      rw (next, more, at_is, rest_is) (counted-read (name threads (small_of 15 w) w names) atoms line pieces)
+
+  pub start-read : (x : Start × Names) → judged (name threads (small_of 15 w) w names) at ≡ Ok x →
+      reads (one (start threads depth (names, atoms))) line pieces ≡ Ok ((x.0, (x.1, atoms + 1)), at, rest)
+  start-read x h = start-is ∙ ap (λ (r : Result (Start × Names) LitmusError). r >>= λ x.
+      Ok ((x.0, (x.1, atoms + 1)), at, rest)) h
+
+  pub start-fails : (e : ReadError) → Fails e (judged (name threads (small_of 15 w) w names) at) →
+      Fails e (reads (one (start threads depth (names, atoms))) line pieces)
+  start-fails e h =
+      fails-on e (judged (name threads (small_of 15 w) w names) at) (λ x.
+      Ok ((x.0, (x.1, atoms + 1)), at, rest)) (reads (one (start threads depth (names, atoms))) line pieces) h start-is
+
+-- after ( and an expression no ) follows
+pub paren-fails : (holds : Addresses) (threads depth : ℕ) (s t u : Sight) (tree : Tree) (line l m : ℕ)
+    (pieces ps qs : List Piece) (e : ReadError) → 0 < depth
+    → reads (one (start threads depth s)) line pieces ≡ Ok ((Parenthesis, t), l, ps)
+    → reads (chain Or (part_of Or holds threads (depth - 1)) t) l ps ≡ Ok ((tree, u), m, qs)
+    → Fails e (reads (one (sign BadCondition 41)) m qs) → Fails e (reads (factor holds threads depth s) line pieces)
+unfolding inner
+paren-fails holds threads zero s t u tree line l m pieces ps qs e deep h k f = absurd (omega (arith, deep))
+paren-fails holds threads (suc depth) s t u tree line l m pieces ps qs Memory deep h k f = tt
+paren-fails holds threads (suc depth) s t u tree line l m pieces ps qs (Fault d) deep h k f =
+    let one_less : suc depth - 1 ≡ depth = omega arith in
+    let below : reads (chain Or (part_of Or holds threads depth) t) l ps ≡ Ok ((tree, u), m, qs) =
+    subst (λ (n : ℕ). reads (chain Or (part_of Or holds threads n) t) l ps ≡ Ok ((tree, u), m, qs)) one_less k in
+    rw (h, below, f) refl

@@ -1,0 +1,5 @@
+mod Places
+mod Laws
+mod Leads
+mod Loops
+pub mod Lemmas

@@ -1,0 +1,97 @@
+-- A language of forms, and what it is that pieces stand in one.
+use Rattle.std.specs.Prelude.{◌≡◌, ℕ, zero, suc, ◌==◌, Bool, true, false, if◌then◌else◌, List, Option, Some, None}
+use Rattle.std.specs.Prelude.{Result, Ok, Err}
+use Rattle.litmus_lexer.specs.Pieces.{Piece, Word, Sign, LineEnd}
+use Rattle.litmus_lexer.specs.declared.errors.Kind.{Kind}
+use Rattle.litmus_lexer.specs.declared.errors.Kind.TheVariants.{CutShort}
+use Rattle.piece_forms.specs.Places.{next_piece, behind_next}
+
+-- a piece is taken, or left to what comes after, and gives a value; or it is a fault of this kind
+pub data Verdict (A : Type 0) : Type 0 where
+  Takes : A → Verdict A
+  Leaves : A → Verdict A
+  Refuses : Kind → Verdict A
+
+-- nothing more; a look at the next piece, and what the end of the text gives in its place, or the kind of its fault; or
+-- two forms in order, the second by what the first gives
+pub data Form : Type 0 → Type 1 where
+  Gives : {A : Type 0} → A → Form A
+  At : {A : Type 0} → (Piece → Verdict A) → Result A Kind → Form A
+  InOrder : {A B : Type 0} → Form A → (A → Form B) → Form B
+
+infixl 10 ◌>>=◌
+abbrev pub ◌>>=◌ : {A B : Type 0} → Form A → (A → Form B) → Form B
+f >>= g = InOrder f g
+
+abbrev pub at_end : {A : Type 0} → Result A Kind → Verdict A
+at_end (Ok x) = Leaves x
+at_end (Err kind) = Refuses kind
+
+abbrev pub said : {A : Type 0} → (Piece → Verdict A) → Result A Kind → Option Piece → Verdict A
+said look end (Some piece) = look piece
+said look end None = at_end end
+
+-- the next piece is taken or left with x, and the rest follows
+abbrev pub Passes : {A : Type 0} → Verdict A → List Piece → A → List Piece → Type 0
+Passes (Takes y) pieces x rest = (y ≡ x) × (behind_next pieces ≡ rest)
+Passes (Leaves y) pieces x rest = (y ≡ x) × (pieces ≡ rest)
+Passes (Refuses kind) pieces x rest = ⊥
+
+-- pieces stand in a form, which Gives x, and the rest follows
+abbrev pub Stands : {A : Type 0} → Form A → List Piece → A → List Piece → Type 0
+Stands (Gives y) pieces x rest = (y ≡ x) × (pieces ≡ rest)
+Stands (At look end) pieces x rest = Passes (said look end (next_piece pieces)) pieces x rest
+Stands (InOrder {A = Y} f g) pieces x rest =
+    (y : Y) × (middle : List Piece) × Stands f pieces y middle × Stands (g y) middle x rest
+
+-- ---- one piece
+
+abbrev pub taken : {A : Type 0} → Result A Kind → Verdict A
+taken (Ok x) = Takes x
+taken (Err kind) = Refuses kind
+
+-- a word that this test takes
+abbrev pub word : {A : Type 0} → Kind → (List ℕ → Result A Kind) → Piece → Verdict A
+word kind test (Word w) = taken (test w)
+word kind test (Sign b) = Refuses kind
+word kind test LineEnd = Refuses kind
+
+-- this sign
+abbrev pub sign : Kind → ℕ → Piece → Verdict (Unit {0})
+sign kind wanted (Word w) = Refuses kind
+sign kind wanted (Sign b) = if b == wanted then Takes tt else Refuses kind
+sign kind wanted LineEnd = Refuses kind
+
+-- such a word, which may be missing
+abbrev pub is_word : (List ℕ → Bool) → Piece → Verdict Bool
+is_word test (Word w) = if test w then Takes true else Leaves false
+is_word test (Sign b) = Leaves false
+is_word test LineEnd = Leaves false
+
+-- ---- forms
+
+-- such a piece
+abbrev pub one : {A : Type 0} → (Piece → Verdict A) → Form A
+one look = At look (Err CutShort)
+
+-- such a word, if it stands there
+abbrev pub perhaps : (List ℕ → Bool) → Form Bool
+perhaps test = At (is_word test) (Ok false)
+
+-- the end of the text
+abbrev pub no_more : Kind → Form (Unit {0})
+no_more kind = At (λ piece. Refuses kind) (Ok tt)
+
+-- one of two
+abbrev pub either : {A : Type 0} → Form A → Form A → Bool → Form A
+either f g true = f
+either f g false = g
+
+-- a step, if the first form says that there is one more
+abbrev pub turn : {A : Type 0} → Form Bool → (A → Form A) → A → Form (Bool × A)
+turn one_more step x = one_more >>= either (step x >>= λ y. Gives (true, y)) (Gives (false, x))
+
+-- steps as long as there is one more, at most so many
+unfoldable pub many : {A : Type 0} → Form Bool → (A → Form A) → ℕ → A → Form A
+many one_more step zero x = Gives x
+many one_more step (suc k) x = turn one_more step x >>= λ r. either (many one_more step k r.1) (Gives r.1) r.0

@@ -1,0 +1,4 @@
+pub mod Places
+pub mod Forms
+pub mod Faults
+pub mod Reading

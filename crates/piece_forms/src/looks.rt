@@ -1,0 +1,74 @@
+//! Looks at the next piece. Line ends count as blanks.
+
+ghost use Rattle.std.specs.Prelude.{◌≡◌, ◌+◌, option_map, Ok};
+ghost use Rattle.litmus_lexer.specs.TokenPieces.{piece_of};
+ghost use Rattle.litmus_lexer.specs.Reading.{Gives};
+ghost use Rattle.piece_forms.specs.Places.{next_piece, behind_next, ends_ahead};
+ghost use Rattle.std.specs.Str.{bytes_eq};
+ghost use Rattle.piece_forms.specs.Forms.{one, sign, perhaps, no_more};
+ghost use Rattle.piece_forms.specs.Reading.{reads, perhaps_over};
+
+use litmus_lexer::{Cursor, Kind, ReadError, Token};
+
+/// The next piece behind the line ends that come first, if there is one, and the position after
+/// it, or the end.
+fn behind_line_ends<'a>(cursor: &Cursor<'a>) -> (Option<Token<'a>>, Cursor<'a>)
+    ensures piece { option_map piece_of result.0 ≡ next_piece cursor.now.pieces }
+    ensures rest { result.1.pieces ≡ behind_next cursor.now.pieces }
+    ensures line { result.1.line ≡ cursor.now.line + ends_ahead cursor.now.pieces }
+{
+    let at = cursor.past_line_ends();
+    match at.piece() {
+        Some((token, after)) => (Some(token), after),
+        None => (None, at),
+    }
+}
+
+/// The next piece, if there is one, and the position after it, or the end.
+#[tactic(auto, unfolding(crate::specs::Places::next_piece, crate::specs::Places::behind_next, crate::specs::Places::ends_ahead))]
+pub fn ahead<'a>(cursor: &Cursor<'a>) -> (Option<Token<'a>>, Cursor<'a>)
+    ensures piece { option_map piece_of result.0 ≡ next_piece cursor.now.pieces }
+    ensures rest { result.1.pieces ≡ behind_next cursor.now.pieces }
+    ensures line { result.1.line ≡ cursor.now.line + ends_ahead cursor.now.pieces }
+{
+    match cursor.piece() {
+        Some((Token::Word(word), after)) => (Some(Token::Word(word)), after),
+        Some((Token::Sign(sign), after)) => (Some(Token::Sign(sign)), after),
+        // Most pieces are looked at once.
+        Some((Token::LineEnd, _)) | None => behind_line_ends(cursor),
+    }
+}
+
+/// The position after this sign; anything else is a fault of this kind, and the end is `CutShort`.
+pub fn expect_sign<'a>(cursor: Cursor<'a>, kind: Kind, wanted: u8) -> Result<Cursor<'a>, ReadError>
+    ensures { Gives (λ at. (tt, at.line, at.pieces)) result
+        (reads (one (sign kind wanted)) cursor.entry.line cursor.entry.pieces) }
+{
+    match ahead(&cursor) {
+        (Some(Token::Sign(found)), after) if found == wanted => Ok(after),
+        (Some(_), after) => Err(after.fault(kind)),
+        (None, end) => Err(end.fault(Kind::CutShort)),
+    }
+}
+
+/// The position after this word, if it comes next.
+pub fn over_word<'a>(cursor: &Cursor<'a>, wanted: &[u8]) -> Option<Cursor<'a>>
+    ensures { reads (perhaps (λ word. bytes_eq word wanted.now)) cursor.now.line cursor.now.pieces
+        ≡ Ok (perhaps_over cursor.now result) }
+{
+    match ahead(cursor) {
+        (Some(Token::Word(word)), after) if word == wanted => Some(after),
+        _ => None,
+    }
+}
+
+/// The end of the text; a further piece is a fault of this kind.
+pub fn expect_end<'a>(cursor: Cursor<'a>, kind: Kind) -> Result<Cursor<'a>, ReadError>
+    ensures { Gives (λ at. (tt, at.line, at.pieces)) result
+        (reads (no_more kind) cursor.entry.line cursor.entry.pieces) }
+{
+    match ahead(&cursor) {
+        (Some(_), after) => Err(after.fault(kind)),
+        (None, _) => Ok(cursor),
+    }
+}

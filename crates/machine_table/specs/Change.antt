@@ -1,32 +1,25 @@
--- What an event makes of one part and of the messages in flight. The machine's table and the code that follows it both
--- stand on these definitions.
-use Rattle.std.specs.Prelude.{ℕ, ◌-◌, Bool, true, Option, Some, None, Result, Ok, Err, if◌then◌else◌}
+-- What an event makes of one part and of the messages in flight: a step of the part, with its messages in the network.
+-- The machine's table and the code that follows it both stand on these definitions.
+use Rattle.std.specs.Prelude.{ℕ, ◌-◌, Bool, true, false, List, Option, Some, None, Result, if◌then◌else◌}
 use Rattle.physiological_order.specs.declared.operation.Op.{Op}
 use Rattle.physiological_order.specs.declared.operation.Record.{Record}
 use Rattle.network.specs.declared.message.Body.{Body}
-use Rattle.network.specs.declared.message.Body.TheVariants.{ShReq, ExReq}
 use Rattle.network.specs.declared.message.Message.{Message}
 use Rattle.network.specs.declared.message.Node.{Node}
 use Rattle.network.specs.declared.part.Reaction.{Reaction}
-use Rattle.network.specs.declared.part.Reaction.TheVariants.{Done, Dropped, Held, HeldAfter}
-use Rattle.network.specs.Mail.{Mail, has_number, has_capacity, sent, taken, answered}
-use Rattle.network.specs.Sends.{sent_in}
+use Rattle.network.specs.Mail.{Mail, has_number, has_capacity, sent}
+use Rattle.network.specs.NumberedMessages.{without_number}
 use Rattle.private_cache.specs.declared.cache.CacheError.{CacheError}
-use Rattle.private_cache.specs.declared.cache.CacheError.TheVariants.{NoRoom, NotHere, Pinned}
 use Rattle.core_pts.specs.declared.attempt.Attempt.{Attempt}
-use Rattle.core_pts.specs.declared.attempt.Attempt.TheVariants as attempted
-use Rattle.core_pts.specs.CoreTable as core_table
-use Rattle.core_pts.specs.CoreTable.{CoreState, line_of, to_bank}
+use Rattle.core_pts.specs.CoreTable.{CoreState}
 use Rattle.llc_bank.specs.declared.entry.Evict.{Evict}
-use Rattle.llc_bank.specs.declared.entry.Evict.TheVariants as evict
 use Rattle.llc_bank.specs.declared.entry.EvictError.{EvictError}
-use Rattle.llc_bank.specs.declared.entry.EvictError.TheVariants as not_evicted
 use Rattle.llc_bank.specs.BankTable.{BankState}
 use Rattle.machine_table.specs.declared.event.Answer.{Answer}
-use Rattle.machine_table.specs.declared.event.Answer.TheVariants.{Requested, Waiting, Idle, Delivered}
-use Rattle.machine_table.specs.declared.event.Answer.TheVariants.{Held as HeldAnswer, Started, Evicted, Recalled}
-use Rattle.machine_table.specs.declared.event.Answer.TheVariants.{Advanced, Refused}
+use Rattle.machine_table.specs.declared.event.Answer.TheVariants.{Refused}
 use Rattle.machine_table.specs.declared.event.Refusal.TheVariants as refusal
+use Rattle.machine_table.specs.Step as step
+use Rattle.machine_table.specs.Step.{Step, Tried, did_answer, kept_answer}
 
 pub data Change (S : Type 0) : Type 0 where
   -- nothing changes: the core waits or is idle, the message is held, or the event is refused
@@ -45,10 +38,31 @@ abbrev pub sends : {S : Type 0} → ℕ → Mail → Answer → S → Message �
 sends capacity mail answer part message =
     if has_capacity capacity mail then Makes answer part (sent mail message) else Keeps (Refused refusal.NetworkFull)
 
--- a core sends the bank of its operation's line a request
-abbrev pub requests : ℕ → Mail → CoreState → Op → Body → Change CoreState
-requests capacity mail core op body =
-    sends capacity mail Requested (record core { is_out = true }) (to_bank core (line_of core op) body)
+-- whether what a reaction sends can be sent: a reply takes the place of the delivered message, and needs a number alone
+abbrev pub can_send : ℕ → Mail → Option (Node × Bool) → Bool
+can_send capacity mail None = true
+can_send capacity mail (Some sends) = if sends.1 then has_capacity capacity mail else has_number mail
+
+-- the messages in flight without the delivered one, if there is one
+abbrev pub without : Option ℕ → List (ℕ × Message) → List (ℕ × Message)
+without None messages = messages
+without (Some n) messages = without_number n messages
+
+abbrev pub left : Mail → Option ℕ → Mail
+left mail n = record mail { messages = without n mail.messages }
+
+-- a step of a part to which the message of this number, if any, is delivered
+abbrev pub placed : {S : Type 0} → ℕ → Mail → Option ℕ → Step S → Change S
+placed capacity mail n step.Exhausts = Exhausts
+placed capacity mail n (step.Keeps kept) = Keeps (kept_answer kept)
+placed capacity mail n step.Drops = Drops (left mail n)
+placed capacity mail n (step.Makes did true None part) = Makes (did_answer did) part (left mail n)
+placed capacity mail n (step.Makes did false None part) = Makes (did_answer did) part mail
+placed capacity mail n (step.Makes did true (Some reply) part) =
+    if has_number mail then Makes (did_answer did) part (sent (left mail n) reply)
+    else Keeps (Refused refusal.NetworkFull)
+placed capacity mail n (step.Makes did false (Some message) part) =
+    sends capacity mail (did_answer did) part message
 
 -- the record of an operation that is completed: it draws the next number, and its place is how many operations its core
 -- was issued before
@@ -56,65 +70,32 @@ abbrev pub record_of : ℕ → ℕ → CoreState → Op → Option ℕ → ℕ �
 record_of c number core op received ts =
     record { core = c; place = core.issued - 1; op = op; received = received; ts = ts; number = number }
 
--- an attempt of the core of a number at its open operation, by what the core's table says, where the next record gets
--- this number
-abbrev pub attempted_op : ℕ → ℕ → ℕ → Mail → CoreState → Op → Option Attempt × CoreState → Change CoreState
-attempted_op c number capacity mail core op (None, after) = Exhausts
-attempted_op c number capacity mail core op (Some (attempted.Completed received ts), after) =
+-- an attempt of the core of a number at its open operation, where the next record gets this number
+abbrev pub tried : ℕ → ℕ → ℕ → Mail → CoreState → Tried → Change CoreState
+tried c number capacity mail core (step.Completes op received ts after) =
     Completes (record_of c number core op received ts) after
-attempted_op c number capacity mail core op (Some (attempted.NeedShared pts version), after) =
-    requests capacity mail core op (ShReq pts version)
-attempted_op c number capacity mail core op (Some (attempted.NeedExclusive version), after) =
-    requests capacity mail core op (ExReq version)
-attempted_op c number capacity mail core op (Some attempted.NoRoom, after) = Keeps (Refused refusal.NoRoom)
-attempted_op c number capacity mail core op (Some attempted.Waiting, after) = Keeps Waiting
-attempted_op c number capacity mail core op (Some attempted.Idle, after) = Keeps Idle
+tried c number capacity mail core (step.Does does) = placed capacity mail None does
+
+abbrev pub attempted_op : ℕ → ℕ → ℕ → Mail → CoreState → Op → Option Attempt × CoreState → Change CoreState
+attempted_op c number capacity mail core op tries = tried c number capacity mail core (step.attempted core op tries)
 
 abbrev pub attempt_open : ℕ → ℕ → ℕ → Mail → CoreState → Option Op → Change CoreState
-attempt_open c number capacity mail core None = Keeps Idle
-attempt_open c number capacity mail core (Some op) =
-    attempted_op c number capacity mail core op (core_table.attempt core)
+attempt_open c number capacity mail core op = tried c number capacity mail core (step.attempt_open core op)
 
 abbrev pub attempt : ℕ → ℕ → ℕ → Mail → CoreState → Change CoreState
 attempt c number capacity mail core = attempt_open c number capacity mail core core.open_op
 
--- whether what a reaction sends can be sent: a reply takes the place of the delivered message, and needs a number alone
-abbrev pub can_send : ℕ → Mail → Option (Node × Bool) → Bool
-can_send capacity mail None = true
-can_send capacity mail (Some sends) = if sends.1 then has_capacity capacity mail else has_number mail
+abbrev pub requests : ℕ → Mail → CoreState → Op → Body → Change CoreState
+requests capacity mail core op body = placed capacity mail None (step.asks core op body)
 
--- what a reaction to the message of this number makes of the part and of the messages in flight
-abbrev pub settled : {S : Type 0} → Mail → ℕ → Reaction → S → Change S
-settled mail n Held part = Keeps HeldAnswer
-settled mail n Dropped part = Drops (taken mail n)
-settled mail n (Done None) part = Makes Delivered part (taken mail n)
-settled mail n (Done (Some reply)) part = Makes Delivered part (answered mail n reply)
-settled mail n (HeldAfter started) part = Makes Started part (sent mail started)
-
--- a message of this number is delivered, by what its part's table says
 abbrev pub reacted : {S : Type 0} → ℕ → Mail → ℕ → Option (Reaction × S) → Change S
-reacted capacity mail n None = Exhausts
-reacted capacity mail n (Some (reaction, part)) =
-    if can_send capacity mail (sent_in reaction) then settled mail n reaction part else Keeps
-    (Refused refusal.NetworkFull)
+reacted capacity mail n reaction = placed capacity mail (Some n) (step.reacted reaction)
 
--- a copy of a line leaves a core's cache: one that is owned is sent back
 abbrev pub copy_evicted : ℕ → Mail → Result (Option Message) CacheError × CoreState → Change CoreState
-copy_evicted capacity mail (Err NotHere, core) = Keeps (Refused refusal.NoSuch)
-copy_evicted capacity mail (Err NoRoom, core) = Keeps (Refused refusal.NoSuch)
-copy_evicted capacity mail (Err Pinned, core) = Keeps (Refused refusal.Pinned)
-copy_evicted capacity mail (Ok None, core) = Makes Evicted core mail
-copy_evicted capacity mail (Ok (Some back), core) = sends capacity mail Evicted core back
+copy_evicted capacity mail evicts = placed capacity mail None (step.copy_evicted evicts)
 
--- a line leaves a bank, or is recalled for that
 abbrev pub entry_evicted : ℕ → Mail → Result Evict EvictError × BankState → Change BankState
-entry_evicted capacity mail (Err not_evicted.NotHere, bank) = Keeps (Refused refusal.NoSuch)
-entry_evicted capacity mail (Err not_evicted.Busy, bank) = Keeps (Refused refusal.Busy)
-entry_evicted capacity mail (Ok evict.Clean, bank) = Makes Evicted bank mail
-entry_evicted capacity mail (Ok (evict.Stored store), bank) = sends capacity mail Evicted bank store
-entry_evicted capacity mail (Ok (evict.Recalled recall), bank) = sends capacity mail Recalled bank recall
+entry_evicted capacity mail evicts = placed capacity mail None (step.entry_evicted evicts)
 
--- a core's time goes on by itself
-abbrev pub advanced : Mail → Option (Unit {0}) × CoreState → Change CoreState
-advanced mail (None, core) = Exhausts
-advanced mail (Some done, core) = Makes Advanced core mail
+abbrev pub advanced : ℕ → Mail → Option (Unit {0}) × CoreState → Change CoreState
+advanced capacity mail time = placed capacity mail None (step.advanced time)

@@ -6,4 +6,5 @@ pub mod Opening
 pub mod RefusalNumbers
 pub mod Runs
 pub mod SetUp
+pub mod Step
 pub mod Transition

@@ -101,7 +101,7 @@ evict_entry m b line (Some bank) =
 -- Advance
 abbrev pub advance_at : Machine → ℕ → Option CoreState → Answer × Machine
 advance_at m c None = refused m refusal.NoSuch
-advance_at m c (Some core) = changed m (with_core m c) (change.advanced m.mail (core_table.advance core))
+advance_at m c (Some core) = changed m (with_core m c) (change.advanced m.config.messages m.mail (core_table.advance core))
 
 abbrev pub on_event : Machine → Event → Answer × Machine
 on_event m (Issue c op) = issue_at m c op (slice_get m.cores c)

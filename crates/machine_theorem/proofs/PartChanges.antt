@@ -38,7 +38,7 @@ abbrev pub entry_evicted : Machine → ℕ → Result Evict EvictError × BankSt
 entry_evicted m b left = changed m (with_bank m b) (change.entry_evicted m.config.messages m.mail left)
 
 abbrev pub advanced : Machine → ℕ → Option (Unit {0}) × CoreState → Answer × Machine
-advanced m c time = changed m (with_core m c) (change.advanced m.mail time)
+advanced m c time = changed m (with_core m c) (change.advanced m.config.messages m.mail time)
 
 -- a change that is made if a test says so holds what it makes, and what the machine held
 pub tested : {S : Type 0} (P : Machine → Type 0) (m : Machine) (put : S → Machine) (b : Bool)

@@ -15,7 +15,7 @@ use Rattle.machine_table.specs.Change.{record_of}
 use Rattle.machine_table.specs.Opening.{core_config, bank_config, geometry, dram_of}
 use Rattle.machine_theorem.specs.Bags.{SameBag, bag_of}
 use Rattle.seat_rule.specs.States.{State, Same, with_at, seen}
-use Rattle.seat_rule.specs.Moves.{with_core, with_bank, with_dram, sent_beside, with_answer}
+use Rattle.seat_rule.specs.Moves.{with_core, with_bank, with_dram, with_answer}
 use Rattle.seat_rule.proofs.Bags.{bag-sent}
 use Rattle.seat_rule.proofs.Lists.{part_put}
 
@@ -153,8 +153,10 @@ module _ (b : State) (m : Machine) (k : Same b (seen m)) (bag : List Message) (m
     counts = counts;
   }
 
-  pub sent_put : (message : Message) → Same (sent_beside b bag message) (seen (record m { mail = sent mail message }))
-  sent_put message =
+  pub answer_put : (answer : Option Message) →
+      Same (with_answer b bag answer) (seen (record m { mail = replied mail answer }))
+  answer_put None = bag_put
+  answer_put (Some message) =
       record {
         cores = k.cores;
         banks = k.banks;
@@ -164,8 +166,3 @@ module _ (b : State) (m : Machine) (k : Same b (seen m)) (bag : List Message) (m
         records = k.records;
         counts = ap (λ (n : Counts). counted n message.body) counts;
       }
-
-  pub answer_put : (answer : Option Message) →
-      Same (with_answer b bag answer) (seen (record m { mail = replied mail answer }))
-  answer_put None = bag_put
-  answer_put (Some message) = sent_put message

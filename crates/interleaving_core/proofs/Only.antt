@@ -139,11 +139,12 @@ module _ (core : CoreState) where
   kept made same mail (Completes done after) only = absurd only
 
   -- the core's time goes on
-  pub advance_only : (mail : Mail) → Only SameStatus (λ after. ⊥) (advanced mail (core_table.advance core))
-  advance_only mail = by_test (fits (core.pts + 1))
+  pub advance_only : (capacity : ℕ) (mail : Mail) →
+      Only SameStatus (λ after. ⊥) (advanced capacity mail (core_table.advance core))
+  advance_only capacity mail = by_test (fits (core.pts + 1))
     where
       by_test : (b : Bool) → Only SameStatus (λ after. ⊥)
-          (advanced mail (cond b (Some tt, record core { pts = core.pts + 1 }) (None, core)))
+          (advanced capacity mail (cond b (Some tt, record core { pts = core.pts + 1 }) (None, core)))
       by_test true = (((λ records. refl), refl), (refl, refl))
       by_test false = tt
 

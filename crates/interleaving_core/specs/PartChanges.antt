@@ -4,12 +4,11 @@ use Rattle.std.specs.Prelude.{◌-◌, Result, Ok, Err, length, slice_get}
 use Rattle.physiological_order.specs.declared.operation.Record.{Record}
 use Rattle.network.specs.declared.part.Reaction.{Reaction}
 use Rattle.network.specs.declared.part.Reaction.TheVariants.{Done, Dropped, Held, HeldAfter}
-use Rattle.network.specs.Mail.{Mail}
+use Rattle.network.specs.Mail.{Mail, answered, sent, taken}
 use Rattle.machine_table.specs.declared.event.Answer.{Answer}
 use Rattle.machine_table.specs.declared.event.Answer.TheVariants as answer
 use Rattle.machine_table.specs.declared.event.Refusal.{Refusal}
 use Rattle.machine_table.specs.declared.event.Refusal.TheVariants.{Exhausted, NetworkFull}
-use Rattle.machine_table.specs.Change as change
 use Rattle.interleaving_core.specs.declared.plain_answer.PlainAnswer.{PlainAnswer}
 use Rattle.interleaving_core.specs.declared.plain_answer.PlainAnswer.TheVariants as plain
 use Rattle.machine_table.specs.Change.{Change, Keeps, Exhausts, Drops, Makes, Completes}
@@ -80,8 +79,11 @@ request_answer false = answer.Refused NetworkFull
 
 -- what a reaction to a delivered message is answered, and the messages in flight afterwards: the same at every part
 abbrev pub settled_answer : Mail → ℕ → Reaction → Answer × Mail
-settled_answer mail n reaction =
-    let x = applied {S = Unit {0}} tt mail (change.settled mail n reaction tt) in (x.0, x.2)
+settled_answer mail n Held = (answer.Held, mail)
+settled_answer mail n Dropped = (answer.Dropped, taken mail n)
+settled_answer mail n (Done None) = (answer.Delivered, taken mail n)
+settled_answer mail n (Done (Some reply)) = (answer.Delivered, answered mail n reply)
+settled_answer mail n (HeldAfter started) = (answer.Started, sent mail started)
 
 -- what a part's response to a delivered message is answered, and the messages in flight afterwards
 abbrev pub concluded : Mail → ℕ → Result Reaction Refusal → Answer × Mail

@@ -1,5 +1,5 @@
 //! Events of one core or one bank: what they make of it and of the messages in flight.
-ghost use Rattle.std.specs.Prelude.{◌≡◌, ◌<◌, ◌+◌, ◌++◌, ◌∷◌, [], false, true, IfOk, IsOk, IsTrue, OnErr, length};
+ghost use Rattle.std.specs.Prelude.{◌≡◌, ◌<◌, ◌+◌, ◌++◌, ◌∷◌, [], ℕ, false, true, IfOk, IsOk, IsTrue, OnErr, length};
 ghost use Rattle.std.specs.Prelude.{Some, vec_capacity};
 ghost use Rattle.core_pts.specs.CoreTable.{advance, evict};
 ghost use Rattle.network.specs.Flight.{SameNetwork};
@@ -89,8 +89,8 @@ fn request(core: &mut Core, flight: &mut InFlight, op: &Op, body: Body) -> bool
 /// A core's time goes on by one.
 #[inline(always)]
 pub(crate) fn advance(core: &mut Core) -> PlainAnswer
-    ensures { (mail : Mail) → (answer_of result, core.new, mail) ≡ applied core.old mail
-        (advanced mail (advance core.old)) }
+    ensures { (capacity : ℕ) (mail : Mail) → (answer_of result, core.new, mail) ≡
+        applied core.old mail (advanced capacity mail (advance core.old)) }
 {
     match core.advance() {
         Err(Exhausted) => PlainAnswer::Refused(Refusal::Exhausted),

@@ -358,7 +358,7 @@ module _ (m : Machine) where
   advanced_stays c None at = same
   advanced_stays c (Some core) at = cond_both (fits (core.pts + 1))
       (Some tt, record core { pts = core.pts + 1 }) (None, core)
-      (λ r. Stays (changed m (with_core m c) (advanced m.mail r)))
+      (λ r. Stays (changed m (with_core m c) (advanced m.config.messages m.mail r)))
       (λ t. let quiet = kept c core at (record core { pts = core.pts + 1 }) refl in
       record { ops = quiet.ops; records = refl }) (λ t. record { ops = λ k. refl; records = refl })
 

@@ -6,7 +6,7 @@ use Rattle.physiological_order.specs.declared.operation.Op.{Op}
 use Rattle.network.specs.declared.message.Node.{Node}
 use Rattle.network.specs.declared.message.Node.TheVariants.{Core, Bank, Dram}
 use Rattle.network.specs.declared.message.Message.{Message}
-use Rattle.network.specs.Mail.{Mail, has_capacity, has_number, sent}
+use Rattle.network.specs.Mail.{Mail}
 use Rattle.network.specs.NumberedMessages.{at_number}
 use Rattle.core_pts.specs.declared.attempt.IssueError.{IssueError}
 use Rattle.core_pts.specs.declared.attempt.IssueError.TheVariants as not_issued
@@ -25,12 +25,12 @@ use Rattle.machine_table.specs.declared.event.Answer.{Answer}
 use Rattle.machine_table.specs.declared.event.Answer.TheVariants as answer
 use Rattle.machine_table.specs.declared.event.Refusal.TheVariants as refusal
 use Rattle.machine_table.specs.Machine.{Machine, with_core, with_bank, with_dram}
-use Rattle.machine_table.specs.Change.{Change, Keeps, Makes, left, placed, tried}
+use Rattle.machine_table.specs.Posted.{can_post, posted}
 use Rattle.machine_table.specs.Step as step
 use Rattle.machine_table.specs.Step.{Kept, kept_answer, Did, did_answer, Step, Tried}
 use Rattle.machine_table.specs.Transition.{refused, changed, issued, issue_at, attempt_at, deliver_core, deliver_bank}
 use Rattle.machine_table.specs.Transition.{deliver_dram, deliver_to, deliver_message, evict_copy, evict_entry}
-use Rattle.machine_table.specs.Transition.{advance_at, on_event, transition}
+use Rattle.machine_table.specs.Transition.{advance_at, on_event, transition, tried}
 use Rattle.machine_table.specs.Answered.{Answered, GoesOn}
 
 abbrev Holds : Machine → Answer × Machine → Type 0
@@ -48,12 +48,6 @@ issue_holds m c op (Some core) = issued_holds m c op (core_table.issue core op)
 
 -- a part is put into the machine, and its records and its stop are unchanged
 module _ {S : Type 0} (m : Machine) (put : S → Machine) (puts : (part : S) → GoesOn m (put part)) where
-  -- an answer that goes with a change, or else a refusal
-  with_test : (b : Bool) (done : Change S) (why : Answer) → Holds m (changed m put done) → Answered m why m →
-      Holds m (changed m put (cond b done (Keeps why)))
-  with_test true done why h kept = h
-  with_test false done why h kept = kept
-
   -- what is answered to a step that changes nothing, and to one that changes its part
   kept_holds : (kept : Kept) → Answered m (kept_answer kept) m
   kept_holds step.Waits = refl
@@ -77,18 +71,13 @@ module _ {S : Type 0} (m : Machine) (put : S → Machine) (puts : (part : S) →
       by_answer step.Recalls goes = goes
       by_answer step.Advances goes = goes
 
-  placed_holds : (n : Option ℕ) (s : Step S) → Holds m (changed m put (placed m.config.messages m.mail n s))
-  placed_holds n step.Exhausts = refl
-  placed_holds n (step.Keeps kept) = kept_holds kept
-  placed_holds n step.Drops = record { records = refl; runs = refl }
-  placed_holds n (step.Makes did true None part) = did_holds did part (left m.mail n)
-  placed_holds n (step.Makes did false None part) = did_holds did part m.mail
-  placed_holds n (step.Makes did true (Some reply) part) =
-      with_test (has_number m.mail) (Makes (did_answer did) part (sent (left m.mail n) reply)) _
-      (did_holds did part (sent (left m.mail n) reply)) refl
-  placed_holds n (step.Makes did false (Some message) part) =
-      with_test (has_capacity m.config.messages m.mail) (Makes (did_answer did) part (sent m.mail message)) _
-      (did_holds did part (sent m.mail message)) refl
+  changed_holds : (n : Option ℕ) (s : Step S) → Holds m (changed m put n s)
+  changed_holds n step.Exhausts = refl
+  changed_holds n (step.Keeps kept) = kept_holds kept
+  changed_holds n step.Drops = record { records = refl; runs = refl }
+  changed_holds n (step.Makes did consumes sends part) =
+      cond_both (can_post m.config.messages m.mail consumes sends) _ (refused m refusal.NetworkFull) (Holds m)
+      (λ e. did_holds did part (posted m.mail n consumes sends)) (λ e. refl)
 
 -- the parts of a machine
 module _ (m : Machine) where
@@ -101,10 +90,9 @@ module _ (m : Machine) where
   dram_put : (b : ℕ) (part : FinMap nat_cmp (List ℕ)) → GoesOn m (with_dram m b part)
   dram_put b part = record { records = refl; runs = refl }
 
-tried_holds : (m : Machine) (c : ℕ) (core : CoreState) (t : Tried) →
-    Holds m (changed m (with_core m c) (tried c (length m.records) m.config.messages m.mail core t))
+tried_holds : (m : Machine) (c : ℕ) (core : CoreState) (t : Tried) → Holds m (tried m c core t)
 tried_holds m c core (step.Completes op received ts after) = record { records = refl; number = refl; runs = refl }
-tried_holds m c core (step.Does s) = placed_holds m (with_core m c) (core_put m c) None s
+tried_holds m c core (step.Does s) = changed_holds m (with_core m c) (core_put m c) None s
 
 attempt_holds : (m : Machine) (c : ℕ) (core : Option CoreState) → Holds m (attempt_at m c core)
 attempt_holds m c None = refl
@@ -121,21 +109,21 @@ deliver_core_holds : (m : Machine) (n : ℕ) (message : Message) (c : ℕ) (core
 deliver_core_holds m n message c None = refl
 deliver_core_holds m n message c (Some core) =
     if_case m (core_table.core_has_case core message) _
-    (placed_holds m (with_core m c) (core_put m c) (Some n) (step.reacted (core_table.core_table core message)))
+    (changed_holds m (with_core m c) (core_put m c) (Some n) (step.reacted (core_table.core_table core message)))
 
 deliver_bank_holds : (m : Machine) (n : ℕ) (message : Message) (b : ℕ) (bank : Option BankState) →
     Holds m (deliver_bank m n message b bank)
 deliver_bank_holds m n message b None = refl
 deliver_bank_holds m n message b (Some bank) =
     if_case m (bank_table.bank_has_case bank message) _
-    (placed_holds m (with_bank m b) (bank_put m b) (Some n) (step.reacted (bank_table.bank_table bank message)))
+    (changed_holds m (with_bank m b) (bank_put m b) (Some n) (step.reacted (bank_table.bank_table bank message)))
 
 deliver_dram_holds : (m : Machine) (n : ℕ) (message : Message) (b : ℕ) (dram : Option (FinMap nat_cmp (List ℕ))) →
     Holds m (deliver_dram m n message b dram)
 deliver_dram_holds m n message b None = refl
 deliver_dram_holds m n message b (Some dram) =
     if_case m (dram_has_case dram message) _
-    (placed_holds m (with_dram m b) (dram_put m b) (Some n) (step.reacted (dram_table dram message)))
+    (changed_holds m (with_dram m b) (dram_put m b) (Some n) (step.reacted (dram_table dram message)))
 
 deliver_to_holds : (m : Machine) (n : ℕ) (message : Message) (to : Node) → Holds m (deliver_to m n message to)
 deliver_to_holds m n message (Core c) = deliver_core_holds m n message c (slice_get m.cores c)
@@ -149,17 +137,17 @@ deliver_holds m n (Some message) = deliver_to_holds m n message message.to
 evict_copy_holds : (m : Machine) (c line : ℕ) (core : Option CoreState) → Holds m (evict_copy m c line core)
 evict_copy_holds m c line None = refl
 evict_copy_holds m c line (Some core) =
-    placed_holds m (with_core m c) (core_put m c) None (step.copy_evicted (core_table.evict core line))
+    changed_holds m (with_core m c) (core_put m c) None (step.copy_evicted (core_table.evict core line))
 
 evict_entry_holds : (m : Machine) (b line : ℕ) (bank : Option BankState) → Holds m (evict_entry m b line bank)
 evict_entry_holds m b line None = refl
 evict_entry_holds m b line (Some bank) =
-    placed_holds m (with_bank m b) (bank_put m b) None (step.entry_evicted (bank_table.evict bank line))
+    changed_holds m (with_bank m b) (bank_put m b) None (step.entry_evicted (bank_table.evict bank line))
 
 advance_holds : (m : Machine) (c : ℕ) (core : Option CoreState) → Holds m (advance_at m c core)
 advance_holds m c None = refl
 advance_holds m c (Some core) =
-    placed_holds m (with_core m c) (core_put m c) None (step.advanced (core_table.advance core))
+    changed_holds m (with_core m c) (core_put m c) None (step.advanced (core_table.advance core))
 
 event_holds : (m : Machine) (event : Event) → Holds m (on_event m event)
 event_holds m (Issue c op) = issue_holds m c op (slice_get m.cores c)

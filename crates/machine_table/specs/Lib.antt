@@ -1,8 +1,8 @@
 pub mod Answered
-pub mod Change
 pub mod Machine
 pub mod OpenNumbers
 pub mod Opening
+pub mod Posted
 pub mod RefusalNumbers
 pub mod Runs
 pub mod SetUp

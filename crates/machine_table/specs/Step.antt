@@ -1,9 +1,10 @@
 -- What a step of one part is answered, whether it consumes the delivered message, what it sends and what it leaves,
 -- wherever the messages are. The machine's table, the moves of its states and the changes of its seats stand on these.
-use Rattle.std.specs.Prelude.{ℕ, Bool, true, false, List, Option, Some, None, Result, Ok, Err}
+use Rattle.std.specs.Prelude.{ℕ, ◌-◌, Bool, true, false, List, Option, Some, None, Result, Ok, Err}
 use Rattle.std.specs.Ordering.{nat_cmp}
 use Rattle.std.specs.FinMap.{FinMap}
 use Rattle.physiological_order.specs.declared.operation.Op.{Op}
+use Rattle.physiological_order.specs.declared.operation.Record.{Record}
 use Rattle.network.specs.declared.message.Body.{Body}
 use Rattle.network.specs.declared.message.Body.TheVariants.{ShReq, ExReq}
 use Rattle.network.specs.declared.message.Message.{Message}
@@ -76,6 +77,12 @@ pub data Step (S : Type 0) : Type 0 where
 pub data Tried : Type 0 where
   Completes : (op : Op) (received : Option ℕ) (ts : ℕ) (after : CoreState) → Tried
   Does : (step : Step CoreState) → Tried
+
+-- the record of an operation that is completed: it draws the next number, and its place is how many operations its core
+-- was issued before
+abbrev pub record_of : ℕ → ℕ → CoreState → Op → Option ℕ → ℕ → Record
+record_of c number core op received ts =
+    record { core = c; place = core.issued - 1; op = op; received = received; ts = ts; number = number }
 
 -- a core sends the bank of its operation's line a request
 abbrev pub asks : CoreState → Op → Body → Step CoreState

@@ -21,10 +21,12 @@ use Rattle.machine_table.specs.declared.event.Event.{Event}
 use Rattle.machine_table.specs.declared.event.Event.TheVariants.{Issue, Attempt as AttemptOf, Deliver, EvictCache}
 use Rattle.machine_table.specs.declared.event.Event.TheVariants.{EvictBank, Advance}
 use Rattle.machine_table.specs.Machine.{Machine, with_core, with_bank, with_dram}
-use Rattle.machine_table.specs.Change.{Change, Keeps, Exhausts, Drops, Makes, Completes}
+use Rattle.machine_table.specs.Posted.{can_post}
+use Rattle.machine_table.specs.Step as step
+use Rattle.machine_table.specs.Step.{Step, Tried}
 use Rattle.machine_table.specs.Transition.{changed, issued, issue_at, attempt_at, deliver_core, deliver_bank, deliver_dram}
 use Rattle.machine_table.specs.Transition.{deliver_to, deliver_message, evict_copy, evict_entry, advance_at, on_event}
-use Rattle.machine_table.specs.Transition.{transition}
+use Rattle.machine_table.specs.Transition.{transition, tried}
 use Rattle.machine_table.specs.declared.event.Answer.{Answer}
 use Rattle.machine_table.specs.Runs.{after_all}
 use Rattle.machine_table.specs.SetUp.{SetUpAs}
@@ -46,20 +48,26 @@ module _ (m : Machine) where
   issued_same c op (Err not_issued.TooMany, core) = same _ refl refl refl
   issued_same c op (Ok done, core) = same _ refl refl (length-set m.cores c core)
 
-  -- whatever the change is, of a part that is put into the machine
-  changed_same : {S : Type 0} (put : S → Machine) → ((part : S) → SetUpAs m (put part)) → (change : Change S) →
-      SetUpAs m (changed m put change).1
-  changed_same put keeps (Keeps answer) = same _ refl refl refl
-  changed_same put keeps Exhausts = same _ refl refl refl
-  changed_same put keeps (Drops mail) = same _ refl refl refl
-  changed_same put keeps (Makes answer part mail) = let k = keeps part in same _ k.config k.opening k.cores
-  changed_same put keeps (Completes done part) = let k = keeps part in same _ k.config k.opening k.cores
+  -- whatever the step is, of a part that is put into the machine
+  changed_same : {S : Type 0} (put : S → Machine) → ((part : S) → SetUpAs m (put part)) → (n : Option ℕ)
+      (s : Step S) → SetUpAs m (changed m put n s).1
+  changed_same put keeps n step.Exhausts = same _ refl refl refl
+  changed_same put keeps n (step.Keeps kept) = same _ refl refl refl
+  changed_same put keeps n step.Drops = same _ refl refl refl
+  changed_same put keeps n (step.Makes did consumes sends part) =
+      let k = keeps part in
+      either (can_post m.config.messages m.mail consumes sends) _ _ (same _ k.config k.opening k.cores)
+      (same _ refl refl refl)
 
-  core_same : (c : ℕ) (change : Change CoreState) → SetUpAs m (changed m (with_core m c) change).1
+  core_same : (c : ℕ) (n : Option ℕ) (s : Step CoreState) → SetUpAs m (changed m (with_core m c) n s).1
   core_same c = changed_same (with_core m c) (λ part. same _ refl refl (length-set m.cores c part))
 
-  bank_same : (b : ℕ) (change : Change BankState) → SetUpAs m (changed m (with_bank m b) change).1
+  bank_same : (b : ℕ) (n : Option ℕ) (s : Step BankState) → SetUpAs m (changed m (with_bank m b) n s).1
   bank_same b = changed_same (with_bank m b) (λ part. same _ refl refl refl)
+
+  tried_same : (c : ℕ) (core : CoreState) (t : Tried) → SetUpAs m (tried m c core t).1
+  tried_same c core (step.Completes op received ts after) = same _ refl refl (length-set m.cores c after)
+  tried_same c core (step.Does s) = core_same c None s
 
   delivered_same : (n : ℕ) (message : Message) (to : Node) → SetUpAs m (deliver_to m n message to).1
   delivered_same n message (node.Core c) = by_core (slice_get m.cores c)
@@ -67,19 +75,19 @@ module _ (m : Machine) where
       by_core : (o : Option CoreState) → SetUpAs m (deliver_core m n message c o).1
       by_core None = same _ refl refl refl
       by_core (Some core) = either (core_table.core_has_case core message) _ _
-          (core_same c _) (same _ refl refl refl)
+          (core_same c (Some n) _) (same _ refl refl refl)
   delivered_same n message (node.Bank b) = by_bank (slice_get m.banks b)
     where
       by_bank : (o : Option BankState) → SetUpAs m (deliver_bank m n message b o).1
       by_bank None = same _ refl refl refl
       by_bank (Some bank) = either (bank_table.bank_has_case bank message) _ _
-          (bank_same b _) (same _ refl refl refl)
+          (bank_same b (Some n) _) (same _ refl refl refl)
   delivered_same n message (node.Dram b) = by_dram (slice_get m.drams b)
     where
       by_dram : (o : Option (FinMap nat_cmp (List ℕ))) → SetUpAs m (deliver_dram m n message b o).1
       by_dram None = same _ refl refl refl
       by_dram (Some lines) = either (dram_has_case lines message) _ _
-          (changed_same (with_dram m b) (λ part. same _ refl refl refl) _) (same _ refl refl refl)
+          (changed_same (with_dram m b) (λ part. same _ refl refl refl) (Some n) _) (same _ refl refl refl)
 
   on_core : (P : Option CoreState → Answer × Machine) → SetUpAs m (P None).1 →
       ((core : CoreState) → SetUpAs m (P (Some core)).1) → (o : Option CoreState) → SetUpAs m (P o).1
@@ -90,21 +98,21 @@ module _ (m : Machine) where
   on_event_same (Issue c op) = on_core (λ o. issue_at m c op o) (same _ refl refl refl)
       (λ core. issued_same c op (core_table.issue core op)) (slice_get m.cores c)
   on_event_same (AttemptOf c) = on_core (λ o. attempt_at m c o) (same _ refl refl refl)
-      (λ core. core_same c _) (slice_get m.cores c)
+      (λ core. tried_same c core _) (slice_get m.cores c)
   on_event_same (Deliver n) = go (at_number n m.mail.messages)
     where
       go : (o : Option Message) → SetUpAs m (deliver_message m n o).1
       go None = same _ refl refl refl
       go (Some message) = delivered_same n message message.to
   on_event_same (EvictCache c line) = on_core (λ o. evict_copy m c line o) (same _ refl refl refl)
-      (λ core. core_same c _) (slice_get m.cores c)
+      (λ core. core_same c None _) (slice_get m.cores c)
   on_event_same (EvictBank b line) = go (slice_get m.banks b)
     where
       go : (o : Option BankState) → SetUpAs m (evict_entry m b line o).1
       go None = same _ refl refl refl
-      go (Some bank) = bank_same b _
+      go (Some bank) = bank_same b None _
   on_event_same (Advance c) = on_core (λ o. advance_at m c o) (same _ refl refl refl)
-      (λ core. core_same c _) (slice_get m.cores c)
+      (λ core. core_same c None _) (slice_get m.cores c)
 
   pub transition_same : (event : Event) → SetUpAs m (transition m event).1
   transition_same event = either m.is_stopped _ _ (same _ refl refl refl) (on_event_same event)

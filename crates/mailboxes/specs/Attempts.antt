@@ -9,7 +9,7 @@ use Rattle.core_pts.specs.declared.attempt.Attempt.{Attempt}
 use Rattle.core_pts.specs.declared.attempt.Attempt.TheVariants as attempted
 use Rattle.core_pts.specs.CoreTable as core_table
 use Rattle.core_pts.specs.CoreTable.{CoreState, line_of, to_bank}
-use Rattle.machine_table.specs.Change.{record_of}
+use Rattle.machine_table.specs.Step.{record_of}
 use Rattle.machine_table.specs.Step.{Attempting, Does, asks, core_step}
 use Rattle.machine_table.specs.declared.event.Answer.{Answer}
 use Rattle.machine_table.specs.declared.event.Answer.TheVariants.{Completed, Requested, Waiting, Idle, Refused}

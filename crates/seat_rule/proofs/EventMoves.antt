@@ -4,12 +4,12 @@ use Rattle.std.proofs.Common.{None, refl, sym, ap, ◌∙◌, subst, arith}
 use Rattle.std.specs.Prelude.{Result, Ok, Err}
 use Rattle.std.specs.List.{slice_get}
 use Rattle.std.specs.FinMap.{entries}
+use Rattle.std.proofs.lemmas.Bool.{cond_both}
 use Rattle.std.proofs.lemmas.Option.{get_or_from_slice_get, slice_get_within}
 use Rattle.physiological_order.specs.declared.operation.Op.{Op}
 use Rattle.network.specs.declared.message.Node.{Node}
 use Rattle.network.specs.declared.message.Node.TheVariants as node
 use Rattle.network.specs.declared.message.Message.{Message}
-use Rattle.network.specs.Mail.{Mail, has_number, has_capacity, sent}
 use Rattle.network.specs.NumberedMessages.{at_number}
 use Rattle.core_pts.specs.declared.attempt.IssueError.{IssueError}
 use Rattle.core_pts.specs.declared.attempt.IssueError.TheVariants as not_issued
@@ -19,21 +19,19 @@ use Rattle.llc_bank.specs.BankTable as bank_table
 use Rattle.llc_bank.specs.BankTable.{BankState, empty_bank}
 use Rattle.dram_mts.specs.Table.{dram_has_case}
 use Rattle.machine_table.specs.declared.event.Answer.{Answer}
-use Rattle.machine_table.specs.declared.event.Answer.TheVariants.{Refused}
 use Rattle.machine_table.specs.declared.event.Event.{Event}
 use Rattle.machine_table.specs.declared.event.Event.TheVariants.{Issue, Attempt as AttemptOf, Deliver, EvictCache}
 use Rattle.machine_table.specs.declared.event.Event.TheVariants.{EvictBank, Advance}
 use Rattle.machine_table.specs.declared.event.Refusal.TheVariants as refusal
 use Rattle.machine_table.specs.Opening.{core_config, bank_config, geometry, dram_of}
 use Rattle.machine_table.specs.Machine.{Machine, with_core, with_bank, with_dram}
-use Rattle.machine_table.specs.Change as change
-use Rattle.machine_table.specs.Change.{Keeps, Makes, left, placed}
+use Rattle.machine_table.specs.Posted.{can_post, left, posted}
 use Rattle.machine_table.specs.Step as step
 use Rattle.machine_table.specs.Step.{Act, Did, Kept, Step, Tried, Completes, Does, bank_step, core_step, did_answer}
 use Rattle.machine_table.specs.Step.{dram_step, kept_answer, message_of}
 use Rattle.machine_table.specs.Transition.{refused, changed, issued, issue_at, attempt_at, deliver_core, deliver_bank}
 use Rattle.machine_table.specs.Transition.{deliver_dram, deliver_to, deliver_message, evict_copy, evict_entry}
-use Rattle.machine_table.specs.Transition.{advance_at, on_event, transition}
+use Rattle.machine_table.specs.Transition.{advance_at, on_event, transition, tried}
 use Rattle.machine_theorem.specs.Bags.{SameBag, bag_of}
 use Rattle.machine_theorem.specs.Kept.{Invariant}
 use Rattle.seat_rule.specs.States.{State, Same, with_at, seen}
@@ -42,7 +40,7 @@ use Rattle.seat_rule.specs.Moves.{AreBeside, Move, StepsTo, issues, completes, c
 use Rattle.seat_rule.specs.Effects.{Effect, IsMove}
 use Rattle.seat_rule.proofs.Bags.{bag-taken}
 use Rattle.seat_rule.proofs.PartChanges.{itself, core_put, bank_put, dram_put, issue_put, completion_put, bag_put}
-use Rattle.seat_rule.proofs.PartChanges.{answer_put, replied}
+use Rattle.seat_rule.proofs.PartChanges.{posted_put}
 
 module _ (m : Machine) (s : Invariant m) where
   abbrev a : State
@@ -91,24 +89,8 @@ module _ (m : Machine) (s : Invariant m) where
   module _ {S : Type 0} (n : Option ℕ) (put : S → Machine) (puts : S → State)
       (here : (part : S) → Same (puts part) (seen (put part)))
       (counts : (part : S) → (puts part).counts ≡ m.mail.counts) where
-    answered : (did : Did) (bag : List Message) (mail : Mail) → SameBag bag (bag_of mail.messages) →
-        m.mail.counts ≡ mail.counts → (part : S) (sends : Option Message) →
-        Move m.config a (moves.with_answer (puts part) bag sends) →
-        Effect m (did_answer did) (record (put part) { mail = replied mail sends })
-    answered did bag mail same same_counts part sends move =
-        did_goes did _ (record {
-          to = moves.with_answer (puts part) bag sends;
-          move = move;
-          same = answer_put (puts part) (put part) (here part) bag mail same (counts part ∙ same_counts) sends;
-        })
-
-    tested : (b : Bool) (answer : Answer) (part : S) (mail : Mail) → Effect m answer (record (put part) { mail = mail })
-        → Goes (changed m put (cond b (Makes answer part mail) (Keeps (Refused refusal.NetworkFull))))
-    tested true answer part mail goes = goes
-    tested false answer part mail goes = unchanged
-
     step_goes : (s : Step S) → ((after : State) → StepsTo a puts (rest n) s after → Move m.config a after) →
-        Goes (changed m put (placed m.config.messages m.mail n s))
+        Goes (changed m put n s)
     step_goes step.Exhausts move = unchanged
     step_goes (step.Keeps kept) move = kept_goes kept
     step_goes step.Drops move =
@@ -117,16 +99,16 @@ module _ (m : Machine) (s : Invariant m) where
           move = move _ refl;
           same = bag_put a m unchanged (rest n) (left m.mail n) (λ h. refl) refl;
         }
-    step_goes (step.Makes did true None part) move =
-        answered did (rest n) (left m.mail n) (λ h. refl) refl part None (move _ refl)
-    step_goes (step.Makes did false None part) move =
-        answered did a.bag m.mail (λ h. refl) refl part None (move _ refl)
-    step_goes (step.Makes did true (Some q) part) move =
-        tested (has_number m.mail) (did_answer did) part (sent (left m.mail n) q)
-        (answered did (rest n) (left m.mail n) (λ h. refl) refl part (Some q) (move _ refl))
-    step_goes (step.Makes did false (Some q) part) move =
-        tested (has_capacity m.config.messages m.mail) (did_answer did) part (sent m.mail q)
-        (answered did a.bag m.mail (λ h. refl) refl part (Some q) (move _ refl))
+    step_goes (step.Makes did consumes sends part) move =
+        cond_both (can_post m.config.messages m.mail consumes sends)
+        (did_answer did, record (put part) { mail = posted m.mail n consumes sends }) (refused m refusal.NetworkFull)
+        Goes
+        (λ e. did_goes did _ (record {
+          to = moves.with_answer (puts part) (cond consumes (rest n) a.bag) sends;
+          move = move _ refl;
+          same = posted_put (puts part) (put part) (here part) a.bag (rest n) m.mail n (λ h. refl) (λ h. refl)
+              (counts part) consumes sends;
+        })) (λ e. unchanged)
 
   -- what a core of the machine does
   module _ (c : ℕ) (at : slice_get m.cores c ≡ Some (a.cores c)) where
@@ -163,13 +145,13 @@ module _ (m : Machine) (s : Invariant m) where
 
     act_goes : (act : Act) (n : Option ℕ) → AreBeside a.bag (node.Core c) (core_table.core_has_case core)
         (message_of act) (rest n) → (s : Step CoreState) → core_step core act ≡ Does s →
-        Goes (changed m put_core (placed m.config.messages m.mail n s))
+        Goes (changed m put_core n s)
     act_goes act n beside s is =
         step_goes n put_core (moves.with_core a c) core_here (λ part. refl) s
         (λ after to. core_steps c act (rest n) s below beside is to)
 
     attempt_goes : (t : Tried) → core_step core step.Attempting ≡ t →
-        Goes (changed m put_core (change.tried c (length m.records) m.config.messages m.mail core t))
+        Goes (tried m c core t)
     attempt_goes (Completes op received ts new) is =
         record {
           to = moves.with_completion a c op received ts new;
@@ -196,7 +178,7 @@ module _ (m : Machine) (s : Invariant m) where
     bank_here new = bank_put a m unchanged b new listed_bank
 
     bank_goes : (act : Act) (n : Option ℕ) → AreBeside a.bag (node.Bank b) (bank_table.bank_has_case bank)
-        (message_of act) (rest n) → Goes (changed m put_bank (placed m.config.messages m.mail n (bank_step bank act)))
+        (message_of act) (rest n) → Goes (changed m put_bank n (bank_step bank act))
     bank_goes act n beside =
         step_goes n put_bank (moves.with_bank a b) bank_here (λ part. refl) (bank_step bank act)
         (λ after to. bank_steps b act (rest n) _ below_banks beside refl to)
@@ -205,7 +187,7 @@ module _ (m : Machine) (s : Invariant m) where
   module _ (b : ℕ) (at : slice_get m.drams b ≡ Some (a.drams b)) where
     dram_goes : (act : Act) (n : Option ℕ) → AreBeside a.bag (node.Dram b) (dram_has_case (a.drams b))
         (message_of act) (rest n) →
-        Goes (changed m (with_dram m b) (placed m.config.messages m.mail n (dram_step (a.drams b) act)))
+        Goes (changed m (with_dram m b) n (dram_step (a.drams b) act))
     dram_goes act n beside =
         let listed = slice_get_within m.drams b (a.drams b) at in
         step_goes n (with_dram m b) (moves.with_dram a b) (λ part. dram_put a m unchanged b part listed)

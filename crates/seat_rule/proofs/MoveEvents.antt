@@ -10,7 +10,7 @@ use Rattle.physiological_order.specs.declared.operation.Op.{Op}
 use Rattle.network.specs.declared.message.Node.{Node}
 use Rattle.network.specs.declared.message.Node.TheVariants as node
 use Rattle.network.specs.declared.message.Message.{Message}
-use Rattle.network.specs.Mail.{Mail, has_number, has_capacity, sent}
+use Rattle.network.specs.Mail.{has_number, has_capacity}
 use Rattle.network.specs.NumberedMessages.{at_number, without_number}
 use Rattle.core_pts.specs.declared.attempt.IssueError.{IssueError}
 use Rattle.core_pts.specs.CoreTable as core_table
@@ -26,21 +26,19 @@ use Rattle.machine_table.specs.declared.event.Event.TheVariants as event
 use Rattle.machine_table.specs.declared.event.Refusal.TheVariants as refusal
 use Rattle.machine_table.specs.Machine.{Machine, with_core, with_bank, with_dram}
 use Rattle.machine_table.specs.Opening.{core_config, bank_config, geometry, dram_of}
-use Rattle.machine_table.specs.Change as change
-use Rattle.machine_table.specs.Change.{Keeps, Makes, left, placed}
+use Rattle.machine_table.specs.Posted.{can_post, left}
 use Rattle.machine_table.specs.Step as step
-use Rattle.machine_table.specs.Step.{Act, Did, Step, Tried, Completes, Does, bank_step, core_step, did_answer}
-use Rattle.machine_table.specs.Step.{dram_step, message_of}
+use Rattle.machine_table.specs.Step.{Act, Step, Tried, Completes, Does, bank_step, core_step, dram_step, message_of}
 use Rattle.machine_table.specs.Transition.{transition, refused, changed, issued, issue_at, attempt_at, deliver_core}
 use Rattle.machine_table.specs.Transition.{deliver_bank, deliver_dram, deliver_to, deliver_message, evict_copy}
-use Rattle.machine_table.specs.Transition.{evict_entry, advance_at, on_event}
+use Rattle.machine_table.specs.Transition.{evict_entry, advance_at, on_event, tried}
 use Rattle.machine_theorem.specs.Bags.{weigh, SameBag, bag_of}
 use Rattle.seat_rule.specs.States.{State, Same, with_at, seen, numbered_from}
 use Rattle.seat_rule.specs.Moves as moves
 use Rattle.seat_rule.specs.Moves.{Move, issues, completes, core_steps, bank_steps, dram_steps}
 use Rattle.seat_rule.proofs.Bags.{kept_bag}
 use Rattle.seat_rule.proofs.PartChanges.{core_put, bank_put, dram_put, issue_put, completion_put, bag_put}
-use Rattle.seat_rule.proofs.PartChanges.{answer_put, replied}
+use Rattle.seat_rule.proofs.PartChanges.{posted_put}
 use Rattle.seat_rule.proofs.Reactions.{second}
 
 module _ (config : Config) (a : State) where
@@ -67,9 +65,6 @@ module _ (config : Config) (a : State) where
     pub leads : (m : Machine) → Ready messages m → Led b (transition m event)
 
   module _ (xs : List Message) (m : Machine) (k : Ready xs m) where
-    abbrev capacity : ℕ
-    capacity = m.config.messages
-
     by_event : (b : State) (event : Event) → Led b (on_event m event) → Led b (transition m event)
     by_event b event led =
         subst (λ (stop : Bool). Led b (cond stop (refused m refusal.Stopped) (on_event m event))) (sym k.runs) led
@@ -81,12 +76,16 @@ module _ (config : Config) (a : State) where
         subst (λ (o : Option X). Led b (P o))
         (ap (λ (x : X). Some x) (same i) ∙ sym (slice_get-get_or parts i (d i) (omega arith))) led
 
-    -- a message is sent, for which there is room and a number
-    tested_leads : {S : Type 0} (b : State) (put : S → Machine) (test : Bool) → test ≡ true → (answer : Answer)
-        (part : S) (mail : Mail) → Led b (answer, record (put part) { mail = mail }) →
-        Led b (changed m put (cond test (Makes answer part mail) (Keeps (Refused refusal.NetworkFull))))
-    tested_leads b put true is answer part mail led = led
-    tested_leads b put false is answer part mail led = absurd (let z : false ≡ true = is in cc)
+    if_true : (b : State) (test : Bool) → test ≡ true → (x y : Answer × Machine) → Led b x → Led b (cond test x y)
+    if_true b true is x y led = led
+    if_true b false is x y led = absurd (let z : false ≡ true = is in cc)
+
+    -- there is room for what is sent, and a number
+    can : (consumes : Bool) (sends : Option Message) → can_post m.config.messages m.mail consumes sends ≡ true
+    can true None = refl
+    can false None = refl
+    can true (Some q) = second (ltb (length m.mail.messages) m.config.messages) (has_number m.mail) k.free
+    can false (Some q) = k.free
 
     -- a step of a part of any kind
     module _ {S : Type 0} (n : Option ℕ) (put : S → Machine) (puts : S → State) (rest : List Message)
@@ -94,37 +93,20 @@ module _ (config : Config) (a : State) where
         (here : (part : S) → Same (puts part) (seen (put part)))
         (counts : (part : S) → (puts part).counts ≡ a.counts)
         (runs : (part : S) → (put part).is_stopped ≡ m.is_stopped) where
-      makes_leads : (answer : Answer) (bag : List Message) (mail : Mail) → SameBag bag (bag_of mail.messages) →
-          m.mail.counts ≡ mail.counts → (part : S) (sends : Option Message) →
-          Led (moves.with_answer (puts part) bag sends) (answer, record (put part) { mail = replied mail sends })
-      makes_leads answer bag mail same same_counts part sends = (
-        answer_put (puts part) (put part) (here part) bag mail same (counts part ∙ k.same.counts ∙ same_counts) sends,
-        runs part ∙ k.runs,
-      )
-
-      made_leads : (did : Did) (consumes : Bool) (sends : Option Message) (part : S) →
-          Led (moves.with_answer (puts part) (cond consumes rest a.bag) sends)
-          (changed m put (placed capacity m.mail n (step.Makes did consumes sends part)))
-      made_leads did true None part = makes_leads (did_answer did) rest (left m.mail n) same refl part None
-      made_leads did false None part = makes_leads (did_answer did) a.bag m.mail k.same.bag refl part None
-      made_leads did true (Some q) part =
-          tested_leads _ put (has_number m.mail)
-          (second (ltb (length m.mail.messages) capacity) (has_number m.mail) k.free) (did_answer did) part
-          (sent (left m.mail n) q) (makes_leads (did_answer did) rest (left m.mail n) same refl part (Some q))
-      made_leads did false (Some q) part =
-          tested_leads _ put (has_capacity capacity m.mail) k.free (did_answer did) part (sent m.mail q)
-          (makes_leads (did_answer did) a.bag m.mail k.same.bag refl part (Some q))
-
-      step_leads : (s : Step S) (b : State) → moves.StepsTo a puts rest s b →
-          Led b (changed m put (placed capacity m.mail n s))
+      step_leads : (s : Step S) (b : State) → moves.StepsTo a puts rest s b → Led b (changed m put n s)
       step_leads step.Exhausts b to = absurd to
       step_leads (step.Keeps kept) b to = absurd to
       step_leads step.Drops b to =
-          subst (λ (x : State). Led x (changed m put (placed capacity m.mail n step.Drops))) (sym to)
+          subst (λ (x : State). Led x (changed m put n step.Drops)) (sym to)
           (bag_put a m k.same rest (left m.mail n) same k.same.counts, k.runs)
       step_leads (step.Makes did consumes sends part) b to =
-          subst (λ (x : State). Led x (changed m put (placed capacity m.mail n (step.Makes did consumes sends part))))
-          (sym to) (made_leads did consumes sends part)
+          subst (λ (x : State). Led x (changed m put n (step.Makes did consumes sends part))) (sym to)
+          (if_true (moves.with_answer (puts part) (cond consumes rest a.bag) sends)
+          (can_post m.config.messages m.mail consumes sends) (can consumes sends) _ _ (
+            posted_put (puts part) (put part) (here part) a.bag rest m.mail n k.same.bag same
+                (counts part ∙ k.same.counts) consumes sends,
+            runs part ∙ k.runs,
+          ))
 
     -- what a core does
     module _ (c : ℕ) (lt : c < config.cores) where
@@ -151,18 +133,16 @@ module _ (config : Config) (a : State) where
 
       core_leads : (n : Option ℕ) (rest : List Message) → SameBag rest (bag_of (left m.mail n).messages) →
           (s : Step CoreState) (b : State) → moves.StepsTo a (moves.with_core a c) rest s b →
-          Led b (changed m (with_core m c) (placed capacity m.mail n s))
+          Led b (changed m (with_core m c) n s)
       core_leads n rest same = step_leads n (with_core m c) (moves.with_core a c) rest same put_core (λ part. refl)
           (λ part. refl)
 
       -- an attempt at the open operation
       by_attempt : (b : State) (t : Tried) → core_step (a.cores c) step.Attempting ≡ t →
-          Led b (changed m (with_core m c) (change.tried c (length m.records) capacity m.mail (a.cores c) t)) →
-          Led b (transition m (event.Attempt c))
+          Led b (tried m c (a.cores c) t) → Led b (transition m (event.Attempt c))
       by_attempt b t is led =
           by_event b (event.Attempt c) (by_core b (λ o. attempt_at m c o)
-          (subst (λ (x : Tried). Led b
-          (changed m (with_core m c) (change.tried c (length m.records) capacity m.mail (a.cores c) x))) (sym is) led))
+          (subst (λ (x : Tried). Led b (tried m c (a.cores c) x)) (sym is) led))
 
       completion_leads : (op : Op) (received : Option ℕ) (ts : ℕ) (core : CoreState) →
           core_step (a.cores c) step.Attempting ≡ Completes op received ts core →
@@ -186,15 +166,12 @@ module _ (config : Config) (a : State) where
 
       bank_leads : (n : Option ℕ) (rest : List Message) → SameBag rest (bag_of (left m.mail n).messages) →
           (s : Step BankState) (b : State) → moves.StepsTo a (moves.with_bank a i) rest s b →
-          Led b (changed m (with_bank m i) (placed capacity m.mail n s))
+          Led b (changed m (with_bank m i) n s)
       bank_leads n rest same = step_leads n (with_bank m i) (moves.with_bank a i) rest same put_bank (λ part. refl)
           (λ part. refl)
 
   -- deliveries: the message comes first, with number 0
   module _ (message : Message) (rest : List Message) (m : Machine) (k : Ready (message ∷ rest) m) where
-    abbrev room : ℕ
-    room = m.config.messages
-
     same : SameBag rest (bag_of (left m.mail (Some 0)).messages)
     same h = sym (ap (λ ms. weigh h (bag_of (without_number 0 ms))) k.messages ∙ kept_bag 1 rest h)
 
@@ -206,12 +183,6 @@ module _ (config : Config) (a : State) where
         (subst (λ (o : Option Message). Led b (deliver_message m 0 o)) (sym found)
         (subst (λ (x : Node). Led b (deliver_to m 0 message x)) (sym is) led))
 
-    by_case : {S : Type 0} (b : State) (put : S → Machine) (has : Bool) (s : Step S) → has ≡ true →
-        Led b (changed m put (placed room m.mail (Some 0) s)) →
-        Led b (cond has (changed m put (placed room m.mail (Some 0) s)) (refused m refusal.NoSuch))
-    by_case b put true s is led = led
-    by_case b put false s is led = absurd (let z : false ≡ true = is in cc)
-
     core_delivery : (b : State) (c : ℕ) → c < config.cores → message.to ≡ node.Core c →
         core_table.core_has_case (a.cores c) message ≡ true →
         moves.StepsTo a (moves.with_core a c) rest (step.reacted (core_table.core_table (a.cores c) message)) b →
@@ -219,7 +190,7 @@ module _ (config : Config) (a : State) where
     core_delivery b c lt to has leads =
         by_delivery b (node.Core c) to
         (by_core (message ∷ rest) m k c lt b (λ o. deliver_core m 0 message c o)
-        (by_case b (with_core m c) (core_table.core_has_case (a.cores c) message) _ has
+        (if_true (message ∷ rest) m k b (core_table.core_has_case (a.cores c) message) has _ _
         (core_leads (message ∷ rest) m k c lt (Some 0) rest same _ b leads)))
 
     bank_delivery : (b : State) (i : ℕ) → i < config.banks → message.to ≡ node.Bank i →
@@ -229,7 +200,7 @@ module _ (config : Config) (a : State) where
     bank_delivery b i lt to has leads =
         by_delivery b (node.Bank i) to
         (by_bank (message ∷ rest) m k i lt b (λ o. deliver_bank m 0 message i o)
-        (by_case b (with_bank m i) (bank_table.bank_has_case (a.banks i) message) _ has
+        (if_true (message ∷ rest) m k b (bank_table.bank_has_case (a.banks i) message) has _ _
         (bank_leads (message ∷ rest) m k i lt (Some 0) rest same _ b leads)))
 
     dram_delivery : (b : State) (i : ℕ) → i < config.banks → message.to ≡ node.Dram i →
@@ -241,7 +212,7 @@ module _ (config : Config) (a : State) where
         (by_part (message ∷ rest) m k b a.drams m.drams
         (λ j. dram_of m.config j (entries m.opening)) config.banks i k.dram_count k.same.drams lt
         (λ o. deliver_dram m 0 message i o)
-        (by_case b (with_dram m i) (dram_has_case (a.drams i) message) _ has
+        (if_true (message ∷ rest) m k b (dram_has_case (a.drams i) message) has _ _
         (step_leads (message ∷ rest) m k (Some 0) (with_dram m i) (moves.with_dram a i) rest same
         (λ lines. dram_put a m k.same i lines (let n = k.dram_count in omega arith)) (λ part. refl) (λ part. refl)
         _ b leads)))

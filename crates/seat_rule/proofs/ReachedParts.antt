@@ -13,7 +13,7 @@ use Rattle.network.specs.declared.message.Message.{Message}
 use Rattle.core_pts.specs.CoreTable.{CoreState, opened}
 use Rattle.llc_bank.specs.BankTable.{BankState, empty_bank}
 use Rattle.machine_table.specs.declared.config.Config.{Config}
-use Rattle.machine_table.specs.Change.{record_of}
+use Rattle.machine_table.specs.Step.{record_of}
 use Rattle.machine_table.specs.Step as step
 use Rattle.machine_table.specs.Step.{Step}
 use Rattle.machine_table.specs.Opening.{core_config, bank_config, geometry}

@@ -16,7 +16,7 @@ use Rattle.core_pts.specs.CoreTable as core_table
 use Rattle.core_pts.specs.CoreTable.{CoreState, core_has_case}
 use Rattle.llc_bank.specs.BankTable.{BankState, bank_has_case}
 use Rattle.dram_mts.specs.Table.{dram_has_case}
-use Rattle.machine_table.specs.Change.{record_of}
+use Rattle.machine_table.specs.Step.{record_of}
 use Rattle.machine_table.specs.Step as step
 use Rattle.machine_table.specs.Step.{Step, attempt_open, attempted, bank_step, dram_step, message_of}
 use Rattle.machine_theorem.specs.Bags.{SameBag}

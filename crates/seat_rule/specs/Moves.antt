@@ -14,7 +14,7 @@ use Rattle.llc_bank.specs.BankTable.{BankState, bank_has_case}
 use Rattle.dram_mts.specs.Table.{dram_has_case}
 use Rattle.machine_table.specs.declared.config.Config.{Config}
 use Rattle.machine_table.specs.Opening.{at_start}
-use Rattle.machine_table.specs.Change.{record_of}
+use Rattle.machine_table.specs.Step.{record_of}
 use Rattle.machine_table.specs.Step.{Step, Exhausts, Keeps, Drops, Makes, Completes, Does, Act, message_of, core_step}
 use Rattle.machine_table.specs.Step.{attempt_open, bank_step, dram_step}
 use Rattle.machine_theorem.specs.Bags.{SameBag}

@@ -5,17 +5,17 @@ use Rattle.core_pts.specs.CoreTable.{CoreState}
 use Rattle.machine_table.specs.declared.event.Answer.{Answer}
 use Rattle.machine_table.specs.declared.event.Answer.TheVariants as answer
 use Rattle.machine_table.specs.Machine.{Machine}
-use Rattle.machine_table.specs.Change.{attempt}
-use Rattle.machine_table.specs.Transition.{attempt_at}
+use Rattle.machine_table.specs.Step.{attempt_open}
+use Rattle.machine_table.specs.Transition.{attempt_at, tried}
 use Rattle.machine_theorem.specs.Kept.{Invariant}
 use Rattle.interleaving_core.specs.contracts.machine_state.MachineState.{the_view}
-use Rattle.interleaving_core.specs.PartChanges.{applied, with_record}
+use Rattle.interleaving_core.specs.PartChanges.{applied_attempt, with_record}
 use Rattle.interleaving_core.specs.Reservation.{owed_for}
-use Rattle.interleaving_core.proofs.ChangedParts.{made_so, set_same}
+use Rattle.interleaving_core.proofs.ChangedParts.{is_tried, put_so, set_same}
 use Rattle.interleaving_core.proofs.LastRecord.{told_in}
 use Rattle.interleaving_core.specs.CoreMasks.{AreMasks}
 use Rattle.interleaving_core.proofs.MaskedCores.{read_back}
-use Rattle.interleaving_core.proofs.Only.{OneLess, SameOpen, attempt_only, attempt_waits, balanced}
+use Rattle.interleaving_core.proofs.Only.{attempt_only, attempt_waits, balanced}
 use Rattle.interleaving_core.proofs.OpenCounts.{owed_set}
 use Rattle.interleaving_core.proofs.Endpoints.{still_fitted}
 use Rattle.interleaving_core.proofs.Parts.{core_below, core_banks}
@@ -45,9 +45,8 @@ keep-requires c =
     let count = subst (λ (x : Answer × CoreState × Mail). length (with_record c.self.inside.records.items x.0) +
     owed_for x.1.open_op ≡ length c.self.inside.records.items + owed_for c.index_mut.result.now.open_op)
     (sym c.attempt-answer.ensures.done)
-    (balanced c.index_mut.result.now c.self.inside.flight.mail c.self.inside.records.items _
-    (attempt_only c.index_mut.result.now c.args.core c.len-count.result c.self.inside.flight.capacity
-    c.self.inside.flight.mail)) in
+    (balanced c.index_mut.result.now c.args.core c.len-count.result c.self.inside.flight.capacity
+    c.self.inside.flight.mail c.self.inside.records.items _ (attempt_only c.index_mut.result.now)) in
     let all = owed_set c.self.inside.cores.items c.args.core c.index_mut.result.now c.attempt-answer.new.core here in
     omega (arith, count, all, c.self.invariant.reserved)
 
@@ -58,9 +57,8 @@ invariant_of-self c =
     let count = subst (λ (x : Answer × CoreState × Mail). length (with_record c.self.inside.records.items x.0) +
     owed_for x.1.open_op ≡ length c.self.inside.records.items + owed_for c.index_mut.result.now.open_op)
     (sym c.attempt-answer.ensures.done)
-    (balanced c.index_mut.result.now c.self.inside.flight.mail c.self.inside.records.items _
-    (attempt_only c.index_mut.result.now c.args.core c.len-count.result c.self.inside.flight.capacity
-    c.self.inside.flight.mail)) in
+    (balanced c.index_mut.result.now c.args.core c.len-count.result c.self.inside.flight.capacity
+    c.self.inside.flight.mail c.self.inside.records.items _ (attempt_only c.index_mut.result.now)) in
     let all = owed_set c.self.inside.cores.items c.args.core c.index_mut.result.now c.attempt-answer.new.core here in
     let kept = ap length c.keep.ensures.records in
     let read = read_back c.self.inside.cores.items c.args.core c.attempt-answer.new.core c.index.result.now
@@ -69,7 +67,7 @@ invariant_of-self c =
     λ is. read ∙ subst (λ (x : Answer × CoreState × Mail). x.0 ≡ answer.Waiting →
     x.1 ≡ c.index_mut.result.now) (sym c.attempt-answer.ensures.done)
     (attempt_waits c.index_mut.result.now c.args.core c.len-count.result c.self.inside.flight.capacity
-    c.self.inside.flight.mail) is in
+    c.self.inside.flight.mail _) is in
     still_fitted c.self.inside.config c.self.inside.flight c.self.inside.cores.items c.self.inside.records.items _
     c.self.invariant _ _ _ _ _ c.attempt-answer.ensures.set_up
     (omega (arith, count, all, kept, c.keep.ensures.capacity, c.self.invariant.reserved))
@@ -83,14 +81,16 @@ returns c =
     let here = slice_get_read c.self.inside.cores.items (length c.self.inside.cores.items) c.args.core
     c.index_mut.result.now refl (omega (arith, c.if-at-len.false, c.len.ensures)) c.index_mut.ensures.value in
     let counted : c.len-count.result ≡ length c.self.inside.records.items = omega (arith, c.len-count.ensures) in
+    let tries = attempt_open core core.open_op in
     let done = c.attempt-answer.ensures.done
-    ∙ ap (λ (n : ℕ). applied core m.mail (attempt c.args.core n c.self.inside.flight.capacity m.mail core)) counted
-    ∙ ap (λ (n : ℕ). applied core m.mail (attempt c.args.core (length m.records) n m.mail core))
+    ∙ ap (λ (n : ℕ). applied_attempt c.args.core n c.self.inside.flight.capacity m.mail core tries) counted
+    ∙ ap (λ (n : ℕ). applied_attempt c.args.core (length m.records) n m.mail core tries)
     c.self.invariant.capacity_is in
     told_in _ m.records c.attempt-answer.result c.plain_of.result _ c.plain_of.ensures c.keep.ensures.records
-    (made_so m (λ x. set m.cores c.args.core x) (λ x. m.banks) (λ x. m.drams) core
+    (put_so m (λ x. set m.cores c.args.core x) (λ x. m.banks) (λ x. m.drams) core
     (set_same m.cores c.args.core core here) refl refl
-    (SameOpen core) (OneLess core) _ (attempt_only core c.args.core (length m.records) m.config.messages m.mail)
+    (applied_attempt c.args.core (length m.records) m.config.messages m.mail core tries) (tried m c.args.core core tries)
+    (is_tried m c.args.core core (set_same m.cores c.args.core core here) tries)
     c.attempt-answer.result c.attempt-answer.new.core c.attempt-answer.new.flight.mail
     c.keep.new.records.items c.stop.new.is_stopped
     done c.keep.ensures.records c.stop.ensures

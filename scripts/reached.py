@@ -14,7 +14,7 @@ from pathlib import Path
 TOP = Path(__file__).resolve().parent.parent
 TABLES = {
     "core_pts": "CoreTable OnCopy", "private_cache": "CopyTable", "timestamp_manager": "Lease", "dram_mts": "Table",
-    "llc_bank": "BankTable OnEntry", "network": "Mail", "machine_table": "Change Machine Opening SetUp Transition",
+    "llc_bank": "BankTable OnEntry", "network": "Mail", "machine_table": "Machine Opening Posted SetUp Step Transition",
     "interleaving_core": "LookUps", "machine_theorem": "Coherence", "inbox": "Serving",
     "mailboxes": "Attempts BankCalls BankServing BoxMoves CoreServing Evictions Places Turns",
     "closed_machine": "Sending",

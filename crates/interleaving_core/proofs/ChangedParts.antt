@@ -1,5 +1,5 @@
 -- A part that has changed, put back among the others.
-use Rattle.std.proofs.Common.{◌≡◌, ℕ, zero, suc, ◌<◌, ◌||◌, Bool, true, false, List, [], ◌∷◌, set}
+use Rattle.std.proofs.Common.{◌≡◌, ℕ, zero, suc, ◌<◌, ◌||◌, Bool, true, false, cond, List, [], ◌∷◌, length, set}
 use Rattle.std.proofs.Common.{Option, Some, None, IsSome, OnErr, Result, Ok, Err, refl, sym, ap, ◌∙◌, inr}
 use Rattle.std.proofs.Common.{subst}
 use Rattle.std.specs.List.{slice_get}
@@ -16,11 +16,13 @@ use Rattle.machine_table.specs.declared.event.Answer.TheVariants as answer
 use Rattle.machine_table.specs.declared.event.Refusal.{Refusal}
 use Rattle.machine_table.specs.declared.event.Refusal.TheVariants as refusal
 use Rattle.machine_table.specs.Machine.{Machine}
-use Rattle.machine_table.specs.Change.{Change, Keeps, Exhausts, Drops, Makes, Completes, reacted}
-use Rattle.machine_table.specs.Transition.{changed, deliver_message}
-use Rattle.interleaving_core.specs.PartChanges.{applied, concluded, responded, stops, with_record}
+use Rattle.machine_table.specs.Posted.{can_post, left, posted}
+use Rattle.machine_table.specs.Step as step
+use Rattle.machine_table.specs.Step.{Did, Step, Tried, did_answer, kept_answer}
+use Rattle.machine_table.specs.Transition.{changed, deliver_message, refused, tried}
+use Rattle.interleaving_core.specs.PartChanges.{applied, applied_attempt, concluded, responded, stops, with_record}
 use Rattle.interleaving_core.specs.StepAnswers.{TakesMemory}
-use Rattle.interleaving_core.proofs.Only.{Any, Only, reacted_only}
+use Rattle.interleaving_core.proofs.Only.{did_plain, kept_plain}
 
 -- a list in which what is there is put where it is
 pub set_same : {X : Type 0} (xs : List X) (i : ℕ) (x : X) → slice_get xs i ≡ Some x → set xs i x ≡ xs
@@ -53,54 +55,52 @@ module _ {S : Type 0} (m : Machine) (cores : S → List CoreState) (banks : S �
     },
   )
 
-  is_changed : (made completed : S → Type 0) (change : Change S) → Only made completed change →
-      after (applied part m.mail change) ≡ changed m put change
-  is_changed made completed (Keeps why) only =
-      ap (λ (n : Machine). (
-        why,
-        record n {
-          mail = m.mail;
-          records = with_record m.records why;
-          is_stopped = stops why
-              || m.is_stopped;
-        },
-      )) put_same
-      ∙ ap (λ (rs : List Record). (why, record m { records = rs; is_stopped = stops why || m.is_stopped }))
-      (only.0 m.records)
-      ∙ ap (λ (b : Bool). (why, record m { is_stopped = b || m.is_stopped })) only.1
-  is_changed made completed Exhausts only =
-      ap (λ (n : Machine). (
-        answer.Refused refusal.Exhausted,
-        record n {
-          mail = m.mail;
-          records =
-              m.records;
-          is_stopped = true;
-        },
-      )) put_same
-  is_changed made completed (Drops mail) only =
-      ap (λ (n : Machine). (answer.Dropped, record n { mail = mail; records = m.records; is_stopped = m.is_stopped }))
-      put_same
-  is_changed made completed (Makes done new mail) only =
+  made_so : (did : Did) (new : S) (mail : Mail) → after (did_answer did, new, mail) ≡
+      (did_answer did, record (put new) { mail = mail })
+  made_so did new mail =
       ap (λ (rs : List Record). (
-        done,
+        did_answer did,
         record (put new) {
           mail = mail;
           records = rs;
-          is_stopped = stops done
+          is_stopped = stops (did_answer did)
               || m.is_stopped;
         },
-      )) (only.0.0 m.records)
-      ∙ ap (λ (b : Bool). (done, record (put new) { mail = mail; is_stopped = b || m.is_stopped })) only.0.1
-  is_changed made completed (Completes done new) only = refl
+      )) ((did_plain did).0 m.records)
+      ∙ ap (λ (b : Bool). (did_answer did, record (put new) { mail = mail; is_stopped = b || m.is_stopped }))
+      (did_plain did).1
 
-  -- the machine after an event whose change of the part this is
-  pub made_so : (made completed : S → Type 0) (change : Change S) → Only made completed change →
+  kept_so : (mail : Mail) (records : List Record) (b : Bool) (answer : Answer) →
+      ◌≡◌ {A = Answer × Machine} (answer, record (put part) { mail = mail; records = records; is_stopped = b })
+      (answer, record m { mail = mail; records = records; is_stopped = b })
+  kept_so mail records b answer =
+      ap (λ (n : Machine). (answer, record n { mail = mail; records = records; is_stopped = b })) put_same
+
+  pub is_changed : (n : Option ℕ) (s : Step S) → after (applied m.config.messages part m.mail n s) ≡ changed m put n s
+  is_changed n step.Exhausts = kept_so m.mail m.records true (answer.Refused refusal.Exhausted)
+  is_changed n (step.Keeps kept) =
+      kept_so m.mail (with_record m.records (kept_answer kept)) (stops (kept_answer kept) || m.is_stopped)
+      (kept_answer kept)
+      ∙ ap (λ (rs : List Record). (
+        kept_answer kept,
+        record m { records = rs; is_stopped = stops (kept_answer kept) || m.is_stopped },
+      )) ((kept_plain kept).0 m.records)
+      ∙ ap (λ (b : Bool). (kept_answer kept, record m { is_stopped = b || m.is_stopped })) (kept_plain kept).1
+  is_changed n step.Drops = kept_so (left m.mail n) m.records m.is_stopped answer.Dropped
+  is_changed n (step.Makes did consumes sends new) = by_test (can_post m.config.messages m.mail consumes sends)
+    where
+      by_test : (b : Bool) → after (cond b (did_answer did, new, posted m.mail n consumes sends)
+          (answer.Refused refusal.NetworkFull, part, m.mail)) ≡ cond b
+          (did_answer did, record (put new) { mail = posted m.mail n consumes sends }) (refused m refusal.NetworkFull)
+      by_test true = made_so did new (posted m.mail n consumes sends)
+      by_test false = kept_so m.mail m.records m.is_stopped (answer.Refused refusal.NetworkFull)
+
+  -- the machine after an event that makes this of the part and the messages in flight
+  pub put_so : (x : Answer × S × Mail) (y : Answer × Machine) → after x ≡ y →
       (answer : Answer) (new : S) (mail : Mail) (records : List Record) (stopped : Bool) →
-      (answer, new, mail) ≡ applied part m.mail change → records ≡ with_record m.records answer →
-      stopped ≡ (stops answer || m.is_stopped) →
-      (answer, record (put new) { mail = mail; records = records; is_stopped = stopped }) ≡ changed m put change
-  made_so made completed change only answer new mail records stopped is recorded stop =
+      (answer, new, mail) ≡ x → records ≡ with_record m.records answer → stopped ≡ (stops answer || m.is_stopped) →
+      (answer, record (put new) { mail = mail; records = records; is_stopped = stopped }) ≡ y
+  put_so x y leads answer new mail records stopped is recorded stop =
       ap (λ (rs : List Record). (answer, record (put new) { mail = mail; records = rs; is_stopped = stopped }))
       recorded
       ∙ ap (λ (b : Bool). (
@@ -113,67 +113,78 @@ module _ {S : Type 0} (m : Machine) (cores : S → List CoreState) (banks : S �
         },
       )) stop
       ∙ ap after is
-      ∙ is_changed made completed change only
+      ∙ leads
 
-  -- a change that completes nothing adds no record
-  not_recorded : (made : S → Type 0) (change : Change S) → Only made (λ x. ⊥) change → m.records ≡ with_record
-      m.records (applied part m.mail change).0
-  not_recorded made (Keeps why) only = sym (only.0 m.records)
-  not_recorded made Exhausts only = refl
-  not_recorded made (Drops mail) only = refl
-  not_recorded made (Makes done new mail) only = sym (only.0.0 m.records)
-  not_recorded made (Completes done new) only = absurd only
+  -- a step adds no record
+  not_recorded : (n : Option ℕ) (s : Step S) → m.records ≡ with_record
+      m.records (applied m.config.messages part m.mail n s).0
+  not_recorded n step.Exhausts = refl
+  not_recorded n (step.Keeps kept) = sym ((kept_plain kept).0 m.records)
+  not_recorded n step.Drops = refl
+  not_recorded n (step.Makes did consumes sends new) = by_test (can_post m.config.messages m.mail consumes sends)
+    where
+      by_test : (b : Bool) → m.records ≡ with_record m.records (cond {A = Answer × S × Mail} b
+          (did_answer did, new, posted m.mail n consumes sends) (answer.Refused refusal.NetworkFull, part, m.mail)).0
+      by_test true = sym ((did_plain did).0 m.records)
+      by_test false = refl
 
-  pub made_without : (made : S → Type 0) (change : Change S) → Only made (λ x. ⊥) change → (answer : Answer) (new : S)
-      (mail : Mail) (stopped : Bool) →
-      (answer, new, mail) ≡ applied part m.mail change → stopped ≡ (stops answer || m.is_stopped) →
-      (answer, record (put new) { mail = mail; is_stopped = stopped }) ≡ changed m put change
-  made_without made change only answer new mail stopped is stop =
-      made_so made (λ x. ⊥) change only answer new mail m.records stopped is
-      (not_recorded made change only ∙ ap (λ (x : Answer × S × Mail). with_record m.records x.0) (sym is)) stop
+  pub made_without : (n : Option ℕ) (s : Step S) (answer : Answer) (new : S) (mail : Mail) (stopped : Bool) →
+      (answer, new, mail) ≡ applied m.config.messages part m.mail n s → stopped ≡ (stops answer || m.is_stopped) →
+      (answer, record (put new) { mail = mail; is_stopped = stopped }) ≡ changed m put n s
+  made_without n s answer new mail stopped is stop =
+      put_so (applied m.config.messages part m.mail n s) (changed m put n s) (is_changed n s) answer new mail
+      m.records stopped is
+      (not_recorded n s ∙ ap (λ (x : Answer × S × Mail). with_record m.records x.0) (sym is)) stop
 
-  -- an event of the part: what the table makes of the machine is the change, of messages of this capacity. The
-  -- machine is seen as a model.
-  module _ (made : S → Type 0) (change : ℕ → Change S) (only : Only made (λ x. ⊥) (change m.config.messages))
-      (capacity : ℕ) (same_capacity : capacity ≡ m.config.messages)
+  -- an event of the part: what the table makes of the machine is the step, with messages of this capacity. The machine
+  -- is seen as a model.
+  module _ (n : Option ℕ) (s : Step S) (capacity : ℕ) (same_capacity : capacity ≡ m.config.messages)
       (seen : Machine) (is_view : m ≡ seen) (event : Machine → Answer × Machine)
-      (changes : changed m put (change m.config.messages) ≡ event m) where
-    pub event_done : (answer : Answer) (new : S) (mail : Mail) (stopped : Bool) → (answer, new, mail) ≡ applied part
-        m.mail (change capacity) → stopped ≡ (stops answer || m.is_stopped) →
+      (changes : changed m put n s ≡ event m) where
+    pub event_done : (answer : Answer) (new : S) (mail : Mail) (stopped : Bool) → (answer, new, mail) ≡ applied
+        capacity part m.mail n s → stopped ≡ (stops answer || m.is_stopped) →
         (answer, record (put new) { mail = mail; is_stopped = stopped }) ≡ event seen
     event_done answer new mail stopped is stop =
-        made_without made (change m.config.messages) only answer new mail stopped
-        (is ∙ ap (λ (k : ℕ). applied part m.mail (change k)) same_capacity) stop
+        made_without n s answer new mail stopped
+        (is ∙ ap (λ (k : ℕ). applied k part m.mail n s) same_capacity) stop
         ∙ changes ∙ ap event is_view
 
   -- so of a message that is delivered to the part, whose reaction this is
   module _ (n : ℕ) (reaction : Option (Reaction × S)) (capacity : ℕ) (same_capacity : capacity ≡ m.config.messages)
-      (seen : Machine) (is_view : m ≡ seen) (delivers : changed m put (reacted m.config.messages m.mail n reaction) ≡
+      (seen : Machine) (is_view : m ≡ seen) (delivers : changed m put (Some n) (step.reacted reaction) ≡
       deliver_message m n (at_number n m.mail.messages)) where
     pub delivered : (answer : Answer) (response : Result Reaction Refusal) (new : S) (mail : Mail) (stopped : Bool) →
         (answer, mail) ≡ concluded m.mail n response →
-        responded m.mail n response new ≡ applied part m.mail (reacted capacity m.mail n reaction) →
+        responded m.mail n response new ≡ applied capacity part m.mail (Some n) (step.reacted reaction) →
         stopped ≡ (stops answer || m.is_stopped) →
         (answer, record (put new) { mail = mail; is_stopped = stopped }) ≡ deliver_message seen n
         (at_number n seen.mail.messages)
     delivered answer response new mail stopped concludes responds stop =
-        event_done Any (λ k. reacted k m.mail n reaction) (reacted_only m.config.messages m.mail n reaction) capacity
-        same_capacity seen is_view (λ x. deliver_message x n (at_number n x.mail.messages)) delivers answer new mail
+        event_done (Some n) (step.reacted reaction) capacity same_capacity seen is_view
+        (λ x. deliver_message x n (at_number n x.mail.messages)) delivers answer new mail
         stopped (ap (λ (x : Answer × Mail). (x.0, new, x.1)) concludes ∙ responds) stop
 
     -- it takes memory if a message is sent
     pub delivery_wanted : {X E : Type 0} (result : Result X E) →
-        m.mail.next < (applied part m.mail (reacted capacity m.mail n reaction)).2.next →
+        m.mail.next < (applied capacity part m.mail (Some n) (step.reacted reaction)).2.next →
         OnErr result (TakesMemory seen (deliver_message seen n (at_number n seen.mail.messages)))
     delivery_wanted (Ok x) sends = tt
     delivery_wanted (Err e) sends =
-        let more : m.mail.next < (applied part m.mail (reacted m.config.messages m.mail n reaction)).2.next =
-        subst (λ (k : ℕ). m.mail.next < (applied part m.mail (reacted k m.mail n reaction)).2.next) same_capacity sends
-        in
+        let more : m.mail.next < (applied m.config.messages part m.mail (Some n) (step.reacted reaction)).2.next =
+        subst (λ (k : ℕ). m.mail.next < (applied k part m.mail (Some n) (step.reacted reaction)).2.next) same_capacity
+        sends in
         subst (λ (x : Machine). TakesMemory x (deliver_message x n (at_number n x.mail.messages))) is_view
         (subst (λ (x : Answer × Machine). TakesMemory m x) delivers
         (inr (subst (λ (x : Answer × Machine). m.mail.next < x.1.mail.next)
-        (is_changed Any (λ x. ⊥) _ (reacted_only m.config.messages m.mail n reaction)) more)))
+        (is_changed (Some n) (step.reacted reaction)) more)))
+
+-- an attempt of a core of the machine, which is put into its place
+module _ (m : Machine) (c : ℕ) (core : CoreState) (same : set m.cores c core ≡ m.cores) where
+  pub is_tried : (t : Tried) → after m (λ x. set m.cores c x) (λ x. m.banks) (λ x. m.drams) core same refl refl
+      (applied_attempt c (length m.records) m.config.messages m.mail core t) ≡ tried m c core t
+  is_tried (step.Completes op received ts new) = refl
+  is_tried (step.Does s) =
+      is_changed m (λ x. set m.cores c x) (λ x. m.banks) (λ x. m.drams) core same refl refl None s
 
 -- what an option has that isn't empty
 pub had : {X : Type 0} (o : Option X) → IsSome o → (x : X) × (o ≡ Some x)

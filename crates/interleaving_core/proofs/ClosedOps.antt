@@ -8,13 +8,13 @@ use Rattle.core_pts.specs.declared.attempt.Attempt.{Attempt}
 use Rattle.core_pts.specs.declared.attempt.Attempt.TheVariants.{Completed, NeedShared, NeedExclusive, NoRoom, Waiting}
 use Rattle.core_pts.specs.declared.attempt.Attempt.TheVariants.{Idle}
 use Rattle.core_pts.specs.OnCopy.{serves, time_of}
-use Rattle.network.specs.declared.message.Body.TheVariants.{ExReq, ShReq}
+use Rattle.network.specs.declared.message.Body.{Body}
 use Rattle.network.specs.Mail.{Mail}
 use Rattle.core_pts.specs.CoreTable as core_table
 use Rattle.core_pts.specs.CoreTable.{CoreState, attempt, attempt_on, attempt_unserved, completed_at, line_of, need}
-use Rattle.machine_table.specs.Change as change
-use Rattle.machine_table.specs.Change.{attempt_open, attempted_op, requests}
-use Rattle.interleaving_core.specs.PartChanges.{applied}
+use Rattle.machine_table.specs.Step as step
+use Rattle.machine_table.specs.Step.{Does}
+use Rattle.interleaving_core.specs.PartChanges.{applied, applied_attempt}
 
 -- either no completion, or the operation is closed
 abbrev pub Closes : Option Attempt × CoreState → Type 0
@@ -73,24 +73,13 @@ seen_beside (Some x) out op beside is = ap first is
     first None = None
     first (Some pair) = Some pair.0
 
--- an attempt that needs a copy to read sends a request
-pub attempt_requests : (c number capacity : ℕ) (mail : Mail) (core after : CoreState) (op : Op) (pts : ℕ)
-    (version : Option ℕ) → after ≡ core → core.open_op ≡ Some op →
-    core_table.attempt core ≡ (Some (NeedShared pts version), after) →
-    applied after mail (requests capacity mail after op (ShReq pts version)) ≡ applied core mail
-    (change.attempt c number capacity mail core)
-attempt_requests c number capacity mail core after op pts version kept opens is =
-    ap (λ (x : CoreState). applied x mail (requests capacity mail x op (ShReq pts version))) kept
-    ∙ sym (ap (λ (o : Option Op). applied core mail (attempt_open c number capacity mail core o)) opens
-    ∙ ap (λ (t : Option Attempt × CoreState). applied core mail (attempted_op c number capacity mail core op t)) is)
-
--- so does one that needs a copy to write
-pub attempt_requests_own : (c number capacity : ℕ) (mail : Mail) (core after : CoreState) (op : Op)
-    (version : Option ℕ) → after ≡ core → core.open_op ≡ Some op →
-    core_table.attempt core ≡ (Some (NeedExclusive version), after) →
-    applied after mail (requests capacity mail after op (ExReq version)) ≡ applied core mail
-    (change.attempt c number capacity mail core)
-attempt_requests_own c number capacity mail core after op version kept opens is =
-    ap (λ (x : CoreState). applied x mail (requests capacity mail x op (ExReq version))) kept
-    ∙ sym (ap (λ (o : Option Op). applied core mail (attempt_open c number capacity mail core o)) opens
-    ∙ ap (λ (t : Option Attempt × CoreState). applied core mail (attempted_op c number capacity mail core op t)) is)
+-- an attempt that needs a copy sends a request
+pub attempt_requests : (c number capacity : ℕ) (mail : Mail) (core after : CoreState) (op : Op) (needs : Attempt)
+    (body : Body) → after ≡ core → core.open_op ≡ Some op → core_table.attempt core ≡ (Some needs, after) →
+    step.attempted core op (Some needs, after) ≡ Does (step.asks core op body) →
+    applied capacity after mail None (step.asks after op body) ≡
+    applied_attempt c number capacity mail core (step.attempt_open core core.open_op)
+attempt_requests c number capacity mail core after op needs body kept opens is asks =
+    ap (λ (x : CoreState). applied capacity x mail None (step.asks x op body)) kept
+    ∙ ap (applied_attempt c number capacity mail core)
+    (sym (ap (step.attempt_open core) opens ∙ ap (step.attempted core op) is ∙ asks))

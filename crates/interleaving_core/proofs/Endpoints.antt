@@ -33,10 +33,11 @@ use Rattle.dram_mts.specs.Table.{dram_has_case, dram_table, needs_memory}
 use Rattle.network.specs.Mail.{Mail, sent, taken, answered}
 use Rattle.machine_table.specs.declared.config.Config.{Config}
 use Rattle.machine_table.specs.Machine.{Machine, with_core, with_bank, with_dram}
-use Rattle.machine_table.specs.Change.{Keeps, Makes, can_send, reacted}
+use Rattle.machine_table.specs.Posted.{can_send}
+use Rattle.machine_table.specs.Step.{reacted}
 use Rattle.machine_table.specs.Transition.{changed, refused, deliver_core, deliver_bank, deliver_dram}
 use Rattle.machine_table.specs.Transition.{deliver_message, deliver_to}
-use Rattle.machine_table.specs.declared.event.Answer.TheVariants.{Delivered, Refused, Started}
+use Rattle.machine_table.specs.declared.event.Answer.TheVariants.{Delivered, Started}
 use Rattle.machine_table.specs.declared.event.Refusal.TheVariants.{NetworkFull, NoSuch}
 use Rattle.machine_theorem.specs.Cases.{core_case, bank_case, dram_takes, has_case_at, has_case}
 use Rattle.machine_theorem.specs.Shape.{GoesHome, IsOwnedBelow, IsWhole}
@@ -105,7 +106,7 @@ module _ {S : Type 0} (m : Machine) (n : ℕ) (put : S → Machine) (config : (x
       (each_last (GoesHome (put x).config) mail.messages (mail.next, message) invariant.whole.each_message).2
 
   pub reaction_endpoints : (reaction : Option (Reaction × S)) →
-      Invariant (changed m put (reacted m.config.messages m.mail n reaction)).1 → can_send m.config.messages m.mail
+      Invariant (changed m put (Some n) (reacted reaction)).1 → can_send m.config.messages m.mail
       (sent_by reaction) ≡ true →
       ReactionHasEndpoints m.config.cores m.config.banks reaction
   reaction_endpoints None invariant can = tt
@@ -114,13 +115,12 @@ module _ {S : Type 0} (m : Machine) (n : ℕ) (put : S → Machine) (config : (x
   reaction_endpoints (Some (Done None, x)) invariant can = tt
   reaction_endpoints (Some (Done (Some reply), x)) invariant can =
       sent_endpoints x (taken m.mail n) reply
-      (subst (λ b. Invariant (changed m put (cond b (Makes Delivered x (answered m.mail n reply))
-      (Keeps (Refused NetworkFull)))).1) can invariant)
+      (subst (λ b. Invariant (cond b (Delivered, record (put x) { mail = answered m.mail n reply })
+      (refused m NetworkFull)).1) can invariant)
   reaction_endpoints (Some (HeldAfter started, x)) invariant can =
       sent_endpoints x m.mail started
-      (subst (λ b.
-      Invariant (changed m put (cond b (Makes Started x (sent m.mail started)) (Keeps (Refused NetworkFull)))).1)
-      can invariant)
+      (subst (λ b. Invariant (cond b (Started, record (put x) { mail = sent m.mail started })
+      (refused m NetworkFull)).1) can invariant)
 
 -- messages in flight in a machine, which is seen as a model
 module _ (m seen : Machine) (is_view : m ≡ seen) (holds : Invariant seen) (n : ℕ) (message : Message)
@@ -156,14 +156,13 @@ module _ (m seen : Machine) (is_view : m ≡ seen) (holds : Invariant seen) (n :
         ReactionHasEndpoints m.config.cores m.config.banks (core_table.core_table core message)
     core_endpoints = reaction_endpoints m n (with_core m c) (λ x. refl) (core_table.core_table core message)
         (subst (λ b.
-        Invariant (cond b
-        (changed m (with_core m c) (reacted m.config.messages m.mail n (core_table.core_table core message)))
+        Invariant (cond b (changed m (with_core m c) (Some n) (reacted (core_table.core_table core message)))
         (refused m NoSuch)).1) core_has
         (subst (λ o. Invariant (deliver_core m n message c o).1) core_here (any_core_delivery m invariant n message
         found c (slice_get m.cores c) refl)))
 
-    pub core_delivers : changed m (with_core m c) (reacted m.config.messages m.mail n
-        (core_table.core_table core message)) ≡ deliver_message m n (at_number n m.mail.messages)
+    pub core_delivers : changed m (with_core m c) (Some n) (reacted (core_table.core_table core message)) ≡
+        deliver_message m n (at_number n m.mail.messages)
     core_delivers = sym (with_case (core_table.core_has_case core message) _ _ core_has)
         ∙ ap (deliver_core m n message c) (sym core_here)
         ∙ delivers_there (node.Core c) to
@@ -180,14 +179,13 @@ module _ (m seen : Machine) (is_view : m ≡ seen) (holds : Invariant seen) (n :
         ReactionHasEndpoints m.config.cores m.config.banks (bank_table.bank_table bank message)
     bank_endpoints = reaction_endpoints m n (with_bank m b) (λ x. refl) (bank_table.bank_table bank message)
         (subst (λ t.
-        Invariant (cond t
-        (changed m (with_bank m b) (reacted m.config.messages m.mail n (bank_table.bank_table bank message)))
+        Invariant (cond t (changed m (with_bank m b) (Some n) (reacted (bank_table.bank_table bank message)))
         (refused m NoSuch)).1) bank_has
         (subst (λ o. Invariant (deliver_bank m n message b o).1) bank_here (any_bank_delivery m invariant n
         message found b to)))
 
-    pub bank_delivers : changed m (with_bank m b) (reacted m.config.messages m.mail n
-        (bank_table.bank_table bank message)) ≡ deliver_message m n (at_number n m.mail.messages)
+    pub bank_delivers : changed m (with_bank m b) (Some n) (reacted (bank_table.bank_table bank message)) ≡
+        deliver_message m n (at_number n m.mail.messages)
     bank_delivers = sym (with_case (bank_table.bank_has_case bank message) _ _ bank_has)
         ∙ ap (deliver_bank m n message b) (sym bank_here)
         ∙ delivers_there (node.Bank b) to
@@ -201,7 +199,7 @@ module _ (m seen : Machine) (is_view : m ≡ seen) (holds : Invariant seen) (n :
     dram_has : dram_has_case lines message ≡ true
     dram_has = subst (λ o. dram_takes o message ≡ true) dram_here (case_at (node.Dram b) to)
 
-    pub dram_delivers : changed m (with_dram m b) (reacted m.config.messages m.mail n (dram_table lines message)) ≡
+    pub dram_delivers : changed m (with_dram m b) (Some n) (reacted (dram_table lines message)) ≡
         deliver_message m n (at_number n m.mail.messages)
     dram_delivers = sym (with_case (dram_has_case lines message) _ _ dram_has)
         ∙ ap (deliver_dram m n message b) (sym dram_here)

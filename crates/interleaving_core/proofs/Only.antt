@@ -1,36 +1,30 @@
--- What the changes of each event answer, and what parts they make.
+-- What the steps of each event answer, and what parts they make.
 use Rattle.std.proofs.Common.{◌≡◌, ℕ, ◌+◌, Bool, true, false, cond, List, [], ◌∷◌, length, length-append, Option}
 use Rattle.std.proofs.Common.{Some, None, Ok, Err, refl, ap, ◌∙◌, arith}
+use Rattle.std.proofs.lemmas.Bool.{cond_both}
 use Rattle.physiological_order.specs.declared.operation.Op.{Op}
 use Rattle.physiological_order.specs.declared.operation.Record.{Record}
-use Rattle.network.specs.declared.message.Body.TheVariants as body
 use Rattle.network.specs.declared.message.Message.{Message}
-use Rattle.network.specs.declared.part.Reaction.{Reaction}
-use Rattle.network.specs.declared.part.Reaction.TheVariants.{Done, Dropped, Held, HeldAfter}
-use Rattle.network.specs.Mail.{Mail, has_capacity, has_number, sent}
+use Rattle.network.specs.Mail.{Mail}
 use Rattle.private_cache.specs.declared.cache.CacheError.TheVariants as not_left
 use Rattle.private_cache.specs.declared.line_copy.LineCopy.{LineCopy}
 use Rattle.private_cache.specs.CopyTable.{copy_of, without_copy, is_pinned, evicted as left_cache}
 use Rattle.timestamp_manager.specs.Lease.{fits}
 use Rattle.core_pts.specs.declared.attempt.Attempt.{Attempt}
 use Rattle.core_pts.specs.declared.attempt.Attempt.TheVariants as attempted
-use Rattle.core_pts.specs.OnCopy.{at_core, is_exclusive, words_of_copy}
+use Rattle.core_pts.specs.OnCopy.{at_core}
 use Rattle.core_pts.specs.declared.decision.CoreReaction.{CoreReaction}
 use Rattle.core_pts.specs.declared.decision.CoreReaction.TheVariants.{Arrives, Grants, Returns, Drops as DropsThere}
 use Rattle.core_pts.specs.declared.decision.CoreReaction.TheVariants.{Holds, TooLate, NoCase}
 use Rattle.core_pts.specs.CoreTable as core_table
-use Rattle.core_pts.specs.CoreTable.{CoreState, core_table, pinned_line, sent_back, to_bank}
-use Rattle.llc_bank.specs.declared.decision.Eviction.{Eviction}
-use Rattle.llc_bank.specs.declared.decision.Eviction.TheVariants as eviction
-use Rattle.llc_bank.specs.OnEntry.{evicted}
-use Rattle.llc_bank.specs.BankTable as bank_table
-use Rattle.llc_bank.specs.BankTable.{BankState, bank_table}
+use Rattle.core_pts.specs.CoreTable.{CoreState, core_table, pinned_line, sent_back}
 use Rattle.machine_table.specs.declared.event.Answer.{Answer}
 use Rattle.machine_table.specs.declared.event.Answer.TheVariants as answer
 use Rattle.machine_table.specs.declared.event.Refusal.TheVariants as refusal
-use Rattle.machine_table.specs.Change.{Change, Keeps, Exhausts, Drops, Makes, Completes, attempt, attempt_open}
-use Rattle.machine_table.specs.Change.{attempted_op, reacted, copy_evicted, entry_evicted, advanced}
-use Rattle.interleaving_core.specs.PartChanges.{StandsAfter, applied, stops, with_record}
+use Rattle.machine_table.specs.Posted.{can_post, posted}
+use Rattle.machine_table.specs.Step as step
+use Rattle.machine_table.specs.Step.{Did, Kept, Step, Tried, did_answer, kept_answer, record_of}
+use Rattle.interleaving_core.specs.PartChanges.{StandsAfter, applied, applied_attempt, stops, with_record}
 use Rattle.interleaving_core.specs.Reservation.{owed_for}
 use Rattle.interleaving_core.proofs.ClosedOps.{Closes, attempt_closes}
 
@@ -38,19 +32,30 @@ use Rattle.interleaving_core.proofs.ClosedOps.{Closes, attempt_closes}
 abbrev pub IsPlain : Answer → Type 0
 IsPlain why = ((records : List Record) → with_record records why ≡ records) × (stops why ≡ false)
 
--- a change that makes only parts of which the one holds, and completes only with parts of which the other holds
-abbrev pub Only : {S : Type 0} → (S → Type 0) → (S → Type 0) → Change S → Type 0
-Only made completed (Keeps why) = IsPlain why
-Only made completed Exhausts = Unit {0}
-Only made completed (Drops mail) = Unit {0}
-Only made completed (Makes done part mail) = IsPlain done × made part
-Only made completed (Completes done part) = completed part
+-- what parts answer is so
+pub kept_plain : (kept : Kept) → IsPlain (kept_answer kept)
+kept_plain step.Waits = ((λ records. refl), refl)
+kept_plain step.Idles = ((λ records. refl), refl)
+kept_plain step.Holds = ((λ records. refl), refl)
+kept_plain step.HasNone = ((λ records. refl), refl)
+kept_plain step.IsBusy = ((λ records. refl), refl)
+kept_plain step.IsPinned = ((λ records. refl), refl)
+kept_plain step.LacksRoom = ((λ records. refl), refl)
 
--- a change that is made if the network has the capacity
-only_tested : {S : Type 0} (made completed : S → Type 0) (b : Bool) (done : Change S) → Only made completed done →
-    Only made completed (cond b done (Keeps (answer.Refused refusal.NetworkFull)))
-only_tested made completed true done only = only
-only_tested made completed false done only = ((λ records. refl), refl)
+pub did_plain : (did : Did) → IsPlain (did_answer did)
+did_plain step.Requests = ((λ records. refl), refl)
+did_plain step.Delivers = ((λ records. refl), refl)
+did_plain step.Starts = ((λ records. refl), refl)
+did_plain step.Evicts = ((λ records. refl), refl)
+did_plain step.Recalls = ((λ records. refl), refl)
+did_plain step.Advances = ((λ records. refl), refl)
+
+-- a step that makes only parts of which this holds
+abbrev pub Only : {S : Type 0} → (S → Type 0) → Step S → Type 0
+Only made step.Exhausts = Unit {0}
+Only made (step.Keeps kept) = Unit {0}
+Only made step.Drops = Unit {0}
+Only made (step.Makes did consumes sends part) = made part
 
 module _ (core : CoreState) where
   -- the core's open operation is unchanged, and with it whether its request is out; or it is completed
@@ -63,54 +68,61 @@ module _ (core : CoreState) where
   abbrev pub OneLess : CoreState → Type 0
   OneLess after = owed_for after.open_op + 1 ≡ owed_for core.open_op
 
+  -- so of an attempt
+  abbrev pub OnlyTried : Tried → Type 0
+  OnlyTried (step.Completes op received ts after) = OneLess after
+  OnlyTried (step.Does s) = Only SameOpen s
+
   -- records and open operations, together, count the same before and after
-  pub balanced : (mail : Mail) (records : List Record) (change : Change CoreState) → Only SameOpen OneLess change →
-      length (with_record records (applied core mail change).0) + owed_for (applied core mail change).1.open_op ≡
-      length records + owed_for core.open_op
-  balanced mail records (Keeps why) only =
-      ap (λ (rs : List Record). length rs + owed_for core.open_op) (only.0 records)
-  balanced mail records Exhausts only = refl
-  balanced mail records (Drops left) only = refl
-  balanced mail records (Makes done after sent) only =
-      ap (λ (rs : List Record). length rs + owed_for after.open_op) (only.0.0 records)
-      ∙ ap (λ (o : Option Op). length records + owed_for o) only.1
-  balanced mail records (Completes done after) only = let more =
-      length-append records (done ∷ []) in omega (arith, more, only)
+  pub balanced : (c number capacity : ℕ) (mail : Mail) (records : List Record) (t : Tried) → OnlyTried t →
+      length (with_record records (applied_attempt c number capacity mail core t).0)
+      + owed_for (applied_attempt c number capacity mail core t).1.open_op ≡ length records + owed_for core.open_op
+  balanced c number capacity mail records (step.Completes op received ts after) only =
+      let more = length-append records (record_of c number core op received ts ∷ []) in omega (arith, more, only)
+  balanced c number capacity mail records (step.Does step.Exhausts) only = refl
+  balanced c number capacity mail records (step.Does (step.Keeps why)) only =
+      ap (λ (rs : List Record). length rs + owed_for core.open_op) ((kept_plain why).0 records)
+  balanced c number capacity mail records (step.Does step.Drops) only = refl
+  balanced c number capacity mail records (step.Does (step.Makes did consumes sends after)) only =
+      by_test (can_post capacity mail consumes sends)
+    where
+      by_test : (b : Bool) → let x : Answer × CoreState × Mail = cond b
+          (did_answer did, after, posted mail None consumes sends) (answer.Refused refusal.NetworkFull, core, mail) in
+          length (with_record records x.0) + owed_for x.1.open_op ≡ length records + owed_for core.open_op
+      by_test true = ap (λ (rs : List Record). length rs + owed_for after.open_op) ((did_plain did).0 records)
+          ∙ ap (λ (o : Option Op). length records + owed_for o) only
+      by_test false = refl
 
-  -- an attempt
+  attempted_only : (op : Op) → core.open_op ≡ Some op → (tries : Option Attempt × CoreState) → Closes tries →
+      OnlyTried (step.attempted core op tries)
+  attempted_only op opens (None, after) closes = tt
+  attempted_only op opens (Some (attempted.Completed received ts), after) closes = let none =
+      ap owed_for closes in let one = ap owed_for opens in omega (arith, none, one)
+  attempted_only op opens (Some (attempted.NeedShared pts version), after) closes = refl
+  attempted_only op opens (Some (attempted.NeedExclusive version), after) closes = refl
+  attempted_only op opens (Some attempted.NoRoom, after) closes = tt
+  attempted_only op opens (Some attempted.Waiting, after) closes = tt
+  attempted_only op opens (Some attempted.Idle, after) closes = tt
+
+  pub attempt_only : OnlyTried (step.attempt_open core core.open_op)
+  attempt_only = by_open core.open_op refl
+    where
+      by_open : (o : Option Op) → core.open_op ≡ o → OnlyTried (step.attempt_open core o)
+      by_open None opens = tt
+      by_open (Some op) opens = attempted_only op opens (core_table.attempt core) (attempt_closes core)
+
+  -- after an attempt the core stands as its answer says
+  abbrev Stands : Answer × CoreState × Mail → Type 0
+  Stands x = StandsAfter x.0 core x.1
+
   module _ (c number capacity : ℕ) (mail : Mail) where
-    attempted_only : (op : Op) → core.open_op ≡ Some op → (tries : Option Attempt × CoreState) → Closes tries →
-        Only SameOpen OneLess (attempted_op c number capacity mail core op tries)
-    attempted_only op opens (None, after) closes = tt
-    attempted_only op opens (Some (attempted.Completed received ts), after) closes = let none =
-        ap owed_for closes in let one = ap owed_for opens in omega (arith, none, one)
-    attempted_only op opens (Some (attempted.NeedShared pts version), after) closes =
-        only_tested SameOpen OneLess (has_capacity capacity mail) _ (((λ records. refl), refl), refl)
-    attempted_only op opens (Some (attempted.NeedExclusive version), after) closes =
-        only_tested SameOpen OneLess (has_capacity capacity mail) _ (((λ records. refl), refl), refl)
-    attempted_only op opens (Some attempted.NoRoom, after) closes = ((λ records. refl), refl)
-    attempted_only op opens (Some attempted.Waiting, after) closes = ((λ records. refl), refl)
-    attempted_only op opens (Some attempted.Idle, after) closes = ((λ records. refl), refl)
-
-    pub attempt_only : Only SameOpen OneLess (attempt c number capacity mail core)
-    attempt_only = by_open core.open_op refl
-      where
-        by_open : (o : Option Op) → core.open_op ≡ o →
-            Only SameOpen OneLess (attempt_open c number capacity mail core o)
-        by_open None opens = ((λ records. refl), refl)
-        by_open (Some op) opens = attempted_only op opens (core_table.attempt core) (attempt_closes core)
-
-    -- the core stands as its answer says
-    abbrev Stands : Change CoreState → Type 0
-    Stands change = let x = applied core mail change in StandsAfter x.0 core x.1
-
-    asked_stands : (b : Bool) (new : Mail) → Stands
-        (cond b (Makes answer.Requested (record core { is_out = true }) new) (Keeps (answer.Refused refusal.NetworkFull)))
+    asked_stands : (b : Bool) (new : Mail) →
+        Stands (cond b (answer.Requested, record core { is_out = true }, new) (answer.Refused refusal.NetworkFull, core, mail))
     asked_stands true new = refl
     asked_stands false new = refl
 
     attempted_stands : (op : Op) (tries : Option Attempt × CoreState) → Closes tries →
-        Stands (attempted_op c number capacity mail core op tries)
+        Stands (applied_attempt c number capacity mail core (step.attempted core op tries))
     attempted_stands op (None, after) closes = refl
     attempted_stands op (Some (attempted.Completed received ts), after) closes = closes
     attempted_stands op (Some (attempted.NeedShared pts version), after) closes =
@@ -121,103 +133,53 @@ module _ (core : CoreState) where
     attempted_stands op (Some attempted.Waiting, after) closes = refl
     attempted_stands op (Some attempted.Idle, after) closes = refl
 
-    pub attempt_stands : Stands (attempt c number capacity mail core)
+    pub attempt_stands : Stands (applied_attempt c number capacity mail core (step.attempt_open core core.open_op))
     attempt_stands = by_open core.open_op
       where
-        by_open : (o : Option Op) → Stands (attempt_open c number capacity mail core o)
+        by_open : (o : Option Op) → Stands (applied_attempt c number capacity mail core (step.attempt_open core o))
         by_open None = refl
         by_open (Some op) = attempted_stands op (core_table.attempt core) (attempt_closes core)
 
-  -- what holds of the core and of each core that a change makes
-  pub kept : (made : CoreState → Type 0) → made core → (mail : Mail) (change : Change CoreState) →
-      Only made (λ after. ⊥) change → made (applied core mail change).1
-  kept made same mail (Keeps why) only = same
-  kept made same mail Exhausts only = same
-  kept made same mail (Drops left) only = same
-  kept made same mail (Makes done after sent) only = only.1
-  kept made same mail (Completes done after) only = absurd only
+  -- what holds of the core and of each core that a step makes
+  pub kept : (made : CoreState → Type 0) → made core → (capacity : ℕ) (mail : Mail) (n : Option ℕ)
+      (s : Step CoreState) → Only made s → made (applied capacity core mail n s).1
+  kept made same capacity mail n step.Exhausts only = same
+  kept made same capacity mail n (step.Keeps why) only = same
+  kept made same capacity mail n step.Drops only = same
+  kept made same capacity mail n (step.Makes did consumes sends after) only =
+      cond_both {A = Answer × CoreState × Mail} (can_post capacity mail consumes sends)
+      (did_answer did, after, posted mail n consumes sends) (answer.Refused refusal.NetworkFull, core, mail)
+      (λ x. made x.1) (λ t. only) (λ t. same)
 
   -- the core's time goes on
-  pub advance_only : (mail : Mail) → Only SameStatus (λ after. ⊥) (advanced mail (core_table.advance core))
-  advance_only mail = by_test (fits (core.pts + 1))
-    where
-      by_test : (b : Bool) → Only SameStatus (λ after. ⊥)
-          (advanced mail (cond b (Some tt, record core { pts = core.pts + 1 }) (None, core)))
-      by_test true = (((λ records. refl), refl), (refl, refl))
-      by_test false = tt
+  pub advance_only : Only SameStatus (step.advanced (core_table.advance core))
+  advance_only = cond_both (fits (core.pts + 1)) (Some tt, record core { pts = core.pts + 1 }) (None, core)
+      (λ x. Only SameStatus (step.advanced x)) (λ t. (refl, refl)) (λ t. tt)
 
   -- a copy leaves the core's cache
-  pub evict_only : (capacity : ℕ) (mail : Mail) (line : ℕ) → Only SameStatus (λ after. ⊥)
-      (copy_evicted capacity mail (core_table.evict core line))
-  evict_only capacity mail line = by_copy (copy_of core.cache line)
+  pub evict_only : (line : ℕ) → Only SameStatus (step.copy_evicted (core_table.evict core line))
+  evict_only line = by_copy (copy_of core.cache line)
     where
-      by_state : (copy : LineCopy) (b : Bool) → Only SameStatus (λ after. ⊥)
-          (copy_evicted capacity mail (
-            Ok (cond b (Some (to_bank core line (body.FlushRep (words_of_copy copy))))
-                None),
-            record core { cache = without_copy core.cache line },
-          ))
-      by_state copy true =
-          only_tested SameStatus (λ after. ⊥) (has_capacity capacity mail) _ (((λ records. refl), refl), (refl, refl))
-      by_state copy false = (((λ records. refl), refl), (refl, refl))
-
-      by_pin : (copy : LineCopy) (b : Bool) → Only SameStatus (λ after. ⊥)
-          (copy_evicted capacity mail
+      by_pin : (copy : LineCopy) (b : Bool) → Only SameStatus (step.copy_evicted
           (sent_back core line (cond b (Err not_left.Pinned, core.cache) (Ok copy, without_copy core.cache line))))
-      by_pin copy true = ((λ records. refl), refl)
-      by_pin copy false = by_state copy (is_exclusive copy.state)
+      by_pin copy true = tt
+      by_pin copy false = (refl, refl)
 
-      by_copy : (o : Option LineCopy) → Only SameStatus (λ after. ⊥)
-          (copy_evicted capacity mail (sent_back core line (left_cache core.cache line (pinned_line core) o)))
-      by_copy None = ((λ records. refl), refl)
+      by_copy : (o : Option LineCopy) → Only SameStatus
+          (step.copy_evicted (sent_back core line (left_cache core.cache line (pinned_line core) o)))
+      by_copy None = tt
       by_copy (Some copy) = by_pin copy (is_pinned (pinned_line core) line)
 
   -- a message reaches the core
-  module _ (message : Message) where
-    pub core_only : (capacity : ℕ) (mail : Mail) (n : ℕ) → Only SameOpen (λ after. ⊥)
-        (reacted capacity mail n (core_table core message))
-    core_only capacity mail n = by_reaction (at_core core.lease (is_pinned (pinned_line core) message.line)
-        (copy_of core.cache message.line) message.body)
-      where
-        by_reaction : (r : CoreReaction) → Only SameOpen (λ after. ⊥)
-            (reacted capacity mail n (core_table.after_reaction core message.line r))
-        by_reaction (Arrives copy) = (((λ records. refl), refl), refl)
-        by_reaction (Grants copy) = (((λ records. refl), refl), refl)
-        by_reaction (Returns kept back) =
-            only_tested SameOpen (λ after. ⊥) (has_number mail) _ (((λ records. refl), refl), refl)
-        by_reaction DropsThere = tt
-        by_reaction Holds = ((λ records. refl), refl)
-        by_reaction TooLate = tt
-        by_reaction NoCase = tt
-
--- any part that a change makes
-abbrev pub Any : {S : Type 0} → S → Type 0
-Any after = Unit {0}
-
--- a message reaches any part
-pub reacted_only : {S : Type 0} (capacity : ℕ) (mail : Mail) (n : ℕ) (reaction : Option (Reaction × S)) →
-    Only Any (λ after. ⊥) (reacted capacity mail n reaction)
-reacted_only capacity mail n None = tt
-reacted_only capacity mail n (Some (Held, part)) = ((λ records. refl), refl)
-reacted_only capacity mail n (Some (Dropped, part)) = tt
-reacted_only capacity mail n (Some (Done None, part)) = (((λ records. refl), refl), tt)
-reacted_only capacity mail n (Some (Done (Some reply), part)) =
-    only_tested Any (λ after. ⊥) (has_number mail) _ (((λ records. refl), refl), tt)
-reacted_only capacity mail n (Some (HeldAfter started, part)) =
-    only_tested Any (λ after. ⊥) (has_capacity capacity mail) _ (((λ records. refl), refl), tt)
-
-module _ (bank : BankState) where
-  -- a line leaves the bank
-  pub entry_only : (capacity : ℕ) (mail : Mail) (line : ℕ) →
-      Only Any (λ after. ⊥) (entry_evicted capacity mail (bank_table.evict bank line))
-  entry_only capacity mail line = by_eviction (evicted (bank_table.entry_of bank line))
+  pub core_only : (message : Message) → Only SameOpen (step.reacted (core_table core message))
+  core_only message = by_reaction (at_core core.lease (is_pinned (pinned_line core) message.line)
+      (copy_of core.cache message.line) message.body)
     where
-      by_eviction : (e : Eviction) →
-          Only Any (λ after. ⊥) (entry_evicted capacity mail (bank_table.after_eviction bank line e))
-      by_eviction eviction.NotThere = ((λ records. refl), refl)
-      by_eviction eviction.IsBusy = ((λ records. refl), refl)
-      by_eviction (eviction.Drops rts) = (((λ records. refl), refl), tt)
-      by_eviction (eviction.Stores rts words) =
-          only_tested Any (λ after. ⊥) (has_capacity capacity mail) _ (((λ records. refl), refl), tt)
-      by_eviction (eviction.AsksBack owner) =
-          only_tested Any (λ after. ⊥) (has_capacity capacity mail) _ (((λ records. refl), refl), tt)
+      by_reaction : (r : CoreReaction) → Only SameOpen (step.reacted (core_table.after_reaction core message.line r))
+      by_reaction (Arrives copy) = refl
+      by_reaction (Grants copy) = refl
+      by_reaction (Returns copy back) = refl
+      by_reaction DropsThere = tt
+      by_reaction Holds = tt
+      by_reaction TooLate = tt
+      by_reaction NoCase = tt

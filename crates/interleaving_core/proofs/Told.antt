@@ -12,22 +12,12 @@ use Rattle.physiological_order.specs.declared.operation.Op.{Op}
 use Rattle.network.specs.declared.message.Node.{Node}
 use Rattle.network.specs.declared.message.Node.TheVariants as node
 use Rattle.network.specs.declared.message.Message.{Message}
-use Rattle.network.specs.declared.part.Reaction.{Reaction}
-use Rattle.network.specs.declared.part.Reaction.TheVariants.{Done, Dropped, Held, HeldAfter}
 use Rattle.network.specs.NumberedMessages.{at_number}
-use Rattle.network.specs.Mail.{Mail, has_capacity, has_number, sent, taken}
-use Rattle.private_cache.specs.declared.cache.CacheError.{CacheError}
-use Rattle.private_cache.specs.declared.cache.CacheError.TheVariants.{NoRoom, NotHere, Pinned}
-use Rattle.core_pts.specs.declared.attempt.Attempt.{Attempt}
-use Rattle.core_pts.specs.declared.attempt.Attempt.TheVariants as attempted
+use Rattle.network.specs.Mail.{Mail, sent}
 use Rattle.core_pts.specs.declared.attempt.IssueError.{IssueError}
 use Rattle.core_pts.specs.declared.attempt.IssueError.TheVariants as not_issued
 use Rattle.core_pts.specs.CoreTable as core_table
 use Rattle.core_pts.specs.CoreTable.{CoreState}
-use Rattle.llc_bank.specs.declared.entry.Evict.{Evict}
-use Rattle.llc_bank.specs.declared.entry.Evict.TheVariants as evict
-use Rattle.llc_bank.specs.declared.entry.EvictError.{EvictError}
-use Rattle.llc_bank.specs.declared.entry.EvictError.TheVariants as not_evicted
 use Rattle.llc_bank.specs.BankTable as bank_table
 use Rattle.llc_bank.specs.BankTable.{BankState}
 use Rattle.dram_mts.specs.Table.{dram_table, dram_has_case}
@@ -39,11 +29,12 @@ use Rattle.machine_table.specs.declared.event.Answer.TheVariants.{Refused}
 use Rattle.machine_table.specs.declared.event.Refusal.{Refusal}
 use Rattle.machine_table.specs.declared.event.Refusal.TheVariants as refusal
 use Rattle.machine_table.specs.Machine.{Machine, with_core, with_bank, with_dram}
-use Rattle.machine_table.specs.Change.{Change, Keeps, Exhausts, Drops, Makes, Completes, attempt_open, attempted_op}
-use Rattle.machine_table.specs.Change.{reacted, copy_evicted, entry_evicted, advanced}
+use Rattle.machine_table.specs.Posted.{can_post, left, posted}
+use Rattle.machine_table.specs.Step as step
+use Rattle.machine_table.specs.Step.{Step, Tried, did_answer}
 use Rattle.machine_table.specs.Transition.{refused, changed, issued, issue_at, attempt_at, deliver_core, deliver_bank}
 use Rattle.machine_table.specs.Transition.{deliver_dram, deliver_to, deliver_message, evict_copy, evict_entry}
-use Rattle.machine_table.specs.Transition.{advance_at, on_event, transition}
+use Rattle.machine_table.specs.Transition.{advance_at, on_event, transition, tried}
 use Rattle.interleaving_core.specs.IssuedOps.{issued_at_event}
 use Rattle.interleaving_core.specs.StepAnswers.{Stepped}
 
@@ -54,96 +45,35 @@ SendsOne mail after =
     ⊎ ((before : Mail) × (message : Message) × (before.next ≡ mail.next) × (before.counts ≡ mail.counts) ×
     (after ≡ sent before message))
 
--- a change of one part does so
-abbrev SendsIn : {S : Type 0} → Mail → Change S → Type 0
-SendsIn mail (Keeps why) = Unit {0}
-SendsIn mail Exhausts = Unit {0}
-SendsIn mail (Drops left) = SendsOne mail left
-SendsIn mail (Makes done part after) = SendsOne mail after
-SendsIn mail (Completes done part) = Unit {0}
-
 -- no operation is issued
 abbrev Stays : Machine → Machine → Type 0
 Stays m after = (after.issued ≡ m.issued) × SendsOne m.mail after.mail
 
--- one part is put into the machine
-module _ {S : Type 0} (m : Machine) (put : S → Machine) (issues : (part : S) → (put part).issued ≡ m.issued)
-    (mails : (part : S) → (put part).mail ≡ m.mail) where
-  changed_stays : (change : Change S) → SendsIn m.mail change → Stays m (changed m put change).1
-  changed_stays (Keeps why) sends = (refl, inl (refl, refl))
-  changed_stays Exhausts sends = (refl, inl (refl, refl))
-  changed_stays (Drops left) sends = (refl, sends)
-  changed_stays (Makes done part after) sends = (issues part, sends)
-  changed_stays (Completes done part) sends =
-      (issues part, inl (ap (λ k. k.next) (mails part), ap (λ k. k.counts) (mails part)))
-
--- a message that is sent if there is capacity for it
-tested : {S : Type 0} (mail : Mail) (b : Bool) (done : Change S) (why : Answer) → SendsIn mail done →
-    SendsIn mail (cond b done (Keeps why))
-tested mail true done why sends = sends
-tested mail false done why sends = tt
-
-one : (mail : Mail) (message : Message) → SendsOne mail (sent mail message)
-one mail message = inr (mail, message, refl, refl, refl)
-
-module _ (capacity : ℕ) (mail : Mail) where
-  reacted_sends : {S : Type 0} (n : ℕ) (r : Option (Reaction × S)) → SendsIn mail (reacted capacity mail n r)
-  reacted_sends n None = tt
-  reacted_sends n (Some (Held, part)) = tt
-  reacted_sends n (Some (Dropped, part)) = inl (refl, refl)
-  reacted_sends n (Some (Done None, part)) = inl (refl, refl)
-  reacted_sends n (Some (Done (Some reply), part)) =
-      tested mail (has_number mail) _ _ (inr (taken mail n, reply, refl, refl, refl))
-  reacted_sends n (Some (HeldAfter started, part)) = tested mail (has_capacity capacity mail) _ _ (one mail started)
-
-  attempted_sends : (c number : ℕ) (core : CoreState) (op : Op) (r : Option Attempt × CoreState) →
-      SendsIn mail (attempted_op c number capacity mail core op r)
-  attempted_sends c number core op (None, after) = tt
-  attempted_sends c number core op (Some (attempted.Completed received ts), after) = tt
-  attempted_sends c number core op (Some (attempted.NeedShared pts version), after) =
-      tested mail (has_capacity capacity mail) _ _ (one mail _)
-  attempted_sends c number core op (Some (attempted.NeedExclusive version), after) =
-      tested mail (has_capacity capacity mail) _ _ (one mail _)
-  attempted_sends c number core op (Some attempted.NoRoom, after) = tt
-  attempted_sends c number core op (Some attempted.Waiting, after) = tt
-  attempted_sends c number core op (Some attempted.Idle, after) = tt
-
-  open_sends : (c number : ℕ) (core : CoreState) (op : Option Op) →
-      SendsIn mail (attempt_open c number capacity mail core op)
-  open_sends c number core None = tt
-  open_sends c number core (Some op) = attempted_sends c number core op (core_table.attempt core)
-
-  copy_sends : (r : Result (Option Message) CacheError × CoreState) → SendsIn mail (copy_evicted capacity mail r)
-  copy_sends (Err NotHere, core) = tt
-  copy_sends (Err NoRoom, core) = tt
-  copy_sends (Err Pinned, core) = tt
-  copy_sends (Ok None, core) = inl (refl, refl)
-  copy_sends (Ok (Some back), core) = tested mail (has_capacity capacity mail) _ _ (one mail back)
-
-  entry_sends : (r : Result Evict EvictError × BankState) → SendsIn mail (entry_evicted capacity mail r)
-  entry_sends (Err not_evicted.NotHere, bank) = tt
-  entry_sends (Err not_evicted.Busy, bank) = tt
-  entry_sends (Ok evict.Clean, bank) = inl (refl, refl)
-  entry_sends (Ok (evict.Stored store), bank) = tested mail (has_capacity capacity mail) _ _ (one mail store)
-  entry_sends (Ok (evict.Recalled recall), bank) = tested mail (has_capacity capacity mail) _ _ (one mail recall)
-
-  advanced_sends : (r : Option (Unit {0}) × CoreState) → SendsIn mail (advanced mail r)
-  advanced_sends (None, core) = tt
-  advanced_sends (Some done, core) = inl (refl, refl)
+posted_one : (mail : Mail) (n : Option ℕ) (consumes : Bool) (sends : Option Message) →
+    SendsOne mail (posted mail n consumes sends)
+posted_one mail n true None = inl (refl, refl)
+posted_one mail n false None = inl (refl, refl)
+posted_one mail n true (Some reply) = inr (left mail n, reply, refl, refl, refl)
+posted_one mail n false (Some message) = inr (mail, message, refl, refl, refl)
 
 module _ (m : Machine) where
   same : Stays m m
   same = (refl, inl (refl, refl))
 
-  at_core : (c : ℕ) (change : Change CoreState) → SendsIn m.mail change → Stays m (changed m (with_core m c) change).1
-  at_core c = changed_stays m (with_core m c) (λ part. refl) (λ part. refl)
+  -- a step of a part that is put into the machine
+  steps : {S : Type 0} (put : S → Machine) → ((part : S) → (put part).issued ≡ m.issued) → (n : Option ℕ)
+      (s : Step S) → Stays m (changed m put n s).1
+  steps put issues n step.Exhausts = same
+  steps put issues n (step.Keeps kept) = same
+  steps put issues n step.Drops = (refl, inl (refl, refl))
+  steps put issues n (step.Makes did consumes sends part) =
+      cond_both (can_post m.config.messages m.mail consumes sends)
+      (did_answer did, record (put part) { mail = posted m.mail n consumes sends }) (refused m refusal.NetworkFull)
+      (λ x. Stays m x.1) (λ t. (issues part, posted_one m.mail n consumes sends)) (λ t. same)
 
-  at_bank : (b : ℕ) (change : Change BankState) → SendsIn m.mail change → Stays m (changed m (with_bank m b) change).1
-  at_bank b = changed_stays m (with_bank m b) (λ part. refl) (λ part. refl)
-
-  at_dram : (b : ℕ) (change : Change (FinMap nat_cmp (List ℕ))) → SendsIn m.mail change →
-      Stays m (changed m (with_dram m b) change).1
-  at_dram b = changed_stays m (with_dram m b) (λ part. refl) (λ part. refl)
+  tries : (c : ℕ) (core : CoreState) (t : Tried) → Stays m (tried m c core t).1
+  tries c core (step.Completes op received ts after) = (refl, inl (refl, refl))
+  tries c core (step.Does s) = steps (with_core m c) (λ part. refl) None s
 
   -- a part that isn't there changes nothing
   if_there : {S : Type 0} (outcome : Option S → Answer × Machine) → outcome None ≡ refused m refusal.NoSuch →
@@ -160,15 +90,16 @@ module _ (m : Machine) where
   to_part : (n : ℕ) (message : Message) (to : Node) → Stays m (deliver_to m n message to).1
   to_part n message (node.Core c) = if_there (deliver_core m n message c) refl
       (λ core. if_case (core_table.core_has_case core message) _
-      (at_core c _ (reacted_sends m.config.messages m.mail n (core_table.core_table core message))))
+      (steps (with_core m c) (λ part. refl) (Some n) _))
       (slice_get m.cores c)
   to_part n message (node.Bank b) = if_there (deliver_bank m n message b) refl
       (λ bank. if_case (bank_table.bank_has_case bank message) _
-      (at_bank b _ (reacted_sends m.config.messages m.mail n (bank_table.bank_table bank message))))
+      (steps (with_bank m b) (λ part. refl) (Some n) _))
       (slice_get m.banks b)
   to_part n message (node.Dram b) = if_there (deliver_dram m n message b) refl
       (λ dram. if_case (dram_has_case dram message) _
-      (at_dram b _ (reacted_sends m.config.messages m.mail n (dram_table dram message)))) (slice_get m.drams b)
+      (steps (with_dram m b) (λ part. refl) (Some n) _))
+      (slice_get m.drams b)
 
   -- what an event issues and sends
   pub record Told (event : Event) (outcome : Answer × Machine) : Type 0 where
@@ -212,21 +143,20 @@ module _ (m : Machine) where
   event_told : (event : Event) → Told event (on_event m event)
   event_told (Issue c op) = issue_told c op (slice_get m.cores c) refl
   event_told (AttemptOf c) = stayed (AttemptOf c) _ (λ k. refl)
-      (if_there (attempt_at m c) refl (λ core. at_core c _ (open_sends m.config.messages m.mail c (length m.records)
-      core core.open_op)) (slice_get m.cores c))
+      (if_there (attempt_at m c) refl (λ core. tries c core _) (slice_get m.cores c))
   event_told (Deliver n) = stayed (Deliver n) _ (λ k. refl) (if_there (deliver_message m n) refl
       (λ message. to_part n message message.to) (at_number n m.mail.messages))
   event_told (EvictCache c line) = stayed (EvictCache c line) _ (λ k. refl)
       (if_there (evict_copy m c line) refl
-      (λ core. at_core c _ (copy_sends m.config.messages m.mail (core_table.evict core line)))
+      (λ core. steps (with_core m c) (λ part. refl) None _)
       (slice_get m.cores c))
   event_told (EvictBank b line) = stayed (EvictBank b line) _ (λ k. refl)
       (if_there (evict_entry m b line) refl
-      (λ bank. at_bank b _ (entry_sends m.config.messages m.mail (bank_table.evict bank line)))
+      (λ bank. steps (with_bank m b) (λ part. refl) None _)
       (slice_get m.banks b))
   event_told (Advance c) = stayed (Advance c) _ (λ k. refl)
       (if_there (advance_at m c) refl
-      (λ core. at_core c _ (advanced_sends m.config.messages m.mail (core_table.advance core)))
+      (λ core. steps (with_core m c) (λ part. refl) None _)
       (slice_get m.cores c))
 
   -- a refused event issues nothing

@@ -11,7 +11,7 @@ use Rattle.llc_bank.specs.declared.entry.Evict.{Evict}
 use Rattle.llc_bank.specs.declared.entry.Evict.TheVariants as evict
 use Rattle.llc_bank.specs.declared.entry.EvictError.{EvictError}
 use Rattle.machine_table.specs.declared.event.Refusal.{Refusal}
-use Rattle.machine_table.specs.Change.{can_send}
+use Rattle.machine_table.specs.Posted.{can_send}
 
 -- by a reaction to a delivered message
 abbrev pub SendsWithEndpoints : ℕ → ℕ → Reaction → Type 0

@@ -1,27 +1,36 @@
--- What a change of one part makes of the part and the messages in flight, and what its answer makes of the machine.
+-- What a step of one part makes of the part and the messages in flight, and what its answer makes of the machine.
 use Rattle.std.specs.Prelude.{◌≡◌, ℕ, Bool, true, false, List, [], ◌∷◌, ◌++◌, Option, Some, None}
-use Rattle.std.specs.Prelude.{◌-◌, Result, Ok, Err, length, slice_get}
+use Rattle.std.specs.Prelude.{◌-◌, Result, Ok, Err, if◌then◌else◌, length, slice_get}
 use Rattle.physiological_order.specs.declared.operation.Record.{Record}
 use Rattle.network.specs.declared.part.Reaction.{Reaction}
 use Rattle.network.specs.declared.part.Reaction.TheVariants.{Done, Dropped, Held, HeldAfter}
-use Rattle.network.specs.Mail.{Mail}
-use Rattle.core_pts.specs.CoreTable.{CoreState}
+use Rattle.network.specs.Mail.{Mail, answered, sent, taken}
 use Rattle.machine_table.specs.declared.event.Answer.{Answer}
 use Rattle.machine_table.specs.declared.event.Answer.TheVariants as answer
 use Rattle.machine_table.specs.declared.event.Refusal.{Refusal}
 use Rattle.machine_table.specs.declared.event.Refusal.TheVariants.{Exhausted, NetworkFull}
-use Rattle.machine_table.specs.Change as change
+use Rattle.core_pts.specs.CoreTable.{CoreState}
 use Rattle.interleaving_core.specs.declared.plain_answer.PlainAnswer.{PlainAnswer}
 use Rattle.interleaving_core.specs.declared.plain_answer.PlainAnswer.TheVariants as plain
-use Rattle.machine_table.specs.Change.{Change, Keeps, Exhausts, Drops, Makes, Completes}
+use Rattle.machine_table.specs.Posted.{can_post, left, posted}
+use Rattle.machine_table.specs.Step.{Step, Exhausts, Keeps, Drops, Makes, Tried, Completes, Does, did_answer, kept_answer}
+use Rattle.machine_table.specs.Step.{record_of}
 
--- the answer, and the part and the messages in flight afterwards
-abbrev pub applied : {S : Type 0} → S → Mail → Change S → Answer × S × Mail
-applied part mail (Keeps why) = (why, part, mail)
-applied part mail Exhausts = (answer.Refused Exhausted, part, mail)
-applied part mail (Drops left) = (answer.Dropped, part, left)
-applied part mail (Makes done after sent) = (done, after, sent)
-applied part mail (Completes done after) = (answer.Completed done, after, mail)
+-- the answer, and the part and the messages in flight afterwards, where the message of this number, if any, is
+-- delivered
+abbrev pub applied : {S : Type 0} → ℕ → S → Mail → Option ℕ → Step S → Answer × S × Mail
+applied capacity part mail n Exhausts = (answer.Refused Exhausted, part, mail)
+applied capacity part mail n (Keeps kept) = (kept_answer kept, part, mail)
+applied capacity part mail n Drops = (answer.Dropped, part, left mail n)
+applied capacity part mail n (Makes did consumes sends after) =
+    if can_post capacity mail consumes sends then (did_answer did, after, posted mail n consumes sends)
+    else (answer.Refused NetworkFull, part, mail)
+
+-- so of an attempt of the core of a number, where the next record gets this number
+abbrev pub applied_attempt : ℕ → ℕ → ℕ → Mail → CoreState → Tried → Answer × CoreState × Mail
+applied_attempt c number capacity mail core (Completes op received ts after) =
+    (answer.Completed (record_of c number core op received ts), after, mail)
+applied_attempt c number capacity mail core (Does step) = applied capacity core mail None step
 
 -- a completion adds its record
 abbrev pub with_record : List Record → Answer → List Record
@@ -88,8 +97,11 @@ request_answer false = answer.Refused NetworkFull
 -- the answer to the delivery of a message, by the part's reaction, and the messages in flight afterwards: the same at
 -- every part
 abbrev pub settled_answer : Mail → ℕ → Reaction → Answer × Mail
-settled_answer mail n reaction =
-    let x = applied {S = Unit {0}} tt mail (change.settled mail n reaction tt) in (x.0, x.2)
+settled_answer mail n Held = (answer.Held, mail)
+settled_answer mail n Dropped = (answer.Dropped, taken mail n)
+settled_answer mail n (Done None) = (answer.Delivered, taken mail n)
+settled_answer mail n (Done (Some reply)) = (answer.Delivered, answered mail n reply)
+settled_answer mail n (HeldAfter started) = (answer.Started, sent mail started)
 
 -- the answer to the delivery of a message, by the part's response, and the messages in flight afterwards
 abbrev pub concluded : Mail → ℕ → Result Reaction Refusal → Answer × Mail

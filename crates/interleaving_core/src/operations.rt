@@ -1,13 +1,13 @@
 //! Events of one core or one bank: what they make of it and of the messages in flight.
-ghost use Rattle.std.specs.Prelude.{◌≡◌, ◌<◌, ◌+◌, ◌++◌, ◌∷◌, [], false, true, IfOk, IsOk, IsTrue, OnErr, length};
-ghost use Rattle.std.specs.Prelude.{Some, vec_capacity};
+ghost use Rattle.std.specs.Prelude.{◌≡◌, ◌<◌, ◌+◌, ◌++◌, ◌∷◌, [], ℕ, false, true, IfOk, IsOk, IsTrue, OnErr, length};
+ghost use Rattle.std.specs.Prelude.{None, Some, vec_capacity};
 ghost use Rattle.core_pts.specs.CoreTable.{advance, evict};
 ghost use Rattle.network.specs.Flight.{SameNetwork};
 ghost use Rattle.network.specs.Mail.{Mail};
 ghost use Rattle.llc_bank.specs.BankTable as bank_table;
 ghost use Rattle.interleaving_core.specs.LookUps.{is_request};
-ghost use Rattle.machine_table.specs.Change.{advanced, attempt, copy_evicted, entry_evicted, requests};
-ghost use Rattle.interleaving_core.specs.PartChanges.{answer_of, applied, request_answer};
+ghost use Rattle.machine_table.specs.Step.{advanced, asks, attempt_open, copy_evicted, entry_evicted};
+ghost use Rattle.interleaving_core.specs.PartChanges.{answer_of, applied, applied_attempt, request_answer};
 ghost use Rattle.interleaving_core.specs.Endpoints.{BackHasEndpoints, EvictedHasEndpoints, is_sent_back};
 
 use crate::plain_answer::PlainAnswer;
@@ -25,8 +25,8 @@ use timestamp_manager::Exhausted;
 pub(crate) fn attempt(core: &mut Core, flight: &mut InFlight, number: u32, count: usize) -> Answer
     requires number { core.old.number < flight.old.cores }
     requires banks { core.old.banks ≡ flight.old.banks }
-    ensures done { (result, core.new, flight.new.mail) ≡ applied core.old
-        flight.old.mail (attempt number count flight.old.capacity flight.old.mail core.old) }
+    ensures done { (result, core.new, flight.new.mail) ≡ applied_attempt number count
+        flight.old.capacity flight.old.mail core.old (attempt_open core.old core.old.open_op) }
     ensures set_up { SameNetwork flight.old flight.new }
 {
     nothing_completed_keeps();
@@ -73,8 +73,8 @@ fn request(core: &mut Core, flight: &mut InFlight, op: &Op, body: Body) -> bool
     requires request { IsTrue (is_request body) }
     requires number { core.old.number < flight.old.cores }
     requires banks { core.old.banks ≡ flight.old.banks }
-    ensures done { (request_answer result, core.new, flight.new.mail) ≡ applied core.old
-        flight.old.mail (requests flight.old.capacity flight.old.mail core.old op.now body) }
+    ensures done { (request_answer result, core.new, flight.new.mail) ≡ applied
+        flight.old.capacity core.old flight.old.mail None (asks core.old op.now body) }
     ensures set_up { SameNetwork flight.old flight.new }
 {
     if !flight.has_capacity() {
@@ -89,8 +89,8 @@ fn request(core: &mut Core, flight: &mut InFlight, op: &Op, body: Body) -> bool
 /// A core advances its time by one.
 #[inline(always)]
 pub(crate) fn advance(core: &mut Core) -> PlainAnswer
-    ensures { (mail : Mail) → (answer_of result, core.new, mail) ≡ applied core.old mail
-        (advanced mail (advance core.old)) }
+    ensures { (capacity : ℕ) (mail : Mail) → (answer_of result, core.new, mail) ≡
+        applied capacity core.old mail None (advanced (advance core.old)) }
 {
     match core.advance() {
         Err(Exhausted) => PlainAnswer::Refused(Refusal::Exhausted),
@@ -103,8 +103,8 @@ pub(crate) fn advance(core: &mut Core) -> PlainAnswer
 pub(crate) fn evict_copy(core: &mut Core, flight: &mut InFlight, line: LineNo) -> PlainAnswer
     requires endpoints { BackHasEndpoints flight.old.cores flight.old.banks
         (evict core.old line).0 }
-    ensures done { (answer_of result, core.new, flight.new.mail) ≡ applied core.old
-        flight.old.mail (copy_evicted flight.old.capacity flight.old.mail (evict core.old line)) }
+    ensures done { (answer_of result, core.new, flight.new.mail) ≡ applied flight.old.capacity
+        core.old flight.old.mail None (copy_evicted (evict core.old line)) }
     ensures set_up { SameNetwork flight.old flight.new }
 {
     if !flight.has_capacity() {
@@ -129,9 +129,8 @@ pub(crate) fn evict_copy(core: &mut Core, flight: &mut InFlight, line: LineNo) -
 pub(crate) fn evict_entry(bank: &mut Bank, flight: &mut InFlight, line: LineNo) -> PlainAnswer
     requires endpoints { EvictedHasEndpoints flight.old.cores flight.old.banks
         (bank_table.evict bank.old line).0 }
-    ensures done { (answer_of result, bank.new, flight.new.mail) ≡ applied bank.old
-        flight.old.mail (entry_evicted flight.old.capacity flight.old.mail
-        (bank_table.evict bank.old line)) }
+    ensures done { (answer_of result, bank.new, flight.new.mail) ≡ applied flight.old.capacity
+        bank.old flight.old.mail None (entry_evicted (bank_table.evict bank.old line)) }
     ensures set_up { SameNetwork flight.old flight.new }
 {
     if !flight.has_capacity() {

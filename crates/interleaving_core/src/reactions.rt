@@ -1,11 +1,12 @@
 //! A message in flight is delivered to its part.
-ghost use Rattle.std.specs.Prelude.{◌≡◌, ◌<◌, ◌||◌, ℕ, false, IfOk, IsSome, IsTrue, OnErr};
+ghost use Rattle.std.specs.Prelude.{◌≡◌, ◌<◌, ◌||◌, ℕ, false, IfOk, IsSome, IsTrue, OnErr, Some};
 ghost use Rattle.network.specs.Flight.{IsWithMail, SameNetwork};
 ghost use Rattle.network.specs.Mail.{Mail, answered, has_capacity, has_number, sent, taken};
 ghost use Rattle.network.specs.NumberedMessages.{at_number};
 ghost use Rattle.network.specs.Routes.{has_endpoints};
 ghost use Rattle.network.specs.Sends.{sent_by, sent_in};
-ghost use Rattle.machine_table.specs.Change.{can_send, reacted};
+ghost use Rattle.machine_table.specs.Posted.{can_send};
+ghost use Rattle.machine_table.specs.Step.{reacted};
 ghost use Rattle.interleaving_core.specs.PartChanges.{IsQuiet, answer_of, applied, concluded, responded};
 ghost use Rattle.interleaving_core.specs.PartChanges.{settled_answer};
 ghost use Rattle.interleaving_core.specs.PartChanges.{stops};
@@ -30,14 +31,12 @@ pub(crate) fn respond<P: Part>(
         (sent_by (P.table part.old message.now))) → ReactionHasEndpoints flight.now.cores
         flight.now.banks (P.table part.old message.now) }
     ensures done { IfOk result (λ response. (number : ℕ) →
-        responded flight.now.mail number response part.new ≡ applied part.old
-        flight.now.mail (reacted flight.now.capacity flight.now.mail number
-        (P.table part.old message.now))) }
+        responded flight.now.mail number response part.new ≡ applied flight.now.capacity part.old
+        flight.now.mail (Some number) (reacted (P.table part.old message.now))) }
     ensures sent { IfOk result (λ response. CanConclude flight.now response) }
     ensures memory { OnErr result ((number : ℕ) →
-        flight.now.mail.next < (applied part.old flight.now.mail
-        (reacted flight.now.capacity flight.now.mail number
-        (P.table part.old message.now))).2.next) }
+        flight.now.mail.next < (applied flight.now.capacity part.old flight.now.mail
+        (Some number) (reacted (P.table part.old message.now))).2.next) }
     ensures sure { OnErr result (IsTrue (P.takes_memory part.old message.now)) }
     ensures refused { OnErr result (part.new ≡ part.old) }
 {

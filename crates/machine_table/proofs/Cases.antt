@@ -6,22 +6,12 @@ use Rattle.physiological_order.specs.declared.operation.Op.{Op}
 use Rattle.network.specs.declared.message.Node.{Node}
 use Rattle.network.specs.declared.message.Node.TheVariants.{Core, Bank, Dram}
 use Rattle.network.specs.declared.message.Message.{Message}
-use Rattle.network.specs.declared.part.Reaction.{Reaction}
-use Rattle.network.specs.declared.part.Reaction.TheVariants.{Done, Dropped, Held, HeldAfter}
-use Rattle.network.specs.Mail.{Mail, has_capacity, has_number, sent, taken, answered}
+use Rattle.network.specs.Mail.{Mail}
 use Rattle.network.specs.NumberedMessages.{at_number}
-use Rattle.private_cache.specs.declared.cache.CacheError.{CacheError}
-use Rattle.private_cache.specs.declared.cache.CacheError.TheVariants.{NoRoom, NotHere, Pinned}
-use Rattle.core_pts.specs.declared.attempt.Attempt.{Attempt}
-use Rattle.core_pts.specs.declared.attempt.Attempt.TheVariants as attempted
 use Rattle.core_pts.specs.declared.attempt.IssueError.{IssueError}
 use Rattle.core_pts.specs.declared.attempt.IssueError.TheVariants as not_issued
 use Rattle.core_pts.specs.CoreTable as core_table
 use Rattle.core_pts.specs.CoreTable.{CoreState}
-use Rattle.llc_bank.specs.declared.entry.Evict.{Evict}
-use Rattle.llc_bank.specs.declared.entry.Evict.TheVariants as evict
-use Rattle.llc_bank.specs.declared.entry.EvictError.{EvictError}
-use Rattle.llc_bank.specs.declared.entry.EvictError.TheVariants as not_evicted
 use Rattle.llc_bank.specs.BankTable as bank_table
 use Rattle.llc_bank.specs.BankTable.{BankState}
 use Rattle.dram_mts.specs.Table.{dram_table, dram_has_case}
@@ -35,11 +25,12 @@ use Rattle.machine_table.specs.declared.event.Answer.{Answer}
 use Rattle.machine_table.specs.declared.event.Answer.TheVariants as answer
 use Rattle.machine_table.specs.declared.event.Refusal.TheVariants as refusal
 use Rattle.machine_table.specs.Machine.{Machine, with_core, with_bank, with_dram}
-use Rattle.machine_table.specs.Change.{Change, Keeps, Makes, attempt_open, attempted_op, sends, reacted, copy_evicted}
-use Rattle.machine_table.specs.Change.{entry_evicted, advanced}
+use Rattle.machine_table.specs.Posted.{can_post, posted}
+use Rattle.machine_table.specs.Step as step
+use Rattle.machine_table.specs.Step.{Kept, kept_answer, Did, did_answer, Step, Tried}
 use Rattle.machine_table.specs.Transition.{refused, changed, issued, issue_at, attempt_at, deliver_core, deliver_bank}
 use Rattle.machine_table.specs.Transition.{deliver_dram, deliver_to, deliver_message, evict_copy, evict_entry}
-use Rattle.machine_table.specs.Transition.{advance_at, on_event, transition}
+use Rattle.machine_table.specs.Transition.{advance_at, on_event, transition, tried}
 use Rattle.machine_table.specs.Answered.{Answered, GoesOn}
 
 abbrev Holds : Machine → Answer × Machine → Type 0
@@ -57,26 +48,36 @@ issue_holds m c op (Some core) = issued_holds m c op (core_table.issue core op)
 
 -- a part is put into the machine, and its records and its stop are unchanged
 module _ {S : Type 0} (m : Machine) (put : S → Machine) (puts : (part : S) → GoesOn m (put part)) where
-  -- an answer that goes with a change, or else a refusal
-  with_test : (b : Bool) (done : Change S) (why : Answer) → Holds m (changed m put done) → Answered m why m →
-      Holds m (changed m put (cond b done (Keeps why)))
-  with_test true done why h kept = h
-  with_test false done why h kept = kept
+  -- what is answered to a step that changes nothing, and to one that changes its part
+  kept_holds : (kept : Kept) → Answered m (kept_answer kept) m
+  kept_holds step.Waits = refl
+  kept_holds step.Idles = refl
+  kept_holds step.Holds = refl
+  kept_holds step.HasNone = refl
+  kept_holds step.IsBusy = refl
+  kept_holds step.IsPinned = refl
+  kept_holds step.LacksRoom = refl
 
-  made : (mail : Mail) (part : S) → GoesOn m (record (put part) { mail = mail })
-  made mail part = record { records = (puts part).records; runs = (puts part).runs }
+  did_holds : (did : Did) (part : S) (mail : Mail) →
+      Answered m (did_answer did) (record (put part) { mail = mail })
+  did_holds did part mail = by_answer did (record { records = (puts part).records; runs = (puts part).runs })
+    where
+      by_answer : (did : Did) → GoesOn m (record (put part) { mail = mail }) →
+          Answered m (did_answer did) (record (put part) { mail = mail })
+      by_answer step.Requests goes = goes
+      by_answer step.Delivers goes = goes
+      by_answer step.Starts goes = goes
+      by_answer step.Evicts goes = goes
+      by_answer step.Recalls goes = goes
+      by_answer step.Advances goes = goes
 
-  reacted_holds : (n : ℕ) (r : Option (Reaction × S)) → Holds m (changed m put (reacted m.config.messages m.mail n r))
-  reacted_holds n None = refl
-  reacted_holds n (Some (Held, part)) = refl
-  reacted_holds n (Some (Dropped, part)) = record { records = refl; runs = refl }
-  reacted_holds n (Some (Done None, part)) = made (taken m.mail n) part
-  reacted_holds n (Some (Done (Some reply), part)) =
-      with_test (has_number m.mail) (Makes answer.Delivered part (answered m.mail n reply)) _
-      (made (answered m.mail n reply) part) refl
-  reacted_holds n (Some (HeldAfter started, part)) =
-      with_test (has_capacity m.config.messages m.mail) (Makes answer.Started part (sent m.mail started)) _
-      (made (sent m.mail started) part) refl
+  changed_holds : (n : Option ℕ) (s : Step S) → Holds m (changed m put n s)
+  changed_holds n step.Exhausts = refl
+  changed_holds n (step.Keeps kept) = kept_holds kept
+  changed_holds n step.Drops = record { records = refl; runs = refl }
+  changed_holds n (step.Makes did consumes sends part) =
+      cond_both (can_post m.config.messages m.mail consumes sends) _ (refused m refusal.NetworkFull) (Holds m)
+      (λ e. did_holds did part (posted m.mail n consumes sends)) (λ e. refl)
 
 -- the parts of a machine
 module _ (m : Machine) where
@@ -89,42 +90,13 @@ module _ (m : Machine) where
   dram_put : (b : ℕ) (part : FinMap nat_cmp (List ℕ)) → GoesOn m (with_dram m b part)
   dram_put b part = record { records = refl; runs = refl }
 
-  -- a part that sends a message
-  core_sends : (c : ℕ) (a : Answer) (part : CoreState) (message : Message) →
-      Answered m a (record (with_core m c part) { mail = sent m.mail message }) →
-      Holds m (changed m (with_core m c) (sends m.config.messages m.mail a part message))
-  core_sends c a part message h =
-      with_test m (with_core m c) (core_put c) (has_capacity m.config.messages m.mail)
-      (Makes a part (sent m.mail message)) _ h refl
-
-  bank_sends : (b : ℕ) (a : Answer) (part : BankState) (message : Message) →
-      Answered m a (record (with_bank m b part) { mail = sent m.mail message }) →
-      Holds m (changed m (with_bank m b) (sends m.config.messages m.mail a part message))
-  bank_sends b a part message h =
-      with_test m (with_bank m b) (bank_put b) (has_capacity m.config.messages m.mail)
-      (Makes a part (sent m.mail message)) _ h refl
-
-attempted_holds : (m : Machine) (c : ℕ) (core : CoreState) (op : Op) (r : Option Attempt × CoreState) →
-    Holds m (changed m (with_core m c) (attempted_op c (length m.records) m.config.messages m.mail core op r))
-attempted_holds m c core op (None, after) = refl
-attempted_holds m c core op (Some (attempted.Completed received ts), after) =
-    record { records = refl; number = refl; runs = refl }
-attempted_holds m c core op (Some (attempted.NeedShared pts version), after) =
-    core_sends m c answer.Requested _ _ (record { records = refl; runs = refl })
-attempted_holds m c core op (Some (attempted.NeedExclusive version), after) =
-    core_sends m c answer.Requested _ _ (record { records = refl; runs = refl })
-attempted_holds m c core op (Some attempted.NoRoom, after) = refl
-attempted_holds m c core op (Some attempted.Waiting, after) = refl
-attempted_holds m c core op (Some attempted.Idle, after) = refl
-
-attempt_open_holds : (m : Machine) (c : ℕ) (core : CoreState) (op : Option Op) →
-    Holds m (changed m (with_core m c) (attempt_open c (length m.records) m.config.messages m.mail core op))
-attempt_open_holds m c core None = refl
-attempt_open_holds m c core (Some op) = attempted_holds m c core op (core_table.attempt core)
+tried_holds : (m : Machine) (c : ℕ) (core : CoreState) (t : Tried) → Holds m (tried m c core t)
+tried_holds m c core (step.Completes op received ts after) = record { records = refl; number = refl; runs = refl }
+tried_holds m c core (step.Does s) = changed_holds m (with_core m c) (core_put m c) None s
 
 attempt_holds : (m : Machine) (c : ℕ) (core : Option CoreState) → Holds m (attempt_at m c core)
 attempt_holds m c None = refl
-attempt_holds m c (Some core) = attempt_open_holds m c core core.open_op
+attempt_holds m c (Some core) = tried_holds m c core (step.attempt_open core core.open_op)
 
 -- a message that has no case is refused
 if_case : (m : Machine) (b : Bool) (outcome : Answer × Machine) → Holds m outcome →
@@ -136,22 +108,22 @@ deliver_core_holds : (m : Machine) (n : ℕ) (message : Message) (c : ℕ) (core
     Holds m (deliver_core m n message c core)
 deliver_core_holds m n message c None = refl
 deliver_core_holds m n message c (Some core) =
-    if_case m (core_table.core_has_case core message) _ (reacted_holds m (with_core m c) (core_put m c) n
-    (core_table.core_table core message))
+    if_case m (core_table.core_has_case core message) _
+    (changed_holds m (with_core m c) (core_put m c) (Some n) (step.reacted (core_table.core_table core message)))
 
 deliver_bank_holds : (m : Machine) (n : ℕ) (message : Message) (b : ℕ) (bank : Option BankState) →
     Holds m (deliver_bank m n message b bank)
 deliver_bank_holds m n message b None = refl
 deliver_bank_holds m n message b (Some bank) =
-    if_case m (bank_table.bank_has_case bank message) _ (reacted_holds m (with_bank m b) (bank_put m b) n
-    (bank_table.bank_table bank message))
+    if_case m (bank_table.bank_has_case bank message) _
+    (changed_holds m (with_bank m b) (bank_put m b) (Some n) (step.reacted (bank_table.bank_table bank message)))
 
 deliver_dram_holds : (m : Machine) (n : ℕ) (message : Message) (b : ℕ) (dram : Option (FinMap nat_cmp (List ℕ))) →
     Holds m (deliver_dram m n message b dram)
 deliver_dram_holds m n message b None = refl
 deliver_dram_holds m n message b (Some dram) =
-    if_case m (dram_has_case dram message) _ (reacted_holds m (with_dram m b) (dram_put m b) n
-    (dram_table dram message))
+    if_case m (dram_has_case dram message) _
+    (changed_holds m (with_dram m b) (dram_put m b) (Some n) (step.reacted (dram_table dram message)))
 
 deliver_to_holds : (m : Machine) (n : ℕ) (message : Message) (to : Node) → Holds m (deliver_to m n message to)
 deliver_to_holds m n message (Core c) = deliver_core_holds m n message c (slice_get m.cores c)
@@ -162,41 +134,20 @@ deliver_holds : (m : Machine) (n : ℕ) (message : Option Message) → Holds m (
 deliver_holds m n None = refl
 deliver_holds m n (Some message) = deliver_to_holds m n message message.to
 
-copy_evicted_holds : (m : Machine) (c : ℕ) (r : Result (Option Message) CacheError × CoreState) →
-    Holds m (changed m (with_core m c) (copy_evicted m.config.messages m.mail r))
-copy_evicted_holds m c (Err NotHere, core) = refl
-copy_evicted_holds m c (Err NoRoom, core) = refl
-copy_evicted_holds m c (Err Pinned, core) = refl
-copy_evicted_holds m c (Ok None, core) = record { records = refl; runs = refl }
-copy_evicted_holds m c (Ok (Some back), core) =
-    core_sends m c answer.Evicted core back (record { records = refl; runs = refl })
-
 evict_copy_holds : (m : Machine) (c line : ℕ) (core : Option CoreState) → Holds m (evict_copy m c line core)
 evict_copy_holds m c line None = refl
-evict_copy_holds m c line (Some core) = copy_evicted_holds m c (core_table.evict core line)
-
-entry_evicted_holds : (m : Machine) (b : ℕ) (r : Result Evict EvictError × BankState) →
-    Holds m (changed m (with_bank m b) (entry_evicted m.config.messages m.mail r))
-entry_evicted_holds m b (Err not_evicted.NotHere, bank) = refl
-entry_evicted_holds m b (Err not_evicted.Busy, bank) = refl
-entry_evicted_holds m b (Ok evict.Clean, bank) = record { records = refl; runs = refl }
-entry_evicted_holds m b (Ok (evict.Stored store), bank) =
-    bank_sends m b answer.Evicted bank store (record { records = refl; runs = refl })
-entry_evicted_holds m b (Ok (evict.Recalled recall), bank) =
-    bank_sends m b answer.Recalled bank recall (record { records = refl; runs = refl })
+evict_copy_holds m c line (Some core) =
+    changed_holds m (with_core m c) (core_put m c) None (step.copy_evicted (core_table.evict core line))
 
 evict_entry_holds : (m : Machine) (b line : ℕ) (bank : Option BankState) → Holds m (evict_entry m b line bank)
 evict_entry_holds m b line None = refl
-evict_entry_holds m b line (Some bank) = entry_evicted_holds m b (bank_table.evict bank line)
-
-advanced_holds : (m : Machine) (c : ℕ) (r : Option (Unit {0}) × CoreState) →
-    Holds m (changed m (with_core m c) (advanced m.mail r))
-advanced_holds m c (None, core) = refl
-advanced_holds m c (Some done, core) = record { records = refl; runs = refl }
+evict_entry_holds m b line (Some bank) =
+    changed_holds m (with_bank m b) (bank_put m b) None (step.entry_evicted (bank_table.evict bank line))
 
 advance_holds : (m : Machine) (c : ℕ) (core : Option CoreState) → Holds m (advance_at m c core)
 advance_holds m c None = refl
-advance_holds m c (Some core) = advanced_holds m c (core_table.advance core)
+advance_holds m c (Some core) =
+    changed_holds m (with_core m c) (core_put m c) None (step.advanced (core_table.advance core))
 
 event_holds : (m : Machine) (event : Event) → Holds m (on_event m event)
 event_holds m (Issue c op) = issue_holds m c op (slice_get m.cores c)

@@ -1,9 +1,10 @@
 pub mod Answered
-pub mod Change
 pub mod Machine
 pub mod OpenNumbers
 pub mod Opening
+pub mod Posted
 pub mod RefusalNumbers
 pub mod Runs
 pub mod SetUp
+pub mod Step
 pub mod Transition

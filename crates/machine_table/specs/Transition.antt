@@ -24,19 +24,30 @@ use Rattle.machine_table.specs.declared.event.Answer.TheVariants.{Issued, Comple
 use Rattle.machine_table.specs.declared.event.Refusal.{Refusal}
 use Rattle.machine_table.specs.declared.event.Refusal.TheVariants as refusal
 use Rattle.machine_table.specs.Machine.{Machine, with_core, with_bank, with_dram}
-use Rattle.machine_table.specs.Change as change
-use Rattle.machine_table.specs.Change.{Change, Keeps, Exhausts, Drops, Makes, Completes}
+use Rattle.machine_table.specs.Posted.{can_post, left, posted}
+use Rattle.machine_table.specs.Step.{Step, Exhausts, Keeps, Drops, Makes, Tried, Completes, Does, did_answer, kept_answer}
+use Rattle.machine_table.specs.Step.{advanced, attempt_open, copy_evicted, entry_evicted, reacted, record_of}
 
 abbrev pub refused : Machine → Refusal → Answer × Machine
 refused m why = (Refused why, m)
 
--- the machine after a change of one part, if `put` puts the part into it
-abbrev pub changed : {S : Type 0} → Machine → (S → Machine) → Change S → Answer × Machine
-changed m put (Keeps answer) = (answer, m)
-changed m put Exhausts = (Refused refusal.Exhausted, record m { is_stopped = true })
-changed m put (Drops mail) = (Dropped, record m { mail = mail })
-changed m put (Makes answer part mail) = (answer, record (put part) { mail = mail })
-changed m put (Completes done part) = (Completed done, record (put part) { records = m.records ++ done ∷ [] })
+-- what a step of one part makes of the machine, where `put` puts the part into it and the message of this number, if
+-- any, is delivered to it
+abbrev pub changed : {S : Type 0} → Machine → (S → Machine) → Option ℕ → Step S → Answer × Machine
+changed m put n Exhausts = (Refused refusal.Exhausted, record m { is_stopped = true })
+changed m put n (Keeps kept) = (kept_answer kept, m)
+changed m put n Drops = (Dropped, record m { mail = left m.mail n })
+changed m put n (Makes did consumes sends part) =
+    if can_post m.config.messages m.mail consumes sends
+    then (did_answer did, record (put part) { mail = posted m.mail n consumes sends })
+    else refused m refusal.NetworkFull
+
+-- a completion adds its record, with the next number
+abbrev pub tried : Machine → ℕ → CoreState → Tried → Answer × Machine
+tried m c core (Completes op received ts after) =
+    let done = record_of c (length m.records) core op received ts in
+    (Completed done, record (with_core m c after) { records = m.records ++ done ∷ [] })
+tried m c core (Does step) = changed m (with_core m c) None step
 
 -- Issue: the operation is opened and added to the core's list
 abbrev pub issued : Machine → ℕ → Op → Result (Unit {0}) IssueError × CoreState → Answer × Machine
@@ -53,28 +64,28 @@ issue_at m c op (Some core) = issued m c op (core_table.issue core op)
 abbrev pub attempt_at : Machine → ℕ → Option CoreState → Answer × Machine
 attempt_at m c None = refused m refusal.NoSuch
 attempt_at m c (Some core) =
-    changed m (with_core m c) (change.attempt c (length m.records) m.config.messages m.mail core)
+    tried m c core (attempt_open core core.open_op)
 
 -- Deliver: to a core, a bank, or the DRAM behind a bank
 abbrev pub deliver_core : Machine → ℕ → Message → ℕ → Option CoreState → Answer × Machine
 deliver_core m n message c None = refused m refusal.NoSuch
 deliver_core m n message c (Some core) =
     if core_table.core_has_case core message
-    then changed m (with_core m c) (change.reacted m.config.messages m.mail n (core_table.core_table core message))
+    then changed m (with_core m c) (Some n) (reacted (core_table.core_table core message))
     else refused m refusal.NoSuch
 
 abbrev pub deliver_bank : Machine → ℕ → Message → ℕ → Option BankState → Answer × Machine
 deliver_bank m n message b None = refused m refusal.NoSuch
 deliver_bank m n message b (Some bank) =
     if bank_table.bank_has_case bank message
-    then changed m (with_bank m b) (change.reacted m.config.messages m.mail n (bank_table.bank_table bank message))
+    then changed m (with_bank m b) (Some n) (reacted (bank_table.bank_table bank message))
     else refused m refusal.NoSuch
 
 abbrev pub deliver_dram : Machine → ℕ → Message → ℕ → Option (FinMap nat_cmp (List ℕ)) → Answer × Machine
 deliver_dram m n message b None = refused m refusal.NoSuch
 deliver_dram m n message b (Some dram) =
     if dram_has_case dram message
-    then changed m (with_dram m b) (change.reacted m.config.messages m.mail n (dram_table dram message))
+    then changed m (with_dram m b) (Some n) (reacted (dram_table dram message))
     else refused m refusal.NoSuch
 
 abbrev pub deliver_to : Machine → ℕ → Message → Node → Answer × Machine
@@ -90,18 +101,18 @@ deliver_message m n (Some message) = deliver_to m n message message.to
 abbrev pub evict_copy : Machine → ℕ → ℕ → Option CoreState → Answer × Machine
 evict_copy m c line None = refused m refusal.NoSuch
 evict_copy m c line (Some core) =
-    changed m (with_core m c) (change.copy_evicted m.config.messages m.mail (core_table.evict core line))
+    changed m (with_core m c) None (copy_evicted (core_table.evict core line))
 
 -- EvictBank
 abbrev pub evict_entry : Machine → ℕ → ℕ → Option BankState → Answer × Machine
 evict_entry m b line None = refused m refusal.NoSuch
 evict_entry m b line (Some bank) =
-    changed m (with_bank m b) (change.entry_evicted m.config.messages m.mail (bank_table.evict bank line))
+    changed m (with_bank m b) None (entry_evicted (bank_table.evict bank line))
 
 -- Advance
 abbrev pub advance_at : Machine → ℕ → Option CoreState → Answer × Machine
 advance_at m c None = refused m refusal.NoSuch
-advance_at m c (Some core) = changed m (with_core m c) (change.advanced m.mail (core_table.advance core))
+advance_at m c (Some core) = changed m (with_core m c) None (advanced (core_table.advance core))
 
 abbrev pub on_event : Machine → Event → Answer × Machine
 on_event m (Issue c op) = issue_at m c op (slice_get m.cores c)

@@ -188,7 +188,7 @@ module _ (m : Machine) (s : Invariant m) (l : ℕ) (bank : BankState)
       (change_here own_set bank.table.sets is.sets l entry.Storing (entry.Shared true line) e) tt
       (change_there own_set bank.table.sets is.sets l entry.Storing) (λ k ne. refl) s.whole.each_message
       (evict_dirty (timed line) (seen ∙ ap entry_seen e)) in
-      tested Invariant m (with_bank m b) (has_capacity m.config.messages m.mail) _ _
+      tested Invariant m (has_capacity m.config.messages m.mail) _ _
       (record { whole = t.whole; reached = t.reached }) s
   entry_goes (Some (entry.Exclusive o)) e =
       let q = from_bank bank l (node.Core o) body.FlushReq in
@@ -198,7 +198,7 @@ module _ (m : Machine) (s : Invariant m) (l : ℕ) (bank : BankState)
       (change_here own_set bank.table.sets is.sets l (entry.Recalling o) (entry.Exclusive o) e)
       (is.owners l (entry.Exclusive o) e) (change_there own_set bank.table.sets is.sets l (entry.Recalling o))
       (λ k ne. refl) s.whole.each_message (flush_starts o (seen ∙ ap entry_seen e)) in
-      tested Invariant m (with_bank m b) (has_capacity m.config.messages m.mail) _ _
+      tested Invariant m (has_capacity m.config.messages m.mail) _ _
       (record { whole = t.whole; reached = t.reached }) s
 
 -- Deliver to the bank of the message's line
@@ -246,7 +246,7 @@ module _ (m : Machine) (s : Invariant m) (n : ℕ) (message : Message) (found : 
         message.line entry.Loading)
         (put_here place bank.table.sets of.sets message.line entry.Loading) tt (put_there place bank.table.sets
         of.sets message.line entry.Loading) (λ k ne. refl) s.whole.each_message mv in
-        tested Invariant m (with_bank m home_bank) (has_capacity m.config.messages m.mail) _ _
+        tested Invariant m (has_capacity m.config.messages m.mail) _ _
         (record { whole = t.whole; reached = t.reached }) s
 
     recalls : (owner : ℕ) (sent : Body) → GoesDown sent → entry_of bank message.line ≡ Some (entry.Exclusive owner) →
@@ -266,7 +266,7 @@ module _ (m : Machine) (s : Invariant m) (n : ℕ) (message : Message) (found : 
         (change_here place bank.table.sets of.sets message.line (entry.Recalling owner) (entry.Exclusive owner) there)
         (of.owners message.line (entry.Exclusive owner) there) (change_there place bank.table.sets of.sets
         message.line (entry.Recalling owner)) (λ k ne. refl) s.whole.each_message mv in
-        tested Invariant m (with_bank m home_bank) (has_capacity m.config.messages m.mail) _ _
+        tested Invariant m (has_capacity m.config.messages m.mail) _ _
         (record { whole = t.whole; reached = t.reached }) s
 
     grants : (e : Entry) (sent : Body) → GoesDown sent → IsFor (core_of message.from) e →
@@ -287,7 +287,7 @@ module _ (m : Machine) (s : Invariant m) (n : ℕ) (message : Message) (found : 
         (put_sets place bank.table.sets of.sets message.line e)
         (put_here place bank.table.sets of.sets message.line e) (for_below m.config.cores (core_of message.from) some
         e own) (put_there place bank.table.sets of.sets message.line e) others each_left mv in
-        tested Invariant m (with_bank m home_bank) (has_number m.mail) _ _
+        tested Invariant m (has_number m.mail) _ _
         (record { whole = t.whole; reached = t.reached }) s
 
     becomes : (dirty : Bool) (line : TimedLine) (old : Entry) → entry_of bank message.line ≡ Some old →
@@ -359,7 +359,7 @@ module _ (m : Machine) (s : Invariant m) (n : ℕ) (message : Message) (found : 
           Invariant (reacted m n (with_dram m home_bank) (Some (Done (Some (answer_to message reply)), new))).1
       answered new reply route there mv =
           let q = answer_to message reply in
-          tested Invariant m (with_dram m home_bank) (has_number m.mail) _ _
+          tested Invariant m (has_number m.mail) _ _
           (record {
             whole = record {
               some_words = s.whole.some_words;

@@ -395,7 +395,7 @@ module _ (m : Machine) (s : Invariant m) (core : CoreState) (at : slice_get m.co
           lines =
               with_at v.lines l y;
         } in
-        tested Invariant m (with_core m c) (has_capacity m.config.messages m.mail) _ _
+        tested Invariant m (has_capacity m.config.messages m.mail) _ _
         (record {
           whole = shape new (m.mail.messages ++ (m.mail.next, q) ∷ []) (record {
             numbered = refl;
@@ -521,7 +521,7 @@ module _ (m : Machine) (s : Invariant m) (core : CoreState) (at : slice_get m.co
           )).1
       by_state off true ex =
           let back = to_bank core l (body.FlushRep (words_of_copy copy)) in
-          tested Invariant m (with_core m c) (has_capacity m.config.messages m.mail) _ _
+          tested Invariant m (has_capacity m.config.messages m.mail) _ _
           (record {
             whole = shape new (m.mail.messages ++ (m.mail.next, back) ∷ []) (gone off)
                 (each_sent (GoesHome m.config) m.mail.messages (m.mail.next, back) s.whole.each_message

@@ -158,7 +158,7 @@ module _ (m : Machine) (s : Invariant m) (core : CoreState) (at : slice_get m.co
   reaction_goes (Returns kept sent) fit =
       let back = to_bank core l sent in
       let new : CoreState = record core { cache = kept_in core l kept } in
-      tested Invariant m put (has_number m.mail) _ _
+      tested Invariant m (has_number m.mail) _ _
       (record {
         whole = events.shape m s core at new (rest ++ (m.mail.next, back) ∷ []) (with_cache new refl refl refl refl
             refl (kept_sets kept) refl (λ p o q. kept_room kept (core_table.line_of core p)

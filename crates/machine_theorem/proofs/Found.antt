@@ -17,7 +17,6 @@ use Rattle.machine_table.specs.declared.event.Event.TheVariants.{Deliver}
 use Rattle.machine_table.specs.declared.event.Refusal.TheVariants.{NoSuch, Stopped}
 use Rattle.machine_table.specs.Machine.{Machine, with_core, with_bank, with_dram}
 use Rattle.network.specs.Mail.{has_number, has_capacity}
-use Rattle.machine_table.specs.Change.{Change, Keeps}
 use Rattle.machine_table.specs.Transition.{changed, refused, deliver_core, deliver_bank, deliver_dram, deliver_to}
 use Rattle.machine_table.specs.Transition.{deliver_message, transition}
 use Rattle.machine_theorem.proofs.PartChanges.{reacted}
@@ -33,19 +32,19 @@ case_found true x y is p = p
 case_found false x y is p = absurd (let z : false ≡ true = is in cc)
 
 module _ (m : Machine) (n : ℕ) where
-  tested_found : {S : Type 0} (put : S → Machine) (b : Bool) (done : Change S) (why : Answer) →
-      IsFound (changed m put done) → why ≢ Refused NoSuch → IsFound (changed m put (cond b done (Keeps why)))
-  tested_found put true done why p q = p
-  tested_found put false done why p q = q
+  tested_found : (b : Bool) (done other : Answer × Machine) → IsFound done → IsFound other →
+      IsFound (cond b done other)
+  tested_found true done other p q = p
+  tested_found false done other p q = q
 
   reacted_found : {S : Type 0} (put : S → Machine) (r : Option (Reaction × S)) → IsFound (reacted m n put r)
   reacted_found put None = λ e. cc
   reacted_found put (Some (Held, part)) = λ e. cc
   reacted_found put (Some (Dropped, part)) = λ e. cc
   reacted_found put (Some (Done None, part)) = λ e. cc
-  reacted_found put (Some (Done (Some answer), part)) = (tested_found put (has_number m.mail) _ _ (λ e. cc) (λ e. cc))
+  reacted_found put (Some (Done (Some answer), part)) = (tested_found (has_number m.mail) _ _ (λ e. cc) (λ e. cc))
   reacted_found put (Some (HeldAfter started, part)) =
-      (tested_found put (has_capacity m.config.messages m.mail) _ _ (λ e. cc) (λ e. cc))
+      (tested_found (has_capacity m.config.messages m.mail) _ _ (λ e. cc) (λ e. cc))
 
   to_found : (message : Message) (to : Node) → has_case_at m message to ≡ true → IsFound (deliver_to m n message to)
   to_found message (node.Core c) has = by_core (slice_get m.cores c) has

@@ -9,21 +9,11 @@ use Rattle.physiological_order.specs.declared.operation.Op.{Op}
 use Rattle.network.specs.declared.message.Node.{Node}
 use Rattle.network.specs.declared.message.Node.TheVariants as node
 use Rattle.network.specs.declared.message.Message.{Message}
-use Rattle.network.specs.declared.part.Reaction.{Reaction}
-use Rattle.network.specs.declared.part.Reaction.TheVariants.{Done, Dropped, Held, HeldAfter}
 use Rattle.network.specs.NumberedMessages.{at_number}
-use Rattle.private_cache.specs.declared.cache.CacheError.{CacheError}
-use Rattle.private_cache.specs.declared.cache.CacheError.TheVariants.{NoRoom, NotHere, Pinned}
-use Rattle.core_pts.specs.declared.attempt.Attempt.{Attempt}
-use Rattle.core_pts.specs.declared.attempt.Attempt.TheVariants as attempted
 use Rattle.core_pts.specs.declared.attempt.IssueError.{IssueError}
 use Rattle.core_pts.specs.declared.attempt.IssueError.TheVariants as not_issued
 use Rattle.core_pts.specs.CoreTable as core_table
 use Rattle.core_pts.specs.CoreTable.{CoreState}
-use Rattle.llc_bank.specs.declared.entry.Evict.{Evict}
-use Rattle.llc_bank.specs.declared.entry.Evict.TheVariants as evict
-use Rattle.llc_bank.specs.declared.entry.EvictError.{EvictError}
-use Rattle.llc_bank.specs.declared.entry.EvictError.TheVariants as not_evicted
 use Rattle.llc_bank.specs.BankTable as bank_table
 use Rattle.llc_bank.specs.BankTable.{BankState}
 use Rattle.dram_mts.specs.Table.{dram_table, dram_has_case}
@@ -31,13 +21,12 @@ use Rattle.machine_table.specs.declared.event.Event.{Event}
 use Rattle.machine_table.specs.declared.event.Event.TheVariants.{Issue, Attempt as AttemptOf, Deliver, EvictCache}
 use Rattle.machine_table.specs.declared.event.Event.TheVariants.{EvictBank, Advance}
 use Rattle.machine_table.specs.Machine.{Machine, with_core, with_bank, with_dram}
-use Rattle.network.specs.Mail.{has_number, has_capacity}
-use Rattle.machine_table.specs.Transition.{issued, issue_at, attempt_at, deliver_core, deliver_bank, deliver_dram}
+use Rattle.machine_table.specs.Posted.{can_post}
+use Rattle.machine_table.specs.Step as step
+use Rattle.machine_table.specs.Step.{Step, Tried}
+use Rattle.machine_table.specs.Transition.{changed, issued, issue_at, attempt_at, deliver_core, deliver_bank, deliver_dram}
 use Rattle.machine_table.specs.Transition.{deliver_to, deliver_message, evict_copy, evict_entry, advance_at, on_event}
-use Rattle.machine_table.specs.Transition.{transition}
-use Rattle.machine_theorem.proofs.PartChanges.{attempted_op, attempt_open, reacted, copy_evicted, entry_evicted}
-use Rattle.machine_theorem.proofs.PartChanges.{advanced}
-use Rattle.machine_theorem.proofs.PartChanges.{tested}
+use Rattle.machine_table.specs.Transition.{transition, tried}
 use Rattle.machine_table.specs.declared.event.Answer.{Answer}
 use Rattle.machine_table.specs.Runs.{after_all}
 use Rattle.machine_table.specs.SetUp.{SetUpAs}
@@ -59,32 +48,26 @@ module _ (m : Machine) where
   issued_same c op (Err not_issued.TooMany, core) = same _ refl refl refl
   issued_same c op (Ok done, core) = same _ refl refl (length-set m.cores c core)
 
-  attempted_same : (c : ℕ) (core : CoreState) (op : Op) (r : Option Attempt × CoreState) →
-      SetUpAs m (attempted_op m c core op r).1
-  attempted_same c core op (None, after) = same _ refl refl refl
-  attempted_same c core op (Some (attempted.Completed received ts), after) =
-      same _ refl refl (length-set m.cores c after)
-  attempted_same c core op (Some (attempted.NeedShared pts version), after) = tested (SetUpAs m) m (with_core m c)
-      (has_capacity m.config.messages m.mail) _ _
-      (same _ refl refl (length-set m.cores c (record core { is_out = true }))) (same _ refl refl refl)
-  attempted_same c core op (Some (attempted.NeedExclusive version), after) = tested (SetUpAs m) m (with_core m c)
-      (has_capacity m.config.messages m.mail) _ _
-      (same _ refl refl (length-set m.cores c (record core { is_out = true }))) (same _ refl refl refl)
-  attempted_same c core op (Some attempted.NoRoom, after) = same _ refl refl refl
-  attempted_same c core op (Some attempted.Waiting, after) = same _ refl refl refl
-  attempted_same c core op (Some attempted.Idle, after) = same _ refl refl refl
-
-  reacted_same : {S : Type 0} (n : ℕ) (put : S → Machine) → ((part : S) → SetUpAs m (put part)) →
-      (r : Option (Reaction × S)) → SetUpAs m (reacted m n put r).1
-  reacted_same n put keeps None = same _ refl refl refl
-  reacted_same n put keeps (Some (Held, part)) = same _ refl refl refl
-  reacted_same n put keeps (Some (Dropped, part)) = same _ refl refl refl
-  reacted_same n put keeps (Some (Done None, part)) = let k = keeps part in same _ k.config k.opening k.cores
-  reacted_same n put keeps (Some (Done (Some answer), part)) = let k = keeps part in
-      tested (SetUpAs m) m put (has_number m.mail) _ _ (same _ k.config k.opening k.cores) (same _ refl refl refl)
-  reacted_same n put keeps (Some (HeldAfter started, part)) = let k = keeps part in
-      tested (SetUpAs m) m put (has_capacity m.config.messages m.mail) _ _ (same _ k.config k.opening k.cores)
+  -- whatever the step is, of a part that is put into the machine
+  changed_same : {S : Type 0} (put : S → Machine) → ((part : S) → SetUpAs m (put part)) → (n : Option ℕ)
+      (s : Step S) → SetUpAs m (changed m put n s).1
+  changed_same put keeps n step.Exhausts = same _ refl refl refl
+  changed_same put keeps n (step.Keeps kept) = same _ refl refl refl
+  changed_same put keeps n step.Drops = same _ refl refl refl
+  changed_same put keeps n (step.Makes did consumes sends part) =
+      let k = keeps part in
+      either (can_post m.config.messages m.mail consumes sends) _ _ (same _ k.config k.opening k.cores)
       (same _ refl refl refl)
+
+  core_same : (c : ℕ) (n : Option ℕ) (s : Step CoreState) → SetUpAs m (changed m (with_core m c) n s).1
+  core_same c = changed_same (with_core m c) (λ part. same _ refl refl (length-set m.cores c part))
+
+  bank_same : (b : ℕ) (n : Option ℕ) (s : Step BankState) → SetUpAs m (changed m (with_bank m b) n s).1
+  bank_same b = changed_same (with_bank m b) (λ part. same _ refl refl refl)
+
+  tried_same : (c : ℕ) (core : CoreState) (t : Tried) → SetUpAs m (tried m c core t).1
+  tried_same c core (step.Completes op received ts after) = same _ refl refl (length-set m.cores c after)
+  tried_same c core (step.Does s) = core_same c None s
 
   delivered_same : (n : ℕ) (message : Message) (to : Node) → SetUpAs m (deliver_to m n message to).1
   delivered_same n message (node.Core c) = by_core (slice_get m.cores c)
@@ -92,43 +75,19 @@ module _ (m : Machine) where
       by_core : (o : Option CoreState) → SetUpAs m (deliver_core m n message c o).1
       by_core None = same _ refl refl refl
       by_core (Some core) = either (core_table.core_has_case core message) _ _
-          (reacted_same n (with_core m c) (λ part. same _ refl refl (length-set m.cores c part))
-          (core_table.core_table core message)) (same _ refl refl refl)
+          (core_same c (Some n) _) (same _ refl refl refl)
   delivered_same n message (node.Bank b) = by_bank (slice_get m.banks b)
     where
       by_bank : (o : Option BankState) → SetUpAs m (deliver_bank m n message b o).1
       by_bank None = same _ refl refl refl
       by_bank (Some bank) = either (bank_table.bank_has_case bank message) _ _
-          (reacted_same n (with_bank m b) (λ part. same _ refl refl refl) (bank_table.bank_table bank message))
-          (same _ refl refl refl)
+          (bank_same b (Some n) _) (same _ refl refl refl)
   delivered_same n message (node.Dram b) = by_dram (slice_get m.drams b)
     where
       by_dram : (o : Option (FinMap nat_cmp (List ℕ))) → SetUpAs m (deliver_dram m n message b o).1
       by_dram None = same _ refl refl refl
       by_dram (Some lines) = either (dram_has_case lines message) _ _
-          (reacted_same n (with_dram m b) (λ part. same _ refl refl refl) (dram_table lines message))
-          (same _ refl refl refl)
-
-  copy_same : (c : ℕ) (r : Result (Option Message) CacheError × CoreState) → SetUpAs m (copy_evicted m c r).1
-  copy_same c (Err NotHere, core) = same _ refl refl refl
-  copy_same c (Err NoRoom, core) = same _ refl refl refl
-  copy_same c (Err Pinned, core) = same _ refl refl refl
-  copy_same c (Ok None, core) = same _ refl refl (length-set m.cores c core)
-  copy_same c (Ok (Some back), core) = tested (SetUpAs m) m (with_core m c) (has_capacity m.config.messages m.mail) _
-      _ (same _ refl refl (length-set m.cores c core)) (same _ refl refl refl)
-
-  entry_same : (b : ℕ) (r : Result Evict EvictError × BankState) → SetUpAs m (entry_evicted m b r).1
-  entry_same b (Err not_evicted.NotHere, bank) = same _ refl refl refl
-  entry_same b (Err not_evicted.Busy, bank) = same _ refl refl refl
-  entry_same b (Ok evict.Clean, bank) = same _ refl refl refl
-  entry_same b (Ok (evict.Stored store), bank) = tested (SetUpAs m) m (with_bank m b)
-      (has_capacity m.config.messages m.mail) _ _ (same _ refl refl refl) (same _ refl refl refl)
-  entry_same b (Ok (evict.Recalled recall), bank) = tested (SetUpAs m) m (with_bank m b)
-      (has_capacity m.config.messages m.mail) _ _ (same _ refl refl refl) (same _ refl refl refl)
-
-  advanced_same : (c : ℕ) (r : Option (Unit {0}) × CoreState) → SetUpAs m (advanced m c r).1
-  advanced_same c (None, core) = same _ refl refl refl
-  advanced_same c (Some done, core) = same _ refl refl (length-set m.cores c core)
+          (changed_same (with_dram m b) (λ part. same _ refl refl refl) (Some n) _) (same _ refl refl refl)
 
   on_core : (P : Option CoreState → Answer × Machine) → SetUpAs m (P None).1 →
       ((core : CoreState) → SetUpAs m (P (Some core)).1) → (o : Option CoreState) → SetUpAs m (P o).1
@@ -139,25 +98,21 @@ module _ (m : Machine) where
   on_event_same (Issue c op) = on_core (λ o. issue_at m c op o) (same _ refl refl refl)
       (λ core. issued_same c op (core_table.issue core op)) (slice_get m.cores c)
   on_event_same (AttemptOf c) = on_core (λ o. attempt_at m c o) (same _ refl refl refl)
-      (λ core. opened core core.open_op) (slice_get m.cores c)
-    where
-      opened : (core : CoreState) (o : Option Op) → SetUpAs m (attempt_open m c core o).1
-      opened core None = same _ refl refl refl
-      opened core (Some op) = attempted_same c core op (core_table.attempt core)
+      (λ core. tried_same c core _) (slice_get m.cores c)
   on_event_same (Deliver n) = go (at_number n m.mail.messages)
     where
       go : (o : Option Message) → SetUpAs m (deliver_message m n o).1
       go None = same _ refl refl refl
       go (Some message) = delivered_same n message message.to
   on_event_same (EvictCache c line) = on_core (λ o. evict_copy m c line o) (same _ refl refl refl)
-      (λ core. copy_same c (core_table.evict core line)) (slice_get m.cores c)
+      (λ core. core_same c None _) (slice_get m.cores c)
   on_event_same (EvictBank b line) = go (slice_get m.banks b)
     where
       go : (o : Option BankState) → SetUpAs m (evict_entry m b line o).1
       go None = same _ refl refl refl
-      go (Some bank) = entry_same b (bank_table.evict bank line)
+      go (Some bank) = bank_same b None _
   on_event_same (Advance c) = on_core (λ o. advance_at m c o) (same _ refl refl refl)
-      (λ core. advanced_same c (core_table.advance core)) (slice_get m.cores c)
+      (λ core. core_same c None _) (slice_get m.cores c)
 
   pub transition_same : (event : Event) → SetUpAs m (transition m event).1
   transition_same event = either m.is_stopped _ _ (same _ refl refl refl) (on_event_same event)

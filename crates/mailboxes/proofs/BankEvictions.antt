@@ -1,5 +1,5 @@
 -- An eviction from a bank is a move of its seat.
-use Rattle.std.proofs.Common.{◌≡◌, ℕ, ◌+◌, ◌<◌, inl, true, List, ◌∷◌, ◌++◌, Option, Some, None}
+use Rattle.std.proofs.Common.{◌≡◌, ℕ, ◌+◌, ◌<◌, inl, true, false, List, ◌∷◌, ◌++◌, Option, Some, None}
 use Rattle.std.proofs.Common.{Result, Ok, Err, refl, sym, ap, ◌∙◌, subst, option_to_list, arith}
 use Rattle.network.specs.declared.message.Node.{Node}
 use Rattle.network.specs.declared.message.Node.TheVariants as node
@@ -13,8 +13,9 @@ use Rattle.llc_bank.specs.declared.decision.Eviction.TheVariants as eviction
 use Rattle.llc_bank.specs.OnEntry.{evicted}
 use Rattle.llc_bank.specs.BankTable as bank_table
 use Rattle.llc_bank.specs.BankTable.{BankState, after_eviction, entry_of}
+use Rattle.machine_table.specs.Step as step
+use Rattle.machine_table.specs.Step.{sent_by_eviction}
 use Rattle.machine_theorem.specs.Bags.{SameBag}
-use Rattle.seat_rule.specs.Moves.{sent_by_eviction}
 use Rattle.inbox.specs.Inboxes.{InboxState}
 use Rattle.inbox.specs.Serving.{sent_list}
 use Rattle.inbox.specs.Effects.{messages_of}
@@ -22,7 +23,7 @@ use Rattle.seat_rule.specs.declared.views.SetUp.{SetUp}
 use Rattle.seat_rule.specs.declared.views.Hold.{Hold}
 use Rattle.seat_rule.specs.Rule.{bag_of_hold}
 use Rattle.seat_rule.specs.Serving.{counted_if}
-use Rattle.seat_rule.specs.SeatMoves.{SeatMove, evicts_entry}
+use Rattle.seat_rule.specs.SeatMoves.{SeatMove, bank_steps}
 use Rattle.mailboxes.specs.declared.sending.SendingBank.{SendingBank}
 use Rattle.closed_machine.specs.Sending.{OutboxState}
 use Rattle.mailboxes.specs.Stored.{stored_bank}
@@ -94,15 +95,18 @@ module _ (z : SetUp) (id i : ℕ) (below : i < z.config.banks) (named : id ≡ z
 
   pub eviction-moves : SeatMove z id a (stored_bank a q c)
   eviction-moves =
-      evicts_entry i line e below named
-      (ap (λ x. bank_table.evict x line) holds.bank ∙ ap (λ r. (r, (bank_table.evict p.bank line).1)) did)
-      (record { core = refl; issued = refl }) (sym holds.dram)
-      (record {
-        bag = subst (λ xs. SameBag (bag_of_hold (stored_bank a q c)) (option_to_list (sent_by_eviction e) ++ xs))
-            (sym (bag-before z id i below named a p b holds)) evicted-bag;
-        counts = posted-if-counts p.outbox (sent_by_eviction e)
-            ∙ ap (λ n. counted_if n (sent_by_eviction e)) (sym holds.counts);
-      })
+      bank_steps i (step.Evicting line) (bag_of_hold a)
+      (step.Makes (step.became e) false (sent_by_eviction e) (bank_table.evict p.bank line).1) below named refl
+      (ap step.entry_evicted
+      (ap (λ x. bank_table.evict x line) holds.bank ∙ ap (λ r. (r, (bank_table.evict p.bank line).1)) did)) (
+        refl,
+        record {
+          bag = subst (λ xs. SameBag (bag_of_hold (stored_bank a q c)) (option_to_list (sent_by_eviction e) ++ xs))
+              (sym (bag-before z id i below named a p b holds)) evicted-bag;
+          counts = posted-if-counts p.outbox (sent_by_eviction e)
+              ∙ ap (λ n. counted_if n (sent_by_eviction e)) (sym holds.counts);
+        },
+      ) (record { core = refl; issued = refl }) (sym holds.dram)
 
   pub eviction-settled : (numbered : p.bank.number ≡ i) (own : AllOwn z.config.cores id b)
       (linked : AllLinked z.config.cores z.config.banks id p.outbox.messages) →

@@ -10,6 +10,7 @@ use Rattle.network.specs.declared.part.Reaction.{Reaction}
 use Rattle.network.specs.declared.part.Reaction.TheVariants as does
 use Rattle.llc_bank.specs.BankTable.{BankState, bank_table, bank_has_case}
 use Rattle.dram_mts.specs.Table.{dram_table, dram_has_case}
+use Rattle.machine_table.specs.Step.{Delivers, Getting, Makes, Starts, reacted}
 use Rattle.machine_theorem.specs.Bags.{weigh, SameBag}
 use Rattle.inbox.specs.declared.answer.Answer.{Answer}
 use Rattle.inbox.specs.declared.answer.Answer.TheVariants.{Delivered, Dropped, Started}
@@ -23,7 +24,7 @@ use Rattle.seat_rule.specs.declared.views.SetUp.{SetUp}
 use Rattle.seat_rule.specs.declared.views.Hold.{Hold}
 use Rattle.seat_rule.specs.Rule.{bag_of_hold}
 use Rattle.seat_rule.specs.Serving.{counted_if}
-use Rattle.seat_rule.specs.SeatMoves.{SeatMove, sorts, bank_gets, bank_starts, dram_gets}
+use Rattle.seat_rule.specs.SeatMoves.{SeatMove, sorts, bank_steps, dram_steps}
 use Rattle.mailboxes.specs.declared.sending.SendingBank.{SendingBank}
 use Rattle.mailboxes.specs.Stored.{stored_bank}
 use Rattle.mailboxes.specs.BankServing.{reacts, reacts_at, bank_has_case_at, sending_bank_table}
@@ -119,13 +120,16 @@ module _ (z : SetUp) (id i : ℕ) (below : i < z.config.banks) (named : id ≡ z
       let n = places b.held at in
       let e = at-bank m n (Delivered sent) q to asks in
       let did = consumes p.outbox n p.bank (bank_table p.bank m) sent q.bank q.outbox e.0 in
-      bank_gets i m (rest at) did.answer below named (one-apart at m before) to (bank-case m to has)
-      (bank-did m (does.Done did.answer) q did.did) (record { core = refl; issued = refl }) (e.1 ∙ sym holds.dram)
-      (record {
-        bag = after-sent q c sent (others b at) (option_to_list did.answer)
-            (bag-is (messages_of c) (sent_list sent ++ others b at) after) (did.bag (others b at));
-        counts = counts-are q.outbox.counts did.answer did.counts;
-      })
+      bank_steps i (Getting m) (rest at) (Makes Delivers true did.answer q.bank) below named
+      (one-apart at m before, to, bank-case m to has)
+      (ap (λ r. reacted r) (bank-did m (does.Done did.answer) q did.did)) (
+        refl,
+        record {
+          bag = after-sent q c sent (others b at) (option_to_list did.answer)
+              (bag-is (messages_of c) (sent_list sent ++ others b at) after) (did.bag (others b at));
+          counts = counts-are q.outbox.counts did.answer did.counts;
+        },
+      ) (record { core = refl; issued = refl }) (e.1 ∙ sym holds.dram)
 
   bank-started : (at : Place) (m : Message) (sent : Option Message) (q : SendingBank) (c : InboxState Message) →
       m.to ≡ node.Bank i → sending_bank_has_case p m ≡ true →
@@ -136,15 +140,17 @@ module _ (z : SetUp) (id i : ℕ) (below : i < z.config.banks) (named : id ≡ z
       let n = places b.held at in
       let e = at-bank m n (Started sent) q to asks in
       let did = starts p.outbox n p.bank (bank_table p.bank m) sent q.bank q.outbox e.0 in
-      bank_starts i m (rest at) did.started below named (one-apart at m before) to (bank-case m to has)
-      (bank-did m (does.HeldAfter did.started) q did.did) (record { core = refl; issued = refl })
-      (e.1 ∙ sym holds.dram)
-      (record {
-        bag = subst (λ xs. SameBag (bag_of_hold (stored_bank a q c)) (did.started ∷ xs)) (sym bag-before)
-            (after-sent q c sent (messages_of b) (did.started ∷ [])
-            (bag-is (messages_of c) (sent_list sent ++ messages_of b) after) (did.bag (messages_of b)));
-        counts = counts-are q.outbox.counts (Some did.started) did.counts;
-      })
+      bank_steps i (Getting m) (rest at) (Makes Starts false (Some did.started) q.bank) below named
+      (one-apart at m before, to, bank-case m to has)
+      (ap (λ r. reacted r) (bank-did m (does.HeldAfter did.started) q did.did)) (
+        refl,
+        record {
+          bag = subst (λ xs. SameBag (bag_of_hold (stored_bank a q c)) (did.started ∷ xs)) (sym bag-before)
+              (after-sent q c sent (messages_of b) (did.started ∷ [])
+              (bag-is (messages_of c) (sent_list sent ++ messages_of b) after) (did.bag (messages_of b)));
+          counts = counts-are q.outbox.counts (Some did.started) did.counts;
+        },
+      ) (record { core = refl; issued = refl }) (e.1 ∙ sym holds.dram)
 
   -- The DRAM
 
@@ -170,13 +176,16 @@ module _ (z : SetUp) (id i : ℕ) (below : i < z.config.banks) (named : id ≡ z
       let n = places b.held at in
       let e = at-dram m n (Delivered sent) q to asks in
       let did = consumes p.outbox n p.dram (dram_table p.dram m) sent q.dram q.outbox e.0 in
-      dram_gets i m (rest at) did.answer below named (one-apart at m before) to (dram-case m to has)
-      (ap (λ x. dram_table x m) holds.dram ∙ did.did) (record { core = refl; issued = refl }) (e.1 ∙ sym holds.bank)
-      (record {
-        bag = after-sent q c sent (others b at) (option_to_list did.answer)
-            (bag-is (messages_of c) (sent_list sent ++ others b at) after) (did.bag (others b at));
-        counts = counts-are q.outbox.counts did.answer did.counts;
-      })
+      dram_steps i (Getting m) (rest at) (Makes Delivers true did.answer q.dram) below named
+      (one-apart at m before, to, dram-case m to has)
+      (ap (λ r. reacted r) (ap (λ x. dram_table x m) holds.dram ∙ did.did)) (
+        refl,
+        record {
+          bag = after-sent q c sent (others b at) (option_to_list did.answer)
+              (bag-is (messages_of c) (sent_list sent ++ others b at) after) (did.bag (others b at));
+          counts = counts-are q.outbox.counts did.answer did.counts;
+        },
+      ) (record { core = refl; issued = refl }) (e.1 ∙ sym holds.bank)
 
   -- The seat
 

@@ -1,5 +1,5 @@
 -- What a core's seat does with its core alone is a move of the seat.
-use Rattle.std.proofs.Common.{◌≡◌, ◌<◌, ℕ, Bool, true, false, List, [], ◌∷◌, ◌++◌, Result, Ok, Err, refl, sym}
+use Rattle.std.proofs.Common.{◌≡◌, ◌<◌, ℕ, Bool, true, false, List, [], ◌∷◌, ◌++◌, Some, None, Result, Ok, Err, refl, sym}
 use Rattle.std.proofs.Common.{ap, ◌∙◌, subst}
 use Rattle.physiological_order.specs.declared.operation.Op.{Op}
 use Rattle.network.specs.declared.message.Message.{Message}
@@ -8,7 +8,9 @@ use Rattle.core_pts.specs.CoreTable.{CoreState}
 use Rattle.inbox.specs.Inboxes.{InboxState}
 use Rattle.seat_rule.specs.declared.views.SetUp.{SetUp}
 use Rattle.seat_rule.specs.declared.views.Hold.{Hold}
-use Rattle.seat_rule.specs.SeatMoves.{SeatMove, issues}
+use Rattle.machine_table.specs.Step.{Advances, Advancing, Does, Makes, advanced}
+use Rattle.seat_rule.specs.Rule.{bag_of_hold}
+use Rattle.seat_rule.specs.SeatMoves.{SeatMove, issues, core_steps}
 use Rattle.seat_rule.specs.Serving.{core_now}
 use Rattle.mailboxes.specs.declared.sending.SendingCore.{SendingCore}
 use Rattle.core_pts.specs.declared.attempt.IssueError.{IssueError}
@@ -42,3 +44,13 @@ issue-moves z y id number a p q op ops later same named below core issued done m
     (subst (λ (x : SetUp). number < x.config.cores) (sym same) below))
     (ap (λ c. core_table.issue c op) core ∙ done) (more ∙ ap (λ xs. xs ++ op ∷ []) (sym issued))
     (record { bank = refl; dram = refl }) (record { bag = λ h. refl; counts = refl })
+
+-- the core's time goes on by itself
+pub advance-moves : (z : SetUp) (id number : ℕ) (a : Hold) (p q : CoreState) (ops : List Op) → id ≡ number →
+    number < z.config.cores → a.core ≡ p → a.issued ≡ ops → core_table.advance p ≡ (Some tt, q) →
+    SeatMove z id a (core_hold a q ops)
+advance-moves z id number a p q ops named below core issued done =
+    core_steps Advancing (bag_of_hold a) (Makes Advances false None q)
+    (subst (λ (n : ℕ). n < z.config.cores) (sym named) below) refl
+    (ap (λ c. Does (advanced (core_table.advance c))) core ∙ ap (λ r. Does (advanced r)) done)
+    (refl, record { bag = λ h. refl; counts = refl }) (sym issued) (record { bank = refl; dram = refl })

@@ -27,16 +27,17 @@ use Rattle.private_cache.specs.declared.line_copy.LineCopy.{LineCopy}
 use Rattle.private_cache.specs.declared.cache.CacheError.{CacheError}
 use Rattle.private_cache.specs.CopyTable.{copy_of, evicted}
 use Rattle.std.proofs.lemmas.Bool.{lt-ltb, ltb-true}
+use Rattle.machine_table.specs.Step.{Attempting, Does, Evicting, Evicts, Makes, asks, copy_evicted}
 use Rattle.machine_theorem.specs.Bags.{weigh}
 use Rattle.inbox.specs.Inboxes.{InboxState}
 use Rattle.seat_rule.specs.declared.views.SetUp.{SetUp}
 use Rattle.seat_rule.specs.declared.views.Hold.{Hold}
 use Rattle.seat_rule.specs.Found.{FindsHere}
 use Rattle.seat_rule.specs.Rule.{bag_of_hold}
-use Rattle.seat_rule.specs.SeatMoves.{SeatMove, HoldSends, asks_to_read, asks_to_write, evicts_copy}
+use Rattle.seat_rule.specs.SeatMoves.{SeatMove, HoldSends, core_steps}
 use Rattle.seat_rule.specs.Serving.{core_now}
 use Rattle.mailboxes.specs.declared.sending.SendingCore.{SendingCore}
-use Rattle.mailboxes.specs.Attempts.{Asks, to_read, to_write, asking}
+use Rattle.mailboxes.specs.Attempts.{Asks, asking}
 use Rattle.mailboxes.specs.CoreCalls.{sending_hold}
 use Rattle.mailboxes.specs.Evictions.{TakesOut}
 use Rattle.mailboxes.specs.Places.{AllLinked, has_link_to}
@@ -91,22 +92,21 @@ sent_some a core out new (Some m) outbox counts is = sent_more a core out new m 
 pub ask_moves : (z : SetUp) (id : ℕ) (a : Hold) (m : Message) (core : CoreState) (out new : OutboxState) →
     id < z.config.cores → Asks a.core m → core ≡ asking a.core → a.outbox ≡ out.messages → a.counts ≡ out.counts →
     new ≡ sent_out out m → SeatMove z id a (sending_hold a core new)
-ask_moves z id a m core out new below (to_read op pts version after opened answer is) asks outbox counts sent =
-    asks_to_read op pts version after below opened answer asks refl (record { bank = refl; dram = refl })
-    (subst (λ x. HoldSends a (sending_hold a core new) (bag_of_hold a) (Some x)) is
-    (sent_more a core out new m outbox counts sent))
-ask_moves z id a m core out new below (to_write op version after opened answer is) asks outbox counts sent =
-    asks_to_write op version after below opened answer asks refl (record { bank = refl; dram = refl })
-    (subst (λ x. HoldSends a (sending_hold a core new) (bag_of_hold a) (Some x)) is
-    (sent_more a core out new m outbox counts sent))
+ask_moves z id a m core out new below does out_now outbox counts sent =
+    core_steps Attempting (bag_of_hold a) (asks a.core does.op does.body) below refl does.step (
+      out_now,
+      subst (λ x. HoldSends a (sending_hold a core new) (bag_of_hold a) (Some x)) does.request
+          (sent_more a core out new m outbox counts sent),
+    ) refl (record { bank = refl; dram = refl })
 
 -- a copy is taken out
 pub evict_moves : (z : SetUp) (id : ℕ) (a : Hold) (line : ℕ) (p q : SendingCore) → id < z.config.cores →
     a.core ≡ p.core → a.outbox ≡ p.outbox.messages → a.counts ≡ p.outbox.counts → TakesOut p line q →
     SeatMove z id a (sending_hold a q.core q.outbox)
 evict_moves z id a line p q below core outbox counts t =
-    evicts_copy line t.0 below (ap (λ c. core_table.evict c line) core ∙ t.1) refl (record { bank = refl; dram = refl })
-    (sent_some a q.core p.outbox q.outbox t.0 outbox counts t.2)
+    core_steps (Evicting line) (bag_of_hold a) (Makes Evicts false t.0 q.core) below refl
+    (ap (λ r. Does (copy_evicted r)) (ap (λ c. core_table.evict c line) core ∙ t.1))
+    (refl, sent_some a q.core p.outbox q.outbox t.0 outbox counts t.2) refl (record { bank = refl; dram = refl })
 
 -- one more message that has a link
 pub linked_more : (cores banks number : ℕ) (ms : List Message) (m : Message) → AllLinked cores banks number ms →
@@ -214,10 +214,7 @@ back_goes core after line m e =
     sent_back_goes core after line (evicted core.cache line (pinned_line core) (copy_of core.cache line)) m e
 
 pub ask_goes : (core : CoreState) (m : Message) → Asks core m → (b : ℕ) × (m.to ≡ Bank b)
-ask_goes core m (to_read op pts version after opened answer is) =
-    (line_of core op % core.banks, ap (λ (y : Message). y.to) is)
-ask_goes core m (to_write op version after opened answer is) =
-    (line_of core op % core.banks, ap (λ (y : Message). y.to) is)
+ask_goes core m does = (line_of core does.op % core.banks, ap (λ (y : Message). y.to) does.request)
 
 -- so every message of the outbox has a link still, as the law of the seat's messages says of the one that was sent
 pub linked_sent : (z : SetUp) (id cores banks number to : ℕ) (b : Hold) (m : Message) (out new : OutboxState) →

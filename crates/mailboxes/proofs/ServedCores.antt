@@ -13,6 +13,8 @@ use Rattle.core_pts.specs.declared.decision.CoreReaction.{CoreReaction}
 use Rattle.core_pts.specs.declared.decision.CoreReaction.TheVariants.{Arrives, Grants, Returns, Drops, Holds, TooLate}
 use Rattle.core_pts.specs.declared.decision.CoreReaction.TheVariants.{NoCase}
 use Rattle.core_pts.specs.CoreTable.{CoreState, after_reaction, core_has_case, core_table, decided}
+use Rattle.machine_table.specs.Step as step
+use Rattle.machine_table.specs.Step.{Delivers, Does, Getting, Makes, core_step, reacted}
 use Rattle.machine_theorem.specs.Bags.{weigh, SameBag}
 use Rattle.inbox.specs.declared.answer.Answer.{Answer}
 use Rattle.inbox.specs.declared.answer.Answer.TheVariants.{Delivered, Dropped, Started, Held, Refused}
@@ -28,7 +30,7 @@ use Rattle.seat_rule.specs.declared.views.SetUp.{SetUp}
 use Rattle.seat_rule.specs.declared.views.Hold.{Hold}
 use Rattle.seat_rule.specs.Rule.{bag_of_hold}
 use Rattle.seat_rule.specs.Found.{FindsHere}
-use Rattle.seat_rule.specs.SeatMoves.{SeatMove, core_gets, core_drops, sorts}
+use Rattle.seat_rule.specs.SeatMoves.{SeatMove, core_steps, sorts}
 use Rattle.seat_rule.specs.Serving.{counted_if}
 use Rattle.seat_rule.specs.Staying.{CoresStay}
 use Rattle.mailboxes.specs.declared.sending.SendingCore.{SendingCore}
@@ -229,28 +231,35 @@ module _ (stay : CoresStay) (z : SetUp) (id : ℕ) (a : Hold) (ops : List Op) (p
         counts = counted_so None out;
       })
 
+  -- what the core does with a message, by its table
+  table : (m : Message) (r : Option (Reaction × CoreState)) → core_table p.core m ≡ r →
+      core_step a.core (Getting m) ≡ Does (reacted r)
+  table m r is = ap (λ x. Does (reacted x)) (ap (λ k. core_table k m) core ∙ is)
+
   pub served_moves : (result : Result Served Refusal) →
       ((at : Place) (m : Message) → LiesAt b at m → (m.to ≡ Core id) × (core_has_case a.core m ≡ true)) →
       Effect sending_core_table b p result c q → SeatMove z id a after
   served_moves result cases (delivered at m sent asked is before later) =
       let s = answered stay p m (places b.held at) (Delivered sent) q asked.1 in
       let own = cases at m asked.0 in
-      core_gets m (p.outbox.messages ++ others b at) s.0 below (apart m (others b at) before) own.0 own.1
-      (ap (λ k. core_table k m) core ∙ s.1) (sym issued) (record { bank = refl; dram = refl })
-      (record {
-        bag = whole s.0 (others b at) s.3
-            (subst (λ x. SameMessages (messages_of c) (sent_list x ++ others b at)) s.2 later);
-        counts = counted_so s.0 s.3;
-      })
+      core_steps (Getting m) (p.outbox.messages ++ others b at) (Makes Delivers true s.0 q.core) below
+      (apart m (others b at) before, own.0, own.1) (table m (Some (does.Done s.0, q.core)) s.1) (
+        refl,
+        record {
+          bag = whole s.0 (others b at) s.3
+              (subst (λ x. SameMessages (messages_of c) (sent_list x ++ others b at)) s.2 later);
+          counts = counted_so s.0 s.3;
+        },
+      ) (sym issued) (record { bank = refl; dram = refl })
   served_moves result cases (dropped at m asked is before later) =
       let s = answered stay p m (places b.held at) Dropped q asked.1 in
       let own = cases at m asked.0 in
       let out : q.outbox ≡ sent_if p.outbox None = ap (λ (y : SendingCore). y.outbox) s.2 in
-      core_drops m (p.outbox.messages ++ others b at) s.0 below (apart m (others b at) before) own.0 own.1
-      (ap (λ k. core_table k m) core ∙ s.1)
-      (record { core = ap (λ (y : SendingCore). y.core) s.2 ∙ sym core; issued = sym issued })
-      (record { bank = refl; dram = refl })
-      (record { bag = whole None (others b at) out later; counts = counted_so None out })
+      core_steps (Getting m) (p.outbox.messages ++ others b at) step.Drops below
+      (apart m (others b at) before, own.0, own.1) (table m (Some (does.Dropped, s.0)) s.1) (
+        ap (λ (y : SendingCore). y.core) s.2 ∙ sym core,
+        record { bag = whole None (others b at) out later; counts = counted_so None out },
+      ) (sym issued) (record { bank = refl; dram = refl })
   served_moves result cases (started at m sent asked is before later) =
       absurd (answered stay p m (places b.held at) (Started sent) q asked.1)
   served_moves result cases (moved m asked is to same stays) = sorted stays same

@@ -2,13 +2,15 @@
 use Rattle.std.specs.Prelude.{◌≡◌, ◌≢◌, ℕ, ◌-◌, ◌<◌, ◌^◌, Bool, true, false, cond, Option, Some, None}
 use Rattle.physiological_order.specs.declared.operation.Op.{Op}
 use Rattle.physiological_order.specs.declared.operation.Record.{Record}
+use Rattle.network.specs.declared.message.Body.{Body}
 use Rattle.network.specs.declared.message.Body.TheVariants.{ShReq, ExReq}
 use Rattle.network.specs.declared.message.Message.{Message}
 use Rattle.core_pts.specs.declared.attempt.Attempt.{Attempt}
 use Rattle.core_pts.specs.declared.attempt.Attempt.TheVariants as attempted
 use Rattle.core_pts.specs.CoreTable as core_table
 use Rattle.core_pts.specs.CoreTable.{CoreState, line_of, to_bank}
-use Rattle.machine_table.specs.Change.{record_of}
+use Rattle.machine_table.specs.Step.{record_of}
+use Rattle.machine_table.specs.Step.{Attempting, Does, asks, core_step}
 use Rattle.machine_table.specs.declared.event.Answer.{Answer}
 use Rattle.machine_table.specs.declared.event.Answer.TheVariants.{Completed, Requested, Waiting, Idle, Refused}
 use Rattle.machine_table.specs.declared.event.Refusal.TheVariants.{NoRoom, NetworkFull, NoMemory, Exhausted}
@@ -41,13 +43,11 @@ Completes m r p q =
     × finished m.set_up (seat_count m.set_up) q.part.core r.op r.received r.ts p.mail.seat.me r.number q.mail.seat.me
 
 -- the core's table asks for this request for the open operation
-pub data Asks (p : CoreState) (m : Message) : Type 0 where
-  to_read : (op : Op) (pts : ℕ) (version : Option ℕ) (after : CoreState) → p.open_op ≡ Some op →
-      core_table.attempt p ≡ (Some (attempted.NeedShared pts version), after) →
-      m ≡ to_bank p (line_of p op) (ShReq pts version) → Asks p m
-  to_write : (op : Op) (version : Option ℕ) (after : CoreState) → p.open_op ≡ Some op →
-      core_table.attempt p ≡ (Some (attempted.NeedExclusive version), after) →
-      m ≡ to_bank p (line_of p op) (ExReq version) → Asks p m
+pub record Asks (p : CoreState) (m : Message) : Type 0 where
+  pub op : Op
+  pub body : Body
+  pub request : m ≡ to_bank p (line_of p op) body
+  pub step : core_step p Attempting ≡ Does (asks p op body)
 
 -- what the core's table says of an attempt at an operation
 abbrev pub tried_op : CoreState → Op → Option Attempt → Outcome

@@ -14,7 +14,7 @@ use Rattle.llc_bank.specs.declared.entry.EvictError.TheVariants as evict_error
 use Rattle.llc_bank.specs.BankTable.{BankState, make_room, or_else, sent_to}
 use Rattle.machine_table.specs.declared.event.Refusal.{Refusal}
 use Rattle.machine_table.specs.declared.event.Refusal.TheVariants.{Busy, NoSuch, NetworkFull, Stopped}
-use Rattle.seat_rule.specs.Moves.{sent_by_eviction}
+use Rattle.machine_table.specs.Step.{sent_by_eviction}
 use Rattle.inbox.specs.Inboxes.{InboxState, inbox}
 use Rattle.inbox.specs.Serving.{Place, order_of, sent_list, served_of}
 use Rattle.mailboxes.specs.declared.bank_seat.BankSeat.{BankSeat}

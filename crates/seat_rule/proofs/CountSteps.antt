@@ -18,7 +18,7 @@ use Rattle.core_pts.specs.CoreTable as core_table
 use Rattle.core_pts.specs.CoreTable.{CoreState}
 use Rattle.protocol.specs.Issued.{listed}
 use Rattle.machine_table.specs.SetUp.{is_good}
-use Rattle.machine_table.specs.Change.{record_of}
+use Rattle.machine_table.specs.Step.{record_of}
 use Rattle.seat_views.specs.declared.views.View.{View}
 use Rattle.seat_views.specs.Seated.{over, with_value_at, Shown, seat_view, with_hold, one_more, spent_view, knows}
 use Rattle.seat_views.proofs.Lemmas.{put_here, at_put}

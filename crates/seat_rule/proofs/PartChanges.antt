@@ -1,5 +1,5 @@
 -- A machine and its state: one part put into both, and the messages in flight afterwards.
-use Rattle.std.proofs.Common.{◌≡◌, ℕ, ◌<◌, List, [], ◌∷◌, ◌++◌, length, set, get_or, Option, Some, None, refl, sym}
+use Rattle.std.proofs.Common.{◌≡◌, ℕ, ◌<◌, Bool, true, false, cond, List, [], ◌∷◌, ◌++◌, length, set, get_or, Option, Some, None, refl, sym}
 use Rattle.std.proofs.Common.{ap, ◌∙◌, arith}
 use Rattle.std.specs.Ordering.{nat_cmp}
 use Rattle.std.specs.FinMap.{FinMap, entries}
@@ -11,11 +11,12 @@ use Rattle.core_pts.specs.CoreTable.{CoreState, opened}
 use Rattle.llc_bank.specs.BankTable.{BankState, empty_bank}
 use Rattle.machine_table.specs.Machine as table
 use Rattle.machine_table.specs.Machine.{Machine}
-use Rattle.machine_table.specs.Change.{record_of}
+use Rattle.machine_table.specs.Step.{record_of}
+use Rattle.machine_table.specs.Posted.{left, posted}
 use Rattle.machine_table.specs.Opening.{core_config, bank_config, geometry, dram_of}
 use Rattle.machine_theorem.specs.Bags.{SameBag, bag_of}
 use Rattle.seat_rule.specs.States.{State, Same, with_at, seen}
-use Rattle.seat_rule.specs.Moves.{with_core, with_bank, with_dram, sent_beside, with_answer}
+use Rattle.seat_rule.specs.Moves.{with_core, with_bank, with_dram, with_answer}
 use Rattle.seat_rule.proofs.Bags.{bag-sent}
 use Rattle.seat_rule.proofs.Lists.{part_put}
 
@@ -135,7 +136,7 @@ module _ (a : State) (m : Machine) (k : Same a (seen m)) where
       }
 
 -- the messages in flight
-abbrev pub replied : Mail → Option Message → Mail
+abbrev replied : Mail → Option Message → Mail
 replied mail None = mail
 replied mail (Some answer) = sent mail answer
 
@@ -153,8 +154,10 @@ module _ (b : State) (m : Machine) (k : Same b (seen m)) (bag : List Message) (m
     counts = counts;
   }
 
-  pub sent_put : (message : Message) → Same (sent_beside b bag message) (seen (record m { mail = sent mail message }))
-  sent_put message =
+  answer_put : (answer : Option Message) →
+      Same (with_answer b bag answer) (seen (record m { mail = replied mail answer }))
+  answer_put None = bag_put
+  answer_put (Some message) =
       record {
         cores = k.cores;
         banks = k.banks;
@@ -165,7 +168,14 @@ module _ (b : State) (m : Machine) (k : Same b (seen m)) (bag : List Message) (m
         counts = ap (λ (n : Counts). counted n message.body) counts;
       }
 
-  pub answer_put : (answer : Option Message) →
-      Same (with_answer b bag answer) (seen (record m { mail = replied mail answer }))
-  answer_put None = bag_put
-  answer_put (Some message) = sent_put message
+-- so after a step that consumes a message, beside which are the rest, or not, and sends this, if anything
+pub posted_put : (b : State) (m : Machine) → Same b (seen m) → (all rest : List Message) (mail : Mail)
+    (n : Option ℕ) → SameBag all (bag_of mail.messages) → SameBag rest (bag_of (left mail n).messages) →
+    b.counts ≡ mail.counts → (consumes : Bool) (sends : Option Message) →
+    Same (with_answer b (cond consumes rest all) sends) (seen (record m { mail = posted mail n consumes sends }))
+posted_put b m k all rest mail n same same_rest counts true None =
+    answer_put b m k rest (left mail n) same_rest counts None
+posted_put b m k all rest mail n same same_rest counts false None = answer_put b m k all mail same counts None
+posted_put b m k all rest mail n same same_rest counts true (Some q) =
+    answer_put b m k rest (left mail n) same_rest counts (Some q)
+posted_put b m k all rest mail n same same_rest counts false (Some q) = answer_put b m k all mail same counts (Some q)

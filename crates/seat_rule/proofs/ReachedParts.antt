@@ -1,5 +1,5 @@
 -- The parts of a reached state: their shape, what its cores were issued, and its records in order.
-use Rattle.std.proofs.Common.{◌≡◌, true, ℕ, zero, suc, ◌+◌, ◌<◌, List, [], ◌∷◌, ◌++◌, length, length-append, map}
+use Rattle.std.proofs.Common.{◌≡◌, true, ℕ, zero, suc, ◌+◌, ◌<◌, cond, List, [], ◌∷◌, ◌++◌, length, length-append, map}
 use Rattle.std.proofs.Common.{get_or, Option, Some, None, ◌⊎◌, inl, inr, refl, sym, ap, ◌∙◌, subst, arith, ⊎_elim}
 use Rattle.std.proofs.lemmas.List.{length-map}
 use Rattle.std.specs.List.{slice_get}
@@ -13,7 +13,9 @@ use Rattle.network.specs.declared.message.Message.{Message}
 use Rattle.core_pts.specs.CoreTable.{CoreState, opened}
 use Rattle.llc_bank.specs.BankTable.{BankState, empty_bank}
 use Rattle.machine_table.specs.declared.config.Config.{Config}
-use Rattle.machine_table.specs.Change.{record_of}
+use Rattle.machine_table.specs.Step.{record_of}
+use Rattle.machine_table.specs.Step as step
+use Rattle.machine_table.specs.Step.{Step}
 use Rattle.machine_table.specs.Opening.{core_config, bank_config, geometry}
 use Rattle.machine_theorem.specs.Kept.{Invariant}
 use Rattle.protocol.specs.Issued.{IsIssued, listed}
@@ -22,10 +24,8 @@ use Rattle.machine_table.specs.Machine.{Machine, operation_of}
 use Rattle.machine_table.specs.SetUp.{is_good}
 use Rattle.seat_rule.specs.MachineLaws.{Laws}
 use Rattle.seat_rule.specs.States.{State, numbered}
-use Rattle.seat_rule.specs.Moves.{with_answer, with_core, with_bank, with_dram, sent_by_eviction, Move, issues}
-use Rattle.seat_rule.specs.Moves.{completes}
-use Rattle.seat_rule.specs.Moves.{asks_to_read, asks_to_write, core_gets, core_drops, bank_gets, bank_starts}
-use Rattle.seat_rule.specs.Moves.{dram_gets, evicts_copy, evicts_entry, advances, Reached, opens, goes_on, same}
+use Rattle.seat_rule.specs.Moves.{with_answer, with_core, with_bank, with_dram, StepsTo, Move, issues, completes}
+use Rattle.seat_rule.specs.Moves.{core_steps, bank_steps, dram_steps, Reached, opens, goes_on, same}
 use Rattle.seat_rule.specs.Events.{Shows}
 use Rattle.seat_rule.proofs.Bags.{Some_injective}
 use Rattle.seat_rule.proofs.Witnesses.{reached_invariant, reached_shows}
@@ -87,29 +87,28 @@ abbrev Adds : State → State → Type 0
 Adds a b = (b.records ≡ a.records) ⊎
     ((r : Record) × (r.number ≡ length a.records) × (b.records ≡ a.records ++ r ∷ []))
 
-answer_adds : (a : State) (rest : List Message) (answer : Option Message) →
-    (with_answer a rest answer).records ≡ a.records
-answer_adds a rest None = refl
-answer_adds a rest (Some message) = refl
+step_adds : {S : Type 0} (a b : State) (put : S → State) → ((part : S) → (put part).records ≡ a.records) →
+    (rest : List Message) (s : Step S) → StepsTo a put rest s b → Adds a b
+step_adds a b put keeps rest step.Exhausts to = absurd to
+step_adds a b put keeps rest (step.Keeps kept) to = absurd to
+step_adds a b put keeps rest step.Drops to = inl (ap (λ (x : State). x.records) to)
+step_adds a b put keeps rest (step.Makes did consumes sends part) to =
+    inl (ap (λ (x : State). x.records) to ∙ answered (put part) (cond consumes rest a.bag) sends ∙ keeps part)
+  where
+    answered : (x : State) (bag : List Message) (answer : Option Message) → (with_answer x bag answer).records ≡ x.records
+    answered x bag None = refl
+    answered x bag (Some message) = refl
 
 move_adds : (config : Config) (a b : State) → Move config a b → Adds a b
 move_adds config a b (issues c op core lt e) = inl refl
-move_adds config a b (completes c op received ts core lt is e) =
+move_adds config a b (completes c op received ts core lt e) =
     inr (record_of c (length a.records) (a.cores c) op received ts, refl, refl)
-move_adds config a b (asks_to_read c op pts version core lt is e) = inl refl
-move_adds config a b (asks_to_write c op version core lt is e) = inl refl
-move_adds config a b (core_gets c message rest answer core lt without to has e) =
-    inl (answer_adds (with_core a c core) rest answer)
-move_adds config a b (core_drops c message rest core lt without to has e) = inl refl
-move_adds config a b (bank_gets i message rest answer bank lt without to has e) =
-    inl (answer_adds (with_bank a i bank) rest answer)
-move_adds config a b (bank_starts i message rest started bank lt without to has e) = inl refl
-move_adds config a b (dram_gets i message rest answer lines lt without to has e) =
-    inl (answer_adds (with_dram a i lines) rest answer)
-move_adds config a b (evicts_copy c line back core lt e) = inl (answer_adds (with_core a c core) a.bag back)
-move_adds config a b (evicts_entry i line done bank lt e) =
-    inl (answer_adds (with_bank a i bank) a.bag (sent_by_eviction done))
-move_adds config a b (advances c core lt e) = inl refl
+move_adds config a b (core_steps c act rest s lt beside is to) =
+    step_adds a b (with_core a c) (λ part. refl) rest s to
+move_adds config a b (bank_steps i act rest s lt beside is to) =
+    step_adds a b (with_bank a i) (λ part. refl) rest s to
+move_adds config a b (dram_steps i act rest s lt beside is to) =
+    step_adds a b (with_dram a i) (λ part. refl) rest s to
 
 -- each record's number is its index
 abbrev InOrder : ℕ → List Record → Type 0

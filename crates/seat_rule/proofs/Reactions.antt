@@ -23,7 +23,6 @@ use Rattle.llc_bank.specs.OnEntry.{stored, at_bank}
 use Rattle.llc_bank.specs.BankTable as bank_table
 use Rattle.llc_bank.specs.BankTable.{BankState, after_decision, is_this_bank, entry_of, comes_to_bank, is_owned}
 use Rattle.llc_bank.specs.BankTable.{is_loading, is_storing}
-use Rattle.dram_mts.specs.Table.{comes_to_dram, is_dram, dram_case, dram_table, dram_has_case}
 
 pub second : (x y : Bool) → (x && y) ≡ true → y ≡ true
 second true y e = e
@@ -136,32 +135,3 @@ module _ (bank : BankState) (m : Message) where
   banks_drop_nothing has =
       bank_keeps _ _ _ _ m.from (entry_of bank m.line) m.body
       (second (is_this_bank bank.number m.to) (comes_to_bank m.from (entry_of bank m.line) m.body) has)
-
--- a DRAM answers all that it has a case for
-abbrev pub Answers : {S : Type 0} → Option (Reaction × S) → Type 0
-Answers (Some (Done answer, part)) = Unit {0}
-Answers (Some (Dropped, part)) = Prim.⊥
-Answers (Some (HeldAfter started, part)) = Prim.⊥
-Answers (Some (Held, part)) = Prim.⊥
-Answers None = Prim.⊥
-
-dram_answers : (lines : FinMap nat_cmp (List ℕ)) (m : Message) (b : Body) → comes_to_dram b ≡ true →
-    Answers (dram_case lines m b)
-dram_answers lines m DramLd has = tt
-dram_answers lines m (DramSt words) has = tt
-dram_answers lines m (ShReq pts version) has = absurd (let z : false ≡ true = has in cc)
-dram_answers lines m (ExReq version) has = absurd (let z : false ≡ true = has in cc)
-dram_answers lines m (ShRep line) has = absurd (let z : false ≡ true = has in cc)
-dram_answers lines m (ExRep line) has = absurd (let z : false ≡ true = has in cc)
-dram_answers lines m (RenewRep rts) has = absurd (let z : false ≡ true = has in cc)
-dram_answers lines m (UpgradeRep rts) has = absurd (let z : false ≡ true = has in cc)
-dram_answers lines m FlushReq has = absurd (let z : false ≡ true = has in cc)
-dram_answers lines m (WbReq rts) has = absurd (let z : false ≡ true = has in cc)
-dram_answers lines m (FlushRep line) has = absurd (let z : false ≡ true = has in cc)
-dram_answers lines m (WbRep line) has = absurd (let z : false ≡ true = has in cc)
-dram_answers lines m (DramLdRep words) has = absurd (let z : false ≡ true = has in cc)
-dram_answers lines m DramStRep has = absurd (let z : false ≡ true = has in cc)
-
-pub drams_answer : (lines : FinMap nat_cmp (List ℕ)) (m : Message) → dram_has_case lines m ≡ true →
-    Answers (dram_table lines m)
-drams_answer lines m has = dram_answers lines m m.body (second (is_dram m.to) (comes_to_dram m.body) has)

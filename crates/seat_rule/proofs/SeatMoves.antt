@@ -1,23 +1,30 @@
 -- Each change that a seat makes by itself is a move of the state.
 use Rattle.std.proofs.Common.{◌≡◌, ◌≢◌, ℕ, ◌+◌, ◌<◌, List, [], ◌∷◌, ◌++◌, Option, Some, None, sym, refl}
-use Rattle.std.proofs.Common.{ap, ◌∙◌, subst, arith, length, true}
+use Rattle.std.proofs.Common.{ap, ◌∙◌, subst, arith, length, true, false}
 use mathlib.Core.Logic.{dite}
 use native.Mathlib.Decide.{ℕ_discrete}
+use Rattle.std.specs.Prelude.{Bool}
+use Rattle.std.specs.Ordering.{nat_cmp}
+use Rattle.std.specs.FinMap.{FinMap}
 use Rattle.physiological_order.specs.declared.operation.Op.{Op}
 use Rattle.physiological_order.specs.declared.operation.Record.{Record}
+use Rattle.network.specs.declared.message.Node.{Node}
+use Rattle.network.specs.declared.message.Node.TheVariants.{Core, Bank, Dram}
 use Rattle.network.specs.declared.message.Message.{Message}
 use Rattle.core_pts.specs.declared.attempt.Attempt.TheVariants.{Completed}
 use Rattle.core_pts.specs.CoreTable as core_table
-use Rattle.core_pts.specs.CoreTable.{CoreState}
-use Rattle.llc_bank.specs.BankTable as bank_table
-use Rattle.dram_mts.specs.Table.{dram_table, dram_has_case}
-use Rattle.machine_table.specs.Change.{record_of}
+use Rattle.core_pts.specs.CoreTable.{CoreState, core_has_case}
+use Rattle.llc_bank.specs.BankTable.{BankState, bank_has_case}
+use Rattle.dram_mts.specs.Table.{dram_has_case}
+use Rattle.machine_table.specs.Step.{record_of}
+use Rattle.machine_table.specs.Step as step
+use Rattle.machine_table.specs.Step.{Step, attempt_open, attempted, bank_step, dram_step, message_of}
 use Rattle.machine_theorem.specs.Bags.{SameBag}
 use Rattle.seat_rule.specs.States as moves
 use Rattle.seat_rule.specs.States.{with_at, Same}
 use Rattle.seat_rule.specs.Moves as move
-use Rattle.seat_rule.specs.Moves.{Move, Reached, goes_on, same, with_answer, with_core, with_bank, with_dram}
-use Rattle.seat_rule.specs.Moves.{sent_by_eviction}
+use Rattle.seat_rule.specs.Moves.{AreBeside, Move, Reached, StepsTo, goes_on, same, with_answer, with_core, with_bank}
+use Rattle.seat_rule.specs.Moves.{with_dram}
 use Rattle.seat_views.specs.Seated.{with_value_at}
 use Rattle.seat_views.proofs.Lemmas.{put_here, put_else, at_put}
 use Rattle.seat_rule.specs.declared.views.SetUp.{SetUp}
@@ -25,10 +32,8 @@ use Rattle.seat_rule.specs.declared.views.Hold.{Hold}
 use Rattle.seat_rule.specs.Rule.{bag_of_hold, counts_of, state_of, MovesReach, Changes}
 use Rattle.seat_rule.specs.Plays.{complete_hold}
 use Rattle.seat_rule.specs.Serving.{counted_if}
-use Rattle.seat_rule.specs.SeatMoves.{SameCore, SameBank, HoldSends, SeatMove, sorts, issues, asks_to_read}
-use Rattle.seat_rule.specs.SeatMoves.{asks_to_write}
-use Rattle.seat_rule.specs.SeatMoves.{core_gets, core_drops, evicts_copy, advances, bank_gets, bank_starts, dram_gets}
-use Rattle.seat_rule.specs.SeatMoves.{evicts_entry}
+use Rattle.seat_rule.specs.SeatMoves.{SameCore, SameBank, HoldSends, HoldSteps, SeatMove, sorts, issues, core_steps}
+use Rattle.seat_rule.specs.SeatMoves.{bank_steps, dram_steps}
 use Rattle.seat_rule.proofs.Weights.{beside}
 use Rattle.seat_rule.proofs.CountSums.{sums_count}
 use Rattle.seat_rule.proofs.Frames.{same_of}
@@ -41,16 +46,16 @@ with_of g seats id h x e j =
     (λ ne. put_else (λ c. g (seats c)) id x j ne)
 
 -- what the seat of bank i has of its own is replaced, for all banks
-with_bank_of : {X : Type 0} (g : Hold → X) (seats : ℕ → Hold) (cores i id : ℕ) (h : Hold) → id ≡ cores + i →
-    (j : ℕ) → with_at (λ b. g (seats (cores + b))) i (g h) j ≡ g (with_value_at seats id h (cores + j))
-with_bank_of g seats cores i id h named j =
+with_bank_of : {X : Type 0} (g : Hold → X) (seats : ℕ → Hold) (cores i id : ℕ) (h : Hold) (x : X) → g h ≡ x →
+    id ≡ cores + i → (j : ℕ) → with_at (λ b. g (seats (cores + b))) i x j ≡ g (with_value_at seats id h (cores + j))
+with_bank_of g seats cores i id h x e named j =
     dite (ℕ_discrete j i)
-    (λ (e : j ≡ i).
-    ap (with_at (λ b. g (seats (cores + b))) i (g h)) e ∙ put_here (λ b. g (seats (cores + b))) i (g h)
-    ∙ ap g (sym (put_here seats id h)) ∙ ap (λ q. g (with_value_at seats id h q)) (omega (arith, named, e)))
+    (λ (e' : j ≡ i).
+    ap (with_at (λ b. g (seats (cores + b))) i x) e' ∙ put_here (λ b. g (seats (cores + b))) i x
+    ∙ sym e ∙ ap g (sym (put_here seats id h)) ∙ ap (λ q. g (with_value_at seats id h q)) (omega (arith, named, e')))
     (λ (ne : j ≢ i).
-    put_else (λ b. g (seats (cores + b))) i (g h) j ne
-    ∙ ap g (sym (put_else seats id h (cores + j) (λ e. ne (omega arith)))))
+    put_else (λ b. g (seats (cores + b))) i x j ne
+    ∙ ap g (sym (put_else seats id h (cores + j) (λ e'. ne (omega arith)))))
 
 module _ (z : SetUp) (n : ℕ) (seats : ℕ → Hold) (xs : List Message) (log : List Record) where
   module _ (id : ℕ) (b : Hold) (is_seat : id < n) where
@@ -121,18 +126,44 @@ module _ (z : SetUp) (n : ℕ) (seats : ℕ → Hold) (xs : List Message) (log :
       pub at_bank : {X : Type 0} (f : Hold → X) → f (seats (z.config.cores + i)) ≡ f a
       at_bank f = ap (λ q. f (seats q)) (sym named)
 
-      bank_lands : (rest : List Message) (sent : Option Message) → SameCore a b → b.dram ≡ a.dram →
-          HoldSends a b rest sent → Same (with_answer (with_bank before i b.bank) (rest ++ xs) sent) after
-      bank_lands rest sent core dram sends =
-          lands (with_bank before i b.bank) rest sent (cores_stay core.core)
-          (with_bank_of (λ y. y.bank) seats z.config.cores i id b named) (drams_stay dram) (lists_stay core.issued)
-          refl refl sends
+      bank_lands : (rest : List Message) (sent : Option Message) (part : BankState) → b.bank ≡ part → SameCore a b →
+          b.dram ≡ a.dram → HoldSends a b rest sent →
+          Same (with_answer (with_bank before i part) (rest ++ xs) sent) after
+      bank_lands rest sent part new core dram sends =
+          lands (with_bank before i part) rest sent (cores_stay core.core)
+          (with_bank_of (λ y. y.bank) seats z.config.cores i id b part new named) (drams_stay dram)
+          (lists_stay core.issued) refl refl sends
 
-      dram_lands : (rest : List Message) (sent : Option Message) → SameCore a b → b.bank ≡ a.bank →
-          HoldSends a b rest sent → Same (with_answer (with_dram before i b.dram) (rest ++ xs) sent) after
-      dram_lands rest sent core bank sends =
-          lands (with_dram before i b.dram) rest sent (cores_stay core.core) (banks_stay bank)
-          (with_bank_of (λ y. y.dram) seats z.config.cores i id b named) (lists_stay core.issued) refl refl sends
+      dram_lands : (rest : List Message) (sent : Option Message) (part : FinMap nat_cmp (List ℕ)) → b.dram ≡ part →
+          SameCore a b → b.bank ≡ a.bank → HoldSends a b rest sent →
+          Same (with_answer (with_dram before i part) (rest ++ xs) sent) after
+      dram_lands rest sent part new core bank sends =
+          lands (with_dram before i part) rest sent (cores_stay core.core) (banks_stay bank)
+          (with_bank_of (λ y. y.dram) seats z.config.cores i id b part new named) (lists_stay core.issued) refl refl
+          sends
+
+    -- the messages beside a delivered one, and beside those of other seats
+    beside_all : (to : Node) (f g : Message → Bool) → ((m : Message) → g m ≡ f m) → (o : Option Message)
+        (rest : List Message) → AreBeside (bag_of_hold a) to f o rest →
+        AreBeside (bag_of_hold a ++ xs) to g o (rest ++ xs)
+    beside_all to f g alike None rest is = ap (λ ys. ys ++ xs) is
+    beside_all to f g alike (Some m) rest (took, goes, has) = (one_of m rest took, goes, alike m ∙ has)
+
+    -- a step of a part that is p before and q afterwards
+    stepped : {S : Type 0} (p q : S) (put : S → moves.State) (rest : List Message) (s : Step S) →
+        HoldSteps a b p q rest s →
+        ((ys : List Message) (sent : Option Message) (part : S) → q ≡ part → HoldSends a b ys sent →
+        Same (with_answer (put part) (ys ++ xs) sent) after) →
+        (q ≡ p → HoldSends a b rest None → Same (with_answer before (rest ++ xs) None) after) →
+        ((to : moves.State) → StepsTo before put (rest ++ xs) s to → Move z.config before to) →
+        Reached z.config z.memory before → Reached z.config z.memory after
+    stepped p q put rest step.Exhausts to makes drops move r = absurd to
+    stepped p q put rest (step.Keeps kept) to makes drops move r = absurd to
+    stepped p q put rest step.Drops to makes drops move r = same (goes_on r (move _ refl)) (drops to.0 to.1)
+    stepped p q put rest (step.Makes did true sent part) to makes drops move r =
+        same (goes_on r (move _ refl)) (makes rest sent part to.0 to.1)
+    stepped p q put rest (step.Makes did false sent part) to makes drops move r =
+        same (goes_on r (move _ refl)) (makes (bag_of_hold a) sent part to.0 to.1)
 
     -- what a seat does by itself
     moved : SeatMove z id a b → Reached z.config z.memory before → Reached z.config z.memory after
@@ -145,42 +176,30 @@ module _ (z : SetUp) (n : ℕ) (seats : ℕ → Hold) (xs : List Message) (log :
         (lands (record (with_core before id b.core) { issued = issued }) (bag_of_hold a) None
         (with_of (λ y. y.core) seats id b b.core refl) (banks_stay bank.bank) (drams_stay bank.dram)
         (with_of (λ y. y.issued) seats id b (a.issued ++ op ∷ []) more) refl refl sends)
-    moved (asks_to_read op pts version core is opened e out issued bank sends) r =
-        same (goes_on r (move.asks_to_read id op pts version core is opened e))
-        (core_lands (record (a.core) { is_out = true }) (bag_of_hold a) _ out issued bank sends)
-    moved (asks_to_write op version core is opened e out issued bank sends) r =
-        same (goes_on r (move.asks_to_write id op version core is opened e))
-        (core_lands (record (a.core) { is_out = true }) (bag_of_hold a) _ out issued bank sends)
-    moved (core_gets m rest answer is took to has e issued bank sends) r =
-        same (goes_on r (move.core_gets id m (rest ++ xs) answer b.core is (one_of m rest took) to has e))
-        (core_lands b.core rest answer refl issued bank sends)
-    moved (core_drops m rest core is took to has e same_core bank sends) r =
-        same (goes_on r (move.core_drops id m (rest ++ xs) core is (one_of m rest took) to has e))
-        (lands before rest None (cores_stay same_core.core) (banks_stay bank.bank) (drams_stay bank.dram)
-        (lists_stay same_core.issued) refl refl sends)
-    moved (evicts_copy line back is e issued bank sends) r =
-        same (goes_on r (move.evicts_copy id line back b.core is e))
-        (core_lands b.core (bag_of_hold a) back refl issued bank sends)
-    moved (advances is e issued bank sends) r =
-        same (goes_on r (move.advances id b.core is e)) (core_lands b.core (bag_of_hold a) None refl issued bank sends)
-    moved (bank_gets i m rest answer is named took to has e core dram sends) r =
-        same (goes_on r (move.bank_gets i m (rest ++ xs) answer b.bank is (one_of m rest took) to
-        (at_bank i named (λ y. bank_table.bank_has_case y.bank m) ∙ has)
-        (at_bank i named (λ y. bank_table.bank_table y.bank m) ∙ e)))
-        (bank_lands i named rest answer core dram sends)
-    moved (bank_starts i m rest started is named took to has e core dram sends) r =
-        same (goes_on r (move.bank_starts i m (rest ++ xs) started b.bank is (one_of m rest took) to
-        (at_bank i named (λ y. bank_table.bank_has_case y.bank m) ∙ has)
-        (at_bank i named (λ y. bank_table.bank_table y.bank m) ∙ e)))
-        (bank_lands i named (bag_of_hold a) (Some started) core dram sends)
-    moved (dram_gets i m rest answer is named took to has e core bank sends) r =
-        same (goes_on r (move.dram_gets i m (rest ++ xs) answer b.dram is (one_of m rest took) to
-        (at_bank i named (λ y. dram_has_case y.dram m) ∙ has) (at_bank i named (λ y. dram_table y.dram m) ∙ e)))
-        (dram_lands i named rest answer core bank sends)
-    moved (evicts_entry i line done is named e core dram sends) r =
-        same (goes_on r (move.evicts_entry i line done b.bank is
-        (at_bank i named (λ y. bank_table.evict y.bank line) ∙ e)))
-        (bank_lands i named (bag_of_hold a) (sent_by_eviction done) core dram sends)
+    moved (core_steps act rest s is beside e steps issued bank) r =
+        stepped a.core b.core (with_core before id) rest s steps
+        (λ ys sent part new sends. core_lands part ys sent new issued bank sends)
+        (λ kept sends. lands before rest None (cores_stay kept) (banks_stay bank.bank) (drams_stay bank.dram)
+        (lists_stay issued) refl refl sends)
+        (λ to led. move.core_steps id act (rest ++ xs) s is
+        (beside_all (Core id) (core_has_case a.core) (core_has_case a.core) (λ m. refl) (message_of act) rest beside)
+        e led) r
+    moved (bank_steps i act rest s is named beside e steps core dram) r =
+        stepped a.bank b.bank (with_bank before i) rest s steps
+        (λ ys sent part new sends. bank_lands i named ys sent part new core dram sends)
+        (λ kept sends. lands before rest None (cores_stay core.core) (banks_stay kept) (drams_stay dram)
+        (lists_stay core.issued) refl refl sends)
+        (λ to led. move.bank_steps i act (rest ++ xs) s is
+        (beside_all (Bank i) (bank_has_case a.bank) _ (λ m. at_bank i named (λ y. bank_has_case y.bank m))
+        (message_of act) rest beside) (at_bank i named (λ y. bank_step y.bank act) ∙ e) led) r
+    moved (dram_steps i act rest s is named beside e steps core bank) r =
+        stepped a.dram b.dram (with_dram before i) rest s steps
+        (λ ys sent part new sends. dram_lands i named ys sent part new core bank sends)
+        (λ kept sends. lands before rest None (cores_stay core.core) (banks_stay bank) (drams_stay kept)
+        (lists_stay core.issued) refl refl sends)
+        (λ to led. move.dram_steps i act (rest ++ xs) s is
+        (beside_all (Dram i) (dram_has_case a.dram) _ (λ m. at_bank i named (λ y. dram_has_case y.dram m))
+        (message_of act) rest beside) (at_bank i named (λ y. dram_step y.dram act) ∙ e) led) r
 
   -- an operation is completed, with the number of all records before it
   module _ (id : ℕ) (is_seat : id < n) (op : Op) (received : Option ℕ) (ts : ℕ) (core : CoreState)
@@ -197,7 +216,8 @@ module _ (z : SetUp) (n : ℕ) (seats : ℕ → Hold) (xs : List Message) (log :
     completed r =
         let counts : (λ j. (seats j).counts) ≡ (λ j. (with_value_at seats id h j).counts) =
         λ i j. same_of (λ x. x.counts) seats id h refl j i in
-        same (goes_on r (move.completes id op received ts core is_core opened is)) (record {
+        same (goes_on r (move.completes id op received ts core is_core
+        (ap (attempt_open (seats id).core) opened ∙ ap (attempted (seats id).core op) is))) (record {
           cores = with_of (λ y. y.core) seats id h core refl;
           banks = λ b. same_of (λ y. y.bank) seats id h refl (z.config.cores + b);
           drams = λ b. same_of (λ y. y.dram) seats id h refl (z.config.cores + b);

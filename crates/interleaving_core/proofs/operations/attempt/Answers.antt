@@ -1,10 +1,11 @@
 use Rattle.std.specs.Result.{result_ok}
 use Rattle.std.proofs.Common.{◌≡◌, Some, ap, sym, subst, refl, ◌∙◌}
 use Rattle.core_pts.specs.CoreTable.{CoreState}
+use Rattle.network.specs.declared.message.Body.TheVariants.{ExReq, ShReq}
 use Rattle.network.specs.Mail.{Mail}
 use Rattle.machine_table.specs.declared.event.Answer.{Answer}
 use Rattle.interleaving_core.specs.PartChanges.{request_answer}
-use Rattle.interleaving_core.proofs.ClosedOps.{attempt_requests, attempt_requests_own, seen_beside}
+use Rattle.interleaving_core.proofs.ClosedOps.{attempt_requests, seen_beside}
 use Rattle.interleaving_core.proofs.operations.attempt.Goals as goal
 
 pub returns-in-Ok-NeedShared-clause-done : goal.returns-in-Ok-NeedShared-clause-done
@@ -17,7 +18,7 @@ returns-in-Ok-NeedShared-clause-done c =
     ∙ subst (λ (x : Answer × CoreState × Mail).
     (request_answer c.request.result, c.request.new.core, c.request.new.flight.mail) ≡ x)
     (attempt_requests c.args.number c.args.count c.args.flight.now.capacity c.args.flight.now.mail c.args.core.now
-    c.attempt.new.self _ c.in-Ok-NeedShared.pts c.in-Ok-NeedShared.version kept opens is)
+    c.attempt.new.self _ _ (ShReq c.in-Ok-NeedShared.pts c.in-Ok-NeedShared.version) kept opens is refl)
     c.request.ensures.done
 
 pub returns-in-Ok-NeedExclusive-clause-done : goal.returns-in-Ok-NeedExclusive-clause-done
@@ -33,6 +34,6 @@ returns-in-Ok-NeedExclusive-clause-done c =
       c.request-in-Ok-NeedExclusive.new.core,
       c.request-in-Ok-NeedExclusive.new.flight.mail,
     ) ≡ x)
-    (attempt_requests_own c.args.number c.args.count c.args.flight.now.capacity c.args.flight.now.mail
-    c.args.core.now c.attempt.new.self _ c.in-Ok-NeedExclusive.version kept opens is)
+    (attempt_requests c.args.number c.args.count c.args.flight.now.capacity c.args.flight.now.mail
+    c.args.core.now c.attempt.new.self _ _ (ExReq c.in-Ok-NeedExclusive.version) kept opens is refl)
     c.request-in-Ok-NeedExclusive.ensures.done

@@ -2,7 +2,7 @@ use Rattle.std.specs.Result.{result_ok}
 use Rattle.std.proofs.Common.{Some, ap, sym, refl, ◌∙◌}
 use Rattle.network.specs.declared.message.Body.TheVariants.{ShReq, ExReq}
 use Rattle.core_pts.specs.CoreTable.{to_bank}
-use Rattle.mailboxes.specs.Attempts.{to_read, to_write}
+use Rattle.machine_table.specs.Step.{attempt_open, attempted}
 use Rattle.mailboxes.proofs.SentMessages.{opened_is}
 use Rattle.mailboxes.proofs.attempting.try_open.Goals as goal
 
@@ -13,10 +13,14 @@ returns-in-Ok-NeedShared-clause-core c =
     ∙ ap Some c.in-Ok-NeedShared.field-0-is) in
     let kept = c.nothing_completed_keeps.ensures c.args.core.now c.attempt.new.self _ is refl in (
       kept,
-      to_read _ c.in-Ok-NeedShared.pts c.in-Ok-NeedShared.version c.attempt.new.self opens is
-          (c.to_bank.ensures.message
-          ∙ (λ i.
-          to_bank (kept i) (c.line_of-line.ensures i) (ShReq c.in-Ok-NeedShared.pts c.in-Ok-NeedShared.version))),
+      record {
+        op = c.in-Some.op;
+        body = ShReq c.in-Ok-NeedShared.pts c.in-Ok-NeedShared.version;
+        request = c.to_bank.ensures.message
+            ∙ (λ i.
+            to_bank (kept i) (c.line_of-line.ensures i) (ShReq c.in-Ok-NeedShared.pts c.in-Ok-NeedShared.version));
+        step = ap (attempt_open c.args.core.now) opens ∙ ap (attempted c.args.core.now c.in-Some.op) is;
+      },
     )
 
 pub returns-in-Ok-NeedExclusive-clause-core : goal.returns-in-Ok-NeedExclusive-clause-core
@@ -26,7 +30,11 @@ returns-in-Ok-NeedExclusive-clause-core c =
     ∙ ap Some c.in-Ok-NeedExclusive.field-0-is) in
     let kept = c.nothing_completed_keeps.ensures c.args.core.now c.attempt.new.self _ is refl in (
       kept,
-      to_write _ c.in-Ok-NeedExclusive.version c.attempt.new.self opens is
-          (c.to_bank-in-Ok-NeedExclusive.ensures.message
-          ∙ (λ i. to_bank (kept i) (c.line_of-line.ensures i) (ExReq c.in-Ok-NeedExclusive.version))),
+      record {
+        op = c.in-Some.op;
+        body = ExReq c.in-Ok-NeedExclusive.version;
+        request = c.to_bank-in-Ok-NeedExclusive.ensures.message
+            ∙ (λ i. to_bank (kept i) (c.line_of-line.ensures i) (ExReq c.in-Ok-NeedExclusive.version));
+        step = ap (attempt_open c.args.core.now) opens ∙ ap (attempted c.args.core.now c.in-Some.op) is;
+      },
     )

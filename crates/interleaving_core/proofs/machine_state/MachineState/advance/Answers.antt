@@ -1,4 +1,4 @@
-use Rattle.std.proofs.Common.{ap, sym, subst, refl, ◌∙◌, arith, length, slice_get, set}
+use Rattle.std.proofs.Common.{None, ap, sym, subst, refl, ◌∙◌, arith, length, slice_get, set}
 use Rattle.std.proofs.lemmas.Option.{slice_get_read}
 use Rattle.network.specs.Mail.{Mail}
 use Rattle.core_pts.specs.CoreTable.{CoreState}
@@ -19,8 +19,8 @@ invariant_of-self c =
     let mail : Mail = c.self.inside.flight.mail in
     let here = slice_get_read c.self.inside.cores.items (length c.self.inside.cores.items) c.args.core
     c.index_mut.result.now refl (omega (arith, c.if-at-len.false, c.len.ensures)) c.index_mut.ensures.value in
-    let status = subst (λ (x : Answer × CoreState × Mail). SameStatus core x.1) (sym (c.advance-plain.ensures mail))
-    (kept core (SameStatus core) (refl, refl) mail _ (advance_only core mail)) in
+    let status = subst (λ (x : Answer × CoreState × Mail). SameStatus core x.1) (sym (c.advance-plain.ensures c.self.inside.config.messages mail))
+    (kept core (SameStatus core) (refl, refl) c.self.inside.config.messages mail None _ (advance_only core)) in
     let same = owed_kept c.self.inside.cores.items c.args.core core c.advance-plain.new.core here status.0 in
     record {
       cores_are = c.self.invariant.cores_are;
@@ -39,7 +39,7 @@ returns c =
     c.index_mut.result.now refl (omega (arith, c.if-at-len.false, c.len.ensures)) c.index_mut.ensures.value in
     made_without m (λ x. set m.cores c.args.core x) (λ x. m.banks) (λ x. m.drams) core
     (set_same m.cores c.args.core core here) refl refl
-    (SameStatus core) _ (advance_only core m.mail) (answer_of c.advance-plain.result) c.advance-plain.new.core m.mail
-    c.stop_after.new.is_stopped (c.advance-plain.ensures m.mail) c.stop_after.ensures
+    None _ (answer_of c.advance-plain.result) c.advance-plain.new.core m.mail
+    c.stop_after.new.is_stopped (c.advance-plain.ensures m.config.messages m.mail) c.stop_after.ensures
     ∙ ap (advance_at m c.args.core) (sym here)
     ∙ ap (λ (n : Machine). advance_at n c.args.core (slice_get n.cores c.args.core)) c.self.view_is

@@ -4,15 +4,15 @@ use Rattle.network.specs.Mail.{Mail}
 use Rattle.core_pts.specs.CoreTable.{CoreState}
 use Rattle.machine_table.specs.declared.event.Answer.{Answer}
 use Rattle.machine_table.specs.Machine.{Machine}
-use Rattle.machine_table.specs.Change.{attempt}
-use Rattle.machine_table.specs.Transition.{attempt_at}
+use Rattle.machine_table.specs.Step.{attempt_open}
+use Rattle.machine_table.specs.Transition.{attempt_at, tried}
 use Rattle.machine_theorem.specs.Kept.{Invariant}
 use Rattle.interleaving_core.specs.contracts.machine_state.MachineState.{the_view}
-use Rattle.interleaving_core.specs.PartChanges.{StandsAfter, applied, with_record}
+use Rattle.interleaving_core.specs.PartChanges.{StandsAfter, applied_attempt, with_record}
 use Rattle.interleaving_core.specs.Reservation.{owed_for}
-use Rattle.interleaving_core.proofs.ChangedParts.{made_so, set_same}
+use Rattle.interleaving_core.proofs.ChangedParts.{is_tried, put_so, set_same}
 use Rattle.interleaving_core.proofs.LastRecord.{told_in}
-use Rattle.interleaving_core.proofs.Only.{OneLess, SameOpen, attempt_only, attempt_stands, balanced}
+use Rattle.interleaving_core.proofs.Only.{attempt_only, attempt_stands, balanced}
 use Rattle.interleaving_core.proofs.OpenCounts.{owed_set}
 use Rattle.interleaving_core.proofs.Endpoints.{still_fitted}
 use Rattle.interleaving_core.proofs.Parts.{core_below, core_banks}
@@ -42,9 +42,8 @@ keep-requires c =
     let count = subst (λ (x : Answer × CoreState × Mail). length (with_record c.self.inside.records.items x.0) +
     owed_for x.1.open_op ≡ length c.self.inside.records.items + owed_for c.index_mut.result.now.open_op)
     (sym c.attempt-answer.ensures.done)
-    (balanced c.index_mut.result.now c.self.inside.flight.mail c.self.inside.records.items _
-    (attempt_only c.index_mut.result.now c.args.core c.len-count.result c.self.inside.flight.capacity
-    c.self.inside.flight.mail)) in
+    (balanced c.index_mut.result.now c.args.core c.len-count.result c.self.inside.flight.capacity
+    c.self.inside.flight.mail c.self.inside.records.items _ (attempt_only c.index_mut.result.now)) in
     let all = owed_set c.self.inside.cores.items c.args.core c.index_mut.result.now c.attempt-answer.new.core here in
     omega (arith, count, all, c.self.invariant.reserved)
 
@@ -55,9 +54,8 @@ invariant_of-self c =
     let count = subst (λ (x : Answer × CoreState × Mail). length (with_record c.self.inside.records.items x.0) +
     owed_for x.1.open_op ≡ length c.self.inside.records.items + owed_for c.index_mut.result.now.open_op)
     (sym c.attempt-answer.ensures.done)
-    (balanced c.index_mut.result.now c.self.inside.flight.mail c.self.inside.records.items _
-    (attempt_only c.index_mut.result.now c.args.core c.len-count.result c.self.inside.flight.capacity
-    c.self.inside.flight.mail)) in
+    (balanced c.index_mut.result.now c.args.core c.len-count.result c.self.inside.flight.capacity
+    c.self.inside.flight.mail c.self.inside.records.items _ (attempt_only c.index_mut.result.now)) in
     let all = owed_set c.self.inside.cores.items c.args.core c.index_mut.result.now c.attempt-answer.new.core here in
     let kept = ap length c.keep.ensures.records in
     let stands = subst (λ (x : Answer × CoreState × Mail). StandsAfter x.0 c.index_mut.result.now x.1)
@@ -77,14 +75,16 @@ returns c =
     let here = slice_get_read c.self.inside.cores.items (length c.self.inside.cores.items) c.args.core
     c.index_mut.result.now refl (omega (arith, c.if-at-len.false, c.len.ensures)) c.index_mut.ensures.value in
     let counted : c.len-count.result ≡ length c.self.inside.records.items = omega (arith, c.len-count.ensures) in
+    let tries = attempt_open core core.open_op in
     let done = c.attempt-answer.ensures.done
-    ∙ ap (λ (n : ℕ). applied core m.mail (attempt c.args.core n c.self.inside.flight.capacity m.mail core)) counted
-    ∙ ap (λ (n : ℕ). applied core m.mail (attempt c.args.core (length m.records) n m.mail core))
+    ∙ ap (λ (n : ℕ). applied_attempt c.args.core n c.self.inside.flight.capacity m.mail core tries) counted
+    ∙ ap (λ (n : ℕ). applied_attempt c.args.core (length m.records) n m.mail core tries)
     c.self.invariant.capacity_is in
     told_in _ m.records c.attempt-answer.result c.plain_of.result _ c.plain_of.ensures c.keep.ensures.records
-    (made_so m (λ x. set m.cores c.args.core x) (λ x. m.banks) (λ x. m.drams) core
+    (put_so m (λ x. set m.cores c.args.core x) (λ x. m.banks) (λ x. m.drams) core
     (set_same m.cores c.args.core core here) refl refl
-    (SameOpen core) (OneLess core) _ (attempt_only core c.args.core (length m.records) m.config.messages m.mail)
+    (applied_attempt c.args.core (length m.records) m.config.messages m.mail core tries) (tried m c.args.core core tries)
+    (is_tried m c.args.core core (set_same m.cores c.args.core core here) tries)
     c.attempt-answer.result c.attempt-answer.new.core c.attempt-answer.new.flight.mail
     c.keep.new.records.items c.stop.new.is_stopped
     done c.keep.ensures.records c.stop.ensures

@@ -1,4 +1,4 @@
-use Rattle.std.proofs.Common.{◌≡◌, ◌||◌, List, Result, Ok, Err, IfOk, OnErr, ap, sym, subst, refl, ◌∙◌, arith, set}
+use Rattle.std.proofs.Common.{◌≡◌, ◌||◌, List, Some, Result, Ok, Err, IfOk, OnErr, ap, sym, subst, refl, ◌∙◌, arith, set}
 use Rattle.std.proofs.lemmas.Bool.{false≢true}
 use Rattle.std.proofs.lemmas.Option.{slice_get_within}
 use Rattle.std.specs.Vec.{vec_capacity}
@@ -117,8 +117,8 @@ invariant_of-self-2 c =
           c.in-Some.ensures.value k w.in-Core.is part w.index_mut.ensures.value in
           let open_kept = subst (λ (x : Answer × CoreState × Mail). x.1.open_op ≡ part.open_op)
           (sym (of_ok w.response-is _ c.in_ok-response.was w.respond-response.ensures.done c.args.number))
-          (kept part (SameOpen part) refl m.mail _ (core_only part c.in-Some.message.now
-          c.self.inside.flight.capacity m.mail c.args.number)) in
+          (kept part (SameOpen part) refl c.self.inside.flight.capacity m.mail (Some c.args.number) _
+          (core_only part c.in-Some.message.now)) in
           let after = w.respond-response.new.part in
           let read = read_back m.cores k after w.index.result.now (slice_get_within m.cores k part here)
           w.index.ensures in

@@ -1,8 +1,8 @@
-use Rattle.std.proofs.Common.{ap, sym, subst, refl, arith, length, set, slice_get}
+use Rattle.std.proofs.Common.{None, ap, sym, subst, refl, arith, length, set, slice_get}
 use Rattle.std.proofs.lemmas.Option.{slice_get_read}
 use Rattle.llc_bank.specs.BankTable as bank_table
 use Rattle.machine_table.specs.Machine.{Machine}
-use Rattle.machine_table.specs.Change.{entry_evicted}
+use Rattle.machine_table.specs.Step.{entry_evicted}
 use Rattle.machine_table.specs.Transition.{evict_entry}
 use Rattle.machine_theorem.specs.Kept.{Invariant}
 use Rattle.interleaving_core.specs.contracts.machine_state.MachineState.{the_view}
@@ -10,7 +10,6 @@ use Rattle.interleaving_core.specs.PartChanges.{answer_of}
 use Rattle.interleaving_core.specs.Endpoints.{EvictedHasEndpoints}
 use Rattle.interleaving_core.proofs.ChangedParts.{event_done, set_same}
 use Rattle.interleaving_core.proofs.Endpoints.{evicted_endpoints, fitted_ends}
-use Rattle.interleaving_core.proofs.Only.{Any, entry_only}
 use Rattle.interleaving_core.proofs.machine_state.MachineState.evict_bank.Goals as goal
 
 pub evict_entry-plain-requires : goal.evict_entry-plain-requires
@@ -34,8 +33,7 @@ returns c =
     (omega (arith, c.if-at-len.false, c.len.ensures)) c.index_mut.ensures.value in
     event_done m (λ x. m.cores) (λ x. set m.banks c.args.bank x) (λ x. m.drams) part refl
     (set_same m.banks c.args.bank part here) refl
-    Any (λ n. entry_evicted n m.mail (bank_table.evict part c.args.line)) (entry_only part m.config.messages
-    m.mail c.args.line)
+    None (entry_evicted (bank_table.evict part c.args.line))
     c.self.inside.flight.capacity c.self.invariant.capacity_is _ c.self.view_is
     (λ n. evict_entry n c.args.bank c.args.line (slice_get n.banks c.args.bank))
     (ap (evict_entry m c.args.bank c.args.line) (sym here))

@@ -1,11 +1,11 @@
-use Rattle.std.proofs.Common.{ap, sym, subst, refl, arith, length, set, slice_get}
+use Rattle.std.proofs.Common.{None, ap, sym, subst, refl, arith, length, set, slice_get}
 use Rattle.std.proofs.lemmas.Option.{slice_get_read}
 use Rattle.network.specs.Mail.{Mail}
 use Rattle.core_pts.specs.CoreTable as core_table
 use Rattle.core_pts.specs.CoreTable.{CoreState}
 use Rattle.machine_table.specs.declared.event.Answer.{Answer}
 use Rattle.machine_table.specs.Machine.{Machine}
-use Rattle.machine_table.specs.Change.{copy_evicted}
+use Rattle.machine_table.specs.Step.{copy_evicted}
 use Rattle.machine_table.specs.Transition.{evict_copy}
 use Rattle.machine_theorem.specs.Kept.{Invariant}
 use Rattle.interleaving_core.specs.contracts.machine_state.MachineState.{the_view}
@@ -38,8 +38,8 @@ invariant_of-self c =
     let here = slice_get_read c.self.inside.cores.items (length c.self.inside.cores.items) c.args.core part refl
     (omega (arith, c.if-at-len.false, c.len.ensures)) c.index_mut.ensures.value in
     let status = subst (λ (x : Answer × CoreState × Mail). SameStatus part x.1) (sym c.evict_copy-plain.ensures.done)
-    (kept part (SameStatus part) (refl, refl) m.mail _ (evict_only part c.self.inside.flight.capacity m.mail
-    c.args.line)) in
+    (kept part (SameStatus part) (refl, refl) c.self.inside.flight.capacity m.mail None _
+    (evict_only part c.args.line)) in
     let same = owed_kept m.cores c.args.core part c.evict_copy-plain.new.core here status.0 in
     still_fitted m.config c.self.inside.flight c.self.inside.cores.items c.self.inside.records.items _
     c.self.invariant _ _ _ _ _ c.evict_copy-plain.ensures.set_up (omega (arith, same, c.self.invariant.reserved))
@@ -53,8 +53,7 @@ returns c =
     (omega (arith, c.if-at-len.false, c.len.ensures)) c.index_mut.ensures.value in
     event_done m (λ x. set m.cores c.args.core x) (λ x. m.banks) (λ x. m.drams) part
     (set_same m.cores c.args.core part here) refl refl
-    (SameStatus part) (λ n. copy_evicted n m.mail (core_table.evict part c.args.line))
-    (evict_only part m.config.messages m.mail c.args.line)
+    None (copy_evicted (core_table.evict part c.args.line))
     c.self.inside.flight.capacity c.self.invariant.capacity_is _ c.self.view_is
     (λ n. evict_copy n c.args.core c.args.line (slice_get n.cores c.args.core))
     (ap (evict_copy m c.args.core c.args.line) (sym here))

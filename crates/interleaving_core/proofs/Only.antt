@@ -5,7 +5,7 @@ use Rattle.std.proofs.lemmas.Bool.{cond_both}
 use Rattle.physiological_order.specs.declared.operation.Op.{Op}
 use Rattle.physiological_order.specs.declared.operation.Record.{Record}
 use Rattle.network.specs.declared.message.Message.{Message}
-use Rattle.network.specs.Mail.{Mail}
+use Rattle.network.specs.Mail.{Mail, has_capacity}
 use Rattle.private_cache.specs.declared.cache.CacheError.TheVariants as not_left
 use Rattle.private_cache.specs.declared.line_copy.LineCopy.{LineCopy}
 use Rattle.private_cache.specs.CopyTable.{copy_of, without_copy, is_pinned, evicted as left_cache}

@@ -62,6 +62,7 @@ LINES = {
         (None, "An address is `0x` and small letters.")],
     7: [(r"\r", CARRIAGE), (r"-\d|0x\w+.*0x|\d\.\d", "Values are decimal, from 0 to 2^64 - 1."),
         (r"\d{20}", "Values are decimal, from 0 to 2^64 - 1."),
+        (r"^PLACE: `[RWS]`", "A record has the operation's place, after the core."),
         (None, "A store or swap has a value; a record ends in time and number.")],
     8: [(r"\r", CARRIAGE), (None, "A load has no value in a trace.")],
     9: [(None, "`trace 2` is the only form that has a name.")],
@@ -184,6 +185,6 @@ def explained_text(path, text, fault, what):
     else:
         field = field_at_fault(line, kind, what == "records")
         place = shown(line.strip(" \t")) + (f", {field}" if field else "")
-        meant = often(LINES, kind, line)
+        meant = often(LINES, kind, line, field or "")
     lines = [f"{path}, line {number}, {place}", f"  {kind} {name}: {where}"]
     return lines + [f"  often meant: {meant}"] * bool(meant)

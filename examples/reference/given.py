@@ -130,7 +130,7 @@ def litmus_test(path, text):
     try:
         return Test(text.decode("ascii"))
     except (AssertionError, AttributeError, IndexError, KeyError, SyntaxError, ValueError):
-        raise Bad(f"{path} can't be read as a litmus test: './tardis litmus {path}' says why") from None
+        raise Bad(f"{path} can't be read as a litmus test: 'scripts/explain.py {path}' says why") from None
 
 
 def records_of(path):

@@ -56,7 +56,7 @@ needed() {
 build() {
     has_kit || return 1
     say "the program isn't built, or a source is newer. All that it depends on is proved first, which takes"
-    say "many minutes once ('./$self --unproved ..' answers in one to four minutes, without any proof)."
+    say "many minutes once ('./$self --unproved ..' answers in a few minutes, without any proof)."
     "$top/scripts/build.py" "$1"
 }
 

@@ -34,7 +34,7 @@ location-cases true false true line place new old more = refl
 location-cases true false false line place new old more = refl
 location-cases false known full line place new old more = refl
 
-location-judged : (w : List ℕ) (names : Names) (line : ℕ) → judged (location w names) line ≡
+pub location-judged : (w : List ℕ) (names : Names) (line : ℕ) → judged (location w names) line ≡
     (location_at BadCondition w line names >>= λ l. Ok (OfLocation l.0, l.1))
 unfolding location_at
 location-judged w names line =

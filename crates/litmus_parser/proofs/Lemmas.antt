@@ -2,10 +2,8 @@
 
 -- The initial block of the grammar is read, item by item.
 pub use Rattle.litmus_parser.proofs.BlockOnly.{AreAlike, alike-address, alike-all, block_again}
--- The initial block is read, or its fault has its cause.
-pub use Rattle.litmus_parser.proofs.BlockFault.{block_explains, block_place}
--- What is read as the initial block is in the grammar.
-pub use Rattle.litmus_parser.proofs.BlockFound.{block_takes}
+-- What is read as the initial block is in the grammar, and a fault has its cause.
+pub use Rattle.litmus_parser.proofs.BlockFault.{block_takes, block_explains, block_place}
 -- What is read as the condition is in the grammar, what is in it is read, and a fault has its cause.
 pub use Rattle.litmus_parser.proofs.ConditionLaws.{condition_takes, condition_again, condition_explains}
 -- A reading leads on, or its fault has its cause.

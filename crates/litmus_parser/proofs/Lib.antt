@@ -1,5 +1,4 @@
 mod Steps
-mod BlockFound
 mod FormFound
 mod TableFound
 mod Onward

@@ -1,13 +1,9 @@
 -- What a look takes at a place of a condition, and why it refuses any other piece.
 use Rattle.std.proofs.Common.{◌≡◌, ◌≢◌, ℕ, ◌+◌, ◌<◌, ◌≤◌, ◌⊎◌, true, false, not, eqb, ltb, leb, ◌||◌, List, [], ◌∷◌}
-use Rattle.std.proofs.Common.{◌++◌, length, Option, Some, None, Result, Ok, Err, refl, sym, ap, subst, ◌∙◌, inl, inr}
-use Rattle.std.proofs.Common.{arith}
-use Rattle.std.specs.Str.{bytes_eq}
+use Rattle.std.proofs.Common.{Option, Some, None, Result, Ok, Err, refl, sym, ap, subst, ◌∙◌, inl, inr}
 use Rattle.std.proofs.lemmas.Bool.{cond_both, not-true, not-false, false_from_ne_true, eqb-true, eqb-false, eq-eqb}
 use Rattle.std.proofs.lemmas.Bool.{ne_eqb, ltb-true, ltb-false, lt-ltb, leb-true, leb-false, lt-leb}
-use Rattle.std.proofs.lemmas.List.Sums.{prefix_len-le-length}
 use Rattle.litmus_lexer.specs.Pieces.{Piece, Word, Sign, LineEnd}
-use Rattle.litmus_lexer.specs.Naming.{place_of}
 use Rattle.litmus_lexer.specs.Spelling.{is_number, value_of_digits, small_of, register_of, is_location}
 use Rattle.litmus_lexer.specs.declared.errors.Kind.{Kind}
 use Rattle.litmus_lexer.specs.declared.errors.Kind.TheVariants.{TooLarge, ValueRange, AddressAsValue, BadCondition}

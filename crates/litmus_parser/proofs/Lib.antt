@@ -1,5 +1,5 @@
 mod Steps
-mod FormFound
+mod VerdictFound
 mod TableFound
 mod Onward
 mod OnwardHere

@@ -24,7 +24,7 @@ use Rattle.litmus_parser.proofs.Causes.{Explains, Onto, start, beyond, over_sign
 use Rattle.litmus_parser.proofs.Causes.{test_explains, repeat_counted}
 use Rattle.litmus_parser.proofs.CausesHere.{expect_here_explains, at_rest}
 use Rattle.litmus_parser.proofs.FormFault.{BadHere, On, form_explains}
-use Rattle.litmus_parser.proofs.FormFound.{form_takes, judged_takes}
+use Rattle.litmus_parser.proofs.VerdictFound.{judged_takes}
 use Rattle.litmus_parser.proofs.FormOnly.{form_again}
 use Rattle.litmus_parser.proofs.OnwardHere.{expect_here_again}
 use Rattle.litmus_parser.proofs.TableFound.{cell_takes}
@@ -108,8 +108,8 @@ module _ (items : List Item) (threads line : ℕ) (pieces : List Piece) where
       Explains C (Stays s) (instruction_at items t (end_of threads t) s)
   unfolding instruction_at
   instruction_explains t s cell lt w some =
-      bind_explains C (λ (f : Form × ℕ × List Piece). On s.2 s.3 f.1 f.2) (Stays s) (form_at s.2 s.3) _
-      (otherwise C (BadHere s.2) (λ (f : Form × ℕ × List Piece). On s.2 s.3 f.1 f.2) (form_at s.2 s.3)
+      bind_explains C (λ (f : Form × ℕ × List Piece). On s.2 s.3 f.1 f.2 × IsForm s.3 f.0 f.2) (Stays s) (form_at s.2 s.3) _
+      (otherwise C (BadHere s.2) (λ (f : Form × ℕ × List Piece). On s.2 s.3 f.1 f.2 × IsForm s.3 f.0 f.2) (form_at s.2 s.3)
       (form_explains s.2 s.3) (λ e fault bad.
       bad_cell t s.2 s.2 s.1 s.3 e cell lt some (no_form (end_of threads t) s.2 s.3 e fault) refl bad)) (λ f is p.
       bind_explains C (λ (x : ℕ × List Piece). (x.0 ≡ f.1) × (f.2 ≡ Sign (end_of threads t) ∷ x.1)) (Stays s)
@@ -117,7 +117,7 @@ module _ (items : List Item) (threads line : ℕ) (pieces : List Piece) where
       (otherwise C (BadHere f.1) (λ (x : ℕ × List Piece). (x.0 ≡ f.1) × (f.2 ≡ Sign (end_of threads t) ∷ x.1))
       (expect_here_at (end_of threads t) BadInstruction f.1 f.2)
       (expect_here_explains (BadHere f.1) (end_of threads t) BadInstruction f.1 f.2 (refl, refl)) (λ e fault bad.
-      bad_cell t s.2 f.1 s.1 s.3 e cell lt some (no_end (end_of threads t) s.2 s.3 f e is fault) p.0 bad))
+      bad_cell t s.2 f.1 s.1 s.3 e cell lt some (no_end (end_of threads t) s.2 s.3 f e is fault) p.0.0 bad))
       (λ next ends q.
       let form : FormAt items threads line pieces t s.2 f.0 = record {
         before = s.1;
@@ -126,11 +126,11 @@ module _ (items : List Item) (threads line : ℕ) (pieces : List Piece) where
         cell =
             cell;
         thread = lt;
-        is = subst (IsForm s.3 f.0) q.1 (form_takes s.2 s.3 f is);
+        is = subst (IsForm s.3 f.0) q.1 p.1;
       } in
-      let same : next.0 ≡ s.2 = q.0 ∙ p.0 in
+      let same : next.0 ≡ s.2 = q.0 ∙ p.0.0 in
       let rest_at : RestAt s.2 next.1 next.0 next.1 = at_rest same refl (start s.2 next.1) in
-      let whole : RestAt s.2 s.3 next.0 next.1 = over_sign (at_rest q.0 q.1 p.1) in
+      let whole : RestAt s.2 s.3 next.0 next.1 = over_sign (at_rest q.0 q.1 p.0.1) in
       bind_explains C Any (Stays s) (judged_at items t s.1 f.0 next.0)
       (λ i. Ok (s.0 ++ (record { thread = t; instruction = i.0 }) ∷ [], i.1, next.0, next.1))
       (subst (λ m. Explains C Any (judged_at items t s.1 f.0 m)) (sym same) (judged_explains items threads line pieces

@@ -25,7 +25,8 @@ use Rattle.litmus_parser.specs.declared.syntax.Item.{Item}
 use Rattle.litmus_parser.specs.declared.syntax.Cell.{Cell}
 use Rattle.litmus_parser.proofs.Steps.{bind_ok, ok_is, then_ok, else_ok, either_ok, here_takes, word_here_takes}
 use Rattle.litmus_parser.proofs.Steps.{expect_here_takes, end_line_takes, start_takes, passed_takes}
-use Rattle.litmus_parser.proofs.FormFound.{form_takes, judged_takes}
+use Rattle.litmus_parser.proofs.FormFault.{form_takes}
+use Rattle.litmus_parser.proofs.VerdictFound.{judged_takes}
 use Rattle.litmus_lexer.specs.Spelling.{thread_named}
 
 -- ---- cells

@@ -108,9 +108,9 @@ module _ (items : List Item) (threads line : ℕ) (pieces : List Piece) where
       Explains C (Stays s) (instruction_at items t (end_of threads t) s)
   unfolding instruction_at
   instruction_explains t s cell lt w some =
-      bind_explains C (λ (f : Form × ℕ × List Piece). On s.2 s.3 f.1 f.2 × IsForm s.3 f.0 f.2) (Stays s) (form_at s.2 s.3) _
-      (otherwise C (BadHere s.2) (λ (f : Form × ℕ × List Piece). On s.2 s.3 f.1 f.2 × IsForm s.3 f.0 f.2) (form_at s.2 s.3)
-      (form_explains s.2 s.3) (λ e fault bad.
+      let IsRead : Form × ℕ × List Piece → Type 0 = λ f. On s.2 s.3 f.1 f.2 × IsForm s.3 f.0 f.2 in
+      bind_explains C IsRead (Stays s) (form_at s.2 s.3) _
+      (otherwise C (BadHere s.2) IsRead (form_at s.2 s.3) (form_explains s.2 s.3) (λ e fault bad.
       bad_cell t s.2 s.2 s.1 s.3 e cell lt some (no_form (end_of threads t) s.2 s.3 e fault) refl bad)) (λ f is p.
       bind_explains C (λ (x : ℕ × List Piece). (x.0 ≡ f.1) × (f.2 ≡ Sign (end_of threads t) ∷ x.1)) (Stays s)
       (expect_here_at (end_of threads t) BadInstruction f.1 f.2) _

@@ -19,7 +19,6 @@ use Rattle.litmus_parser.specs.declared.forms.Form.{Form}
 use Rattle.litmus_parser.specs.declared.forms.Form.TheVariants as form
 use Rattle.litmus_parser.proofs.Causes.{Explains, start, over_word, over_sign, bind_explains, test_explains}
 use Rattle.litmus_parser.proofs.Causes.{found_explains, weaker}
-use Rattle.litmus_parser.proofs.ReadAnswers.{answered}
 use Rattle.litmus_parser.proofs.CausesHere.{word_here_explains, expect_here_explains, at_rest}
 
 -- an instruction is bad, in this line
@@ -242,9 +241,3 @@ module _ (line : ℕ) (pieces : List Piece) where
 pub form_explains : (line : ℕ) (pieces : List Piece) → Explains (BadHere line) (λ (x : Form × ℕ × List Piece).
     On line pieces x.1 x.2 × IsForm pieces x.0 x.2) (form_at line pieces)
 form_explains line pieces = form_on line pieces line pieces (refl, start line pieces)
-
-pub form_takes : (line : ℕ) (pieces : List Piece) (x : Form × ℕ × List Piece) → form_at line pieces ≡ Ok x →
-    IsForm pieces x.0 x.2
-form_takes line pieces x e =
-    (answered (BadHere line) (λ (x : Form × ℕ × List Piece). On line pieces x.1 x.2 × IsForm pieces x.0 x.2)
-    (form_at line pieces) x (form_explains line pieces) e).1

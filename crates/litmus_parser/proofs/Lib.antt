@@ -1,6 +1,4 @@
 mod Steps
-mod VerdictFound
-mod TableFound
 mod Onward
 mod OnwardHere
 mod FormOnly

@@ -139,8 +139,8 @@ def main(given):
     run = Played(Player(command), subject, options)
     sys.stdout.write(page(run, options, made_by))
     if made_by == SECOND and not options.player:
-        print(f"page.py: {SECOND} played; the proved one does once ./play has built it, in many minutes: "
-              "./play crates/play_events/data/pages.events", file=sys.stderr)
+        print(f"page.py: {SECOND} played, since ./play isn't built from these sources. This builds it, in many "
+              "minutes: ./play crates/play_events/data/pages.events", file=sys.stderr)
     if run.end != "all-done":
         print(f"page.py: {options.FILE}: {ENDS[run.end]}", file=sys.stderr)
     return int(run.end != "all-done")

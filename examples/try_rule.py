@@ -1,11 +1,11 @@
 #!/usr/bin/env python3
-"""Tries a rule: plays short random traces on the machine of this folder, and prints the smallest history that can't be.
+"""Tries a rule: plays short random traces on the machine of this folder, and shrinks the first wrong history.
 
     examples/try_rule.py [--tries N] [--first N] [TEST|TRACE ..]
 
 The script makes N tries, 10,000 if it isn't given, from number 0 on, or from --first. Each draws a trace of a few
 operations and advances, a machine with small caches, and a schedule; its number alone decides what is drawn. If files
-are named, the script plays their programs in place of drawn ones. What can't be: records that aren't legal, two owners
+are named, the script plays their programs in place of drawn ones. It looks for records that aren't legal, two owners
 of a line, a message that the machine can't take, and a round that makes no progress; a seeded run that reaches its
 limit goes on by rounds. Then the script cuts the trace as far as one of 120 runs still shows the fault, and prints it
 with its records and the command that prints its run event by event.
@@ -85,7 +85,7 @@ class Trial:
         except FAILURES as error:
             return f"the machine fails ({type(error).__name__})", []
         if verdict == "legal" and end == "stalled":
-            verdict = "a round in which nothing goes on"
+            verdict = "a round without progress"
         return None if verdict == "legal" else verdict + after, run.machine.records
 
     def runs(self):
@@ -188,7 +188,7 @@ def told(number, trial, name):
     fault, records = trial.fault()
     yield f"{fault}: try {number}" + (f", cut to {sum(map(len, trial.steps))} steps" if trial.steps else "")
     yield from trial.lines()
-    yield "has the records, as far as it came:" if trial.steps else "The records, as far as it came:"
+    yield "The run's records, as far as it got:"
     yield from map(record_line, records)
     yield "Event by event:"
     oracle = shlex.quote(str(Path(sys.argv[0]).parent / "oracle.py"))
@@ -224,7 +224,7 @@ def main():
     parser = argparse.ArgumentParser(allow_abbrev=False, description=__doc__.split("\n")[0])
     parser.add_argument("--tries", type=int, default=10000, metavar="N", help="how many tries are made (10000)")
     parser.add_argument("--first", type=int, default=0, metavar="N", help="the number of the first try (0)")
-    parser.add_argument("FILE", nargs="*", help="tests and traces to be played in place of drawn ones")
+    parser.add_argument("FILE", nargs="*", help="tests and traces to play in place of drawn ones")
     parser.error = lambda said: fail(f"{said} (--help tells all)")
     options = parser.parse_args()
     if options.tries < 1 or not 0 <= options.first < 2 ** 64:

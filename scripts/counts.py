@@ -158,8 +158,8 @@ def main(words):
     print("\n".join([f"end {counts.end}", *(f"{name} {number}" for name, number in counts.run.items()),
                      *tables(counts, lambda part: part in shown or part.startswith("bank"))]))
     if made_by == SECOND and not options.player:
-        print(f"counts.py: {SECOND} counted; the proved one does once ./play has built it, in many minutes: "
-              "./play crates/play_events/data/pages.events", file=sys.stderr)
+        print(f"counts.py: {SECOND} counted, since ./play isn't built from these sources. This builds it, in many "
+              "minutes: ./play crates/play_events/data/pages.events", file=sys.stderr)
     return int(counts.end != "all-done")
 
 

@@ -86,16 +86,16 @@ def wrong_value(history, at):
     before = [other for other in of_word[:place] if other.written is not None]
     wanted = before[-1].written if before else 0
     what = f"{LETTERS[record.letter]} of {record.word:#x}"
-    yield f"Core {record.core}'s {what} received {record.received}, and not {wanted}:"
+    yield f"Core {record.core}'s {what} received {record.received} instead of {wanted}:"
     yield f"  {before[-1].told()} wrote that" if before else "  no record before it wrote the word, which opens as 0"
     yield from source_of(record.received, of_word, place)
-    yield from around(f"The order of what is done with {record.word:#x}:", of_word, place)
+    yield from around(f"The operations on {record.word:#x} around it, in order:", of_word, place)
 
 
 def source_of(value, of_word, place):
     """Where a wrong value may come from."""
     if value == 0:
-        yield "0 is what the word opens with."
+        yield "0 is the word's opening value."
     found = [at for at, other in enumerate(of_word) if other.written == value and at != place]
     for at in found[:AROUND]:
         behind = next((other for other in of_word[at + 1:] if other.written is not None), None)
@@ -129,7 +129,7 @@ def out_of_order(history, at):
         line, fields = listed[place]
         yield f"Core {core}'s operation {place} (the first is 0) is another one in the trace:"
         yield f"  line {line} of the trace: {core} {b' '.join(fields).decode()}"
-    yield from around(f"The order of what core {core} does:", mine, next_one)
+    yield from around(f"Core {core}'s operations around it, in order:", mine, next_one)
 
 
 def bad_number(history, number):
@@ -170,15 +170,15 @@ def explained_records(paths, texts):
     at = history.at(number)
     yield f"{paths[1]}, {history.records[at].told()}"
     yield from {"wrong value": wrong_value, "out of program order": out_of_order}[what](history, at)
-    yield from around("The order by time and number:", history.records, at)
+    yield from around("The records around it, by time and number:", history.records, at)
 
 
 def fault_of(path, is_test):
     """What the program says of a text: None, or the line and the kind, as `line 6: 8 BadInstruction`."""
     if is_test and not BUILT.exists() and program.program().endswith("oracle.py"):
-        fail(f"{path}: why a test is refused is known to the program alone, which isn't built: "
-             f"./tardis --unproved litmus {path} tells line and kind in a minute or two, "
-             f"./tardis litmus {path} builds it")
+        fail(f"{path}: only the program knows why a test is refused, and it isn't built: "
+             f"./tardis --unproved litmus {path} gives the line and the kind in one to four minutes, "
+             f"./tardis litmus {path} builds the program")
     try:
         program.run(*(["litmus", "--limit", "1", path] if is_test else ["check", path, "/dev/null"]))
     except Refused as refused:

@@ -11,7 +11,7 @@ REGISTER = r"x(?:[12]?[0-9]|3[01])"
 FORMS = (rf"[ls][wd] {REGISTER},0\({REGISTER}\)", rf"amoswap\.[wd](?:\.aq|\.rl)? {REGISTER},{REGISTER},\({REGISTER}\)",
          rf"li {REGISTER},\d+", rf"ori {REGISTER},x0,\d+", r"fence (?:r|w|rw),(?:r|w|rw)")
 ABI = r"(?:a[0-7]|t[0-6]|s\d|s1[01]|fp|sp|gp|tp|ra|zero)"
-HERD = "It is herd7's: `scripts/from_herd.py` turns it."
+HERD = "It is in herd7's format: `scripts/from_herd.py` converts it."
 REGISTERS = "Registers are x0 to x31: not a0 or t1, nor with leading zeros."
 # By kind: what the cell, or else the line, is known by, and what is often meant. Without a pattern it is always told.
 TEST = {
@@ -37,7 +37,7 @@ TEST = {
         (r"-\d|0[xX]", "Numbers are decimal, and none is negative."),
         (r"#|//|\"", "No remark stands in a row."), (r"^[a-z.]*[A-Z]", "Instructions are in small letters."),
         (r"^\w[\w.]*\s+\w+(,\w+)?\s+[\w(]", "A comma stands between registers."),
-        (None, "`li` sets a register; there is no arithmetic. `scripts/from_herd.py` turns false dependencies.")],
+        (None, "`li` sets a register; there is no arithmetic. `scripts/from_herd.py` converts false dependencies.")],
     9: [(r"^ori", "`ori` goes to 2047: `li` takes the larger numbers."), (None, "Values go to 2147483647.")],
     10: [(None, "`lw`, `sw` and `.w` go together, and so do `ld`, `sd` and `.d`.")],
     11: [(None, "The register that has the address is named, where another one has the value.")],
@@ -62,6 +62,7 @@ LINES = {
         (None, "An address is `0x` and small letters.")],
     7: [(r"\r", CARRIAGE), (r"-\d|0x\w+.*0x|\d\.\d", "Values are decimal, from 0 to 2^64 - 1."),
         (r"\d{20}", "Values are decimal, from 0 to 2^64 - 1."),
+        (r"^PLACE: `[RWS]`", "A record has the operation's place, after the core."),
         (None, "A store or swap has a value; a record ends in time and number.")],
     8: [(r"\r", CARRIAGE), (None, "A load has no value in a trace.")],
     9: [(None, "`trace 2` is the only form that has a name.")],
@@ -184,6 +185,6 @@ def explained_text(path, text, fault, what):
     else:
         field = field_at_fault(line, kind, what == "records")
         place = shown(line.strip(" \t")) + (f", {field}" if field else "")
-        meant = often(LINES, kind, line)
+        meant = often(LINES, kind, line, field or "")
     lines = [f"{path}, line {number}, {place}", f"  {kind} {name}: {where}"]
     return lines + [f"  often meant: {meant}"] * bool(meant)

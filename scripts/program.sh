@@ -55,8 +55,8 @@ needed() {
 # build CRATE: proves and builds its program.
 build() {
     has_kit || return 1
-    say "the program isn't built, or a source is newer. All that it stands on is proved first, which takes many"
-    say "minutes once ('./$self --unproved ..' answers in a minute or two, without any proof)."
+    say "the program isn't built, or a source is newer. All that it depends on is proved first, which takes"
+    say "many minutes once ('./$self --unproved ..' answers in a few minutes, without any proof)."
     "$top/scripts/build.py" "$1"
 }
 

@@ -14,7 +14,7 @@ why in its last column. The script doesn't make a row again that TABLE already h
 shows column Y over column X: a line for each name, or for each combination of the others.
 
 The program is what TARDIS names, else the one that ./tardis built, else examples/oracle.py. With --counts a player
-counts (scripts/counts.py). N runs are made at a time, as many as there are processors if it isn't given.
+counts (scripts/counts.py). The script makes N runs at a time, by default as many as there are processors.
 The status is 0 if each row has a run that is all done, 1 if not, and 2 if nothing was swept.
 """
 import csv
@@ -41,7 +41,7 @@ from reference.machine import COUNTED
 from shown.played import player_of
 
 CHOICES = {"schedule": ("round", "seed"), "private-write": ("no", "yes")}
-LISTED = {**NUMBERS, "advance": (0, "an advance after each so many operations of a core, or none")}
+LISTED = {**NUMBERS, "advance": (0, "an advance after each N operations of a core; 0: none")}
 OPTIONS = ("schedule", *NUMBERS, "private-write", "advance")
 REPORT = ("cores", "issued", "completed", "end", "loads", "stores", "swaps", *COUNTED.values(), "stale-hits", "order")
 # The rows of docs/COUNTS.md: first those that a report has, too, with what must be the same there.
@@ -84,7 +84,7 @@ def parser():
     words.add_argument("--counts", action="store_true", help="with the rows of docs/COUNTS.md")
     words.add_argument("--plot", metavar="X:Y", help="the columns that are drawn")
     words.add_argument("--svg", metavar="PICTURE", help="the picture (TABLE's name with .svg)")
-    words.add_argument("--jobs", type=int, default=os.cpu_count(), metavar="N", help="so many runs at a time")
+    words.add_argument("--jobs", type=int, default=os.cpu_count(), metavar="N", help="how many runs are made at a time")
     words.add_argument("--named", metavar="FILE", help="names with options, one a line")
     words.player_option()
     return with_lists(words)

@@ -20,11 +20,11 @@ MP = "0 W 0x0 1\n0 W 0x8 1\n1 R 0x8\n1 R 0x0\n"
 GOOD = ["0 0 W 0x0 1 1 0", "0 1 W 0x8 1 1 1", "1 0 R 0x8 1 1 2", "1 1 R 0x0 1 1 3"]
 # Message passing with other records: in which line which one stands, and lines that must be told, in this order.
 RECORDS = [
-    (4, "1 1 R 0x0 0 1 3", ["wrong value 3", "records, line 4: 1 1 R 0x0 0 1 3", "received 0, and not 1:",
-                            "  line 1: 0 0 W 0x0 1 1 0 wrote that", "0 is what the word opens with."]),
-    (3, "1 0 R 0x8 1 0 2", ["wrong value 2", "received 1, and not 0:", "no record before it wrote the word",
+    (4, "1 1 R 0x0 0 1 3", ["wrong value 3", "records, line 4: 1 1 R 0x0 0 1 3", "received 0 instead of 1:",
+                            "  line 1: 0 0 W 0x0 1 1 0 wrote that", "0 is the word's opening value."]),
+    (3, "1 0 R 0x8 1 0 2", ["wrong value 2", "received 1 instead of 0:", "no record before it wrote the word",
                             "1 is what line 2: 0 1 W 0x8 1 1 1 wrote; it comes later in the order."]),
-    (4, "1 1 R 0x0 7 1 3", ["wrong value 3", "received 7, and not 1:", "No record wrote 7 there."]),
+    (4, "1 1 R 0x0 7 1 3", ["wrong value 3", "received 7 instead of 1:", "No record wrote 7 there."]),
     (4, "1 1 R 0x0 1 0 3", ["out of program order 3",
                             "Core 1's operation 0 comes next (the first is 0), and this is its operation 1:",
                             "  line 3 of the trace: 1 R 0x8", "line 3: 1 0 R 0x8 1 1 2, has time 1 and number 2",
@@ -43,13 +43,13 @@ RECORDS = [
 ]
 # Two stores of one word, and a load of the first one behind both.
 TWICE = ("0 W 0x0 1\n0 W 0x0 2\n1 R 0x0\n", "0 0 W 0x0 1 1 0\n0 1 W 0x0 2 2 1\n1 0 R 0x0 1 3 2\n", [
-    "wrong value 2", "received 1, and not 2:", "  line 2: 0 1 W 0x0 2 2 1 wrote that",
+    "wrong value 2", "received 1 instead of 2:", "  line 2: 0 1 W 0x0 2 2 1 wrote that",
     "1 is what line 1: 0 0 W 0x0 1 1 0 wrote; it is overwritten by line 2.", "  line 2: 0 1 W 0x0 2 2 1",
     "> line 3: 1 0 R 0x0 1 3 2"])
 # The same by swaps, in a trace with advances: a swap writes, and it receives.
 SWAPS = ("trace 2\n0 A\n0 S 0x0 1\n0 A\n0 S 0x0 2\n1 R 0x0\n", [
     ("0 0 S 0x0 1 0 1 0\n0 1 S 0x0 2 0 2 1\n1 0 R 0x0 2 2 2\n", [
-        "wrong value 1", "Core 0's swap of 0x0 received 0, and not 1:", "  line 1: 0 0 S 0x0 1 0 1 0 wrote that"]),
+        "wrong value 1", "Core 0's swap of 0x0 received 0 instead of 1:", "  line 1: 0 0 S 0x0 1 0 1 0 wrote that"]),
     ("0 0 S 0x0 1 0 1 0\n0 1 S 0x0 2 1 2 1\n1 0 R 0x0 1 2 2\n", [
         "wrong value 2", "  line 2: 0 1 S 0x0 2 1 2 1 wrote that", "it is overwritten by line 2."]),
     ("0 1 S 0x0 2 1 2 1\n0 0 S 0x0 1 0 3 0\n1 0 R 0x0 2 2 2\n", [

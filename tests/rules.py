@@ -20,7 +20,7 @@ import try_rule  # noqa: E402
 from reference.order import check  # noqa: E402
 from reference.traces import Trace, read_records  # noqa: E402
 
-VALUE, OWNERS, FAILS, STUCK = "wrong value", "two owners", "the machine fails", "a round in which nothing goes on"
+VALUE, OWNERS, FAILS, STUCK = "wrong value", "two owners", "the machine fails", "a round without progress"
 # What is wrong, what it may lead to, and what stands in machine.py with what takes its place.
 WRONG = [
     ("an owner's load doesn't extend the lease", VALUE, 5, [
@@ -93,7 +93,7 @@ def faults(may_be, most, status, out, again):
     if status != 1 or not lines[0].startswith(may_be):
         yield f"status {status}, {lines[:1]}, not {may_be}"
         return
-    middle = lines.index("has the records, as far as it came:")
+    middle = lines.index("The run's records, as far as it got:")
     trace = Trace("\n".join(lines[1:middle]).encode())
     records = read_records("\n".join(lines[middle + 1:-2]).encode())
     verdict = check({}, trace.issued(), records)

@@ -13,12 +13,12 @@ from reference.schedules import Run
 from reference.traces import Fault, Trace, lines_with_fields, read_records
 
 # The options that are numbers: what each is by default, and what it says.
-NUMBERS = {"seed": (0, "the seed, with --schedule seed"), "limit": (100000, "at most so many rounds or turns"),
-           "lease": (10, "how far a lease goes on"), "time": (0, "the time at which cores and banks open"),
+NUMBERS = {"seed": (0, "the seed, with --schedule seed"), "limit": (100000, "the most rounds or turns of a run"),
+           "lease": (10, "the length of a lease"), "time": (0, "the time at which cores and banks open"),
            "banks": (1, "how many banks"), "sets": (64, "the sets of a private cache"),
            "ways": (4, "the copies of such a set"), "bank-sets": (256, "the sets of a bank"),
            "bank-ways": (8, "the entries of such a set"), "line-words": (1, "the words of a line, 1 or 8"),
-           "messages": (4096, "at most so many messages in flight")}
+           "messages": (4096, "the most messages in flight")}
 
 
 class Bad(Exception):
@@ -40,7 +40,7 @@ class Words(argparse.ArgumentParser):
         self.add_argument("--schedule", choices=["round", "seed"], default="round", help="as in docs/SCHEDULES.md")
         for name, (usual, says) in NUMBERS.items():
             self.add_argument("--" + name, type=int, default=usual, metavar="N", help=f"{says} ({usual})")
-        self.add_argument("--private-write", action="store_true", help="further stores of an owner keep their time")
+        self.add_argument("--private-write", action="store_true", help="an owner's further stores take no later time")
         self.core_option()
 
     def player_option(self):
@@ -130,7 +130,7 @@ def litmus_test(path, text):
     try:
         return Test(text.decode("ascii"))
     except (AssertionError, AttributeError, IndexError, KeyError, SyntaxError, ValueError):
-        raise Bad(f"{path} can't be read as a litmus test: './tardis litmus {path}' says why") from None
+        raise Bad(f"{path} can't be read as a litmus test: 'scripts/explain.py {path}' says why") from None
 
 
 def records_of(path):

@@ -269,7 +269,11 @@ function show() {
   byId("first").disabled = byId("back").disabled = at === 0;
   byId("next").disabled = at === run.steps.length;
   if (at === run.steps.length) pause();
-  for (const [key] of JUMPS) byId(`jump-${key}`).disabled = find(key, 1) === null;
+  for (const [key] of JUMPS) {
+    const isAhead = find(key, 1) !== null;
+    byId(`jump-${key}`).classList.toggle("behind", !isAhead);
+    byId(`jump-${key}`).disabled = !isAhead && find(key, -1) === null;
+  }
   follow();
 }
 

@@ -11,7 +11,7 @@ from reference.order import overwriting
 KINDS = {"R": "load", "W": "store", "S": "swap"}
 CORE, BANK, LEASES, MEMORY, COPIES, EVENTS = (
     "A core", "A bank", "Leases", "Memory time and DRAM", "Private copies", "The machine's events")
-REFUSED = {"NetworkFull": "As many messages are in flight as may be, so nothing happens.",
+REFUSED = {"NetworkFull": "As many messages are in flight as the capacity allows, so nothing changes.",
            "Exhausted": "A sum of times doesn't fit 64 bits. The machine stops here.",
            "NoMemory": "Allocation failed, and nothing changed."}
 
@@ -74,7 +74,8 @@ class Rules:
                  if name.startswith(f"copy {of[0]} ") and fields(copy).kind == "shared"
                  and int(fields(copy).rts) == int(time) - 1]
         over = f" Now it is past its lease of {', '.join(ended)}." if ended else ""
-        return f"Core {of[0]}'s time goes on to {time}", f"A core's own time may go on by one at any time.{over}", CORE
+        return (f"Core {of[0]}'s time advances to {time}",
+                f"A core's own time may advance by one at any point.{over}", CORE)
 
     def attempt(self, step, before, of, answer):
         core, name = of[0], self.name(step.line)
@@ -84,7 +85,7 @@ class Rules:
         if answer[0] == "completed":
             return self.complete(core, copy and fields(copy), time, step)
         if answer[0] == "waiting":
-            return f"Core {core} waits for {name}", "Its request is out, and no reply has come.", CORE
+            return f"Core {core} waits for {name}", "Its request is under way, and no reply has come yet.", CORE
         if answer[0] == "refused":
             return (f"Core {core} has no place for {name}",
                     "The cache set of this line is full: its least recently used copy must leave first.", COPIES)
@@ -96,7 +97,7 @@ class Rules:
             return f"Core {core} asks to read {name}", why, CORE
         why = f"Its copy of version {fields(copy).wts} is only Shared." if copy else "It has no copy."
         return (f"Core {core} asks to own {name}",
-                f"{why} A {KINDS[letter]} wants an Exclusive copy, so ExReq goes to the bank.", CORE)
+                f"{why} A {KINDS[letter]} needs an Exclusive copy, so ExReq goes to the bank.", CORE)
 
     def complete(self, core, copy, time, step):
         record = self.run.records[self.completed]
@@ -124,7 +125,7 @@ class Rules:
                     f"load comes before the write at time {write.time}.", CORE)
         why = f"Its time, {time}, is within the lease to {copy.rts}, so it completes.{is_later}"
         if copy.kind == "exclusive":
-            why = "It owns the line, so it may read it at any time; the lease goes on with it."
+            why = "It owns the line, so it may read it at any time; its lease extends to the load's time."
         return f"Core {core} loads {name} and receives {record.received}, at time {record.time}", why, CORE
 
     # Deliveries.
@@ -149,7 +150,7 @@ class Rules:
         state = message.entry.kind
         if answer == "held":
             why = "The bank's set is full, and a line must leave first." if state == "none" else \
-                f"The line is {state.capitalize()} there, so nothing can be answered yet."
+                f"The line is {state.capitalize()} there, so the bank can't answer yet."
             return f"{asked} is held at the bank", why, BANK
         if answer == "started" and state == "none":
             return (f"The bank asks DRAM for {message.name}",
@@ -175,19 +176,21 @@ class Rules:
                     f"The lease is the greatest of rts = {message.entry.rts}, wts + L and the reader's time + L, with "
                     f"L = {self.run.options.lease}.{without * is_renewal}", LEASES)
         return (f"The bank lets core {message.core} own {message.name}",
-                f"No reader is told: leases up to {message.sent.rts} stay good, and the write will take a later time."
-                f"{without * (message.sent.kind == 'UpgradeRep')}", LEASES)
+                f"The bank notifies no reader: leases up to {message.sent.rts} stay valid, and the write will take a "
+                f"later time.{without * (message.sent.kind == 'UpgradeRep')}", LEASES)
 
     def recall(self, message, answer, step):
         core, name = message.core, message.name
         if answer == "held":
             return (f"Core {core} keeps {name} until its operation is done",
-                    "The bank wants the line back, but the open operation is on it. So the message is held.", CORE)
+                    "The bank asks for the line back, but the core's open operation is on it. So the core holds the "
+                    "message.", CORE)
         if answer == "dropped":
             return (f"Core {core} drops the message: it doesn't own {name}",
-                    "It gave the line back before, and that message is on its way or has come.", CORE)
+                    "It gave the line back earlier, and that message is on its way or has arrived.", CORE)
         if message.kind == "FlushReq":
-            return f"Core {core} gives {name} back", "The bank wants the line itself, so the core keeps no copy.", CORE
+            return (f"Core {core} gives {name} back",
+                    "The bank asked for it by FlushReq, so the core keeps no copy.", CORE)
         copy = fields(step.view[f"copy {core} {step.line}"])
         return (f"Core {core} writes {name} back and keeps a copy to read up to time {copy.rts}",
                 "The lease is the greatest of rts, wts + L and the time that the bank asked for.", CORE)
@@ -199,7 +202,7 @@ class Rules:
                       "The copy is Shared. Version (wts) and lease (rts) come with the words.", CORE),
             "ExRep": (f"Core {core} owns {name}",
                       f"The copy is Exclusive. Others may still read theirs up to {rts}.", CORE),
-            "RenewRep": (f"Core {core} may read {name} on, up to time {rts}", "Only the lease is new.", CORE),
+            "RenewRep": (f"Core {core} may go on reading {name}, up to time {rts}", "Only the lease is new.", CORE),
             "UpgradeRep": (f"Core {core} owns {name}",
                            f"Its Shared copy becomes Exclusive. Others may still read theirs up to {rts}.", CORE),
         }[message.kind]
@@ -224,7 +227,7 @@ class Rules:
             return f"{name} can't leave: {answer[1]}", "A pinned copy, or a line that is under way, stays.", EVENTS
         if of[0] == "core":
             copy = fields(before[f"copy {of[1]} {step.line}"])
-            why = "A Shared copy leaves without a word." if copy.kind == "shared" else \
+            why = "A Shared copy leaves without a message." if copy.kind == "shared" else \
                 "An Exclusive copy goes back to the bank, by FlushRep."
             return f"{name} leaves core {of[1]}'s cache", why, CORE
         entry, time = fields(before[f"entry {step.line}"]), fields(step.view[f"bank {of[1]}"]).time
@@ -232,5 +235,5 @@ class Rules:
             return (f"The bank asks core {entry.owner} to give {name} up",
                     "The line is to leave the bank, and a core owns it.", BANK)
         return (f"{name} leaves the bank",
-                f"The memory time is now {time}, at least the line's rts: so it comes back after every lease."
-                + (" Its words go to DRAM." if entry.dirty else ""), MEMORY)
+                f"The memory time is now {time}, at least the line's rts: when it returns, its times are no earlier "
+                "than any lease." + (" Its words go to DRAM." if entry.dirty else ""), MEMORY)

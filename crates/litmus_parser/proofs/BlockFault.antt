@@ -1,8 +1,9 @@
--- The initial block is read, or its fault has its cause.
+-- What is read as the initial block is in the grammar, and a fault has its cause.
 use Rattle.std.proofs.Common.{◌≡◌, ℕ, suc, ◌+◌, ◌≤◌, ◌⊎◌, Bool, true, false, not, ◌||◌, eqb, ltb, List, [], ◌∷◌, ◌++◌}
 use Rattle.std.proofs.Common.{length, Option, Some, None, Result, Ok, Err, refl, sym, ap, subst, ◌∙◌, arith, inl, inr}
+use Rattle.std.proofs.Common.{append_assoc, append-nil}
 use Rattle.std.specs.List.{list_any}
-use Rattle.std.proofs.lemmas.Bool.{eqb-false, ltb-false}
+use Rattle.std.proofs.lemmas.Bool.{eqb-true, eqb-false, ltb-true, ltb-false}
 use Rattle.std.proofs.lemmas.List.{length-append, nil_from_length}
 use Rattle.litmus_lexer.specs.Pieces.{Piece, Word, Sign, LineEnd}
 use Rattle.litmus_lexer.specs.Spelling.{is_number, value_of_digits, small_of, register_of, is_location}
@@ -25,14 +26,12 @@ use Rattle.litmus_parser.specs.BlockParts.{RegisterValue, LocationEquals, Locati
 use Rattle.litmus_parser.specs.BlockParts.{is_settable, ItemsUpTo, no_item, one_more, InLines, none, further}
 use Rattle.litmus_parser.specs.BlockParts.{ItemUpTo, at_item, thread_there, colon_there, register_there, equals_there}
 use Rattle.litmus_parser.specs.BlockParts.{location_there, equals_behind, BlockUpTo, at_block, in_item, behind_item}
-use Rattle.litmus_parser.specs.GrammarWords.{Next}
-use Rattle.litmus_parser.specs.GrammarBlock.{IsItem, AreItems}
+use Rattle.litmus_parser.specs.GrammarWords.{Next, EndsLine, IsLitmusValue, IsNumbered}
+use Rattle.litmus_parser.specs.GrammarBlock.{IsSetting, IsItem, AreItems, IsBlock}
 use Rattle.litmus_parser.specs.declared.syntax.Name.TheVariants.{Register, Location}
 use Rattle.litmus_parser.specs.declared.syntax.Setting.{Setting}
 use Rattle.litmus_parser.specs.declared.syntax.Setting.TheVariants.{Number, Address}
 use Rattle.litmus_parser.specs.declared.syntax.Item.{Item}
-use Rattle.litmus_parser.proofs.BlockFound.{location_takes, item_takes, Separates, added_takes, separated_takes}
-use Rattle.litmus_parser.proofs.BlockFound.{items_stand}
 use Rattle.litmus_parser.proofs.Causes.{Explains, Onto, start, beyond, over_word, over_sign, over_end, bind_explains}
 use Rattle.litmus_parser.proofs.Causes.{test_explains, found_explains, told, repeat_counted}
 use Rattle.litmus_parser.proofs.ReadAnswers.{answered}
@@ -87,7 +86,7 @@ module _ (line : ℕ) (pieces : List Piece) where
         (wanted ≡ ItemOrBrace) ⊎ (wanted ≡ RegisterValue)
         → (word : List ℕ) (n : ℕ) (rest : List Piece) → Next there (Word word) rest →
         RestAt line pieces n (Word word ∷ rest) → (is_location word ≡ false → C BadInitial n)
-        → Explains C (λ (x : ℕ × Names). Unit {0}) (location_at BadInitial word n names)
+        → Explains C (λ (x : ℕ × Names). IsNumbered word names x.0 x.1) (location_at BadInitial word n names)
     location_of_block wanted there upto place_is word n rest next at other =
         location_explains C BadInitial word n names other (λ many.
         record {
@@ -108,7 +107,8 @@ module _ (line : ℕ) (pieces : List Piece) where
         })
 
     abbrev SettingRead : ℕ → List Piece → (Setting × Names) × ℕ × List Piece → Type 0
-    SettingRead n rest x = RestAt n rest x.1 x.2
+    SettingRead n rest x =
+        (w : List ℕ) × Next rest (Word w) x.2 × IsSetting w names x.0.0 x.0.1 × RestAt n rest x.1 x.2
 
     setting_explains : (n : ℕ) (rest : List Piece) → RestAt line pieces n rest → ItemUpTo names here RegisterValue
         rest → Explains C (SettingRead n rest) (setting_at names n rest)
@@ -122,26 +122,28 @@ module _ (line : ℕ) (pieces : List Piece) where
         (λ w. is_number w || is_location w) (λ p. refl)) (λ w e t.
         test_explains C Q (is_number w.0) _ _ (λ d.
         test_explains C Q (ltb (value_of_digits w.0) 2147483648) (Ok ((Number (value_of_digits w.0), names), w.1, w.2))
-        (fails ValueRange w.1) (λ f. over_word t.0)
+        (fails ValueRange w.1) (λ f. (w.0, t.1, ((d, refl, ltb-true _ _ f), refl), over_word t.0))
         (λ f. let ge = ltb-false _ _ f in value_above RegisterValue n rest at (in_item st upto) (inl refl) w.0 w.1 w.2
         t d (omega (arith, ge)))) (λ d.
-        bind_explains C (λ (x : ℕ × Names). Unit {0}) Q (location_at BadInitial w.0 w.1 names)
+        bind_explains C (λ (x : ℕ × Names). IsNumbered w.0 names x.0 x.1) Q (location_at BadInitial w.0 w.1 names)
         (λ l. Ok ((Address l.0, l.1), w.1, w.2))
         (location_of_block RegisterValue rest upto (inr refl) w.0 w.1 w.2 t.1 (beyond at t.0)
         (λ no_location. value.wrong (Word w.0) w.1 w.2 t
         (neither (is_number w.0) (is_location w.0) d no_location)))
-        (λ l e' u. over_word t.0)))
+        (λ l e' numbered. (w.0, t.1, (d, numbered), over_word t.0))))
 
     -- the item's line is where it begins
     abbrev ItemRead : ℕ → List Piece → (Item × Names) × ℕ × List Piece → Type 0
-    ItemRead n rest x = (x.0.0.line ≡ n) × RestAt n rest x.1 x.2
+    ItemRead n rest x =
+        (x.0.0.line ≡ n) × IsItem here names x.0.0.name x.0.0.setting x.0.1 x.2 × RestAt n rest x.1 x.2
 
-    register_item_explains : (thread n : ℕ) (rest : List Piece) → RestAt line pieces n rest → ItemUpTo names here
-        Colon
-        rest → Explains C (ItemRead n rest) (register_item_at thread names n rest)
+    register_item_explains : (first : List ℕ) (thread n : ℕ) (rest : List Piece) → RestAt line pieces n rest →
+        Next here (Word first) rest → small_of 15 first ≡ Some thread →
+        Explains C (ItemRead n rest) (register_item_at thread names n rest)
     unfolding register_item_at
-    register_item_explains thread n rest at upto =
+    register_item_explains first thread n rest at next is =
         let Q : (Item × Names) × ℕ × List Piece → Type 0 = ItemRead n rest in
+        let upto : ItemUpTo names here Colon rest = thread_there first thread next is in
         bind_explains C (λ (x : ℕ × List Piece). Taken n rest (Sign 58) x.0 x.1) Q (expect_at 58 BadInitial n rest) _
         (expect_wanted C BadInitial (fits_block Colon) n rest (wants Colon n rest at (in_item st upto)) 58 (λ p. refl))
         (λ colon e p.
@@ -169,7 +171,28 @@ module _ (line : ℕ) (pieces : List Piece) where
         bind_explains C (SettingRead equals.0 equals.1) Q (setting_at names equals.0 equals.1)
         (λ v. Ok ((record { line = n; name = Register thread r; setting = v.0.0 }, v.0.1), v.1, v.2))
         (setting_explains equals.0 equals.1 (beyond at behind_equals) (equals_there register_stands s.1))
-        (λ v e3 h. (refl, beyond behind_equals h)))))))
+        (λ v e3 h. (
+          refl,
+          (
+            first,
+            w.0,
+            h.0,
+            rest,
+            colon.1,
+            w.2,
+            equals.1,
+            next,
+            p.1,
+            q.1,
+            s.1,
+            h.1,
+            is,
+            some,
+            eqb-false r 0 other,
+            h.2,
+          ),
+          beyond behind_equals h.3,
+        )))))))
 
     location_item_explains : (first : List ℕ) (n : ℕ) (rest : List Piece) → Next here (Word first) rest →
         RestAt line pieces n (Word first ∷ rest) → (is_location first ≡ false → C BadInitial n)
@@ -177,28 +200,32 @@ module _ (line : ℕ) (pieces : List Piece) where
     unfolding location_item_at
     location_item_explains first n rest next at other =
         let Q : (Item × Names) × ℕ × List Piece → Type 0 = ItemRead n rest in
-        bind_explains C (λ (x : ℕ × Names). Unit {0}) Q (location_at BadInitial first n names) _
-        (location_of_block ItemOrBrace here at_item (inl refl) first n rest next at other) (λ l e u.
+        bind_explains C (λ (x : ℕ × Names). IsNumbered first names x.0 x.1) Q (location_at BadInitial first n names) _
+        (location_of_block ItemOrBrace here at_item (inl refl) first n rest next at other) (λ l e numbered.
         let location_stands : ItemUpTo names here LocationEquals rest =
-        location_there first l.0 l.1 next (location_takes BadInitial first n names l e) in
+        location_there first l.0 l.1 next numbered in
         bind_explains C (λ (x : ℕ × List Piece). Taken n rest (Sign 61) x.0 x.1) Q (expect_at 61 BadInitial n rest) _
         (expect_wanted C BadInitial (fits_block LocationEquals) n rest (wants LocationEquals n rest (over_word at)
         (in_item st location_stands)) 61 (λ p. refl)) (λ equals e' p.
         let behind_equals : RestAt line pieces equals.0 equals.1 = beyond (over_word at) (over_sign p.0) in
         let value_stands : BlockUpTo pieces LocationValue equals.1 = in_item st (equals_behind location_stands p.1) in
-        bind_explains C (λ (x : ℕ × ℕ × List Piece). RestAt equals.0 equals.1 x.1 x.2) Q
-        (small_number_at BadInitial equals.0 equals.1)
+        bind_explains C (λ (x : ℕ × ℕ × List Piece). (w : List ℕ) × Next equals.1 (Word w) x.2 × IsLitmusValue w x.0 ×
+        RestAt equals.0 equals.1 x.1 x.2) Q (small_number_at BadInitial equals.0 equals.1)
         (λ v. Ok ((record { line = n; name = Location l.0; setting = Number v.0 }, l.1), v.1, v.2))
         (number_wanted C BadInitial (fits_block LocationValue) equals.0 equals.1 (wants LocationValue equals.0 equals.1
         behind_equals value_stands) (λ p. refl)
         (value_above LocationValue equals.0 equals.1 behind_equals value_stands (inr refl)))
-        (λ v e'' q. (refl, beyond (over_sign p.0) q))))
+        (λ v e'' q. (
+          refl,
+          (first, q.0, rest, equals.1, next, p.1, q.1, numbered, q.2),
+          beyond (over_sign p.0) q.3,
+        ))))
 
     item_of_explains : (o : Option ℕ) (first : List ℕ) (m n : ℕ) (rest : List Piece) → RestAt line pieces m here →
         Taken m here (Word first) n rest → small_of 15 first ≡ o
         → Explains C (ItemRead n rest) (item_of o first names n rest)
     item_of_explains (Some thread) first m n rest at t is =
-        register_item_explains thread n rest (beyond at (over_word t.0)) (thread_there first thread t.1 is)
+        register_item_explains first thread n rest (beyond at (over_word t.0)) t.1 is
     item_of_explains None first m n rest at t is =
         location_item_explains first n rest t.1 (beyond at t.0) (λ no_location.
         (wants ItemOrBrace m here at (in_item st at_item)).wrong (Word first) n rest t
@@ -210,16 +237,23 @@ module _ (line : ℕ) (pieces : List Piece) where
     unfolding item_at
     item_explains first m n rest at t = item_of_explains (small_of 15 first) first m n rest at t refl
 
+  -- ; or } stands behind an item
+  abbrev Separated : ℕ → List Piece → Bool × ℕ × List Piece → Type 0
+  Separated n rest (true, m, after) = RestAt n rest m after × Next rest (Sign 59) after
+  Separated n rest (false, m, after) = RestAt n rest m after × Next rest (Sign 125) after
+
   separated_explains : (n : ℕ) (rest : List Piece) → RestAt line pieces n rest → BlockUpTo pieces SemicolonOrBrace
-      rest → Explains C (λ (x : Bool × ℕ × List Piece). RestAt n rest x.1 x.2) (items_separated n rest)
+      rest → Explains C (Separated n rest) (items_separated n rest)
   unfolding items_separated
   separated_explains n rest at upto =
-      let Q : Bool × ℕ × List Piece → Type 0 = λ x. RestAt n rest x.1 x.2 in
+      let Q : Bool × ℕ × List Piece → Type 0 = Separated n rest in
       let either : Wants C BadInitial (fits_block SemicolonOrBrace) n rest = wants SemicolonOrBrace n rest at upto in
       bind_explains C (λ (x : ℕ × ℕ × List Piece). Taken n rest (Sign x.0) x.1 x.2) Q (sign_at BadInitial n rest) _
       (sign_wanted C BadInitial (fits_block SemicolonOrBrace) n rest either (λ w. refl) refl) (λ s e p.
-      test_explains C Q (eqb s.0 59) (Ok (true, s.1, s.2)) _ (λ t. over_sign p.0) (λ no_more.
-      test_explains C Q (eqb s.0 125) (Ok (false, s.1, s.2)) (fails BadInitial s.1) (λ t. over_sign p.0) (λ no_brace.
+      let found : (b : ℕ) → eqb s.0 b ≡ true → RestAt n rest s.1 s.2 × Next rest (Sign b) s.2 =
+      λ b is. (over_sign p.0, subst (λ b. Next rest (Sign b) s.2) (eqb-true s.0 b is) p.1) in
+      test_explains C Q (eqb s.0 59) (Ok (true, s.1, s.2)) _ (found 59) (λ no_more.
+      test_explains C Q (eqb s.0 125) (Ok (false, s.1, s.2)) (fails BadInitial s.1) (found 125) (λ no_brace.
       either.wrong (Sign s.0) s.1 s.2 p (neither (eqb s.0 59) (eqb s.0 125) no_more no_brace))))
 
   -- ---- the turns
@@ -229,11 +263,18 @@ module _ (line : ℕ) (pieces : List Piece) where
   Enough k rest = length pieces ≤ 65536 → length rest ≤ k
 
   -- the state between two items: the items so far, the names so far, the line and the pieces that are left
-  abbrev Stands : Block → Type 0
-  Stands s = RestAt line pieces s.2 s.3 × InLines line pieces s.0
+  abbrev Placed : Block → Type 0
+  Placed s = RestAt line pieces s.2 s.3 × InLines line pieces s.0
 
   abbrev Left : ℕ → Block → Type 0
-  Left k s = Stands s × Enough k s.3 × ItemsUpTo pieces s.0 s.1 s.3
+  Left k s = Placed s × Enough k s.3 × ItemsUpTo pieces s.0 s.1 s.3
+
+  -- behind the opening brace stand all items, and the closing one
+  abbrev Are : List Item → Names → List Piece → Type 0
+  Are items names rest = (opened : List Piece) × Next pieces (Sign 123) opened × AreItems [] opened [] items names rest
+
+  abbrev Closed : Block → Type 0
+  Closed s = Placed s × Are s.0 s.1 s.3
 
   -- the cause in a block that isn't too long
   abbrev ShortCause : Kind → ℕ → Type 0
@@ -250,20 +291,14 @@ module _ (line : ℕ) (pieces : List Piece) where
       let f : length (p.front ++ rest) ≡ length p.front + length rest = length-append p.front rest in
       omega (arith, e, f)
 
-  onto-either : (k : ℕ) (more : Bool) (t : Block) → Stands t → Enough k t.3 →
-      (more ≡ true → ItemsUpTo pieces t.0 t.1 t.3) → Onto (Left k) Stands (more, t)
-  onto-either k true t stands short items = (stands, short, items refl)
-  onto-either k false t stands short items = stands
-
-  -- the item after the ones that stand, where a ; follows it
-  one_more_stands : (s : Block) (item : Item) (after : Names) (here : List Piece) (items : List Item) (m : ℕ)
-      (r : List Piece) → ItemsUpTo pieces s.0 s.1 s.3
-      → IsItem s.3 s.1 item.name item.setting after here → list_any (λ other. same_name other.name item.name)
-      s.0 ≡ false → items ≡ s.0 ++ item ∷ []
-      → (more : Bool) → Separates here (more, m, r) → more ≡ true → ItemsUpTo pieces items after r
-  one_more_stands s item after here items m r st is fresh e true next t =
-      subst (λ (x : List Item). ItemsUpTo pieces x after r) (sym e) (one_more item here st is fresh next)
-  one_more_stands s item after here items m r st is fresh e false next t = absurd cc
+  -- items that stand, and further ones up to the closing brace, are items
+  are-all : (items more : List Item) (before after : Names) (here rest : List Piece) →
+      ItemsUpTo pieces items before here → AreItems items here before more after rest → Are (items ++ more) after rest
+  are-all items more before after here rest (no_item brace) are = (here, brace, are)
+  are-all items more before after here rest
+      (one_more {items = first} {before = names} {here = there} item behind st is fresh next) are =
+      subst (λ items. Are items after rest) (sym (append_assoc first (item ∷ []) more))
+      (are-all first (item ∷ more) names after there rest st (before, behind, is, fresh, inl (here, next, are)))
 
   -- after the item there are fewer pieces
   item-shorter : (s : Block) (first : List ℕ) (n : ℕ) (rest : List Piece) (m : ℕ) (r : List Piece) (k : ℕ) →
@@ -276,10 +311,12 @@ module _ (line : ℕ) (pieces : List Piece) where
   added_explains : (s : Block) (item : Item) (after : Names) (rest : List Piece) (first : List ℕ) (n : ℕ)
       (more : List Piece) → RestAt line pieces s.2 s.3 → ItemsUpTo pieces s.0 s.1 s.3
       → Taken s.2 s.3 (Word first) n more → item.line ≡ n → IsItem s.3 s.1 item.name item.setting after rest →
-      Explains C (λ (items : List Item). items ≡ s.0 ++ item ∷ []) (added s.0 item)
+      Explains C (λ (items : List Item). (items ≡ s.0 ++ item ∷ []) ×
+      (list_any (λ other. same_name other.name item.name) s.0 ≡ false)) (added s.0 item)
   unfolding added
   added_explains s item after rest first n more at st t in_line is =
-      test_explains C (λ (items : List Item). items ≡ s.0 ++ item ∷ [])
+      test_explains C (λ (items : List Item). (items ≡ s.0 ++ item ∷ []) ×
+      (list_any (λ other. same_name other.name item.name) s.0 ≡ false))
       (list_any (λ other. same_name other.name item.name) s.0) (fails DoubleInitial item.line)
       (Ok (s.0 ++ item ∷ []))
       (λ twice. record {
@@ -299,54 +336,73 @@ module _ (line : ℕ) (pieces : List Piece) where
           subst (λ m. RestAt line pieces m (Word first ∷ more))
               (sym in_line) (beyond at t.0),
         );
-      }) (λ fresh. refl)
+      }) (λ fresh. (refl, fresh))
+
+  -- behind an item that a ; or } follows
+  item_turn : (k : ℕ) (s : Block) (item : Item) (after : Names) (here : List Piece) (items : List Item) (n : ℕ) →
+      ItemsUpTo pieces s.0 s.1 s.3 → IsItem s.3 s.1 item.name item.setting after here
+      → list_any (λ other. same_name other.name item.name) s.0 ≡ false → items ≡ s.0 ++ item ∷ [] →
+      InLines line pieces items → RestAt line pieces n here
+      → (x : Bool × ℕ × List Piece) → (RestAt n here x.1 x.2 → Enough k x.2) → Separated n here x →
+      Onto (Left k) Closed (x.0, (items, after, x.1, x.2))
+  item_turn k s item after here items n st is fresh all lines at (true, m, rest) enough (behind, next) = (
+    (beyond at behind, lines),
+    enough behind,
+    subst (λ (xs : List Item). ItemsUpTo pieces xs after rest) (sym all) (one_more item here st is fresh next),
+  )
+  item_turn k s item after here items n st is fresh all lines at (false, m, rest) enough (behind, next) = (
+    (beyond at behind, lines),
+    subst (λ (xs : List Item). Are xs after rest) (sym all)
+        (are-all s.0 (item ∷ []) s.1 after s.3 rest st (after, here, is, fresh, inr (next, refl, refl))),
+  )
 
   whole_item_explains : (k : ℕ) (s : Block) (first : List ℕ) (n : ℕ) (rest : List Piece) → Left (suc k) s →
       Taken s.2 s.3 (Word first) n rest
-      → Explains C (Onto (Left k) Stands) (whole_item_at first (s.0, s.1, n, rest))
+      → Explains C (Onto (Left k) Closed) (whole_item_at first (s.0, s.1, n, rest))
   unfolding whole_item_at
   whole_item_explains k s first n rest l t =
       let at : RestAt line pieces s.2 s.3 = l.0.0 in
       let st : ItemsUpTo pieces s.0 s.1 s.3 = l.2 in
-      let Q : Bool × Block → Type 0 = Onto (Left k) Stands in
+      let Q : Bool × Block → Type 0 = Onto (Left k) Closed in
       bind_explains C (ItemRead s.0 s.1 s.3 st n rest) Q (item_at first s.1 n rest) _
       (item_explains s.0 s.1 s.3 st first s.2 n rest at t) (λ x e i.
-      let is : IsItem s.3 s.1 x.0.0.name x.0.0.setting x.0.1 x.2 = item_takes s.3 first s.1 n rest x t.1 e in
-      let on : RestAt line pieces x.1 x.2 = beyond at (beyond (over_word t.0) i.1) in
+      let on : RestAt line pieces x.1 x.2 = beyond at (beyond (over_word t.0) i.2) in
       let begins = subst (λ m. RestAt line pieces m (Word first ∷ rest)) (sym i.0) (beyond at t.0) in
-      bind_explains C (λ (items : List Item). items ≡ s.0 ++ x.0.0 ∷ []) Q (added s.0 x.0.0) _
-      (added_explains s x.0.0 x.0.1 x.2 first n rest at st t i.0 is) (λ items e' a.
-      let fresh = (added_takes s.0 x.0.0 items e').0 in
+      bind_explains C (λ (items : List Item). (items ≡ s.0 ++ x.0.0 ∷ []) ×
+      (list_any (λ other. same_name other.name x.0.0.name) s.0 ≡ false)) Q (added s.0 x.0.0) _
+      (added_explains s x.0.0 x.0.1 x.2 first n rest at st t i.0 i.1) (λ items e' a.
       let lines : InLines line pieces items =
-      subst (InLines line pieces) (sym a) (further x.0.0 l.0.1 st (first, rest, t.1, begins)) in
-      bind_explains C (λ (y : Bool × ℕ × List Piece). RestAt x.1 x.2 y.1 y.2) Q (items_separated x.1 x.2)
+      subst (InLines line pieces) (sym a.0) (further x.0.0 l.0.1 st (first, rest, t.1, begins)) in
+      bind_explains C (Separated x.1 x.2) Q (items_separated x.1 x.2)
       (λ more. Ok (more.0, (items, x.0.1, more.1, more.2)))
-      (separated_explains x.1 x.2 on (behind_item x.0.0 x.0.1 st is fresh)) (λ more e'' p.
-      onto-either k more.0 (items, x.0.1, more.1, more.2) (beyond on p, lines) (λ short. item-shorter s first n rest
-      more.1 more.2 k t.0 (beyond i.1 p) (l.1 short))
-      (one_more_stands s x.0.0 x.0.1 x.2 items more.1 more.2 st is fresh a more.0
-      (separated_takes x.1 x.2 more e'')))))
+      (separated_explains x.1 x.2 on (behind_item x.0.0 x.0.1 st i.1 a.1)) (λ more e'' p.
+      item_turn k s x.0.0 x.0.1 x.2 items x.1 st i.1 a.1 a.0 lines on more
+      (λ behind short. item-shorter s first n rest more.1 more.2 k t.0 (beyond i.2 behind) (l.1 short)) p)))
 
   entry_of_explains : (k : ℕ) (s : Block) (p : Piece) (n : ℕ) (rest : List Piece) → Left (suc k) s →
-      Taken s.2 s.3 p n rest → Explains C (Onto (Left k) Stands) (block_entry_at s.0 s.1 (p, n, rest))
+      Taken s.2 s.3 p n rest → Explains C (Onto (Left k) Closed) (block_entry_at s.0 s.1 (p, n, rest))
   entry_of_explains k s (Word first) n rest l t = whole_item_explains k s first n rest l t
   entry_of_explains k s (Sign b) n rest l t =
-      test_explains C (Onto (Left k) Stands) (eqb b 125) (Ok (false, (s.0, s.1, n, rest))) (fails BadInitial n)
-      (λ brace. (beyond l.0.0 (over_sign t.0), l.0.1))
+      test_explains C (Onto (Left k) Closed) (eqb b 125) (Ok (false, (s.0, s.1, n, rest))) (fails BadInitial n)
+      (λ brace. (
+        (beyond l.0.0 (over_sign t.0), l.0.1),
+        subst (λ (xs : List Item). Are xs s.1 rest) (append-nil s.0) (are-all s.0 [] s.1 s.1 s.3 rest l.2
+            (subst (λ b. Next s.3 (Sign b) rest) (eqb-true b 125 brace) t.1, refl)),
+      ))
       (λ other. (wants ItemOrBrace s.2 s.3 l.0.0 (in_item l.2 at_item)).wrong (Sign b) n rest t other)
   entry_of_explains k s LineEnd n rest l t =
       (wants ItemOrBrace s.2 s.3 l.0.0 (in_item l.2 at_item)).wrong LineEnd n rest t refl
 
-  entry_explains : (k : ℕ) (s : Block) → Left (suc k) s → Explains C (Onto (Left k) Stands) (entry_at s)
+  entry_explains : (k : ℕ) (s : Block) → Left (suc k) s → Explains C (Onto (Left k) Closed) (entry_at s)
   unfolding entry_at
   entry_explains k s l =
-      bind_explains C (λ (x : Piece × ℕ × List Piece). Taken s.2 s.3 x.0 x.1 x.2) (Onto (Left k) Stands)
+      bind_explains C (λ (x : Piece × ℕ × List Piece). Taken s.2 s.3 x.0 x.1 x.2) (Onto (Left k) Closed)
       (next_at s.2 s.3) (block_entry_at s.0 s.1)
       (next_wanted C s.2 s.3 (wants ItemOrBrace s.2 s.3 l.0.0 (in_item l.2 at_item)).ends)
       (λ x e t. entry_of_explains k s x.0 x.1 x.2 l t)
 
   -- no turn is left only where no piece is left
-  unended_explains : (s : Block) → Left 0 s → Explains ShortCause Stands (unended s)
+  unended_explains : (s : Block) → Left 0 s → Explains ShortCause Closed (unended s)
   unended_explains s l = λ short.
       let few = l.1 short in
       let none_left : s.3 ≡ [] = nil_from_length s.3 (omega (arith, few)) in (
@@ -358,21 +414,22 @@ module _ (line : ℕ) (pieces : List Piece) where
       )
 
   items_explain : (n : ℕ) (rest : List Piece) → RestAt line pieces n rest → Next pieces (Sign 123) rest →
-      Explains ShortCause Stands (items_at [] n rest)
+      Explains ShortCause Closed (items_at [] n rest)
   unfolding items_at
   items_explain n rest at next =
       let shorter : length rest ≤ length pieces = place-shorter line pieces n rest at in
-      repeat_counted ShortCause Left Stands entry_at unended (λ k s l. in_short (Onto (Left k) Stands) (entry_at s)
+      repeat_counted ShortCause Left Closed entry_at unended (λ k s l. in_short (Onto (Left k) Closed) (entry_at s)
       (entry_explains k s l)) unended_explains
       65536 ([], [], n, rest) ((at, none), λ short. omega (arith, shorter, short), no_item next)
 
   -- the line ends after the closing brace, or there is more on it
   line_ended : (opened : List Piece) (items : List Item) (names : Names) (n : ℕ) (rest : List Piece) →
       Next pieces (Sign 123) opened → AreItems [] opened [] items names rest → RestAt line pieces n rest
-      → Explains ShortCause (λ (x : ℕ × List Piece). RestAt n rest x.0 x.1) (end_line_at BadInitial n rest)
+      → Explains ShortCause (λ (x : ℕ × List Piece). RestAt n rest x.0 x.1 × EndsLine rest x.1)
+      (end_line_at BadInitial n rest)
   unfolding end_line_at
-  line_ended opened items names n [] brace are at = start n []
-  line_ended opened items names n (LineEnd ∷ rest) brace are at = over_end (start n (LineEnd ∷ rest))
+  line_ended opened items names n [] brace are at = (start n [], inr (refl, refl))
+  line_ended opened items names n (LineEnd ∷ rest) brace are at = (over_end (start n (LineEnd ∷ rest)), inl refl)
   line_ended opened items names n (Word w ∷ rest) brace are at =
       λ short. inr (record {
         start = opened;
@@ -400,33 +457,42 @@ module _ (line : ℕ) (pieces : List Piece) where
         rest_at = at;
       })
 
-  whole_block : Explains ShortCause Stands (initial_block_at [] line pieces)
+  abbrev IsRead : Block → Type 0
+  IsRead b = IsBlock pieces b.0 b.1 b.3 × Placed b
+
+  whole_block : Explains ShortCause IsRead (initial_block_at [] line pieces)
   unfolding initial_block_at
   whole_block =
       let Brace : ℕ × List Piece → Type 0 = λ x. Taken line pieces (Sign 123) x.0 x.1 in
       let opening : Wants C BadInitial (fits_block OpeningBrace) line pieces =
       wants OpeningBrace line pieces (start line pieces) at_block in
-      bind_explains ShortCause Brace Stands (expect_at 123 BadInitial line pieces) _
+      bind_explains ShortCause Brace IsRead (expect_at 123 BadInitial line pieces) _
       (in_short Brace (expect_at 123 BadInitial line pieces) (expect_wanted C BadInitial (fits_block OpeningBrace) line
       pieces opening 123 (λ p. refl))) (λ brace e p.
-      bind_explains ShortCause Stands Stands (items_at [] brace.0 brace.1) _
+      bind_explains ShortCause Closed IsRead (items_at [] brace.0 brace.1) _
       (items_explain brace.0 brace.1 (over_sign p.0) p.1) (λ b e' st.
-      bind_explains ShortCause (λ (x : ℕ × List Piece). RestAt b.2 b.3 x.0 x.1) Stands (end_line_at BadInitial b.2
-      b.3)
+      bind_explains ShortCause (λ (x : ℕ × List Piece). RestAt b.2 b.3 x.0 x.1 × EndsLine b.3 x.1) IsRead
+      (end_line_at BadInitial b.2 b.3)
       (λ next. Ok (b.0, b.1, next.0, next.1))
-      (line_ended brace.1 b.0 b.1 b.2 b.3 p.1 (items_stand [] brace.0 brace.1 b e') st.0)
-      (λ next e'' q. (beyond st.0 q, st.1))))
+      (line_ended st.1.0 b.0 b.1 b.2 b.3 st.1.1 st.1.2 st.0.0)
+      (λ next e'' q. ((st.1.0, b.3, st.1.1, st.1.2, q.1), (beyond st.0.0 q.0, st.0.1)))))
 
 -- ---- the whole
 
 pub block_explains : (line : ℕ) (pieces : List Piece) (e : LitmusError) → length pieces ≤ 65536 →
     initial_block_at [] line pieces ≡ Err e → BlockCause line pieces e.kind e.line
 block_explains line pieces e short is =
-    told (ShortCause line pieces) (Stands line pieces) (initial_block_at [] line pieces) e (whole_block line pieces) is
+    told (ShortCause line pieces) (IsRead line pieces) (initial_block_at [] line pieces) e (whole_block line pieces) is
     short
+
+pub block_takes : (line : ℕ) (pieces : List Piece) (b : Block) → initial_block_at [] line pieces ≡ Ok b →
+    IsBlock pieces b.0 b.1 b.3
+block_takes line pieces b is =
+    (answered (ShortCause line pieces) (IsRead line pieces) (initial_block_at [] line pieces) b
+    (whole_block line pieces) is).0
 
 pub block_place : (line : ℕ) (pieces : List Piece) (b : Block) → initial_block_at [] line pieces ≡ Ok b →
     RestAt line pieces b.2 b.3 × InLines line pieces b.0
 block_place line pieces b is =
-    answered (ShortCause line pieces) (Stands line pieces) (initial_block_at [] line pieces) b
-    (whole_block line pieces) is
+    (answered (ShortCause line pieces) (IsRead line pieces) (initial_block_at [] line pieces) b
+    (whole_block line pieces) is).1

@@ -237,12 +237,16 @@ alike-all P (item' ∷ items') (item ∷ items) e h = let p = alike-parts item' 
 separated-more : (line : ℕ) (pieces rest : List Piece) → Next pieces (Sign 59) rest →
     Again (items_separated line pieces) true rest
 unfolding items_separated
-separated-more line pieces rest n = onward (sign_at BadInitial line pieces) 59 rest _ true rest (sign_again BadInitial line pieces 59 rest n) (λ l. record { line = l; is = refl })
+separated-more line pieces rest n =
+    onward (sign_at BadInitial line pieces) 59 rest _ true rest (sign_again BadInitial line pieces 59 rest n)
+    (λ l. record { line = l; is = refl })
 
 separated-last : (line : ℕ) (pieces rest : List Piece) → Next pieces (Sign 125) rest →
     Again (items_separated line pieces) false rest
 unfolding items_separated
-separated-last line pieces rest n = onward (sign_at BadInitial line pieces) 125 rest _ false rest (sign_again BadInitial line pieces 125 rest n) (λ l. record { line = l; is = refl })
+separated-last line pieces rest n =
+    onward (sign_at BadInitial line pieces) 125 rest _ false rest (sign_again BadInitial line pieces 125 rest n)
+    (λ l. record { line = l; is = refl })
 
 entry-step : (items : List Item) (before after : Names) (line : ℕ) (pieces middle a b : List Piece) (first : List ℕ)
     (item : Item) (more : Bool)

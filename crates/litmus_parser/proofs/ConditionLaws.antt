@@ -2,6 +2,7 @@
 use Rattle.std.proofs.Common.{◌≡◌, ℕ, List, ◌∷◌, Option, Some, Result, Ok, Err, refl, ap, subst, ◌∙◌}
 use Rattle.std.proofs.Math.Path.{fun_ext}
 use Rattle.litmus_lexer.specs.Pieces.{Piece, Word}
+use Rattle.litmus_lexer.specs.declared.errors.Kind.{Kind}
 use Rattle.litmus_lexer.specs.declared.errors.Kind.TheVariants.{BadTable}
 use Rattle.litmus_lexer.specs.declared.errors.LitmusError.{LitmusError}
 use Rattle.text_lines.specs.Reading.{◌>>=◌, found}
@@ -17,9 +18,18 @@ use Rattle.litmus_parser.specs.Condition.{Addresses, addresses, whole}
 use Rattle.litmus_parser.specs.ReadingEnd.{keyword_at, condition_at}
 use Rattle.litmus_parser.specs.declared.syntax.Item.{Item}
 use Rattle.litmus_parser.specs.declared.syntax.Quantifier.{Quantifier}
-use Rattle.litmus_parser.proofs.Steps.{bind_ok, found_ok, ok_is, word_here_takes}
+use Rattle.litmus_parser.proofs.Steps.{bind_ok, found_ok, ok_is}
+use Rattle.litmus_parser.proofs.CausesHere.{word_here_explains}
+use Rattle.litmus_parser.proofs.ReadAnswers.{answered}
 use Rattle.litmus_parser.proofs.ConditionMeaning.{whole-means}
 use Rattle.litmus_parser.proofs.ConditionFault.{expression_explained}
+
+word_here_takes : (line : ℕ) (pieces : List Piece) (x : List ℕ × ℕ × List Piece) → word_here_at BadTable line pieces ≡
+    Ok x → pieces ≡ Word x.0 ∷ x.2
+word_here_takes line pieces x e =
+    let C : Kind → ℕ → Type 0 = λ kind n. Unit {0} in
+    (answered C (λ (x : List ℕ × ℕ × List Piece). (x.1 ≡ line) × (pieces ≡ Word x.0 ∷ x.2))
+    (word_here_at BadTable line pieces) x (word_here_explains C BadTable line pieces tt) e).1
 
 pub condition_takes : (items : List Item) (threads : ℕ) (names : Names) (line : ℕ) (pieces : List Piece)
     (x : Quantifier × Tree × Names) → condition_at items threads names line pieces ≡ Ok x → IsCondition items threads
@@ -40,7 +50,7 @@ condition_takes items threads names line pieces x e =
       q.0.2,
       t.0.2,
       m.0,
-      word_here_takes BadTable line pieces w.0 w.1
+      word_here_takes line pieces w.0 w.1
           ∙ ap (λ (y : Quantifier × ℕ × List Piece). Word w.0.0 ∷ y.2) made,
       k.1 ∙ ap (λ (y : Quantifier × ℕ × List Piece). Some y.0) made,
       m.1,

@@ -1,18 +1,15 @@
 -- What a look takes at a place of a condition, and why it refuses any other piece.
 use Rattle.std.proofs.Common.{◌≡◌, ◌≢◌, ℕ, ◌+◌, ◌<◌, ◌≤◌, ◌⊎◌, true, false, not, eqb, ltb, leb, ◌||◌, List, [], ◌∷◌}
-use Rattle.std.proofs.Common.{◌++◌, length, Option, Some, None, Result, Ok, Err, refl, sym, ap, subst, ◌∙◌, inl, inr}
-use Rattle.std.proofs.Common.{arith}
-use Rattle.std.specs.Str.{bytes_eq}
+use Rattle.std.proofs.Common.{Option, Some, None, Result, Ok, Err, refl, sym, ap, subst, ◌∙◌, inl, inr}
 use Rattle.std.proofs.lemmas.Bool.{cond_both, not-true, not-false, false_from_ne_true, eqb-true, eqb-false, eq-eqb}
 use Rattle.std.proofs.lemmas.Bool.{ne_eqb, ltb-true, ltb-false, lt-ltb, leb-true, leb-false, lt-leb}
-use Rattle.std.proofs.lemmas.List.Sums.{prefix_len-le-length}
 use Rattle.litmus_lexer.specs.Pieces.{Piece, Word, Sign, LineEnd}
-use Rattle.litmus_lexer.specs.Naming.{place_of}
 use Rattle.litmus_lexer.specs.Spelling.{is_number, value_of_digits, small_of, register_of, is_location}
 use Rattle.litmus_lexer.specs.declared.errors.Kind.{Kind}
 use Rattle.litmus_lexer.specs.declared.errors.Kind.TheVariants.{TooLarge, ValueRange, AddressAsValue, BadCondition}
 use Rattle.litmus_lexer.specs.declared.errors.Kind.TheVariants.{CutShort}
 use Rattle.litmus_lexer.proofs.Lemmas.{location-no_thread}
+use Rattle.text_lines.specs.Reading.{◌>>=◌}
 use Rattle.piece_forms.specs.Places.{next_piece, behind_next}
 use Rattle.piece_forms.specs.Forms.{Verdict, Takes, Refuses, said, Stands, one, taken, word, sign}
 use Rattle.piece_forms.specs.Reading.{judged}
@@ -24,12 +21,14 @@ use Rattle.litmus_parser.specs.LocationFaults.{IsOneTooMany}
 use Rattle.litmus_parser.specs.BlockParts.{is_sign, is_settable}
 use Rattle.litmus_parser.specs.ConditionParts.{WantedInCondition, Factor, RegisterOf, Value, is_thread_below}
 use Rattle.litmus_parser.specs.ConditionParts.{fits_condition}
-use Rattle.litmus_parser.specs.Condition.{addresses, name, counted, start, value_register, value}
+use Rattle.litmus_parser.specs.ReadingItems.{location_at}
+use Rattle.litmus_parser.specs.Condition.{addresses, location, name, counted, start, value_register, value}
 use Rattle.litmus_parser.specs.declared.atoms.Start.{Start}
 use Rattle.litmus_parser.specs.declared.atoms.Start.TheVariants.{OfThread, OfLocation, Parenthesis}
 use Rattle.litmus_parser.specs.declared.syntax.Item.{Item}
-use Rattle.litmus_parser.proofs.ConditionSteps.{location-read}
-use Rattle.litmus_parser.proofs.LocationFault.{new-name}
+use Rattle.litmus_parser.proofs.ConditionSteps.{location-judged, location-read}
+use Rattle.litmus_parser.proofs.LocationFault.{location_explains}
+use Rattle.litmus_parser.proofs.Causes.{Explains, bind_explains}
 use Rattle.litmus_parser.proofs.WantedFault.{neither}
 use Rattle.litmus_parser.proofs.WordsOnly.{location_again}
 
@@ -221,6 +220,12 @@ module _ (items : List Item) (threads : ℕ) (B : WantedInCondition → List Pie
     abbrev Starts : Verdict (Start × Sight) → Type 0
     Starts = Looks (StartsWith threads depth s ps)
 
+    counted-told : (r : Result (Start × Names) Kind) → Explains (λ kind n. Refusal items threads B kind ps)
+        (λ x. StartsWith threads depth s ps (x.0, (x.1, s.1 + 1)) (behind_next ps)) (judged r 0) →
+        Starts (counted s.1 r)
+    counted-told (Ok x) h = h
+    counted-told (Err kind) h = h
+
     module _ (w : List ℕ) (e : next_piece ps ≡ Some (Word w)) where
       no_atom : is_thread_below threads (small_of 15 w) ≡ false → is_location w ≡ false →
           Refusal items threads B BadCondition ps
@@ -235,20 +240,16 @@ module _ (items : List Item) (threads : ℕ) (B : WantedInCondition → List Pie
           (λ location. let same = sym is ∙ location-no_thread w 15 location in absurd cc)))
           (λ there. (w, behind (Word w) e, few, refl, is, leb-false threads t there, refl))
       name-told few None is =
-          let M : Result (Start × Names) Kind → Type 0 = λ r. Starts (counted s.1 r) in
-          let place : ℕ = place_of w s.0 in
-          cond_both (not (is_location w)) (Err BadCondition) _ M
-          (λ none. no_atom (ap (is_thread_below threads) is) (not-true (is_location w) none))
-          (λ some. let location = not-false (is_location w) some in
-          cond_both (ltb place (length s.0)) (Ok (OfLocation place, s.0)) _ M
-          (λ known. (w, behind (Word w) e, few, refl, (location, refl, inl (ltb-true _ _ known, refl))))
-          (λ new. let past : length s.0 ≤ place = ltb-false _ _ new in
-          let most : place ≤ length s.0 = prefix_len-le-length (λ other. not (bytes_eq other w)) s.0 in
-          let last : length s.0 ≡ place = omega (arith, past, most) in
-          cond_both (leb 64 (length s.0)) (Err TooLarge) (Ok (OfLocation (length s.0), s.0 ++ w ∷ [])) M
-          (λ full. refusal (Factor depth s) (Some (Word w)) TooLarge upto e
-          (many (inl (location, leb-true _ _ full, new-name w s.0 past))))
-          (λ room. (w, behind (Word w) e, few, refl, (location, last, inr (refl, leb-false _ _ room, refl))))))
+          let C : Kind → ℕ → Type 0 = λ kind n. Refusal items threads B kind ps in
+          let begins : Start × Names → Type 0 =
+          λ x. StartsWith threads depth s ps (x.0, (x.1, s.1 + 1)) (behind_next ps) in
+          let located : Explains C begins (location_at BadCondition w 0 s.0 >>= λ l. Ok (OfLocation l.0, l.1)) =
+          bind_explains C (λ (l : ℕ × Names). IsNumbered w s.0 l.0 l.1) begins (location_at BadCondition w 0 s.0)
+          (λ l. Ok (OfLocation l.0, l.1))
+          (location_explains C BadCondition w 0 s.0 (no_atom (ap (is_thread_below threads) is))
+          (λ full. refusal (Factor depth s) (Some (Word w)) TooLarge upto e (many (inl full))))
+          (λ l f numbered. (w, behind (Word w) e, few, refl, numbered)) in
+          counted-told (location w s.0) (rw (location-judged w s.0 0) located)
 
     pub start-leads : Leads (one (start threads depth s)) ps (StartsWith threads depth s ps) (Refusal items threads B)
     start-leads = leads-at _ _ ps (start threads depth s) (Err CutShort) on

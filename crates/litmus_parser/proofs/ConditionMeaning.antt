@@ -9,8 +9,8 @@ use Rattle.litmus_lexer.specs.Spelling.{is_and, is_or}
 use Rattle.litmus_lexer.specs.declared.errors.Kind.{Kind}
 use Rattle.litmus_lexer.specs.declared.errors.Kind.TheVariants.{BadCondition}
 use Rattle.piece_forms.specs.Places.{next_piece, behind_next}
-use Rattle.piece_forms.specs.Forms.{Takes, Leaves, Refuses, Gives, said, Stands, is_word as has_word, either, turn, many}
-use Rattle.piece_forms.specs.Forms.{Form, ◌>>=◌}
+use Rattle.piece_forms.specs.Forms.{Takes, Leaves, Refuses, Gives, said, Stands, is_word as has_word, either, turn}
+use Rattle.piece_forms.specs.Forms.{Form, ◌>>=◌, many}
 use Rattle.piece_forms.proofs.Lemmas.{Leads, leads-given, leads-then, leads-wide, Tells, leads-at, Onto, leads-many}
 use Rattle.litmus_parser.specs.Names.{Names}
 use Rattle.litmus_parser.specs.Trees.{Tree, Is, Both, Either}

@@ -25,8 +25,8 @@ use Rattle.litmus_parser.specs.declared.expressions.Connective.TheVariants.{Or}
 use Rattle.litmus_parser.specs.Trees.{Tree}
 
 location-cases : (is known full : Bool) (line place new : ℕ) (old more : Names) →
-    judged {A = Start × Names} (cond (not is) (Err BadCondition) (cond known (Ok (OfLocation place, old)) (cond full (Err TooLarge)
-    (Ok (OfLocation new, more))))) line
+    judged {A = Start × Names} (cond (not is) (Err BadCondition) (cond known (Ok (OfLocation place, old))
+    (cond full (Err TooLarge) (Ok (OfLocation new, more))))) line
     ≡ ((let r : Result (ℕ × Names) LitmusError = cond is (cond known (Ok (place, old)) (cond full (fails TooLarge line)
     (Ok (new, more)))) (fails BadCondition line) in r) >>= λ l. Ok (OfLocation l.0, l.1))
 location-cases true true full line place new old more = refl
@@ -34,7 +34,7 @@ location-cases true false true line place new old more = refl
 location-cases true false false line place new old more = refl
 location-cases false known full line place new old more = refl
 
-location-judged : (w : List ℕ) (names : Names) (line : ℕ) → judged (location w names) line ≡
+pub location-judged : (w : List ℕ) (names : Names) (line : ℕ) → judged (location w names) line ≡
     (location_at BadCondition w line names >>= λ l. Ok (OfLocation l.0, l.1))
 unfolding location_at
 location-judged w names line =

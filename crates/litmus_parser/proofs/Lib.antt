@@ -1,7 +1,4 @@
 mod Steps
-mod BlockFound
-mod FormFound
-mod TableFound
 mod Onward
 mod OnwardHere
 mod FormOnly

@@ -22,10 +22,6 @@ pub record Past (read : Passed) (rest : List Piece) : Type 0 where
 
 -- ---- readings one behind the other
 
-pub at_once : {X : Type 0} (read : Read X) (x : X) (line : ℕ) (rest : List Piece) →
-    read ≡ Ok (x, line, rest) → Again read x rest
-at_once read x line rest e = record { line = line; is = e }
-
 pub onward : {X Y : Type 0} (read : Read X) (x : X) (middle : List Piece) (f : X × ℕ × List Piece → Read Y) (y : Y)
     (rest : List Piece)
     → Again read x middle → ((line : ℕ) → Again (f (x, line, middle)) y rest) → Again (read >>= f) y rest
@@ -54,10 +50,6 @@ bind_again read f x y e g = ap (λ r. r >>= f) e ∙ g
 pub found_again : {A B : Type 0} (kind : Kind) (o : Option A) (line : ℕ) (f : A → Result B LitmusError) (x : A)
     (y : Result B LitmusError) → o ≡ Some x → f x ≡ y → found (fault_at kind line) o f ≡ y
 found_again kind o line f x y e g = ap (λ p. found (fault_at kind line) p f) e ∙ g
-
-pub then_again : {A : Type 0} (b : Bool) (x y z : A) → b ≡ true → x ≡ z → cond b x y ≡ z
-then_again true x y z e g = g
-then_again false x y z e g = absurd cc
 
 pub else_again : {A : Type 0} (b : Bool) (x y z : A) → b ≡ false → y ≡ z → cond b x y ≡ z
 else_again true x y z e g = absurd cc

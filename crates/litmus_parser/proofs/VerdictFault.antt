@@ -1,5 +1,6 @@
--- What an instruction stands for, or the cause of its fault in its line.
-use Rattle.std.proofs.Common.{◌≡◌, ◌≢◌, ℕ, false, ltb, List, Option, Some, None, Ok, refl, inl, inr}
+-- An instruction stands for what is answered, or its fault has its cause in its line.
+use Rattle.std.proofs.Common.{◌≡◌, ◌≢◌, ℕ, true, false, ltb, List, Option, Some, None, Ok, refl, sym, ap, ◌∙◌, inl}
+use Rattle.std.proofs.Common.{inr}
 use Rattle.std.proofs.lemmas.Bool.{ltb-true, ltb-false}
 use Rattle.litmus_lexer.specs.Pieces.{Piece}
 use Rattle.litmus_lexer.specs.declared.errors.Kind.{Kind}
@@ -8,7 +9,7 @@ use Rattle.litmus_lexer.specs.Reading.{fails}
 use Rattle.litmus_parser.specs.Names.{address_of, is_present}
 use Rattle.litmus_parser.specs.RestLines.{RestAt}
 use Rattle.litmus_parser.specs.Verdicts.{same_width, kept_at, value_register_at, or_no_address, base_at, judged_at}
-use Rattle.litmus_parser.specs.GrammarForms.{HasWidth, Means}
+use Rattle.litmus_parser.specs.GrammarForms.{HasWidth, HoldsValue, Means}
 use Rattle.litmus_parser.specs.TableFaults.{FormAt, width_of, HasValueIn, HasAddressIn, RowsCause}
 use Rattle.litmus_parser.specs.declared.syntax.Width.{Width}
 use Rattle.litmus_parser.specs.declared.syntax.Width.TheVariants.{Single, Double}
@@ -30,8 +31,17 @@ has_width : (before : Option Width) (own : Width) (after : Option Width) →
 has_width None own after h = h
 has_width (Some first) own after h = h.1
 
-abbrev pub Any : {X : Type 0} → X → Type 0
-Any x = Unit {0}
+same_width-is : (a b : Width) → same_width a b ≡ true → a ≡ b
+same_width-is Single Single e = refl
+same_width-is Single Double e = absurd cc
+same_width-is Double Single e = absurd cc
+same_width-is Double Double e = refl
+
+two_same : {A : Type 0} (f : ℕ → ℕ → A) (a b c : ℕ) → a ≡ b → f b c ≡ f a c
+two_same f a b c e = ap (λ x. f x c) (sym e)
+
+swap_same : (d s d' s' l : ℕ) → d ≡ d' → s ≡ s' → Swap d' s' l ≡ Swap d s l
+swap_same d s d' s' l e f = ap (λ x. Swap x s' l) (sym e) ∙ ap (λ x. Swap d x l) (sym f)
 
 module _ (items : List Item) (threads line : ℕ) (pieces : List Piece) where
   -- an instruction in front of this place has the width
@@ -50,66 +60,74 @@ module _ (items : List Item) (threads line : ℕ) (pieces : List Piece) where
 
   module _ (t n : ℕ) (form : Form) (f : FormAt items threads line pieces t n form) where
     kept_explains : (before : Option Width) (own : Width) → WidthFrom before n f.here → width_of form ≡ Some own →
-        Explains C Any (kept_at before own n)
+        Explains C (HasWidth before own) (kept_at before own n)
     unfolding kept_at
-    kept_explains None own w is = tt
+    kept_explains None own w is = refl
     kept_explains (Some first) own w is =
-        test_explains C Any (same_width first own) (Ok (Some first)) (fails MixedWidth n) (λ e. tt) (λ e.
+        test_explains C (HasWidth (Some first) own) (same_width first own) (Ok (Some first)) (fails MixedWidth n)
+        (λ e. let same = same_width-is first own e in (same, ap Some same)) (λ e.
         (t, w.0, w.1, form, w.2, own, first, w.3, f, w.5, is, w.4, not_same first own e))
 
-    value_register_explains : (r : ℕ) → HasValueIn form r → Explains C Any (value_register_at items t r n)
+    value_register_explains : (r : ℕ) → HasValueIn form r →
+        Explains C (λ x. HoldsValue items t r × (r ≡ x)) (value_register_at items t r n)
     unfolding value_register_at
-    value_register_explains r h = test_explains C Any (is_present (address_of t r items)) (fails AddressAsValue n)
-        (Ok r) (λ e. (t, r, form, f, h, e)) (λ e. tt)
+    value_register_explains r h =
+        test_explains C (λ x. HoldsValue items t r × (r ≡ x)) (is_present (address_of t r items))
+        (fails AddressAsValue n) (Ok r) (λ e. (t, r, form, f, h, e)) (λ e. (e, refl))
 
     or_no_address_explains : (r : ℕ) → HasAddressIn form r → (o : Option ℕ) → address_of t r items ≡ o →
-        Explains C Any (or_no_address o n)
-    or_no_address_explains r h (Some l) e = tt
+        Explains C (λ x. address_of t r items ≡ Some x) (or_no_address o n)
+    or_no_address_explains r h (Some l) e = e
     or_no_address_explains r h None e = (t, r, form, f, h, e)
 
-    base_explains : (r : ℕ) → HasAddressIn form r → Explains C Any (base_at items t r n)
+    base_explains : (r : ℕ) → HasAddressIn form r →
+        Explains C (λ x. address_of t r items ≡ Some x) (base_at items t r n)
     unfolding base_at
     base_explains r h = or_no_address_explains r h (address_of t r items) refl
 
   -- an instruction behind others of this width
   pub judged_explains : (before : Option Width) (t n : ℕ) (form : Form) (f : FormAt items threads line pieces t n
       form) → WidthFrom before n f.here
-      → Explains C Any (judged_at items t before form n)
+      → Explains C (λ (x : Instruction × Option Width). Means items t before form x.0 x.1)
+      (judged_at items t before form n)
   unfolding judged_at
   judged_explains before t n (form.Load own target base) f w =
-      bind_explains C Any Any (kept_at before own n) _ (kept_explains t n (form.Load own target base) f before own w
-      refl) (λ width e u.
-      bind_explains C Any Any (value_register_at items t target n) _
-      (value_register_explains t n (form.Load own target base) f target refl) (λ d e u.
-      bind_explains C Any Any (base_at items t base n) (λ b. Ok (Load d b, width))
-      (base_explains t n (form.Load own target base) f base refl) (λ b e u. tt)))
+      let here : Form = form.Load own target base in
+      bind_explains C _ _ (kept_at before own n) _ (kept_explains t n here f before own w refl) (λ width e h.
+      bind_explains C _ _ (value_register_at items t target n) _ (value_register_explains t n here f target refl)
+      (λ d e v.
+      bind_explains C _ _ (base_at items t base n) (λ b. Ok (Load d b, width)) (base_explains t n here f base refl)
+      (λ b e a. (b, two_same Load target d b v.1, h, v.0, a))))
   judged_explains before t n (form.Store own source base) f w =
-      bind_explains C Any Any (kept_at before own n) _ (kept_explains t n (form.Store own source base) f before own w
-      refl) (λ width e u.
-      bind_explains C Any Any (value_register_at items t source n) _
-      (value_register_explains t n (form.Store own source base) f source refl) (λ s e u.
-      bind_explains C Any Any (base_at items t base n) (λ b. Ok (Store s b, width))
-      (base_explains t n (form.Store own source base) f base refl) (λ b e u. tt)))
+      let here : Form = form.Store own source base in
+      bind_explains C _ _ (kept_at before own n) _ (kept_explains t n here f before own w refl) (λ width e h.
+      bind_explains C _ _ (value_register_at items t source n) _ (value_register_explains t n here f source refl)
+      (λ s e v.
+      bind_explains C _ _ (base_at items t base n) (λ b. Ok (Store s b, width)) (base_explains t n here f base refl)
+      (λ b e a. (b, two_same Store source s b v.1, h, v.0, a))))
   judged_explains before t n (form.Swap own target source base) f w =
-      bind_explains C Any Any (kept_at before own n) _ (kept_explains t n (form.Swap own target source base) f before
-      own w refl) (λ width e u.
-      bind_explains C Any Any (value_register_at items t target n) _
-      (value_register_explains t n (form.Swap own target source base) f target (inl refl)) (λ d e u.
-      bind_explains C Any Any (value_register_at items t source n) _
-      (value_register_explains t n (form.Swap own target source base) f source (inr refl)) (λ s e u.
-      bind_explains C Any Any (base_at items t base n) (λ b. Ok (Swap d s b, width))
-      (base_explains t n (form.Swap own target source base) f base refl) (λ b e u. tt))))
+      let here : Form = form.Swap own target source base in
+      bind_explains C _ _ (kept_at before own n) _ (kept_explains t n here f before own w refl) (λ width e h.
+      bind_explains C _ _ (value_register_at items t target n) _
+      (value_register_explains t n here f target (inl refl)) (λ d e v.
+      bind_explains C _ _ (value_register_at items t source n) _
+      (value_register_explains t n here f source (inr refl)) (λ s e u.
+      bind_explains C _ _ (base_at items t base n) (λ b. Ok (Swap d s b, width)) (base_explains t n here f base refl)
+      (λ b e a. (b, swap_same target source d s b v.1 u.1, h, v.0, u.0, a)))))
   judged_explains before t n (form.Li target value) f w =
-      test_explains C Any (ltb value 2147483648) _ (fails ValueRange n)
-      (λ e. bind_explains C Any Any (value_register_at items t target n) (λ d. Ok (Set d value, before))
-      (value_register_explains t n (form.Li target value) f target refl) (λ d e u. tt))
-      (λ e. (t, form.Li target value, f, ltb-false value 2147483648 e))
+      let here : Form = form.Li target value in
+      test_explains C _ (ltb value 2147483648) _ (fails ValueRange n) (λ few.
+      bind_explains C _ _ (value_register_at items t target n) (λ d. Ok (Set d value, before))
+      (value_register_explains t n here f target refl)
+      (λ d e v. (two_same Set target d value v.1, ltb-true _ _ few, v.0, refl)))
+      (λ e. (t, here, f, ltb-false value 2147483648 e))
   judged_explains before t n (form.Ori target value) f w =
-      test_explains C Any (ltb 2047 value) (fails ValueRange n) _
-      (λ e. (t, form.Ori target value, f, ltb-true 2047 value e))
-      (λ e. bind_explains C Any Any (value_register_at items t target n) (λ d. Ok (Set d value, before))
-      (value_register_explains t n (form.Ori target value) f target refl) (λ d e u. tt))
-  judged_explains before t n form.Fence f w = tt
+      let here : Form = form.Ori target value in
+      test_explains C _ (ltb 2047 value) (fails ValueRange n) _ (λ e. (t, here, f, ltb-true 2047 value e)) (λ few.
+      bind_explains C _ _ (value_register_at items t target n) (λ d. Ok (Set d value, before))
+      (value_register_explains t n here f target refl)
+      (λ d e v. (two_same Set target d value v.1, ltb-false _ _ few, v.0, refl)))
+  judged_explains before t n form.Fence f w = (refl, refl)
 
   -- the width that an instruction leaves
   pub width_onward : (before : Option Width) (t n : ℕ) (form : Form) (f : FormAt items threads line pieces t n form) →

@@ -1,7 +1,7 @@
 -- The next piece is one that is wanted; or it is the cause of the fault, or the end is.
 use Rattle.std.proofs.Common.{◌≡◌, ℕ, ◌+◌, ◌≤◌, Bool, true, false, cond, ◌||◌, eqb, ltb, List, [], ◌∷◌, Ok, refl}
 use Rattle.std.proofs.Common.{subst, ◌∙◌, arith}
-use Rattle.std.proofs.lemmas.Bool.{eqb-true, ltb-false}
+use Rattle.std.proofs.lemmas.Bool.{eqb-true, ltb-true, ltb-false}
 use Rattle.litmus_lexer.specs.Pieces.{Piece, Word, Sign, LineEnd}
 use Rattle.litmus_lexer.specs.Spelling.{is_number, value_of_digits}
 use Rattle.litmus_lexer.specs.declared.errors.Kind.{Kind}
@@ -9,7 +9,7 @@ use Rattle.litmus_lexer.specs.declared.errors.Kind.TheVariants.{ValueRange, CutS
 use Rattle.litmus_lexer.specs.Reading.{fails, as_word, as_sign, next_at, next_word_at, sign_at, expect_at}
 use Rattle.litmus_parser.specs.ReadingItems.{small_number_at}
 use Rattle.litmus_parser.specs.RestLines.{RestAt}
-use Rattle.litmus_parser.specs.GrammarWords.{Next, AtTextEnd}
+use Rattle.litmus_parser.specs.GrammarWords.{Next, AtTextEnd, IsLitmusValue}
 use Rattle.litmus_parser.specs.BlockParts.{is_sign, is_word}
 use Rattle.litmus_parser.proofs.Causes.{Explains, start, beyond, over_word, over_end, bind_explains, test_explains}
 use Rattle.litmus_parser.proofs.Causes.{weaker}
@@ -92,14 +92,16 @@ module _ (C : Kind → ℕ → Type 0) (kind : Kind) (fit : Piece → Bool) (n :
   -- a number that fits
   pub number_wanted : ((p : Piece) → fit p ≡ is_word is_number p) → ((w : List ℕ) (m : ℕ) (after : List Piece) →
       Taken n rest (Word w) m after → is_number w ≡ true → 2147483648 ≤ value_of_digits w → C ValueRange m)
-      → Explains C (λ (x : ℕ × ℕ × List Piece). RestAt n rest x.1 x.2) (small_number_at kind n rest)
+      → Explains C (λ (x : ℕ × ℕ × List Piece). (w : List ℕ) × Next rest (Word w) x.2 × IsLitmusValue w x.0 ×
+      RestAt n rest x.1 x.2) (small_number_at kind n rest)
   unfolding small_number_at
   number_wanted same above =
-      let Q : ℕ × ℕ × List Piece → Type 0 = λ x. RestAt n rest x.1 x.2 in
+      let Q : ℕ × ℕ × List Piece → Type 0 =
+      λ x. (w : List ℕ) × Next rest (Word w) x.2 × IsLitmusValue w x.0 × RestAt n rest x.1 x.2 in
       bind_explains C WordTaken Q (next_word_at kind n rest) _ (word_wanted is_number same) (λ w e t.
       test_explains C Q (is_number w.0) _ (fails kind w.1) (λ d.
       test_explains C Q (ltb (value_of_digits w.0) 2147483648) (Ok (value_of_digits w.0, w.1, w.2))
       (fails ValueRange w.1)
-      (λ f. over_word t.0)
+      (λ f. (w.0, t.1, (d, refl, ltb-true _ _ f), over_word t.0))
       (λ f. let ge = ltb-false _ _ f in above w.0 w.1 w.2 t d (omega (arith, ge))))
       (λ d. wants.wrong (Word w.0) w.1 w.2 t (same (Word w.0) ∙ d)))

@@ -300,7 +300,7 @@ rows_part text b h has there =
       header = has;
       there = there;
       rows =
-          rows_take b.0 h.0 h.1 h.2 r answer;
+          rows_take b.0 h.0 h.1 h.2 r some answer;
       keyword = p.1;
       rest_at = p.0;
     })

@@ -24,7 +24,7 @@ use Rattle.litmus_parser.specs.declared.syntax.Name.TheVariants.{Register, Locat
 use Rattle.litmus_parser.specs.declared.syntax.Item.{Item}
 use Rattle.litmus_parser.specs.declared.syntax.Cell.{Cell}
 use Rattle.litmus_parser.proofs.Lemmas.{bind_ok, found_ok, ok_is, never, then_ok, else_ok, either_ok, block_takes}
-use Rattle.litmus_parser.proofs.Lemmas.{header_takes, rows_take, condition_takes}
+use Rattle.litmus_parser.proofs.Lemmas.{header_takes, header_threads, rows_take, condition_takes}
 use Rattle.litmus_reader.specs.Litmus.{Litmus, settings_of}
 use Rattle.litmus_reader.specs.Seen.{seen_in}
 use Rattle.litmus_reader.specs.TestViews.{test_of}
@@ -122,8 +122,10 @@ table_takes items line pieces x e =
     let a = none_absent (absent_line h.0.0 items) (rows_at items h.0.0 [] h.0.1 h.0.2 >>= λ r.
     Ok (h.0.0, r.0, r.1, r.2)) x h.2 in
     let r = bind_ok (rows_at items h.0.0 [] h.0.1 h.0.2) (λ r. Ok (h.0.0, r.0, r.1, r.2)) x a.1 in
+    let row = header_takes line pieces h.0 h.1 in
+    let some = header_threads pieces h.0.0 h.0.2 row in
     subst (TakesTable items pieces) (ok_is (h.0.0, r.0.0, r.0.1, r.0.2) x r.2)
-    (h.0.2, header_takes line pieces h.0 h.1, all-there h.0.0 items a.0, rows_take items h.0.0 h.0.1 h.0.2 r.0 r.1)
+    (h.0.2, row, all-there h.0.0 items a.0, rows_take items h.0.0 h.0.1 h.0.2 r.0 some r.1)
 
 -- ---- the whole
 

@@ -86,4 +86,4 @@ module _ (cores banks number : ℕ) where
           let far = eqb-false (end_of x) e other in
           get_or-set_other full e (end_of x) true false far ∙ marks x lead ∙ sym (or_false (among x found))
           ∙ sym (one_more x found l false (ne_eqb l (links x)
-            (λ same. far (sym (same_ends to x to_leads lead (sym is ∙ same)) ∙ sym at))))
+          (λ same. far (sym (same_ends to x to_leads lead (sym is ∙ same)) ∙ sym at))))

@@ -1,9 +1,11 @@
 -- Each number of a list once, where it comes first.
 use Rattle.std.proofs.Common.{◌≡◌, ℕ, suc, zero, ◌==◌, ◌||◌, Bool, true, false, cond, not, List, [], ◌∷◌, ◌++◌, Some}
-use Rattle.std.proofs.Common.{refl, sym, ap, ◌∙◌, subst, append-nil, eqb-true}
-use Rattle.std.specs.Prelude.{filter, slice_get}
+use Rattle.std.proofs.Common.{refl, sym, ap, ◌∙◌, subst, arith, append-nil, eqb-true, eq-eqb, ◌≢◌, ◌<◌, ◌+◌, ◌*◌}
+use Rattle.std.specs.Prelude.{All, AllPairs, filter, flat_map, slice_get, slice_index_or}
 use Rattle.std.specs.List.{list_any}
-use Rattle.std.proofs.lemmas.List.Elements.{filter-append}
+use Rattle.std.proofs.lemmas.List.Elements.{All-cons, All-nil, filter-append, filter_passes}
+use Rattle.std.proofs.lemmas.List.Kept.{AllPairs-cons, AllPairs-filter}
+use Rattle.seat_rule.specs.Plays.{ones}
 use Rattle.seat_views.proofs.Lemmas.{some_is}
 use Rattle.mailboxes.specs.Places.{once}
 
@@ -70,3 +72,60 @@ once_same (x ∷ xs) l h = by (once_same xs l) (x == l) (list_any (λ y. y == l)
         ap (λ ys. x ∷ but x ys) (once_more xs l none) ∙ ap (λ ys. x ∷ ys) (at_end x l (once xs) true is)
         ∙ ap (λ ys. x ∷ ys) (append-nil (but x (once xs)))
     by same false false is none y = let e = y in cc
+
+-- none comes twice
+differ : (xs : List ℕ) → AllPairs (λ x y. x ≢ y) (once xs)
+differ [] = λ i j d less below. absurd (omega (arith, below))
+differ (x ∷ xs) =
+    AllPairs-cons (λ (a b : ℕ). a ≢ b) x (but x (once xs))
+    (λ k d below same. let passes = filter_passes (λ y. not (x == y)) (once xs) k d below in
+    let equal = ap not (eq-eqb x (slice_index_or (but x (once xs)) k d) same) in cc)
+    (AllPairs-filter (λ (a b : ℕ). a ≢ b) (λ y. not (x == y)) (once xs) (differ xs))
+
+abbrev Apart : ℕ × ℕ → ℕ × ℕ → Type 0
+Apart a b = a.0 ≢ b.0
+
+other_link : (x l s t : ℕ) → s < 4 → t < 4 → x ≢ l → 4 * x + s ≢ 4 * l + t
+other_link x l s t low high other same = other (omega (arith, low, high, same))
+
+other_place : (x s t : ℕ) → s < t → 4 * x + s ≢ 4 * x + t
+other_place x s t less same = absurd (omega (arith, less, same))
+
+abbrev look : ℕ → ℕ → ℕ × ℕ
+look link s = (4 * link + s, 1)
+
+abbrev looks : List ℕ → List (ℕ × ℕ)
+looks ls = flat_map (λ l. ones l 4) ls
+
+-- a slot of one link is none of the others'
+far : (x s : ℕ) (ls : List ℕ) → s < 4 → All (λ l. x ≢ l) ls → All (Apart (look x s)) (looks ls)
+far x s [] lt h = All-nil (Apart (look x s))
+far x s (l ∷ ls) lt h =
+    let other : x ≢ l = h 0 l (omega arith) in
+    let more = far x s ls lt (λ k d below. h (suc k) d (omega (arith, below))) in
+    let P = Apart (look x s) in
+    All-cons P (look l 0) (look l 1 ∷ look l 2 ∷ look l 3 ∷ looks ls) (other_link x l s 0 lt (omega arith) other)
+    (All-cons P (look l 1) (look l 2 ∷ look l 3 ∷ looks ls) (other_link x l s 1 lt (omega arith) other)
+    (All-cons P (look l 2) (look l 3 ∷ looks ls) (other_link x l s 2 lt (omega arith) other)
+    (All-cons P (look l 3) (looks ls) (other_link x l s 3 lt (omega arith) other) more)))
+
+spread : (ls : List ℕ) → AllPairs (λ x y. x ≢ y) ls → AllPairs Apart (looks ls)
+spread [] h = λ i j d less below. absurd (omega (arith, below))
+spread (x ∷ ls) h =
+    let others : All (λ l. x ≢ l) ls = λ k d below. h 0 (suc k) d (omega arith) (omega (arith, below)) in
+    let rest = spread ls (λ i j d less below. h (suc i) (suc j) d (omega (arith, less)) (omega (arith, below))) in
+    let after = looks ls in
+    let second = All-cons (Apart (look x 2)) (look x 3) after (other_place x 2 3 (omega arith))
+    (far x 2 ls (omega arith) others) in
+    let first = All-cons (Apart (look x 1)) (look x 2) (look x 3 ∷ after) (other_place x 1 2 (omega arith))
+    (All-cons (Apart (look x 1)) (look x 3) after (other_place x 1 3 (omega arith)) (far x 1 ls (omega arith) others)) in
+    let zeroth = All-cons (Apart (look x 0)) (look x 1) (look x 2 ∷ look x 3 ∷ after) (other_place x 0 1 (omega arith))
+    (All-cons (Apart (look x 0)) (look x 2) (look x 3 ∷ after) (other_place x 0 2 (omega arith))
+    (All-cons (Apart (look x 0)) (look x 3) after (other_place x 0 3 (omega arith)) (far x 0 ls (omega arith) others))) in
+    AllPairs-cons Apart (look x 0) (look x 1 ∷ look x 2 ∷ look x 3 ∷ after) zeroth
+    (AllPairs-cons Apart (look x 1) (look x 2 ∷ look x 3 ∷ after) first
+    (AllPairs-cons Apart (look x 2) (look x 3 ∷ after) second
+    (AllPairs-cons Apart (look x 3) after (far x 3 ls (omega arith) others) rest)))
+
+pub looks_differ : (xs : List ℕ) → AllPairs Apart (looks (once xs))
+looks_differ xs = spread (once xs) (differ xs)

@@ -1,11 +1,13 @@
 -- One more message that was not put, or was, after others that were not.
 use Rattle.std.proofs.Common.{◌≡◌, ℕ, ◌+◌, ◌*◌, List, [], ◌∷◌, ◌++◌, append_assoc, append-nil, take}
-use Rattle.std.proofs.Common.{Some, sym, ap, ◌∙◌, subst, ◌==◌, Bool, true, false, get_or}
-use Rattle.std.specs.Prelude.{flat_map, slice_get, remove}
+use Rattle.std.proofs.Common.{Some, refl, sym, ap, ◌∙◌, subst, arith, ◌==◌, ◌<◌, zero, suc, Bool, true, false, get_or, eq-eqb}
+use Rattle.std.specs.Prelude.{flat_map, option_map, slice_get, remove, ◌≢◌}
+use Rattle.std.proofs.lemmas.Bool.{false≢true}
+use Rattle.std.proofs.lemmas.List.Folds.{list_any_at}
 use Rattle.std.specs.List.{list_any}
 use Rattle.std.proofs.lemmas.List.{map-append, take_more}
 use Rattle.std.proofs.lemmas.Grind.{flat_map-append}
-use Rattle.std.proofs.lemmas.Option.{get_or_from_slice_get, slice_get_within}
+use Rattle.std.proofs.lemmas.Option.{get_or_from_slice_get, slice_get-map, slice_get_within}
 use Rattle.network.specs.declared.message.Message.{Message}
 use Rattle.seat_rule.specs.Plays.{ones}
 use Rattle.mailboxes.specs.declared.mailbox.Mailbox.{Mailbox}
@@ -106,3 +108,24 @@ own_mark p q full links e to s at lead marks =
     let there : has_link_to p.cores p.banks p.number to ≡ true =
     sym (λ i. has_link_to (s.cores i) (s.banks i) (s.number i) to) ∙ lead in
     (there, ap (λ n. get_or full n false) at ∙ marks to there)
+
+taken : {X : Type 0} (xs : List X) (i j : ℕ) → j < i → slice_get (take i xs) j ≡ slice_get xs j
+taken xs zero j less = absurd (omega (arith, less))
+taken [] (suc i) j less = refl
+taken (x ∷ xs) (suc i) zero less = refl
+taken (x ∷ xs) (suc i) (suc j) less = taken xs i j (omega (arith, less))
+
+-- a message on a link that no older one goes on
+pub older_elsewhere : (cores banks number : ℕ) (out : List Message) (i j : ℕ) (m : Message) (to : Node) → j < i →
+    slice_get out j ≡ Some m →
+    list_any (λ l. l == link_to cores banks number to) (links_of cores banks number (take i out)) ≡ false →
+    link_to cores banks number m.to ≢ link_to cores banks number to
+older_elsewhere cores banks number out i j m to older here none same =
+    let links = links_of cores banks number (take i out) in
+    let link = λ (n : Message). link_to cores banks number n.to in
+    let at : slice_get links j ≡ Some (link m) =
+    slice_get-map link (take i out) j ∙ ap (option_map link) (taken out i j older ∙ here) in
+    let found = list_any_at (λ l. l == link_to cores banks number to) links j 0 (slice_get_within links j (link m) at)
+    (ap (λ l. l == link_to cores banks number to) (get_or_from_slice_get links j (link m) 0 at)
+    ∙ eq-eqb (link m) (link_to cores banks number to) same) in
+    absurd (false≢true (sym none ∙ found))

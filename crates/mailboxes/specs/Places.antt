@@ -35,7 +35,7 @@ link_to cores banks number (Core c) = cores * banks + ((number - cores) * cores 
 link_to cores banks number (Bank b) = number * banks + b
 link_to cores banks number (Dram d) = 0
 
--- the core or bank that a link goes to
+-- the number of a node's core or bank; that of a DRAM is its bank's
 abbrev pub end_of : Node → ℕ
 end_of (Core c) = c
 end_of (Bank b) = b

@@ -1,10 +1,12 @@
 //! Laws of looks and of sending, for callers. The functions do nothing: their contracts are the laws.
-ghost use Rattle.std.specs.Prelude.{◌≡◌, ℕ, ◌<◌, ◌≤◌, true, false, List, length};
+ghost use Rattle.std.specs.Prelude.{◌≡◌, ◌≢◌, ℕ, ◌<◌, ◌≤◌, true, false, AllPairs, List, Some, length, slice_get};
 ghost use Rattle.network.specs.declared.message.Message.{Message};
 ghost use Rattle.machine_table.specs.SetUp.{is_good};
 ghost use Rattle.seat_rule.specs.declared.views.SetUp.{SetUp};
 ghost use Rattle.mailboxes.specs.Places.{AllFoundEmpty, AllFoundFull};
-ghost use Rattle.mailboxes.specs.Places.{found_empty, found_full, incoming_count};
+ghost use Rattle.mailboxes.specs.Places.{found_empty, found_full, incoming_count, link_to};
+ghost use Rattle.mailboxes.specs.declared.mailbox.Mailbox.{Mailbox};
+ghost use Rattle.mailboxes.specs.BoxMoves.{Puts};
 ghost use Rattle.closed_machine.specs.Sending.{OutboxState, can_still_send, can_send_out};
 
 /// A seat that takes nothing has looked at each slot that comes in to it: the slots that it looks at, from the cursor
@@ -20,6 +22,19 @@ pub fn all_incoming_slots_are_looked_at()
 pub fn all_slots_of_a_link_are_looked_at()
     ensures { (z : SetUp) (number : ℕ) (ms : List Message) → is_good z.config ≡ true →
         AllFoundFull z number ms (found_full z.config.cores z.config.banks number ms) }
+{}
+
+/// Messages of one link are put in their order: each older message that stays in the outbox goes on another link.
+pub fn messages_of_a_link_keep_their_order()
+    ensures { (p q : Mailbox) (out left : List Message) (put : Puts true p out q left) →
+        (j : ℕ) (m : Message) → j < put.0 → slice_get out j ≡ Some m →
+        link_to p.cores p.banks p.number m.to ≢ link_to p.cores p.banks p.number put.2.to }
+{}
+
+/// A seat that looks at the links of messages looks at no slot twice, so at most four times at a link.
+pub fn no_slot_is_looked_at_twice()
+    ensures { (cores banks number : ℕ) (ms : List Message) →
+        AllPairs (λ a b. a.0 ≢ b.0) (found_full cores banks number ms) }
 {}
 
 /// A seat can send a message exactly if it sent fewer than 18,446,744,073,709,551,615. It can send one out exactly if

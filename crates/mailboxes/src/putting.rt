@@ -69,7 +69,10 @@ impl Mailbox {
         slots_are_few(&machine.set_up.config);
         let to = outbox.get(cell).to;
         let config = &machine.set_up.config;
-        (link_to(config, self.number, &to), end_of(config, self.number, &to))
+        (
+            link_to(config, self.number, &to),
+            end_of(config, self.number, &to),
+        )
     }
 
     // Puts the message of a cell of the outbox, which comes after `index` others, into a slot of its link.

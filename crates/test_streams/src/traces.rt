@@ -1,8 +1,12 @@
 //! Texts of traces and of records that come a few bytes a call, and devices that fail on the way.
 use crate::limited::Limited;
 use byte_streams::FromRead;
+use network::Counts;
 use physiological_order::Op;
+use programs::End;
+use report::{TraceEnd, trace_text};
 use std::alloc::Global;
+use std::test::Fail;
 use trace_reader::{Kind, Step, TraceError, read, read_records};
 
 // What is read of a trace: how many cores it has, and how many steps and operations its last core. Of records it is how
@@ -107,4 +111,30 @@ fn faults_before_a_failure(rt: HostRuntime) {
     let record = record_count(rt.alloc(), b"0 0 X 8\n0 0", 8, 1);
     let bad = (1, Kind::BadOperation);
     assert!(rt; brought == Err(bad) && cut == Err((0, Kind::Read)) && record == Err(bad));
+}
+
+// The last lines of the report on a load that received 7, where nobody wrote.
+const REPORT: &[u8] = b"stale-hits 0\norder wrong value 0\n";
+
+// A caller gives records of its own, and the report has a check's verdict on them.
+#[test]
+fn a_report_checks_its_records(rt: HostRuntime) -> Result<(), Fail> {
+    let _inside: Option<Op> = None;
+    let alloc = rt.alloc();
+    let trace = read(alloc, &mut source(b"0 R 0x0\n", 8, 8))
+        .map_err(told)
+        .expect(&rt, "a trace");
+    let mut text = source(b"0 0 R 0x0 7 0 0\n", 8, 8);
+    let records = read_records(alloc, &mut text)
+        .map_err(told)
+        .expect(&rt, "a record");
+    let run = TraceEnd {
+        issued: 1,
+        end: End::AllDone,
+        counts: Counts::zeros(),
+        stale: 0,
+    };
+    let report = trace_text(alloc, trace, &run, &records, &[])?;
+    assert!(rt; report.as_slice().ends_with(REPORT));
+    Ok(())
 }

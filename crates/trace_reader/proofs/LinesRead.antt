@@ -132,47 +132,47 @@ module _ {S X : Type 0} (says : S → List (List ℕ) → Result (S × Option X)
         ∙ ap (behind told) (line-long (suc number) state line later long) ∙ ap Err (sym e))
 
     module _ (new : List ℕ) (found : Option ℕ) (q : Both b c (λ before after. IsFound found (old ++ before) new after))
-        where
-      pub all-read : found ≡ None → IfSome a (λ bytes. from 1 first (lines_of bytes) ≡ Ok told)
-      all-read e =
-          both-end Stands (λ bytes. from 1 first (lines_of bytes) ≡ Ok told) a b c old new found p q e
-          (λ before s. whole-gives first told (suc number) state before [] s
-          ∙ ap (behind told) (lines-end (suc number) state) ∙ ap Ok (append-nil told))
+      where
+        pub all-read : found ≡ None → IfSome a (λ bytes. from 1 first (lines_of bytes) ≡ Ok told)
+        all-read e =
+            both-end Stands (λ bytes. from 1 first (lines_of bytes) ≡ Ok told) a b c old new found p q e
+            (λ before s. whole-gives first told (suc number) state before [] s
+            ∙ ap (behind told) (lines-end (suc number) state) ∙ ap Ok (append-nil told))
 
-      module _ (line : List ℕ) (n : ℕ) (e : found ≡ Some n)
-          (h : (n ≤ MOST_BYTES) × (n ≤ length new) × (number < MOST_LINES)) (f : line ≡ take n new) where
-        short : length (take n new) ≤ MOST_BYTES
-        short = omega (arith, length-take-le n new h.1, h.0)
+        module _ (line : List ℕ) (n : ℕ) (e : found ≡ Some n)
+            (h : (n ≤ MOST_BYTES) × (n ≤ length new) × (number < MOST_LINES)) (f : line ≡ take n new) where
+          short : length (take n new) ≤ MOST_BYTES
+          short = omega (arith, length-take-le n new h.1, h.0)
 
-        pub read-on : (last : List ℕ) (next : S) (said : Option X) → last ≡ drop (n + 1) new →
-            says state (fields_of line) ≡ Ok (next, said) → Both a c (λ before after.
-            SoFar first (told ++ list_of_option said) (suc (number + 1)) next before (lines_of (last ++ after)))
-        read-on last next said g r =
-            let now = ap (λ (w : List ℕ). says state (fields_of w)) (sym f) ∙ r in
-            let early : suc number ≤ MOST_LINES = h.2 in
-            let again : suc (suc number) ≡ suc (number + 1) = omega arith in
-            both-next Stands (SoFar first (told ++ list_of_option said) (suc (number + 1)) next) a b c old new found n
-            p q e (λ before later s. subst (λ k. SoFar first (told ++ list_of_option said) k next before later) again
+          pub read-on : (last : List ℕ) (next : S) (said : Option X) → last ≡ drop (n + 1) new →
+              says state (fields_of line) ≡ Ok (next, said) → Both a c (λ before after.
+              SoFar first (told ++ list_of_option said) (suc (number + 1)) next before (lines_of (last ++ after)))
+          read-on last next said g r =
+              let now = ap (λ (w : List ℕ). says state (fields_of w)) (sym f) ∙ r in
+              let early : suc number ≤ MOST_LINES = h.2 in
+              let again : suc (suc number) ≡ suc (number + 1) = omega arith in
+              both-next Stands (SoFar first (told ++ list_of_option said) (suc (number + 1)) next) a b c old new found n
+              p q e (λ before later s. subst (λ k. SoFar first (told ++ list_of_option said) k next before later) again
               (one-done first told said (suc number) state next before (take n new) later short early now s)) last g
 
-        pub refused-said : (fault : TraceError) → fault.line ≡ number + 1 →
-            says state (fields_of line) ≡ Err fault.kind →
-            IfSome a (λ bytes. from 1 first (lines_of bytes) ≡ Err fault)
-        refused-said fault at r =
-            let now = ap (λ (w : List ℕ). says state (fields_of w)) (sym f) ∙ r in
-            let early : suc number ≤ MOST_LINES = h.2 in
-            let again : suc number ≡ fault.line = omega (arith, at) in
-            both-fault Stands (λ bytes. from 1 first (lines_of bytes) ≡ Err fault) a b c old new found n p q e
-            (λ before later s. whole-gives first told (suc number) state before (take n new ∷ later) s
-            ∙ ap (behind told) (line-refused (suc number) state (take n new) later fault.kind short early now)
-            ∙ ap (λ k. Err (record { line = k; kind = fault.kind })) again)
+          pub refused-said : (fault : TraceError) → fault.line ≡ number + 1 →
+              says state (fields_of line) ≡ Err fault.kind →
+              IfSome a (λ bytes. from 1 first (lines_of bytes) ≡ Err fault)
+          refused-said fault at r =
+              let now = ap (λ (w : List ℕ). says state (fields_of w)) (sym f) ∙ r in
+              let early : suc number ≤ MOST_LINES = h.2 in
+              let again : suc number ≡ fault.line = omega (arith, at) in
+              both-fault Stands (λ bytes. from 1 first (lines_of bytes) ≡ Err fault) a b c old new found n p q e
+              (λ before later s. whole-gives first told (suc number) state before (take n new ∷ later) s
+              ∙ ap (behind told) (line-refused (suc number) state (take n new) later fault.kind short early now)
+              ∙ ap (λ k. Err (record { line = k; kind = fault.kind })) again)
 
-        -- what memory was refused for was there
-        pub one-wanted : (next : S) (x : X) → says state (fields_of line) ≡ Ok (next, Some x) →
-            WantsMemory (from 1 first) a
-        one-wanted next x r =
-            let now = ap (λ (w : List ℕ). says state (fields_of w)) (sym f) ∙ r in
-            let early : suc number ≤ MOST_LINES = h.2 in
-            both-fault Stands (λ bytes. WantsMemory (from 1 first) (Some bytes)) a b c old new found n p q e
-            (λ before later s. one-kept first told x (suc (suc number)) next before later
-            (one-done first told (Some x) (suc number) state next before (take n new) later short early now s))
+          -- what memory was refused for was there
+          pub one-wanted : (next : S) (x : X) → says state (fields_of line) ≡ Ok (next, Some x) →
+              WantsMemory (from 1 first) a
+          one-wanted next x r =
+              let now = ap (λ (w : List ℕ). says state (fields_of w)) (sym f) ∙ r in
+              let early : suc number ≤ MOST_LINES = h.2 in
+              both-fault Stands (λ bytes. WantsMemory (from 1 first) (Some bytes)) a b c old new found n p q e
+              (λ before later s. one-kept first told x (suc (suc number)) next before later
+              (one-done first told (Some x) (suc number) state next before (take n new) later short early now s))

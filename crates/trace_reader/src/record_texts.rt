@@ -80,7 +80,7 @@ pub fn read_records<S: Source>(alloc: Global, source: &mut S) -> Result<Vec<Reco
     // The records as they are read from the front.
     ensures told { IfOk result (λ records. IfSome (S.remaining source.old)
         (λ bytes. records_at bytes ≡ Ok records.items)) }
-    // The first fault; memory is refused only where there is a record or a fault.
+    // The first fault; memory is refused only where a record stands before any fault.
     ensures refused { IfErr result (Refused records_in (S.failures source.old)
         (S.failures source.new) (S.remaining source.old)) }
     ensures none_failed { OnOk result (S.failures source.new ≡ S.failures source.old) }

@@ -24,7 +24,13 @@ loop-index-init c =
       cores = refl;
       banks = refl;
       part = record {
-        core = refl; bank = refl; dram = refl; issued = refl; records = refl; counts = refl; seen = refl;
+        core = refl;
+        bank = refl;
+        dram = refl;
+        issued = refl;
+        records = refl;
+        counts = refl;
+        seen = refl;
       };
     } in (
       (

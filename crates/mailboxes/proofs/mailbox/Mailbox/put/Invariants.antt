@@ -10,8 +10,8 @@ use Rattle.mailboxes.proofs.mailbox.Mailbox.put.Given as goal
 abbrev pub invariant-loop-index : goal.invariant-loop-index
 invariant-loop-index l =
     let p = l.initial.self in (
-      SweptTo l.machine p l.initial.outbox l.index l.self l.outbox
-      × (l.next ≡ first_cell (drop l.index l.initial.outbox)) × (length l.full ≡ 64)
-      × Marks p.cores p.banks p.number l.full
-        (links_of p.cores p.banks p.number (take l.index (values_of l.initial.outbox)))
+    SweptTo l.machine p l.initial.outbox l.index l.self l.outbox
+    × (l.next ≡ first_cell (drop l.index l.initial.outbox)) × (length l.full ≡ 64)
+    × Marks p.cores p.banks p.number l.full
+    (links_of p.cores p.banks p.number (take l.index (values_of l.initial.outbox)))
     )

@@ -24,7 +24,8 @@ use Rattle.machine_table.specs.Machine.{Machine, with_core, with_bank, with_dram
 use Rattle.machine_table.specs.Posted.{can_post}
 use Rattle.machine_table.specs.Step as step
 use Rattle.machine_table.specs.Step.{Step, Tried}
-use Rattle.machine_table.specs.Transition.{changed, issued, issue_at, attempt_at, deliver_core, deliver_bank, deliver_dram}
+use Rattle.machine_table.specs.Transition.{changed, issued, issue_at, attempt_at, deliver_core, deliver_bank}
+use Rattle.machine_table.specs.Transition.{deliver_dram}
 use Rattle.machine_table.specs.Transition.{deliver_to, deliver_message, evict_copy, evict_entry, advance_at, on_event}
 use Rattle.machine_table.specs.Transition.{transition, tried}
 use Rattle.machine_table.specs.declared.event.Answer.{Answer}

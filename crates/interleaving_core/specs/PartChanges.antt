@@ -13,8 +13,8 @@ use Rattle.core_pts.specs.CoreTable.{CoreState}
 use Rattle.interleaving_core.specs.declared.plain_answer.PlainAnswer.{PlainAnswer}
 use Rattle.interleaving_core.specs.declared.plain_answer.PlainAnswer.TheVariants as plain
 use Rattle.machine_table.specs.Posted.{can_post, left, posted}
-use Rattle.machine_table.specs.Step.{Step, Exhausts, Keeps, Drops, Makes, Tried, Completes, Does, did_answer, kept_answer}
-use Rattle.machine_table.specs.Step.{record_of}
+use Rattle.machine_table.specs.Step.{Step, Exhausts, Keeps, Drops, Makes, Tried, Completes, Does, did_answer}
+use Rattle.machine_table.specs.Step.{kept_answer, record_of}
 
 -- the answer, and the part and the messages in flight afterwards, where the message of this number, if any, is
 -- delivered

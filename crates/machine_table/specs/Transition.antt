@@ -25,8 +25,9 @@ use Rattle.machine_table.specs.declared.event.Refusal.{Refusal}
 use Rattle.machine_table.specs.declared.event.Refusal.TheVariants as refusal
 use Rattle.machine_table.specs.Machine.{Machine, with_core, with_bank, with_dram}
 use Rattle.machine_table.specs.Posted.{can_post, left, posted}
-use Rattle.machine_table.specs.Step.{Step, Exhausts, Keeps, Drops, Makes, Tried, Completes, Does, did_answer, kept_answer}
-use Rattle.machine_table.specs.Step.{advanced, attempt_open, copy_evicted, entry_evicted, reacted, record_of}
+use Rattle.machine_table.specs.Step.{Step, Exhausts, Keeps, Drops, Makes, Tried, Completes, Does, did_answer}
+use Rattle.machine_table.specs.Step.{kept_answer, advanced, attempt_open, copy_evicted, entry_evicted, reacted}
+use Rattle.machine_table.specs.Step.{record_of}
 
 abbrev pub refused : Machine → Refusal → Answer × Machine
 refused m why = (Refused why, m)

@@ -24,7 +24,7 @@ use Rattle.core_pts.specs.declared.attempt.IssueError.TheVariants as not_issued
 use Rattle.core_pts.specs.CoreTable as core_table
 use Rattle.core_pts.specs.CoreTable.{CoreState, to_bank, pinned_line, line_of_open, is_pinned, completed_at}
 use Rattle.core_pts.specs.OnCopy.{is_exclusive, serves, time_of, received_at, copy_after, words_of_copy}
-use Rattle.machine_table.specs.Machine.{Machine, with_core}
+use Rattle.machine_table.specs.Machine.{Machine}
 use Rattle.network.specs.Mail.{has_capacity}
 use Rattle.machine_table.specs.Transition.{issued, issue_at, attempt_at, evict_copy, advance_at}
 use Rattle.machine_theorem.proofs.PartChanges.{requested, attempted_op, attempt_open, copy_evicted, advanced, tested}

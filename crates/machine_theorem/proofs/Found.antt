@@ -17,7 +17,7 @@ use Rattle.machine_table.specs.declared.event.Event.TheVariants.{Deliver}
 use Rattle.machine_table.specs.declared.event.Refusal.TheVariants.{NoSuch, Stopped}
 use Rattle.machine_table.specs.Machine.{Machine, with_core, with_bank, with_dram}
 use Rattle.network.specs.Mail.{has_number, has_capacity}
-use Rattle.machine_table.specs.Transition.{changed, refused, deliver_core, deliver_bank, deliver_dram, deliver_to}
+use Rattle.machine_table.specs.Transition.{refused, deliver_core, deliver_bank, deliver_dram, deliver_to}
 use Rattle.machine_table.specs.Transition.{deliver_message, transition}
 use Rattle.machine_theorem.proofs.PartChanges.{reacted}
 use Rattle.machine_table.specs.declared.event.Answer.{Answer}

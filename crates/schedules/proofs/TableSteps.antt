@@ -165,7 +165,8 @@ module _ (m : Machine) where
   changed_stays n put K puts step.Drops is = record { ops = λ core. refl; records = refl }
   changed_stays n put K puts (step.Makes did consumes sends part) is =
       cond_both (can_post m.config.messages m.mail consumes sends)
-      (did_answer did, record (put part) { mail = posted m.mail n consumes sends }) (refused m refusal.NetworkFull) Stays
+      (did_answer did, record (put part) { mail = posted m.mail n consumes sends })
+      (refused m refusal.NetworkFull) Stays
       (λ t. record { ops = (puts part is).ops; records = (puts part is).records }) (λ t. same)
 
   core_changed : (n : Option ℕ) (c : ℕ) (core : CoreState) → slice_get m.cores c ≡ Some core → (s : Step CoreState) →
@@ -332,7 +333,8 @@ module _ (m : Machine) where
   quiet_unless event stays =
       cond_both m.is_stopped (refused m refusal.Stopped) (on_event m event) Stays (λ t. same) (λ t. stays)
 
-  advanced_part : (core : CoreState) → Part (λ new. new.open_op ≡ core.open_op) (step.advanced (core_table.advance core))
+  advanced_part : (core : CoreState) →
+      Part (λ new. new.open_op ≡ core.open_op) (step.advanced (core_table.advance core))
   unfolding Part
   advanced_part core = cond_both (fits (core.pts + 1)) (Some tt, record core { pts = core.pts + 1 }) (None, core)
       (λ r. Part (λ new. new.open_op ≡ core.open_op) (step.advanced r)) (λ t. refl) (λ t. tt)

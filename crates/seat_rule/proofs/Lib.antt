@@ -16,7 +16,6 @@ mod PartChanges
 mod Phases
 mod ReachedParts
 mod ReachedStates
-mod Reactions
 mod SeatMoves
 mod Seats
 mod SetUps

@@ -95,7 +95,8 @@ step_adds a b put keeps rest step.Drops to = inl (ap (λ (x : State). x.records)
 step_adds a b put keeps rest (step.Makes did consumes sends part) to =
     inl (ap (λ (x : State). x.records) to ∙ answered (put part) (cond consumes rest a.bag) sends ∙ keeps part)
   where
-    answered : (x : State) (bag : List Message) (answer : Option Message) → (with_answer x bag answer).records ≡ x.records
+    answered : (x : State) (bag : List Message) (answer : Option Message) →
+        (with_answer x bag answer).records ≡ x.records
     answered x bag None = refl
     answered x bag (Some message) = refl
 

@@ -1,5 +1,5 @@
--- The moves of the machine's states, each a step of the one part that takes it, and the states that moves reach from the
--- initial one.
+-- The moves of the machine's states, each a step of the one part that takes it, and the states that moves reach from
+-- the initial one.
 use Rattle.std.specs.Prelude.{◌≡◌, ℕ, ◌<◌, Bool, true, List, [], ◌∷◌, ◌++◌, length, cond, Option, Some, None, Ok}
 use Rattle.std.specs.Ordering.{nat_cmp}
 use Rattle.std.specs.FinMap.{FinMap}

@@ -19,8 +19,8 @@ invariant_of-self c =
     let mail : Mail = c.self.inside.flight.mail in
     let here = slice_get_read c.self.inside.cores.items (length c.self.inside.cores.items) c.args.core
     c.index_mut.result.now refl (omega (arith, c.if-at-len.false, c.len.ensures)) c.index_mut.ensures.value in
-    let status = subst (λ (x : Answer × CoreState × Mail). SameStatus core x.1) (sym (c.advance-plain.ensures c.self.inside.config.messages mail))
-    (kept core (SameStatus core) (refl, refl) c.self.inside.config.messages mail None _ (advance_only core)) in
+    let status = subst (λ (x : Answer × CoreState × Mail). SameStatus core x.1) (sym (c.advance-plain.ensures 0 mail))
+    (kept core (SameStatus core) (refl, refl) 0 mail None _ (advance_only core)) in
     let same = owed_kept c.self.inside.cores.items c.args.core core c.advance-plain.new.core here status.0 in
     record {
       cores_are = c.self.invariant.cores_are;

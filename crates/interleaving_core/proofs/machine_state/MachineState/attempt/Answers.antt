@@ -83,7 +83,8 @@ returns c =
     told_in _ m.records c.attempt-answer.result c.plain_of.result _ c.plain_of.ensures c.keep.ensures.records
     (put_so m (λ x. set m.cores c.args.core x) (λ x. m.banks) (λ x. m.drams) core
     (set_same m.cores c.args.core core here) refl refl
-    (applied_attempt c.args.core (length m.records) m.config.messages m.mail core tries) (tried m c.args.core core tries)
+    (applied_attempt c.args.core (length m.records) m.config.messages m.mail core tries)
+    (tried m c.args.core core tries)
     (is_tried m c.args.core core (set_same m.cores c.args.core core here) tries)
     c.attempt-answer.result c.attempt-answer.new.core c.attempt-answer.new.flight.mail
     c.keep.new.records.items c.stop.new.is_stopped

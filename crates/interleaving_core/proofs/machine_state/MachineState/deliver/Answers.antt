@@ -1,4 +1,5 @@
-use Rattle.std.proofs.Common.{◌≡◌, ◌||◌, List, Some, Result, Ok, Err, IfOk, OnErr, ap, sym, subst, refl, ◌∙◌, arith, set}
+use Rattle.std.proofs.Common.{◌≡◌, ◌||◌, List, Some, Result, Ok, Err, IfOk, OnErr, ap, sym, subst, refl, ◌∙◌}
+use Rattle.std.proofs.Common.{arith, set}
 use Rattle.std.proofs.lemmas.Bool.{false≢true}
 use Rattle.std.proofs.lemmas.Option.{slice_get_within}
 use Rattle.std.specs.Vec.{vec_capacity}

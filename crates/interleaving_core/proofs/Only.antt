@@ -117,7 +117,8 @@ module _ (core : CoreState) where
 
   module _ (c number capacity : ℕ) (mail : Mail) where
     asked_stands : (b : Bool) (new : Mail) →
-        Stands (cond b (answer.Requested, record core { is_out = true }, new) (answer.Refused refusal.NetworkFull, core, mail))
+        Stands (cond b (answer.Requested, record core { is_out = true }, new)
+        (answer.Refused refusal.NetworkFull, core, mail))
     asked_stands true new = refl
     asked_stands false new = refl
 

@@ -118,10 +118,12 @@ spread (x ∷ ls) h =
     let second = All-cons (Apart (look x 2)) (look x 3) after (other_place x 2 3 (omega arith))
     (far x 2 ls (omega arith) others) in
     let first = All-cons (Apart (look x 1)) (look x 2) (look x 3 ∷ after) (other_place x 1 2 (omega arith))
-    (All-cons (Apart (look x 1)) (look x 3) after (other_place x 1 3 (omega arith)) (far x 1 ls (omega arith) others)) in
+    (All-cons (Apart (look x 1)) (look x 3) after (other_place x 1 3 (omega arith))
+    (far x 1 ls (omega arith) others)) in
     let zeroth = All-cons (Apart (look x 0)) (look x 1) (look x 2 ∷ look x 3 ∷ after) (other_place x 0 1 (omega arith))
     (All-cons (Apart (look x 0)) (look x 2) (look x 3 ∷ after) (other_place x 0 2 (omega arith))
-    (All-cons (Apart (look x 0)) (look x 3) after (other_place x 0 3 (omega arith)) (far x 0 ls (omega arith) others))) in
+    (All-cons (Apart (look x 0)) (look x 3) after (other_place x 0 3 (omega arith))
+    (far x 0 ls (omega arith) others))) in
     AllPairs-cons Apart (look x 0) (look x 1 ∷ look x 2 ∷ look x 3 ∷ after) zeroth
     (AllPairs-cons Apart (look x 1) (look x 2 ∷ look x 3 ∷ after) first
     (AllPairs-cons Apart (look x 2) (look x 3 ∷ after) second

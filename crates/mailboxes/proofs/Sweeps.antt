@@ -1,6 +1,7 @@
 -- One more message that was not put, or was, after others that were not.
 use Rattle.std.proofs.Common.{◌≡◌, ℕ, ◌+◌, ◌*◌, List, [], ◌∷◌, ◌++◌, append_assoc, append-nil, take}
-use Rattle.std.proofs.Common.{Some, refl, sym, ap, ◌∙◌, subst, arith, ◌==◌, ◌<◌, zero, suc, Bool, true, false, get_or, eq-eqb}
+use Rattle.std.proofs.Common.{Some, refl, sym, ap, ◌∙◌, subst, arith, ◌==◌, ◌<◌, zero, suc, Bool, true, false}
+use Rattle.std.proofs.Common.{get_or, eq-eqb}
 use Rattle.std.specs.Prelude.{flat_map, option_map, slice_get, remove, ◌≢◌}
 use Rattle.std.proofs.lemmas.Bool.{false≢true}
 use Rattle.std.proofs.lemmas.List.Folds.{list_any_at}
@@ -55,7 +56,8 @@ module _ (p : Mailbox) (ms : List Message) (i : ℕ) (m : Message) (here : slice
   to_go = link_to p.cores p.banks p.number m.to
 
   pub swept_more : (q r : Mailbox) (xs ys : List Message) (link : ℕ) → link ≡ to_go →
-      list_any (λ l. l == to_go) (links i) ≡ false → PutNothing (swept i) p ms q xs → PutNothing (ones link 4) q xs r ys →
+      list_any (λ l. l == to_go) (links i) ≡ false → PutNothing (swept i) p ms q xs →
+      PutNothing (ones link 4) q xs r ys →
       PutNothing (swept (i + 1)) p ms r ys
   swept_more q r xs ys link is new n t =
       let more : swept (i + 1) ≡ swept i ++ ones link 4 =

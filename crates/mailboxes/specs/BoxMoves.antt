@@ -74,7 +74,8 @@ abbrev pub Puts : Bool → Mailbox → List Message → Mailbox → List Message
 Puts true p out q left =
     (i : ℕ) × (s : ℕ) × (m : Message) × PutInto (link_to p.cores p.banks p.number m.to)
     (found_full p.cores p.banks p.number (take i out)) i s m p out q left
-    × (list_any (λ l. l == link_to p.cores p.banks p.number m.to) (links_of p.cores p.banks p.number (take i out)) ≡ false)
+    × (list_any (λ l. l == link_to p.cores p.banks p.number m.to)
+    (links_of p.cores p.banks p.number (take i out)) ≡ false)
 Puts false p out q left = PutNothing (found_full p.cores p.banks p.number out) p out q left
 
 -- the message m of this slot is in the hand: the slot was found full. Before, these looks were made

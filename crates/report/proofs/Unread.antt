@@ -48,7 +48,8 @@ module _ {X Y : Type 0} (Says : List ℕ → X → Type 0) (Cause : List ℕ →
       → IfSome known (λ bytes. (x : X) → Says bytes x → (e ≡ whole Read) ⊎ (e ≡ whole NoMemory)) →
       IsUnread (IsFault Says Cause of_text known) (WantsMemory read known) before after (refusal e)
   unread before after known (inl failed) caused only =
-      subst (IsUnread (IsFault Says Cause of_text known) (WantsMemory read known) before after) (sym (ap refusal failed.0))
+      subst (IsUnread (IsFault Says Cause of_text known) (WantsMemory read known) before after)
+      (sym (ap refusal failed.0))
       (let more : before < after = omega (arith, failed.1) in more)
   unread before after known (inr (same, inl memory)) caused only =
       subst (IsUnread (IsFault Says Cause of_text known) (WantsMemory read known) before after)

@@ -6,7 +6,8 @@ use Rattle.trace_lines.specs.Fields.{fields_of}
 use Rattle.trace_reader.specs.Ahead.{ahead}
 use Rattle.trace_reader.specs.Outcomes.{Refused}
 use Rattle.trace_reader.specs.Reading.{record_said, records_in}
-use Rattle.trace_reader.proofs.LinesRead.{all-read, at-start, long-of-line, one-wanted, read-on, refused-long, refused-said}
+use Rattle.trace_reader.proofs.LinesRead.{all-read, at-start, long-of-line, one-wanted, read-on}
+use Rattle.trace_reader.proofs.LinesRead.{refused-long, refused-said}
 use Rattle.trace_reader.proofs.RecordsMeant.{record-of-line}
 use Rattle.trace_reader.proofs.record_texts.read_whole.Goals as goal
 

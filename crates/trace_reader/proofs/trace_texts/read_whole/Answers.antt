@@ -5,7 +5,8 @@ use Rattle.trace_reader.specs.Ahead.{ahead}
 use Rattle.trace_reader.specs.Outcomes.{Refused}
 use Rattle.trace_reader.specs.Reading.{list_of_option, said_at, steps_in}
 use Rattle.trace_reader.specs.Steps.{IsByCore}
-use Rattle.trace_reader.proofs.LinesRead.{all-read, at-start, if-some, long-of-line, one-wanted, read-on, refused-long, refused-said}
+use Rattle.trace_reader.proofs.LinesRead.{all-read, at-start, if-some, long-of-line, one-wanted, read-on}
+use Rattle.trace_reader.proofs.LinesRead.{refused-long, refused-said}
 use Rattle.trace_reader.proofs.StepsMeant.{refused-of-line}
 use Rattle.trace_reader.proofs.trace_texts.read_whole.Goals as goal
 

@@ -17,7 +17,7 @@ from program import TOP
 sys.path.insert(0, str(TOP / "examples"))
 from reference import told  # noqa: E402
 from reference.given import Bad, Subject, Words, contents, tool  # noqa: E402
-from shown.played import SECOND, drive_call, machine_call, player_of, steps_of  # noqa: E402
+from shown.played import drive_call, machine_call, player_of, say_second, steps_of  # noqa: E402
 
 KINDS = ("ShReq", "ExReq", "ShRep", "ExRep", "RenewRep", "UpgradeRep", "FlushReq", "WbReq", "FlushRep", "WbRep",
          "DramLd", "DramLdRep", "DramSt", "DramStRep")
@@ -157,9 +157,7 @@ def main(words):
     counts = counted(command, given, options)
     print("\n".join([f"end {counts.end}", *(f"{name} {number}" for name, number in counts.run.items()),
                      *tables(counts, lambda part: part in shown or part.startswith("bank"))]))
-    if made_by == SECOND and not options.player:
-        print(f"counts.py: {SECOND} counted, since ./play isn't built from these sources. This builds it, in many "
-              "minutes: ./play crates/play_events/data/pages.events", file=sys.stderr)
+    say_second("counts.py", made_by, options)
     return int(counts.end != "all-done")
 
 

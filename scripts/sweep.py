@@ -38,7 +38,7 @@ from advance import new_trace
 from program import Refused
 from reference.given import NUMBERS, Bad, Words, contents, tool
 from reference.machine import COUNTED
-from shown.played import player_of
+from shown.played import player_of, say_second
 
 CHOICES = {"schedule": ("round", "seed"), "private-write": ("no", "yes")}
 LISTED = {**NUMBERS, "advance": (0, "an advance after each N operations of a core; 0: none")}
@@ -166,7 +166,7 @@ class Sweep:
         self.traces, self.counts = traces_of(options), options.counts
         self.columns = ["trace", *["name"] * bool(options.named), *OPTIONS, *REPORT, *(COUNTS if self.counts else []),
                         "program", "failed"]
-        self.player, _ = player_of(options) if self.counts else (None, None)
+        self.player, self.counted_by = player_of(options) if self.counts else (None, None)
         self.given = {}  # by trace and advances what the player is given
 
     def row(self, trace, chosen):
@@ -357,6 +357,7 @@ def main(given):
             raise Bad(f"{path}: {error.strerror}") from None
     failed = sum(bool(row["failed"]) for row in rows)
     print(f"{options.csv}: {len(rows)} rows, {failed} failed")
+    say_second("sweep.py", made.counted_by, options)
     return int(any(row["end"] != "all-done" or row["failed"] for row in rows))
 
 

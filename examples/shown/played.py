@@ -5,6 +5,7 @@ one, and looks at the machine after each. Last it looks at the bank's entry and 
 """
 import shlex
 import subprocess
+import sys
 from pathlib import Path
 from types import SimpleNamespace
 
@@ -18,6 +19,13 @@ TOP = Path(__file__).resolve().parent.parent.parent
 # The rule of ./play, at the folder $1.
 IS_BUILT = 'top=$1; . "$top/scripts/program.sh"; is_built play_events'
 SECOND = "the second program's machine"
+
+
+def say_second(name, made_by, options):
+    """Says on standard error that the second program's player counted, unless it was asked for."""
+    if made_by == SECOND and not options.player:
+        print(f"{name}: {SECOND} counted, since ./play isn't built from these sources. This builds it, in many "
+              "minutes: ./play crates/play_events/data/pages.events", file=sys.stderr)
 
 
 class Player:

@@ -3,7 +3,6 @@
 A tool's `--help` is its own docstring and its options. It reports a bad text or option in one line, with status 2.
 """
 import argparse
-import signal
 import sys
 from pathlib import Path
 
@@ -146,9 +145,7 @@ def records_of(path):
 
 
 def tool(main):
-    """Runs a tool, with the words of the command line: its status, or one line of what is bad. A reader of its output
-    that stops early, such as head, ends it."""
-    signal.signal(signal.SIGPIPE, signal.SIG_DFL)
+    """Runs a tool, with the words of the command line: its status, or one line of what is bad."""
     try:
         sys.exit(main(sys.argv[1:]))
     except Bad as cause:

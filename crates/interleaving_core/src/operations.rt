@@ -29,61 +29,8 @@ pub(crate) fn attempt(core: &mut Core, flight: &mut InFlight, number: u32, count
         flight.old.capacity flight.old.mail core.old (attempt_open core.old core.old.open_op) }
     ensures set_up { SameNetwork flight.old flight.new }
 {
-    nothing_completed_keeps();
-    let Some((op, _)) = core.open_op() else {
-        return Answer::Idle;
-    };
-    let issued = core.issued();
-    match core.attempt() {
-        Err(Exhausted) => Answer::Refused(Refusal::Exhausted),
-        Ok(Attempt::Completed(received, ts)) => Answer::Completed(Record {
-            core: number,
-            place: issued.saturating_sub(1),
-            op,
-            received,
-            ts,
-            number: count as u64,
-        }),
-        Ok(Attempt::NeedShared(pts, version)) => {
-            answer_to(request(core, flight, &op, Body::ShReq { pts, version }))
-        }
-        Ok(Attempt::NeedExclusive(version)) => {
-            answer_to(request(core, flight, &op, Body::ExReq { version }))
-        }
-        Ok(Attempt::NoRoom) => Answer::Refused(Refusal::NoRoom),
-        Ok(Attempt::Waiting) => Answer::Waiting,
-        Ok(Attempt::Idle) => Answer::Idle,
-    }
-}
-
-// What an attempt is answered that needs a request, by whether it was sent.
-#[inline(always)]
-fn answer_to(sent: bool) -> Answer
-    ensures { result ≡ request_answer sent }
-{
-    if sent {
-        return Answer::Requested;
-    }
-    Answer::Refused(Refusal::NetworkFull)
-}
-
-/// A core asks the bank of an operation's line, if there is capacity for the request.
-#[inline(always)]
-fn request(core: &mut Core, flight: &mut InFlight, op: &Op, body: Body) -> bool
-    requires request { IsTrue (is_request body) }
-    requires number { core.old.number < flight.old.cores }
-    requires banks { core.old.banks ≡ flight.old.banks }
-    ensures done { (request_answer result, core.new, flight.new.mail) ≡ applied
-        flight.old.capacity core.old flight.old.mail None (asks core.old op.now body) }
-    ensures set_up { SameNetwork flight.old flight.new }
-{
-    if !flight.has_capacity() {
-        return false;
-    }
-    let message = core.to_bank(core.line_of(*op), body);
-    send(flight, message);
-    core.requested();
-    true
+    let attempted = attempt_at(core, flight);
+    attempt_answer(number, count as u64, attempted)
 }
 
 /// A core's time goes on by one.

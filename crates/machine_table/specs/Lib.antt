@@ -3,6 +3,7 @@ pub mod Machine
 pub mod OpenNumbers
 pub mod Opening
 pub mod Posted
+pub mod Posts
 pub mod RefusalNumbers
 pub mod Runs
 pub mod SetUp

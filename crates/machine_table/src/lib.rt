@@ -2,9 +2,11 @@
 //! has the order of refusals.
 #![tactic(auto)]
 
+pub mod attempting;
 pub mod config;
 pub mod event;
 pub mod laws;
+pub mod post;
 
 pub use config::{Config, OpenError};
 pub use event::{Answer, Event, Refusal};

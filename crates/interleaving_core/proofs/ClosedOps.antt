@@ -72,14 +72,3 @@ seen_beside (Some x) out op beside is = ap first is
     first : Option (Op × Bool) → Option Op
     first None = None
     first (Some pair) = Some pair.0
-
--- an attempt that needs a copy sends a request
-pub attempt_requests : (c number capacity : ℕ) (mail : Mail) (core after : CoreState) (op : Op) (needs : Attempt)
-    (body : Body) → after ≡ core → core.open_op ≡ Some op → core_table.attempt core ≡ (Some needs, after) →
-    step.attempted core op (Some needs, after) ≡ Does (step.asks core op body) →
-    applied capacity after mail None (step.asks after op body) ≡
-    applied_attempt c number capacity mail core (step.attempt_open core core.open_op)
-attempt_requests c number capacity mail core after op needs body kept opens is asks =
-    ap (λ (x : CoreState). applied capacity x mail None (step.asks x op body)) kept
-    ∙ ap (applied_attempt c number capacity mail core)
-    (sym (ap (step.attempt_open core) opens ∙ ap (step.attempted core op) is ∙ asks))

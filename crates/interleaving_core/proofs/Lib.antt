@@ -13,6 +13,7 @@ mod Only
 mod PartRows
 mod OpenCounts
 mod Parts
+mod PostedAttempts
 mod RunSteps
 mod Runs
 mod Throughout

@@ -12,11 +12,11 @@ ghost use Rattle.interleaving_core.specs.Endpoints.{BackHasEndpoints, EvictedHas
 
 use crate::plain_answer::PlainAnswer;
 use crate::reactions::send;
-use core_pts::{Attempt, Core, nothing_completed_keeps};
+use core_pts::Core;
 use llc_bank::{Bank, Evict, EvictError};
+use machine_table::attempting::{attempt_answer, attempt_at};
 use machine_table::{Answer, Refusal};
-use network::{Body, InFlight, LineNo};
-use physiological_order::{Op, Record};
+use network::{InFlight, LineNo};
 use private_cache::{CacheError, CopyState};
 use timestamp_manager::Exhausted;
 

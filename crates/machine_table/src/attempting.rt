@@ -1,5 +1,5 @@
 //! An attempt of a core at its open operation, wherever its messages go.
-ghost use Rattle.std.specs.Prelude.{◌≡◌, IsTrue};
+ghost use Rattle.std.specs.Prelude.{◌≡◌, ◌<◌, ◌%◌, IsTrue};
 ghost use Rattle.core_pts.specs.CoreTable.{line_of, to_bank};
 ghost use Rattle.machine_table.specs.Posts.{AttemptsAt, RequestsAreCarried, attempt_answer};
 ghost use Rattle.machine_table.specs.Step.{Attempting, Does, asks, core_step};
@@ -22,8 +22,12 @@ pub struct Completion {
 
 /// What an attempt comes to.
 pub enum Attempted {
-    /// Nothing changes.
-    Kept(Answer),
+    /// The request is out, and the copy does not serve the operation yet.
+    Waiting,
+    /// No operation is open.
+    Idle,
+    /// A request is needed, there is no copy of the line, and its set is full.
+    NoRoom,
     /// A sum of times does not fit.
     Exhausted,
     /// A request is needed, but can't be sent.
@@ -43,7 +47,7 @@ pub fn attempt_at<N: Post>(core: &mut Core, post: &mut N) -> Attempted
 {
     nothing_completed_keeps();
     let Some((op, _)) = core.open_op() else {
-        return Attempted::Kept(Answer::Idle);
+        return Attempted::Idle;
     };
     let place = core.issued().saturating_sub(1);
     match core.attempt() {
@@ -56,16 +60,17 @@ pub fn attempt_at<N: Post>(core: &mut Core, post: &mut N) -> Attempted
         }),
         Ok(Attempt::NeedShared(pts, version)) => ask(core, post, &op, Body::ShReq { pts, version }),
         Ok(Attempt::NeedExclusive(version)) => ask(core, post, &op, Body::ExReq { version }),
-        Ok(Attempt::NoRoom) => Attempted::Kept(Answer::Refused(Refusal::NoRoom)),
-        Ok(Attempt::Waiting) => Attempted::Kept(Answer::Waiting),
-        Ok(Attempt::Idle) => Attempted::Kept(Answer::Idle),
+        Ok(Attempt::NoRoom) => Attempted::NoRoom,
+        Ok(Attempt::Waiting) => Attempted::Waiting,
+        Ok(Attempt::Idle) => Attempted::Idle,
     }
 }
 
 // A core sends the bank of its operation's line a request, if it can be sent.
 #[inline(always)]
 fn ask<N: Post>(core: &mut Core, post: &mut N, op: &Op, body: Body) -> Attempted
-    requires { IsTrue (N.carries post.old (to_bank core.old (line_of core.old op.now) body)) }
+    requires { line_of core.old op.now % core.old.banks < core.old.banks →
+        IsTrue (N.carries post.old (to_bank core.old (line_of core.old op.now) body)) }
     ensures { AttemptsAt N.can N.sends core.old post.old (Does (asks core.old op.now body))
         result core.new post.new }
 {
@@ -84,7 +89,9 @@ pub fn attempt_answer(core: u32, number: u64, attempted: Attempted) -> Answer
     ensures { result ≡ attempt_answer core number attempted }
 {
     match attempted {
-        Attempted::Kept(answer) => answer,
+        Attempted::Waiting => Answer::Waiting,
+        Attempted::Idle => Answer::Idle,
+        Attempted::NoRoom => Answer::Refused(Refusal::NoRoom),
         Attempted::Exhausted => Answer::Refused(Refusal::Exhausted),
         Attempted::Full => Answer::Refused(Refusal::NetworkFull),
         Attempted::Requested => Answer::Requested,

@@ -1,39 +1,24 @@
-use Rattle.std.specs.Result.{result_ok}
-use Rattle.std.proofs.Common.{◌≡◌, Some, ap, sym, subst, refl, ◌∙◌}
-use Rattle.core_pts.specs.CoreTable.{CoreState}
-use Rattle.network.specs.declared.message.Body.TheVariants.{ExReq, ShReq}
-use Rattle.network.specs.Mail.{Mail}
+use Rattle.std.proofs.Common.{ap, ◌∙◌}
 use Rattle.machine_table.specs.declared.event.Answer.{Answer}
-use Rattle.interleaving_core.specs.PartChanges.{request_answer}
-use Rattle.interleaving_core.proofs.ClosedOps.{attempt_requests, seen_beside}
+use Rattle.machine_table.specs.Step.{attempt_open}
+use Rattle.interleaving_core.proofs.PostedAttempts.{attempted, carried}
 use Rattle.interleaving_core.proofs.operations.attempt.Goals as goal
 
-pub returns-in-Ok-NeedShared-clause-done : goal.returns-in-Ok-NeedShared-clause-done
-returns-in-Ok-NeedShared-clause-done c =
-    let opens = seen_beside _ _ _ _ (sym c.open_op.ensures ∙ c.in-Some.is) in
-    let is = sym c.attempt.ensures ∙ ap (λ r. (r, c.attempt.new.self)) (ap result_ok c.in-Ok-NeedShared.is
-    ∙ ap Some c.in-Ok-NeedShared.field-0-is) in
-    let kept = c.nothing_completed_keeps.ensures c.args.core.now c.attempt.new.self _ is refl in
-    ap (λ (a : Answer). (a, c.request.new.core, c.request.new.flight.mail)) c.answer_to.ensures
-    ∙ subst (λ (x : Answer × CoreState × Mail).
-    (request_answer c.request.result, c.request.new.core, c.request.new.flight.mail) ≡ x)
-    (attempt_requests c.args.number c.args.count c.args.flight.now.capacity c.args.flight.now.mail c.args.core.now
-    c.attempt.new.self _ _ (ShReq c.in-Ok-NeedShared.pts c.in-Ok-NeedShared.version) kept opens is refl)
-    c.request.ensures.done
+pub attempt_at-attempted-requires : goal.attempt_at-attempted-requires
+attempt_at-attempted-requires c = carried c.args.flight.now c.args.core.now c.requires.number c.requires.banks
 
-pub returns-in-Ok-NeedExclusive-clause-done : goal.returns-in-Ok-NeedExclusive-clause-done
-returns-in-Ok-NeedExclusive-clause-done c =
-    let opens = seen_beside _ _ _ _ (sym c.open_op.ensures ∙ c.in-Some.is) in
-    let is = sym c.attempt.ensures ∙ ap (λ r. (r, c.attempt.new.self)) (ap result_ok c.in-Ok-NeedExclusive.is
-    ∙ ap Some c.in-Ok-NeedExclusive.field-0-is) in
-    let kept = c.nothing_completed_keeps.ensures c.args.core.now c.attempt.new.self _ is refl in
-    ap (λ (a : Answer). (a, c.request-in-Ok-NeedExclusive.new.core, c.request-in-Ok-NeedExclusive.new.flight.mail))
-    c.answer_to-in-Ok-NeedExclusive.ensures
-    ∙ subst (λ (x : Answer × CoreState × Mail). (
-      request_answer c.request-in-Ok-NeedExclusive.result,
-      c.request-in-Ok-NeedExclusive.new.core,
-      c.request-in-Ok-NeedExclusive.new.flight.mail,
-    ) ≡ x)
-    (attempt_requests c.args.number c.args.count c.args.flight.now.capacity c.args.flight.now.mail
-    c.args.core.now c.attempt.new.self _ _ (ExReq c.in-Ok-NeedExclusive.version) kept opens is refl)
-    c.request-in-Ok-NeedExclusive.ensures.done
+pub returns-clause-done : goal.returns-clause-done
+returns-clause-done c =
+    let core = c.args.core.now in
+    ap (λ (a : Answer). (a, c.attempt_at-attempted.new.core, c.attempt_at-attempted.new.post.mail))
+    c.attempt_answer.ensures
+    ∙ (attempted c.args.number c.args.count core c.args.flight.now c.attempt_at-attempted.result
+    c.attempt_at-attempted.new.core c.attempt_at-attempted.new.post (attempt_open core core.open_op)
+    c.attempt_at-attempted.ensures).0
+
+pub returns-clause-set_up : goal.returns-clause-set_up
+returns-clause-set_up c =
+    let core = c.args.core.now in
+    (attempted c.args.number c.args.count core c.args.flight.now c.attempt_at-attempted.result
+    c.attempt_at-attempted.new.core c.attempt_at-attempted.new.post (attempt_open core core.open_op)
+    c.attempt_at-attempted.ensures).1

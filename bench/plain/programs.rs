@@ -1,4 +1,4 @@
-//! Steps of programs, records of completed operations, and the random programs of bench/driver.sh.
+//! Steps of programs, records of completed operations, and the random programs of bench_schedules.
 use crate::generator::Generator;
 
 #[derive(Clone, Copy, PartialEq, Eq)]

@@ -307,6 +307,9 @@ def past_limits():
     yield "line 260: 2 TooLarge", FRONT + "exists " + " /\\\n".join(["x=0"] * 258) + "\n"
     yield "line 260: 2 TooLarge", FRONT + "exists " + " /\\\n".join(["x=0"] * 257)
     yield "line 4: 2 TooLarge", FRONT + "exists " + " \\/ ".join(["x=0"] * 257) + "\n"
+    for behind in ("/\\ ", "1a=0", "x", "7:x5=0"):
+        kind = "2 TooLarge" if behind == "x" else "13 BadCondition"
+        yield f"line 260: {kind}", FRONT + "exists " + " /\\\n".join(["x=0"] * 256 + [behind]) + "\n"
     yield "line 69: 2 TooLarge", FRONT + "exists\n" + "(\n" * 65 + "x=0" + ")" * 65 + "\n"
 
 

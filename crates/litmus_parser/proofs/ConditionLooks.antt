@@ -101,7 +101,7 @@ pub start-stands : (threads depth : ℕ) (s : Sight) (ps : List Piece) (b : Star
 start-stands threads depth s ps (OfThread t) after rest (w, next, few, count, is, there, same) =
     let below : leb 256 s.1 ≡ false = lt-leb _ _ few in
     let present : leb threads t ≡ false = lt-leb _ _ there in
-    let takes : start threads depth s (Word w) ≡ Takes (OfThread t, (s.0, s.1 + 1)) = rw (below, is, present) refl in
+    let takes : start threads depth s (Word w) ≡ Takes (OfThread t, (s.0, s.1 + 1)) = rw (is, present, below) refl in
     let seen : (s.0, s.1 + 1) ≡ after = rw (← same, ← count) refl in
     look-stands (start threads depth s) ps (Word w) (OfThread t, after) rest next
     (takes ∙ ap (λ (a : Sight). Takes (OfThread t, a)) seen)
@@ -110,7 +110,7 @@ start-stands threads depth s ps (OfLocation l) after rest (w, next, few, count, 
     let named : name threads (small_of 15 w) w s.0 ≡ Ok (OfLocation l, after.0) = judged-ok _ _
     (location-read threads w s.0 0 (small_of 15 w) (l, after.0) (location-no_thread w 15 numbered.0)
     (location_again BadCondition w 0 s.0 l after.0 numbered)) in
-    let takes : start threads depth s (Word w) ≡ Takes (OfLocation l, (after.0, s.1 + 1)) = rw (below, named) refl in
+    let takes : start threads depth s (Word w) ≡ Takes (OfLocation l, (after.0, s.1 + 1)) = rw (named, below) refl in
     look-stands (start threads depth s) ps (Word w) (OfLocation l, after) rest next
     (takes ∙ ap (λ n. Takes (OfLocation l, (after.0, n))) (sym count))
 start-stands threads depth s ps Parenthesis after rest (next, deep, same) =
@@ -128,7 +128,8 @@ pub data Unfit (items : List Item) (threads : ℕ) : WantedInCondition → Optio
       Unfit items threads Value (Some (Word w)) ValueRange
   address : {t r : ℕ} {w : List ℕ} → register_of w ≡ Some r → is_present (address_of t r items) ≡ true →
       Unfit items threads (RegisterOf t) (Some (Word w)) AddressAsValue
-  many : {depth : ℕ} {before : Sight} {w : List ℕ} → IsOneTooMany w before.0 ⊎ (256 ≤ before.1) →
+  many : {depth : ℕ} {before : Sight} {w : List ℕ} → IsOneTooMany w before.0 ⊎
+      ((256 ≤ before.1) × (fits_condition threads (Factor depth before) (Word w) ≡ true)) →
       Unfit items threads (Factor depth before) (Some (Word w)) TooLarge
   deep : {depth : ℕ} {before : Sight} {b : ℕ} → depth ≡ 0 → b ≡ 40 →
       Unfit items threads (Factor depth before) (Some (Sign b)) TooLarge
@@ -220,10 +221,16 @@ module _ (items : List Item) (threads : ℕ) (B : WantedInCondition → List Pie
     abbrev Starts : Verdict (Start × Sight) → Type 0
     Starts = Looks (StartsWith threads depth s ps)
 
-    counted-told : (r : Result (Start × Names) Kind) → Explains (λ kind n. Refusal items threads B kind ps)
-        (λ x. StartsWith threads depth s ps (x.0, (x.1, s.1 + 1)) (behind_next ps)) (judged r 0) →
-        Starts (counted s.1 r)
-    counted-told (Ok x) h = h
+    -- this name is one too many, or an atom begins with it
+    abbrev IsCounted : Start × Names → Type 0
+    IsCounted x = (256 ≤ s.1 → Refusal items threads B TooLarge ps)
+        × (s.1 < 256 → StartsWith threads depth s ps (x.0, (x.1, s.1 + 1)) (behind_next ps))
+
+    counted-told : (r : Result (Start × Names) Kind) →
+        Explains (λ kind n. Refusal items threads B kind ps) IsCounted (judged r 0) → Starts (counted s.1 r)
+    counted-told (Ok x) h =
+        cond_both (leb 256 s.1) (Refuses TooLarge) (Takes (x.0, (x.1, s.1 + 1))) Starts
+        (λ full. h.0 (leb-true _ _ full)) (λ few. h.1 (leb-false _ _ few))
     counted-told (Err kind) h = h
 
     module _ (w : List ℕ) (e : next_piece ps ≡ Some (Word w)) where
@@ -233,22 +240,27 @@ module _ (items : List Item) (threads : ℕ) (B : WantedInCondition → List Pie
           (neither (is_thread_below threads (small_of 15 w) || is_location w) false
           (neither (is_thread_below threads (small_of 15 w)) (is_location w) no_thread no_location) refl)
 
-      name-told : s.1 < 256 → (o : Option ℕ) → small_of 15 w ≡ o → Starts (counted s.1 (name threads o w s.0))
-      name-told few (Some t) is =
+      one-more : fits_condition threads (Factor depth s) (Word w) ≡ true → 256 ≤ s.1 →
+          Refusal items threads B TooLarge ps
+      one-more fits full = refusal (Factor depth s) (Some (Word w)) TooLarge upto e (many (inr (full, fits)))
+
+      name-told : (o : Option ℕ) → small_of 15 w ≡ o → Starts (counted s.1 (name threads o w s.0))
+      name-told (Some t) is =
           cond_both (leb threads t) (Err BadCondition) (Ok (OfThread t, s.0)) (λ r. Starts (counted s.1 r))
           (λ absent. no_atom (ap (is_thread_below threads) is ∙ ap not absent) (false_from_ne_true (is_location w)
           (λ location. let same = sym is ∙ location-no_thread w 15 location in absurd cc)))
-          (λ there. (w, behind (Word w) e, few, refl, is, leb-false threads t there, refl))
-      name-told few None is =
+          (λ there. counted-told (Ok (OfThread t, s.0)) (
+            one-more (rw (is, there) refl),
+            λ few. (w, behind (Word w) e, few, refl, is, leb-false threads t there, refl),
+          ))
+      name-told None is =
           let C : Kind → ℕ → Type 0 = λ kind n. Refusal items threads B kind ps in
-          let begins : Start × Names → Type 0 =
-          λ x. StartsWith threads depth s ps (x.0, (x.1, s.1 + 1)) (behind_next ps) in
-          let located : Explains C begins (location_at BadCondition w 0 s.0 >>= λ l. Ok (OfLocation l.0, l.1)) =
-          bind_explains C (λ (l : ℕ × Names). IsNumbered w s.0 l.0 l.1) begins (location_at BadCondition w 0 s.0)
+          let located : Explains C IsCounted (location_at BadCondition w 0 s.0 >>= λ l. Ok (OfLocation l.0, l.1)) =
+          bind_explains C (λ (l : ℕ × Names). IsNumbered w s.0 l.0 l.1) IsCounted (location_at BadCondition w 0 s.0)
           (λ l. Ok (OfLocation l.0, l.1))
           (location_explains C BadCondition w 0 s.0 (no_atom (ap (is_thread_below threads) is))
           (λ full. refusal (Factor depth s) (Some (Word w)) TooLarge upto e (many (inl full))))
-          (λ l f numbered. (w, behind (Word w) e, few, refl, numbered)) in
+          (λ l f numbered. (one-more (rw (is, numbered.0) refl), λ few. (w, behind (Word w) e, few, refl, numbered))) in
           counted-told (location w s.0) (rw (location-judged w s.0 0) located)
 
     pub start-leads : Leads (one (start threads depth s)) ps (StartsWith threads depth s ps) (Refusal items threads B)
@@ -267,7 +279,4 @@ module _ (items : List Item) (threads : ℕ) (B : WantedInCondition → List Pie
               refl,
             )))
             (λ other. misfit (Factor depth s) (Sign b) upto e other)
-        on (Some (Word w)) e =
-            cond_both (leb 256 s.1) (Refuses TooLarge) _ Starts
-            (λ full. refusal (Factor depth s) (Some (Word w)) TooLarge upto e (many (inr (leb-true _ _ full))))
-            (λ few. name-told w e (leb-false _ _ few) (small_of 15 w) refl)
+        on (Some (Word w)) e = name-told w e (small_of 15 w) refl

@@ -1,7 +1,6 @@
 -- What the steps of reading a condition give, by their tests.
 use Rattle.std.proofs.Common.{◌≡◌, ℕ, zero, suc, ◌+◌, ◌-◌, ◌<◌, Bool, true, false, cond, not, ◌++◌, ltb, leb, List, []}
 use Rattle.std.proofs.Common.{◌∷◌, length, Option, Some, None, Result, Ok, Err, refl, ap, subst, ◌∙◌, arith}
-use Rattle.std.proofs.lemmas.Bool.{lt-leb}
 use Rattle.litmus_lexer.specs.Pieces.{Piece, Word}
 use Rattle.litmus_lexer.specs.Naming.{place_of}
 use Rattle.litmus_lexer.specs.Spelling.{is_location, small_of}
@@ -13,7 +12,7 @@ use Rattle.litmus_lexer.specs.declared.errors.ReadError.TheVariants.{Memory, Fau
 use Rattle.text_lines.specs.Reading.{◌>>=◌}
 use Rattle.litmus_lexer.specs.Reading.{Fails, fails}
 use Rattle.piece_forms.specs.Places.{next_piece, behind_next, ends_ahead}
-use Rattle.piece_forms.specs.Forms.{one, sign}
+use Rattle.piece_forms.specs.Forms.{Takes, Refuses, one, sign}
 use Rattle.piece_forms.specs.Reading.{decided, judged, reads}
 use Rattle.litmus_parser.specs.Names.{Names}
 use Rattle.litmus_parser.specs.ReadingItems.{location_at}
@@ -64,32 +63,36 @@ module _ (threads : ℕ) (w : List ℕ) (names : Names) (line : ℕ) where
       fails-on e (location_at BadCondition w line names) (λ l. Ok (OfLocation l.0, l.1)) (named o) h
       (ap named none ∙ location-judged w names line)
 
+-- one atom more, or one too many
+counted-as : ℕ → Start × Names → ℕ → List Piece → Result ((Start × Sight) × ℕ × List Piece) LitmusError
+counted-as atoms x at rest = cond (leb 256 atoms) (fails TooLarge at) (Ok ((x.0, (x.1, atoms + 1)), at, rest))
+
+counted-cases : (full : Bool) (x : Start × Sight) (line : ℕ) (pieces : List Piece) →
+    decided (cond full (Refuses TooLarge) (Takes x)) line pieces ≡
+    cond full (fails TooLarge (line + ends_ahead pieces)) (Ok (x, line + ends_ahead pieces, behind_next pieces))
+counted-cases true x line pieces = refl
+counted-cases false x line pieces = refl
+
 counted-read : (r : Result (Start × Names) Kind) (atoms line : ℕ) (pieces : List Piece) →
     decided (counted atoms r) line pieces ≡ (judged r (line + ends_ahead pieces) >>= λ x.
-    Ok ((x.0, (x.1, atoms + 1)), line + ends_ahead pieces, behind_next pieces))
-counted-read (Ok x) atoms line pieces = refl
+    counted-as atoms x (line + ends_ahead pieces) (behind_next pieces))
+unfolding counted-as
+counted-read (Ok x) atoms line pieces = counted-cases (leb 256 atoms) (x.0, (x.1, atoms + 1)) line pieces
 counted-read (Err kind) atoms line pieces = refl
 
 -- an atom begins here, and these lines and pieces follow
 module _ (threads depth atoms line : ℕ) (names : Names) (pieces : List Piece) (w : List ℕ) (at : ℕ)
-    (rest : List Piece) (next : next_piece pieces ≡ Some (Word w)) (few : atoms < 256)
-    (at_is : at ≡ line + ends_ahead pieces) (rest_is : rest ≡ behind_next pieces) where
+    (rest : List Piece) (next : next_piece pieces ≡ Some (Word w)) (at_is : at ≡ line + ends_ahead pieces)
+    (rest_is : rest ≡ behind_next pieces) where
   start-is : reads (one (start threads depth (names, atoms))) line pieces ≡
-      (judged (name threads (small_of 15 w) w names) at >>= λ x. Ok ((x.0, (x.1, atoms + 1)), at, rest))
-  start-is =
-      let more : leb 256 atoms ≡ false = lt-leb _ _ few in
-      rw (next, more, at_is, rest_is) (counted-read (name threads (small_of 15 w) w names) atoms line pieces)
-
-  pub start-read : (x : Start × Names) → judged (name threads (small_of 15 w) w names) at ≡ Ok x →
-      reads (one (start threads depth (names, atoms))) line pieces ≡ Ok ((x.0, (x.1, atoms + 1)), at, rest)
-  start-read x h = start-is ∙ ap (λ (r : Result (Start × Names) LitmusError). r >>= λ x.
-      Ok ((x.0, (x.1, atoms + 1)), at, rest)) h
+      (judged (name threads (small_of 15 w) w names) at >>= λ x. counted-as atoms x at rest)
+  start-is = rw (next, at_is, rest_is) (counted-read (name threads (small_of 15 w) w names) atoms line pieces)
 
   pub start-fails : (e : ReadError) → Fails e (judged (name threads (small_of 15 w) w names) at) →
       Fails e (reads (one (start threads depth (names, atoms))) line pieces)
   start-fails e h =
-      fails-on e (judged (name threads (small_of 15 w) w names) at) (λ x.
-      Ok ((x.0, (x.1, atoms + 1)), at, rest)) (reads (one (start threads depth (names, atoms))) line pieces) h start-is
+      fails-on e (judged (name threads (small_of 15 w) w names) at) (λ x. counted-as atoms x at rest)
+      (reads (one (start threads depth (names, atoms))) line pieces) h start-is
 
 -- after ( and an expression no ) follows
 pub paren-fails : (holds : Addresses) (threads depth : ℕ) (s t u : Sight) (tree : Tree) (line l m : ℕ)

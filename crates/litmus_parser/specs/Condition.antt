@@ -50,15 +50,14 @@ name threads (Some thread) w names =
     if nat_le threads thread then Err BadCondition else Ok (OfThread thread, names)
 name threads None w names = location w names
 
--- with it there is an atom more
+-- with it there is an atom more, of 256 at most
 abbrev pub counted : ℕ → Result (Start × Names) Kind → Verdict (Start × Sight)
-counted atoms (Ok x) = Takes (x.0, (x.1, atoms + 1))
+counted atoms (Ok x) = if nat_le MOST_ATOMS atoms then Refuses TooLarge else Takes (x.0, (x.1, atoms + 1))
 counted atoms (Err kind) = Refuses kind
 
--- what a factor begins with: the name of an atom, if there are fewer than 256 so far; or ( where 64 aren't open
+-- what a factor begins with: the name of an atom; or ( where 64 aren't open
 abbrev pub start : ℕ → ℕ → Sight → Piece → Verdict (Start × Sight)
-start threads depth sight (Word w) = if nat_le MOST_ATOMS sight.1 then Refuses TooLarge
-    else counted sight.1 (name threads (small_of LAST_THREAD w) w sight.0)
+start threads depth sight (Word w) = counted sight.1 (name threads (small_of LAST_THREAD w) w sight.0)
 start threads depth sight (Sign b) =
     if b == OPENING_PARENTHESIS then (if depth == 0 then Refuses TooLarge else Takes (Parenthesis, sight))
     else Refuses BadCondition

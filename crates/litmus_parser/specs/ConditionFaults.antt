@@ -78,11 +78,12 @@ HasAddressRegister items threads names line pieces n =
     (t r : ℕ) × (w : List ℕ) × ConditionPieceAt items threads names line pieces n (RegisterOf t) (Word w)
     × (register_of w ≡ Some r) × (is_present (address_of t r items) ≡ true)
 
--- a factor is wanted, and a word comes next: a location that is one too many, or any one after 256 atoms
+-- a factor is wanted, and a word comes next: a location that is one too many, or the name of an atom after 256 atoms
 abbrev pub HasOneTooMany : List Item → ℕ → Names → ℕ → List Piece → ℕ → Type 0
 HasOneTooMany items threads names line pieces n = (depth : ℕ) × (before : Sight) × (w : List ℕ) ×
     ConditionPieceAt items threads names line pieces n (Factor depth before) (Word w)
-    × (IsOneTooMany w before.0 ⊎ (MOST_ATOMS ≤ before.1))
+    × (IsOneTooMany w before.0 ⊎
+    ((MOST_ATOMS ≤ before.1) × (fits_condition threads (Factor depth before) (Word w) ≡ true)))
 
 -- a factor without parentheses is wanted, since 64 are open, and ( comes next
 abbrev pub IsTooDeep : List Item → ℕ → Names → ℕ → List Piece → ℕ → Type 0

@@ -60,10 +60,10 @@ pub fn factor_start<'a>(
 {
     match ahead(&cursor) {
         (Some(Token::Word(word)), after) => {
+            let start = name_start(threads, locations, word, &after)?;
             if atoms >= MOST_ATOMS {
                 return Err(after.fault(Kind::TooLarge));
             }
-            let start = name_start(threads, locations, word, &after)?;
             Ok((start, atoms + 1, after))
         }
         (Some(Token::Sign(OPENING_PARENTHESIS)), after) => {

@@ -1,0 +1,86 @@
+//! Batches of runs of store buffering by seeds: the same list by any number of workers, and two workers that run at the
+//! same time.
+ghost use Rattle.std.specs.Prelude.{◌<◌, ◌≤◌};
+
+use crate::turn_counts::TurnCounts;
+use litmus_reader::read;
+use run_options::MachineOptions;
+use std::alloc::Global;
+use std::test::Fail;
+use std::thread::Threads;
+use worker_driver::{End, Free, Gate, RunEnd, batch, config_of};
+
+const STORE_BUFFERING: &[u8] =
+    b"RISCV SB\n{ 0:x5=1; 0:x6=x; 0:x8=y; 1:x5=1; 1:x6=y; 1:x8=x; }\n P0 | P1 ;\n sw x5,0(x6) | sw x5,0(x6) ;\n\
+ lw x7,0(x8) | lw x7,0(x8) ;\nexists (0:x7=0 /\\ 1:x7=0)\n";
+
+// Runs by the seeds from 0 on, of a machine that options leave as it is.
+fn runs_by<R: Threads + Sync, G: Gate + Sync>(
+    rt: &R,
+    alloc: Global,
+    count: u32,
+    workers: u32,
+    gate: &G,
+) -> Result<Vec<RunEnd>, &'static str>
+    requires { (0 < workers) × (workers ≤ 16) }
+{
+    let Ok(test) = read(alloc, STORE_BUFFERING) else {
+        return Err("the text is no test");
+    };
+    let Some(config) = config_of(&MachineOptions::DEFAULT, test.threads() as u32) else {
+        return Err("there is no such machine");
+    };
+    match batch(rt, alloc, &test, config, 0, count, 100_000, workers, gate) {
+        Ok(runs) => Ok(runs),
+        Err(_) => Err("memory is refused"),
+    }
+}
+
+// Whether all that a report tells of two runs is the same.
+fn are_same(run: &RunEnd, other: &RunEnd) -> bool {
+    let states = match (&run.state, &other.state) {
+        (Some(state), Some(others)) => state.values() == others.values(),
+        (None, None) => true,
+        _ => false,
+    };
+    states
+        && run.end == other.end
+        && run.completed == other.completed
+        && run.stale == other.stale
+        && run.counts == other.counts
+}
+
+#[test]
+fn every_number_of_workers_gives_the_same_list(rt: HostRuntime) -> Result<(), Fail> {
+    let alone = runs_by(&rt, rt.alloc(), 100, 1, &Free)?;
+    assert_eq!(rt; alone.len(), 100);
+    for workers in [3, 16] {
+        let shared = runs_by(&rt, rt.alloc(), 100, workers, &Free)?;
+        assert_eq!(rt; shared.len(), alone.len());
+        for i in 0..alone.len().min(shared.len()) {
+            assert_eq!(rt; alone[i].end, End::AllDone, "run {i}");
+            assert!(rt;
+                are_same(&alone[i], &shared[i]),
+                "run {i} by {workers} workers"
+            );
+        }
+    }
+    Ok(())
+}
+
+#[test]
+fn two_workers_make_runs_at_the_same_time(rt: HostRuntime) -> Result<(), Fail> {
+    let gate = TurnCounts::new(10_000_000);
+    assert_eq!(rt; runs_by(&rt, rt.alloc(), 2, 2, &gate)?.len(), 2);
+    assert!(rt; gate.are(&[1, 1], 2));
+    Ok(())
+}
+
+// Run 0 ends before run 1 begins, so it looks for the other in vain.
+#[test]
+fn one_worker_makes_one_run_after_the_other(rt: HostRuntime) -> Result<(), Fail> {
+    let gate = TurnCounts::new(100);
+    assert_eq!(rt; runs_by(&rt, rt.alloc(), 2, 1, &gate)?.len(), 2);
+    assert!(rt; gate.are(&[1, 1], 1));
+    Ok(())
+}

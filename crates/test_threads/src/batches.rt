@@ -70,7 +70,7 @@ fn every_number_of_workers_gives_the_same_list(rt: HostRuntime) -> Result<(), Fa
 
 #[test]
 fn two_workers_make_runs_at_the_same_time(rt: HostRuntime) -> Result<(), Fail> {
-    let gate = TurnCounts::new(10_000_000);
+    let gate = TurnCounts::new(rt.alloc(), 2, 10_000_000)?;
     assert_eq!(rt; runs_by(&rt, rt.alloc(), 2, 2, &gate)?.len(), 2);
     assert!(rt; gate.are(&[1, 1], 2));
     Ok(())
@@ -79,7 +79,7 @@ fn two_workers_make_runs_at_the_same_time(rt: HostRuntime) -> Result<(), Fail> {
 // Run 0 ends before run 1 begins, so it looks for the other in vain.
 #[test]
 fn one_worker_makes_one_run_after_the_other(rt: HostRuntime) -> Result<(), Fail> {
-    let gate = TurnCounts::new(100);
+    let gate = TurnCounts::new(rt.alloc(), 2, 100)?;
     assert_eq!(rt; runs_by(&rt, rt.alloc(), 2, 1, &gate)?.len(), 2);
     assert!(rt; gate.are(&[1, 1], 1));
     Ok(())

@@ -1,16 +1,122 @@
-//! Two workers that do jobs at the same time, and one that does them one after the other and keeps its state.
+//! Two workers that do jobs at the same time, and one that does them one after the other and keeps its state. Each job
+//! is done while the gate has it under way.
 ghost use Rattle.std.specs.Prelude.{ℕ, ◌<◌, ◌≤◌};
 
 use crate::turn_counts::TurnCounts;
 use shared_jobs::{Free, Jobs, run_jobs};
 use std::alloc::{AllocError, Global};
 use std::sync::atomic::{AtomicU64, Ordering};
+use std::test::Fail;
+use std::thread;
 use std::thread::Threads;
 
-// Each job gives the number of jobs that its worker did before it.
-struct Counts;
+// Each job gives the number of jobs that its worker did before it, or 1,000 if the gate doesn't have it under way. So
+// many states that are asked for first are refused.
+#[derive(Drop)]
+struct Counts<'a> {
+    gate: &'a TurnCounts,
+    refused: AtomicU64,
+}
 
-impl Jobs<u64, u64> for Counts {
+impl<'a> Jobs<u64, u64> for Counts<'a> {
+    ghost gives = { λ jobs number result. Unit {0} };
+
+    ghost ready = { λ jobs state. Unit {0} };
+
+    fn open(&self) -> Result<u64, AllocError> {
+        if self.refused.load(Ordering::SeqCst) > 0 {
+            self.refused.fetch_sub(1, Ordering::SeqCst);
+            return Err(AllocError);
+        }
+        Ok(0)
+    }
+
+    fn run(&self, state: u64, number: u64) -> Result<(u64, u64), AllocError> {
+        let before = if self.gate.is_under_way(number as usize) {
+            state
+        } else {
+            1_000
+        };
+        Ok((before, state.saturating_add(1)))
+    }
+}
+
+// The results of so many jobs by so many workers, of which so many are refused a state, if each job is done once, so that
+// so many of the first two see the other; none otherwise.
+fn results_of<R: Threads + Sync>(
+    rt: &R,
+    alloc: Global,
+    count: u32,
+    [workers, refused, looks, met]: [u32; 4],
+) -> Result<Vec<u64>, AllocError> {
+    let gate = TurnCounts::new(alloc, count, looks)?;
+    let jobs = Counts {
+        gate: &gate,
+        refused: AtomicU64::new(u64::from(refused)),
+    };
+    if !(1..=16).contains(&workers) {
+        return Ok(Vec::new(alloc));
+    }
+    let results = run_jobs(rt, alloc, &jobs, u64::from(count), workers, &gate)?;
+    for number in 0..count {
+        if gate.of(number as usize) != Some(1) {
+            return Ok(Vec::new(alloc));
+        }
+    }
+    Ok(if gate.has_met(u64::from(met)) {
+        results
+    } else {
+        Vec::new(alloc)
+    })
+}
+
+#[test]
+fn two_workers_do_jobs_at_the_same_time(rt: HostRuntime) -> Result<(), Fail> {
+    let results = results_of(&rt, rt.alloc(), 2, [2, 0, 10_000_000, 2])?;
+    assert_eq!(rt; results.as_slice(), [0, 0].as_slice());
+    Ok(())
+}
+
+// Job 0 ends before job 1 begins, so it looks for the other in vain.
+#[test]
+fn one_worker_does_one_job_after_the_other(rt: HostRuntime) -> Result<(), Fail> {
+    let results = results_of(&rt, rt.alloc(), 2, [1, 0, 100, 1])?;
+    assert_eq!(rt; results.as_slice(), [0, 1].as_slice());
+    Ok(())
+}
+
+// Whether a list is 0, 1, 2, and so on, up to 199.
+fn counts_up(list: &[u64]) -> bool {
+    for at in 0..list.len() {
+        if list[at] != at as u64 {
+            return false;
+        }
+    }
+    list.len() == 200
+}
+
+#[test]
+fn a_worker_keeps_its_state_from_job_to_job(rt: HostRuntime) -> Result<(), Fail> {
+    let results = results_of(&rt, rt.alloc(), 200, [1, 0, 0, 0])?;
+    assert!(rt; counts_up(results.as_slice()));
+    Ok(())
+}
+
+// The worker is refused a state, so the calling thread does what is left.
+#[test]
+fn the_calling_thread_keeps_its_state_too(rt: HostRuntime) -> Result<(), Fail> {
+    let results = results_of(&rt, rt.alloc(), 200, [1, 1, 0, 0])?;
+    assert!(rt; counts_up(results.as_slice()));
+    Ok(())
+}
+
+// Job 0 waits for the nine others, and gives whether they were done meanwhile. Each of them gives 1.
+#[derive(Drop)]
+struct OneWaits {
+    done: AtomicU64,
+}
+
+impl Jobs<u64, u64> for OneWaits {
     ghost gives = { λ jobs number result. Unit {0} };
 
     ghost ready = { λ jobs state. Unit {0} };
@@ -19,93 +125,27 @@ impl Jobs<u64, u64> for Counts {
         Ok(0)
     }
 
-    fn run(&self, state: u64, _number: u64) -> Result<(u64, u64), AllocError> {
-        Ok((state, state.saturating_add(1)))
-    }
-}
-
-// Whether so many workers do two jobs, once each, so that so many see the other, and these are the results.
-fn are_done<R: Threads + Sync>(
-    rt: &R,
-    alloc: Global,
-    workers: u32,
-    looks: u32,
-    met: u64,
-    results: [u64; 2],
-) -> Result<bool, AllocError>
-    requires { (0 < workers) × (workers ≤ 16) }
-{
-    let gate = TurnCounts::new(looks);
-    let done = run_jobs(rt, alloc, &Counts, 2, workers, &gate)?;
-    Ok(done.as_slice() == results.as_slice() && gate.are(&[1, 1], met))
-}
-
-#[test]
-fn two_workers_do_jobs_at_the_same_time(rt: HostRuntime) {
-    assert_eq!(rt;
-        are_done(&rt, rt.alloc(), 2, 10_000_000, 2, [0, 0]),
-        Ok(true)
-    );
-}
-
-// Job 0 ends before job 1 begins, so it looks for the other in vain.
-#[test]
-fn one_worker_does_one_job_after_the_other(rt: HostRuntime) {
-    assert_eq!(rt; are_done(&rt, rt.alloc(), 1, 100, 1, [0, 1]), Ok(true));
-}
-
-// The same, but the first state that is asked for is refused.
-#[derive(Drop)]
-struct CountsLate {
-    asked: AtomicU64,
-}
-
-impl Jobs<u64, u64> for CountsLate {
-    ghost gives = { λ jobs number result. Unit {0} };
-
-    ghost ready = { λ jobs state. Unit {0} };
-
-    fn open(&self) -> Result<u64, AllocError> {
-        match self.asked.fetch_add(1, Ordering::SeqCst) {
-            0 => Err(AllocError),
-            _ => Ok(0),
+    fn run(&self, state: u64, number: u64) -> Result<(u64, u64), AllocError> {
+        if number > 0 {
+            self.done.fetch_add(1, Ordering::SeqCst);
+            return Ok((1, state));
         }
-    }
-
-    fn run(&self, state: u64, _number: u64) -> Result<(u64, u64), AllocError> {
-        Ok((state, state.saturating_add(1)))
-    }
-}
-
-// Whether 200 jobs are done by one worker, or by the calling thread after it, and all with one state.
-fn one_state_does<R: Threads + Sync, J: Jobs<u64, u64> + Sync>(
-    rt: &R,
-    alloc: Global,
-    jobs: &J,
-) -> Result<bool, AllocError> {
-    let done = run_jobs(rt, alloc, jobs, 200, 1, &Free)?;
-    Ok(done.len() == 200 && counts_up(done.as_slice()))
-}
-
-// Whether a list is 0, 1, 2, and so on.
-fn counts_up(list: &[u64]) -> bool {
-    for at in 0..list.len() {
-        if list[at] != at as u64 {
-            return false;
+        for _ in 0..10_000_000u32 {
+            if self.done.load(Ordering::SeqCst) == 9 {
+                return Ok((1, state));
+            }
+            thread::yield_now();
         }
+        Ok((0, state))
     }
-    true
 }
 
 #[test]
-fn a_worker_keeps_its_state_from_job_to_job(rt: HostRuntime) {
-    assert_eq!(rt; one_state_does(&rt, rt.alloc(), &Counts), Ok(true));
-}
-
-#[test]
-fn the_calling_thread_keeps_its_state_too(rt: HostRuntime) {
-    let late = CountsLate {
-        asked: AtomicU64::new(0),
+fn a_worker_does_all_jobs_that_are_left_while_another_waits(rt: HostRuntime) -> Result<(), Fail> {
+    let jobs = OneWaits {
+        done: AtomicU64::new(0),
     };
-    assert_eq!(rt; one_state_does(&rt, rt.alloc(), &late), Ok(true));
+    let results = run_jobs(&rt, rt.alloc(), &jobs, 10, 2, &Free)?;
+    assert_eq!(rt; results.as_slice(), [1; 10].as_slice());
+    Ok(())
 }

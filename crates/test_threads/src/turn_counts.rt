@@ -1,75 +1,86 @@
 //! A gate that counts the turns of each seat, and at which the first turns of seats 0 and 1 wait for each other.
 use shared_jobs::Gate;
+use std::alloc::{AllocError, Global};
 use std::sync::atomic::{AtomicU64, Ordering};
 use std::thread;
 
-/// A gate that counts the turns of seats 0 to 7 that began, and those that ended. It counts a turn that begins or ends
-/// out of its order, or of another seat, as wrong: the turns of a seat are numbered from 0 on, and none begins before
-/// the one before it has ended. The first turns of seats 0 and 1 look for each other, `looks` times each, and the gate
-/// counts those that saw the other.
+/// How many turns of a seat began, and how many ended.
+#[derive(Drop)]
+struct Turns {
+    begun: AtomicU64,
+    ended: AtomicU64,
+}
+
+/// A gate that counts the turns of some first seats that began, and those that ended. It counts a turn that begins or
+/// ends out of its order, or of another seat, as wrong: the turns of a seat are numbered from 0 on, and none begins
+/// before the one before it has ended. The first turns of seats 0 and 1 look for each other, `looks` times each, and
+/// the gate counts those that saw the other.
 #[derive(Drop)]
 pub(crate) struct TurnCounts {
-    begun: [AtomicU64; 8],
-    ended: [AtomicU64; 8],
+    seats: Vec<Turns>,
     wrong: AtomicU64,
     met: AtomicU64,
     looks: u32,
 }
 
-fn zeros() -> [AtomicU64; 8] {
-    [
-        AtomicU64::new(0),
-        AtomicU64::new(0),
-        AtomicU64::new(0),
-        AtomicU64::new(0),
-        AtomicU64::new(0),
-        AtomicU64::new(0),
-        AtomicU64::new(0),
-        AtomicU64::new(0),
-    ]
-}
-
 impl TurnCounts {
-    /// A gate that nothing has passed yet.
-    pub(crate) fn new(looks: u32) -> TurnCounts {
-        TurnCounts {
-            begun: zeros(),
-            ended: zeros(),
+    /// A gate for so many seats that nothing has passed yet.
+    pub(crate) fn new(alloc: Global, seats: u32, looks: u32) -> Result<TurnCounts, AllocError> {
+        let mut counts = Vec::new(alloc);
+        for _ in 0..seats {
+            counts.push(Turns {
+                begun: AtomicU64::new(0),
+                ended: AtomicU64::new(0),
+            })?;
+        }
+        Ok(TurnCounts {
+            seats: counts,
             wrong: AtomicU64::new(0),
             met: AtomicU64::new(0),
             looks,
-        }
+        })
     }
 
     /// How many turns of a seat ended, none of any seat being wrong; no number if one is, or if one is under way.
     pub(crate) fn of(&self, seat: usize) -> Option<u64> {
-        if seat > 7 || self.wrong.load(Ordering::SeqCst) > 0 {
-            return None;
-        }
-        let ended = self.ended[seat].load(Ordering::SeqCst);
-        if self.begun[seat].load(Ordering::SeqCst) != ended {
+        let turns = self.seats.get(seat)?;
+        let ended = turns.ended.load(Ordering::SeqCst);
+        if self.wrong.load(Ordering::SeqCst) > 0 || turns.begun.load(Ordering::SeqCst) != ended {
             return None;
         }
         Some(ended)
     }
 
+    /// Whether a turn of a seat has begun and not ended.
+    pub(crate) fn is_under_way(&self, seat: usize) -> bool {
+        match self.seats.get(seat) {
+            Some(turns) => turns.begun.load(Ordering::SeqCst) > turns.ended.load(Ordering::SeqCst),
+            None => false,
+        }
+    }
+
     /// Whether the first seats had these turns each, the others none, and `met` of two first turns saw the other.
     pub(crate) fn are(&self, counts: &[u64], met: u64) -> bool {
-        for seat in 0..8 {
+        for seat in 0..self.seats.len() {
             if self.of(seat) != Some(counts.get(seat).copied().unwrap_or(0)) {
                 return false;
             }
         }
+        self.has_met(met)
+    }
+
+    /// Whether so many of two first turns saw the other.
+    pub(crate) fn has_met(&self, met: u64) -> bool {
         self.met.load(Ordering::SeqCst) == met
     }
 
     // Looks for the first turn of another seat.
     fn meet(&self, other: usize) {
-        if other > 7 {
+        let Some(turns) = self.seats.get(other) else {
             return;
-        }
+        };
         for _ in 0..self.looks {
-            if self.begun[other].load(Ordering::SeqCst) > 0 {
+            if turns.begun.load(Ordering::SeqCst) > 0 {
                 self.met.fetch_add(1, Ordering::SeqCst);
                 return;
             }
@@ -87,11 +98,11 @@ impl TurnCounts {
 
 impl Gate for TurnCounts {
     fn before(&self, seat: u64, turn: u64) {
-        if seat > 7 {
+        let Some(turns) = self.seats.get(seat as usize) else {
             return self.tell(false);
-        }
-        let ended = self.ended[seat as usize].load(Ordering::SeqCst);
-        let begun = self.begun[seat as usize].fetch_add(1, Ordering::SeqCst);
+        };
+        let ended = turns.ended.load(Ordering::SeqCst);
+        let begun = turns.begun.fetch_add(1, Ordering::SeqCst);
         self.tell(begun == turn && ended == turn);
         if seat < 2 && turn == 0 {
             self.meet(1 - seat as usize);
@@ -99,11 +110,11 @@ impl Gate for TurnCounts {
     }
 
     fn after(&self, seat: u64, turn: u64) {
-        if seat > 7 {
+        let Some(turns) = self.seats.get(seat as usize) else {
             return self.tell(false);
-        }
-        let begun = self.begun[seat as usize].load(Ordering::SeqCst);
-        let ended = self.ended[seat as usize].fetch_add(1, Ordering::SeqCst);
+        };
+        let begun = turns.begun.load(Ordering::SeqCst);
+        let ended = turns.ended.fetch_add(1, Ordering::SeqCst);
         self.tell(ended == turn && begun.checked_sub(1) == Some(turn));
     }
 }

@@ -6,6 +6,7 @@ use crate::turn_counts::TurnCounts;
 use machine_table::Config;
 use programs::End;
 use std::alloc::Global;
+use std::test::Fail;
 use std::thread::Threads;
 
 /// Far more turns than any worker has while it waits for another one whose thread has no processor.
@@ -93,14 +94,15 @@ fn gives<R: Threads + Sync>(
 }
 
 #[test]
-fn turns_end_with_the_programs_or_a_seat_that_stops(rt: HostRuntime) {
+fn turns_end_with_the_programs_or_a_seat_that_stops(rt: HostRuntime) -> Result<(), Fail> {
     for (case, workers, looks, end, counts, met) in GIVEN {
-        let gate = TurnCounts::new(*looks);
+        let gate = TurnCounts::new(rt.alloc(), 3, *looks)?;
         assert!(rt;
             gives(&rt, rt.alloc(), case, *workers, &gate, *end, counts, *met),
             "{counts:?}"
         );
     }
+    Ok(())
 }
 
 /// Core 2 of five has five loads to do, which take more than five turns; the others have nothing to do. Two banks.
@@ -115,7 +117,7 @@ const BUSY: Case = Case {
 };
 
 #[test]
-fn turns_are_used_once_each_seat_had_all_of_its_turns(rt: HostRuntime) {
+fn turns_are_used_once_each_seat_had_all_of_its_turns(rt: HostRuntime) -> Result<(), Fail> {
     for turns in &[1, 2, 5] {
         let case = Case {
             turn_limit: *turns,
@@ -123,7 +125,7 @@ fn turns_are_used_once_each_seat_had_all_of_its_turns(rt: HostRuntime) {
         };
         let counts = [u64::from(*turns); 7];
         for workers in 1..=16 {
-            let gate = TurnCounts::new(0);
+            let gate = TurnCounts::new(rt.alloc(), 7, 0)?;
             assert!(rt;
                 gives(
                     &rt,
@@ -139,6 +141,111 @@ fn turns_are_used_once_each_seat_had_all_of_its_turns(rt: HostRuntime) {
             );
         }
     }
+    Ok(())
+}
+
+/// Core 2 isn't done before its last turn.
+const LONG: Case = Case {
+    programs: &[
+        (0, 0, 0),
+        (0, 0, 0),
+        (0, 1, MANY_TURNS),
+        (0, 0, 0),
+        (0, 0, 0),
+    ],
+    turn_limit: 70_000,
+    ..BUSY
+};
+
+/// The most cores and banks that there may be, one of them busy.
+const MOST_SEATS: Case = Case {
+    config: Config {
+        cores: 64,
+        banks: 8,
+        ..ONE
+    },
+    programs: &[
+        (0, 0, 0),
+        (0, 0, 0),
+        (0, 0, 0),
+        (0, 0, 0),
+        (0, 0, 0),
+        (0, 0, 0),
+        (0, 0, 0),
+        (0, 0, 0),
+        (0, 0, 0),
+        (0, 0, 0),
+        (0, 0, 0),
+        (0, 0, 0),
+        (0, 0, 0),
+        (0, 0, 0),
+        (0, 0, 0),
+        (0, 0, 0),
+        (0, 0, 0),
+        (0, 0, 0),
+        (0, 0, 0),
+        (0, 0, 0),
+        (0, 0, 0),
+        (0, 0, 0),
+        (0, 0, 0),
+        (0, 0, 0),
+        (0, 0, 0),
+        (0, 0, 0),
+        (0, 0, 0),
+        (0, 0, 0),
+        (0, 0, 0),
+        (0, 0, 0),
+        (0, 0, 0),
+        (0, 0, 0),
+        (0, 0, 0),
+        (0, 0, 0),
+        (0, 0, 0),
+        (0, 0, 0),
+        (0, 0, 0),
+        (0, 0, 0),
+        (0, 0, 0),
+        (0, 0, 0),
+        (0, 0, 0),
+        (0, 0, 0),
+        (0, 0, 0),
+        (0, 0, 0),
+        (0, 0, 0),
+        (0, 0, 0),
+        (0, 0, 0),
+        (0, 0, 0),
+        (0, 0, 0),
+        (0, 0, 0),
+        (0, 0, 0),
+        (0, 0, 0),
+        (0, 0, 0),
+        (0, 0, 0),
+        (0, 0, 0),
+        (0, 0, 0),
+        (0, 0, 0),
+        (0, 0, 0),
+        (0, 0, 0),
+        (0, 0, 0),
+        (0, 0, 0),
+        (0, 0, 0),
+        (0, 0, 0),
+        (0, 1, 6),
+    ],
+    turn_limit: 2,
+};
+
+// The gate is told each seat, the banks after the cores, and each turn by their numbers.
+#[test]
+fn all_turns_of_many_and_many_seats_are_given(rt: HostRuntime) -> Result<(), Fail> {
+    for (case, seats, workers) in [(LONG, 7, 1), (MOST_SEATS, 72, 16)] {
+        let gate = TurnCounts::new(rt.alloc(), seats, 0)?;
+        let end = end_of(&rt, rt.alloc(), &case, workers, &gate);
+        assert_eq!(rt; end, Some(End::TurnsUsed));
+        for seat in 0..seats {
+            let turns = gate.of(seat as usize);
+            assert_eq!(rt; turns, Some(u64::from(case.turn_limit)), "seat {seat}");
+        }
+    }
+    Ok(())
 }
 
 // Whether the seats of each worker had as many turns as each other, and fewer than they may have.
@@ -156,15 +263,16 @@ fn are_together(gate: &TurnCounts, workers: usize) -> bool {
 }
 
 #[test]
-fn every_number_of_workers_completes_the_program(rt: HostRuntime) {
+fn every_number_of_workers_completes_the_program(rt: HostRuntime) -> Result<(), Fail> {
     for workers in 1..=16 {
-        let gate = TurnCounts::new(0);
+        let gate = TurnCounts::new(rt.alloc(), 7, 0)?;
         let end = end_of(&rt, rt.alloc(), &BUSY, workers, &gate);
         assert!(rt;
             end == Some(End::AllDone) && are_together(&gate, workers as usize),
             "{workers} workers"
         );
     }
+    Ok(())
 }
 
 /// Core 0 stops, and everyone else may have more turns.
@@ -182,7 +290,7 @@ const STOPS_BANK: Case = Case {
 // How many turns core 0 and the bank have, which one worker drives, if a seat of these stops and so ends the turns of
 // the other worker, which has core 1.
 fn turns_to_the_stop<R: Threads + Sync>(rt: &R, alloc: Global, case: &Case) -> Option<(u64, u64)> {
-    let gate = TurnCounts::new(0);
+    let gate = TurnCounts::new(alloc, 3, 0).ok()?;
     if end_of(rt, alloc, case, 2, &gate) != Some(End::Exhausted) {
         return None;
     }
@@ -201,4 +309,43 @@ fn a_seat_that_stops_ends_the_turns_of_all_workers(rt: HostRuntime) {
         turns_to_the_stop(&rt, rt.alloc(), &STOPS_BANK),
         Some((4, 4))
     );
+}
+
+/// The first of 16 cores stops, and the others have nothing to do.
+const STOPS_ONE_OF_MANY: Case = Case {
+    config: Config {
+        cores: 16,
+        opening_time: 18_446_744_073_709_551_614,
+        ..ONE
+    },
+    programs: &[
+        (0, 0, 7),
+        (0, 0, 0),
+        (0, 0, 0),
+        (0, 0, 0),
+        (0, 0, 0),
+        (0, 0, 0),
+        (0, 0, 0),
+        (0, 0, 0),
+        (0, 0, 0),
+        (0, 0, 0),
+        (0, 0, 0),
+        (0, 0, 0),
+        (0, 0, 0),
+        (0, 0, 0),
+        (0, 0, 0),
+        (0, 0, 0),
+    ],
+    turn_limit: MANY_TURNS,
+};
+
+// Each worker finds the stop, however many there are. If one didn't, it would go on for as many turns as there may be.
+#[test]
+fn each_of_many_workers_finds_the_stop(rt: HostRuntime) -> Result<(), Fail> {
+    for workers in [3, 9, 16] {
+        let gate = TurnCounts::new(rt.alloc(), 17, 0)?;
+        let end = end_of(&rt, rt.alloc(), &STOPS_ONE_OF_MANY, workers, &gate);
+        assert_eq!(rt; end, Some(End::Exhausted), "{workers} workers");
+    }
+    Ok(())
 }

@@ -52,10 +52,12 @@ module _ {X : Type 0} {Turn : X → Told → X → Type 0} where
   given_whole {Most = Most} grows (one_more {n = n} {told = a} {all = c} {x = x} {xs = xs} many given rest)
       (goes_on {k = k} {told = b} {all = d} {y = z} {ys = zs} turn last others) whole =
       subst (λ t. AllGiven Turn Most (x ∷ xs) t (z ∷ zs)) (told_swap a b c d)
-      (one_more {n = suc n} (grows n many) (more given turn) (given_whole {k = k} grows rest others (omega (arith, whole))))
+      (one_more {n = suc n} (grows n many) (more given turn)
+      (given_whole {k = k} grows rest others (omega (arith, whole))))
 
   -- the lists are as long
-  pub given_long : {Many : ℕ → Type 0} {xs ys : List X} {all : Told} → AllGiven Turn Many xs all ys → length ys ≡ length xs
+  pub given_long : {Many : ℕ → Type 0} {xs ys : List X} {all : Told} → AllGiven Turn Many xs all ys →
+      length ys ≡ length xs
   given_long none = refl
   given_long (one_more many given rest) = ap suc (given_long rest)
 
@@ -74,7 +76,8 @@ module _ {X : Type 0} {Turn : X → Told → X → Type 0} where
   told_at (one_more {told = told} many given rest) zero = told
   told_at (one_more many given rest) (suc i) = told_at rest i
 
-  given_at : {Many : ℕ → Type 0} {xs ys : List X} {all : Told} (given : AllGiven Turn Many xs all ys) (i : ℕ) (x y : X) →
+  given_at : {Many : ℕ → Type 0} {xs ys : List X} {all : Told} (given : AllGiven Turn Many xs all ys) (i : ℕ)
+      (x y : X) →
       slice_get xs i ≡ Some x → slice_get ys i ≡ Some y → IsGiven Turn Many x (told_at given i) y
   given_at none i x y at_x at_y = none_some at_x
   given_at (one_more {n = n} {told = told} {x = v} many given rest) zero x y at_x at_y = (
@@ -119,7 +122,8 @@ module _ {X : Type 0} {Turn : X → Told → X → Type 0} where
     said_at (one_more {told = told} {all = all} many given rest) (suc i) is =
         adds told all ∙ or_right (says told) (says all) (said_at rest i is)
 
-    said_by : {Many : ℕ → Type 0} {xs ys : List X} {all : Told} (given : AllGiven Turn Many xs all ys) → says all ≡ true →
+    said_by : {Many : ℕ → Type 0} {xs ys : List X} {all : Told} (given : AllGiven Turn Many xs all ys) →
+        says all ≡ true →
         (i : ℕ) × (i < length xs) × (says (told_at given i) ≡ true)
     said_by none is = absurd (true≢false (sym is ∙ silent))
     said_by (one_more {told = told} {all = all} many given rest) is =

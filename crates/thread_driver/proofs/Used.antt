@@ -199,7 +199,8 @@ module _ {P : Type 0} (acts : Acts P) where
         (stops : list_any (λ w. w.told.is_exhausted) vs ≡ false) where
       goes : (i : ℕ) (v : Worker P) → slice_get vs i ≡ Some v → ends_all v.told ≡ false
       goes i v at =
-          none_of v.told.no_memory v.told.is_exhausted (none_passes (λ (w : Worker P). w.told.no_memory) vs i v lacks at)
+          none_of v.told.no_memory v.told.is_exhausted
+          (none_passes (λ (w : Worker P). w.told.no_memory) vs i v lacks at)
           (none_passes (λ (w : Worker P). w.told.is_exhausted) vs i v stops at)
 
       no_stop : (i : ℕ) (v : Worker P) → slice_get vs i ≡ Some v → (last_look v.signaler).is_stopped ≡ false

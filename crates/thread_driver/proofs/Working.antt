@@ -108,7 +108,8 @@ module _ {P : Type 0} (acts : Acts P) (m : Machine) (signals : Signals) where
       (passed : SeatsPassed acts m u.cores.items u.banks.items u.programs.items told v.cores.items v.banks.items
       v.programs.items) (is : both ≡ told_by_both u.told told) where
     -- it ends after a pass, in which a turn ended all
-    pub ends_after : (rota : Rota) (s : Signaler) → turn < rota.turns → ends_all told ≡ true → number_of s ≡ number_of u.signaler → s.said.stops ≡ true →
+    pub ends_after : (rota : Rota) (s : Signaler) → turn < rota.turns → ends_all told ≡ true →
+        number_of s ≡ number_of u.signaler → s.said.stops ≡ true →
         s.said.finished ≡ u.signaler.said.finished →
         HasWorked acts m rota w (record v { told = both; signaler = s })
     ends_after rota s lt ended number stops finished =

@@ -59,8 +59,8 @@ module _ {P : Type 0} (acts : Acts P) (m : Machine) where
 
   -- Seats of cores with their programs, by index, and seats of banks were given turns, so many each, and what all of
   -- these reported together.
-  pub record SeatsGiven (Many : ℕ → Type 0) (cores : List CoreSeat) (banks : List BankSeat) (programs : List P) (told : Told)
-      (cores' : List CoreSeat) (banks' : List BankSeat) (programs' : List P) : Type 0 where
+  pub record SeatsGiven (Many : ℕ → Type 0) (cores : List CoreSeat) (banks : List BankSeat) (programs : List P)
+      (told : Told) (cores' : List CoreSeat) (banks' : List BankSeat) (programs' : List P) : Type 0 where
     pub cores_long : length cores' ≡ length cores
     pub programs_long : length programs' ≡ length programs
     pub core_told : Told

@@ -11,7 +11,8 @@ use Rattle.thread_driver.specs.declared.worker.Worker.{Worker}
 use Rattle.thread_driver.specs.Given.{AtMost, Exactly}
 use Rattle.thread_driver.specs.Hands.{HaveHandRoom}
 use Rattle.thread_driver.proofs.Formed.{dealt_back, dealt_to, lengths_back, total_to}
-use Rattle.thread_driver.proofs.Dealt.{ahead_of, all_gave, all_worked, banks_of, cores_of, lengths_after, value_of, vs_count}
+use Rattle.thread_driver.proofs.Dealt.{ahead_of, all_gave, all_worked, banks_of, cores_of, lengths_after, value_of}
+use Rattle.thread_driver.proofs.Dealt.{vs_count}
 use Rattle.thread_driver.proofs.Used.{all_are_over, all_back, all_used, cores_few, neither, same_total, tells}
 use Rattle.thread_driver.proofs.drive.drive_shift.Goals as goal
 
@@ -153,7 +154,8 @@ returns-clause-used g c goes =
     let work = c.drive_team.ensures.work in
     let rota : Rota = record { programs = c.len-cores.result; turns = c.args.turn_limit } in
     let gave = all_gave a m signals rota ws vs work in
-    let long = vs_count a m n s.cores.items s.programs.items s.banks.items ws vs dealt (AtMost c.args.turn_limit) gave in
+    let most = AtMost c.args.turn_limit in
+    let long = vs_count a m n s.cores.items s.programs.items s.banks.items ws vs dealt most gave in
     let counts = c.gather_all.ensures.long in
     let back = dealt_back n vs h long c.disband.ensures.back t.cores.items t.programs.items t.banks.items
     c.gather_all.ensures.dealt in

@@ -68,7 +68,8 @@ returns-in-Ok g c =
     record {
       told = c.in-Ok.told;
       given = given_by c.end_of-shift.result c.in-Ok.told limit
-          (λ Many. SeatsGiven acts m Many cores banks programs c.in-Ok.told s.cores.items s.banks.items s.programs.items)
+          (λ Many. SeatsGiven acts m Many cores banks programs c.in-Ok.told s.cores.items s.banks.items
+          s.programs.items)
           (AreOver acts s.cores.items s.programs.items) e.otherwise e.all_done given c.in-Ok.ensures.used;
       done = e.done;
       all_done = e.all_done;

@@ -20,7 +20,8 @@ loop-i-preserved g c =
     let turn = c.bank_turn-told.ensures in
     let passed = bank_had_turn c.args.machine.now c.args.banks.now.items c.loop-i.banks.items i c.loop-i.all
     c.requires.seats c.loop-i.invariant.0 (omega arith) c.index_mut.result.now c.index_mut.ensures.value
-    (sym c.if-ends_all.ensures) c.bank_turn-told.result q (record { seat = turn.seat.0; number = turn.seat.1; turn = turn.turn }) in (
+    (sym c.if-ends_all.ensures) c.bank_turn-told.result q
+    (record { seat = turn.seat.0; number = turn.seat.1; turn = turn.turn }) in (
       subst (λ t. PassGiven (IsBankTurn c.args.machine.now) (i + 1) c.args.banks.now.items t
           (slice_set c.loop-i.banks.items i q)) (sym c.both-all.ensures) passed,
       length-set c.loop-i.banks.items i q ∙ c.loop-i.invariant.1,

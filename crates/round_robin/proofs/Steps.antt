@@ -4,12 +4,12 @@ use Rattle.std.proofs.Common.{None}
 use Rattle.std.proofs.Common.{◌≡◌, ℕ, zero, suc, ◌+◌, ◌*◌, ◌/◌, ◌%◌, ◌<◌, ◌≤◌}
 use Rattle.std.proofs.Common.{List, [], ◌∷◌, ◌++◌, length, All, get_or, map}
 use Rattle.std.proofs.Common.{sym, refl, ap, ◌∙◌, subst, arith}
-use Rattle.std.proofs.Common.{get_or-set_same}
+use Rattle.std.proofs.Common.{get_or-set_same, length-append}
 use Rattle.std.proofs.Math.ListN.{set}
 use Rattle.std.proofs.Math.Nat.{div-mul-le_self}
 use Rattle.std.proofs.lemmas.List.{get_or-map, map-set, set-set, set-get_or, length-map}
 use Rattle.std.proofs.lemmas.Nat.{le-div, mod_below}
-use Rattle.round_robin.specs.Dealing.{IsDealtInTurn, HasLengths, hand_of}
+use Rattle.round_robin.specs.Dealing.{IsDealtInTurn, HasLengths, hand_of, total_length}
 use Rattle.round_robin.proofs.Places.{split_place}
 use Rattle.round_robin.proofs.Deals.{lengths_of, next_length, last_length, one_more, one_less}
 
@@ -53,6 +53,26 @@ module _ {A V : Type 0} (f : V → List A) where
   lengths_of_hands all first n vs d =
       subst (λ m. HasLengths (length all) first m (map f vs)) (sym d.count ∙ length-map vs f)
       (lengths_of all first n (map f vs) d)
+
+  -- empty hands have no items together
+  pub none_held : (vs : List V) (P : V → Type 0) → All (λ v. (f v ≡ []) × P v) vs → total_length (map f vs) ≡ 0
+  none_held [] P a = refl
+  none_held (v ∷ vs) P a =
+      let here = ap length (a 0 v (omega arith)).0 in
+      let rest = none_held vs P (λ i d lt. a (suc i) d (omega arith)) in
+      omega arith
+
+  -- one item more
+  pub one_more_held : (vs : List V) (h : ℕ) (v w : V) (x : A) → h < length vs → v ≡ get_or vs h v →
+      f w ≡ f v ++ x ∷ [] → total_length (map f (set vs h w)) ≡ total_length (map f vs) + 1
+  one_more_held [] h v w x lt e more = absurd (omega (arith, lt))
+  one_more_held (u ∷ vs) zero v w x lt e more =
+      let here = ap length more ∙ length-append (f v) (x ∷ []) in
+      let same = ap (λ z. length (f z)) e in
+      omega arith
+  one_more_held (u ∷ vs) (suc h) v w x lt e more =
+      let rest = one_more_held vs h v w x (omega (arith, lt)) e more in
+      omega arith
 
   -- the next item goes to its hand
   pub goes_to_hand : (front : List A) (first n : ℕ) (vs : List V) (m : ℕ) (v w : V) (x : A) → IsDealtInTurn front first

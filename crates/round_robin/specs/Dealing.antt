@@ -1,6 +1,6 @@
 -- When a list was dealt to hands, and when hands have the lengths that dealing gives.
-use Rattle.std.specs.Prelude.{◌≡◌, ℕ, ◌+◌, ◌*◌, ◌/◌, ◌%◌, ◌<◌, ◌≤◌, ◌↔◌, List, [], length, slice_get, slice_index_or}
-use Rattle.std.specs.Prelude.{All, vec_capacity}
+use Rattle.std.specs.Prelude.{◌≡◌, ℕ, ◌+◌, ◌*◌, ◌/◌, ◌%◌, ◌<◌, ◌≤◌, ◌↔◌, List, [], ◌∷◌, length, slice_get}
+use Rattle.std.specs.Prelude.{All, slice_index_or, vec_capacity}
 use Rattle.std.specs.declared.vec.Vec.{Vec}
 use Rattle.std.specs.declared.alloc.Global.{Global}
 
@@ -24,6 +24,11 @@ pub record HasLengths {A : Type 0} (items first hands : ℕ) (lists : List (List
   pub count : length lists ≡ hands
   pub at : (h k : ℕ) → h < hands →
       (k < length (slice_index_or lists (hand_of first hands h) [])) ↔ (hands * k + h < items)
+
+-- how many items hands have together
+abbrev pub total_length : {A : Type 0} → List (List A) → ℕ
+total_length [] = 0
+total_length (xs ∷ lists) = length xs + total_length lists
 
 -- Each hand is empty, with room for its share of n items.
 abbrev pub HaveRoom : {A : Type 0} → ℕ → List (Vec A Global) → Type 0

@@ -1,7 +1,7 @@
 //! Deals a list to hands.
 ghost use Rattle.std.specs.Prelude.{◌≡◌, ℕ, ◌+◌, ◌<◌, ◌≤◌, ◌^◌, [], length, map, IfOk, All};
 ghost use Rattle.std.specs.Vec.{vec_capacity};
-ghost use Rattle.round_robin.specs.Dealing.{HaveRoom, IsDealtInTurn};
+ghost use Rattle.round_robin.specs.Dealing.{HaveRoom, IsDealtInTurn, total_length};
 
 use std::alloc::{AllocError, Global};
 
@@ -43,6 +43,7 @@ pub fn deal<T: Drop>(items: &mut Vec<T>, first: usize, hands: &mut Vec<Vec<T>>)
     requires few { first + length hands.old.items < 2 ^ 64 }
     ensures dealt { IsDealtInTurn items.old.items first (length hands.old.items)
         (map (λ v. v.items) hands.new.items) }
+    ensures total { total_length (map (λ v. v.items) hands.new.items) ≡ length items.old.items }
     ensures long { length hands.new.items ≡ length hands.old.items }
     ensures empty { items.new.items ≡ [] }
     ensures capacity { vec_capacity items.new ≡ vec_capacity items.old }

@@ -1,1 +1,2 @@
 mod Placements
+mod Claims

@@ -1,7 +1,9 @@
 -- Workers of a batch.
-use Rattle.std.specs.Prelude.{◌≡◌, ℕ, []}
+use Rattle.std.specs.Prelude.{◌≡◌, ◌⊎◌, ◌<◌, ◌≤◌, ◌++◌, ◌∷◌, ℕ, List, [], map}
 use Rattle.drawn_numbers.specs.declared.numbers.Numbers.{Numbers}
 use Rattle.drawn_numbers.specs.Drawers.{IsDrawerOf}
+use Rattle.shared_jobs.specs.declared.workers.Stop.{Stop}
+use Rattle.shared_jobs.specs.declared.workers.Stop.TheVariants as stop
 use Rattle.shared_jobs.specs.declared.workers.Worker.{Worker}
 use Rattle.shared_jobs.specs.Results.{AllGiven, AreOfJobsBelow}
 
@@ -10,6 +12,16 @@ abbrev pub IsAtWork : {X : Type 0} → Numbers → (ℕ → X → Type 0) → �
 IsAtWork numbers gives count w =
     IsDrawerOf numbers w.drawer × AreOfJobsBelow count w.results.items × AllGiven gives w.results.items
 
--- the worker can claim jobs by these numbers, and has no result yet
+-- the worker can claim jobs by these numbers, has drawn none of them, and has no result yet
 abbrev pub IsNewWorker : {X : Type 0} → Numbers → Worker X → Type 0
-IsNewWorker numbers w = IsDrawerOf numbers w.drawer × (w.results.items ≡ [])
+IsNewWorker numbers w = IsDrawerOf numbers w.drawer × (w.results.items ≡ []) × (w.drawer.drawn.items ≡ [])
+
+-- the numbers that the worker drew are those of its results, in order, and then these
+abbrev pub HasDone : {X : Type 0} → Worker X → List ℕ → Type 0
+HasDone w more = w.drawer.drawn.items ≡ map (λ p. p.0) w.results.items ++ more
+
+-- Where the worker stopped: it has done all jobs that it claimed, and drew a number that is no job's; or it was refused
+-- something, and left the last job that it claimed undone, or none.
+abbrev pub HasStopped : {X : Type 0} → ℕ → Stop → Worker X → Type 0
+HasStopped count stop.NoMoreJobs w = (number : ℕ) × (count ≤ number) × HasDone w (number ∷ [])
+HasStopped count stop.Refused w = HasDone w [] ⊎ ((number : ℕ) × (number < count) × HasDone w (number ∷ []))

@@ -1,8 +1,10 @@
 //! What each worker does: it claims jobs until there are no more.
-ghost use Rattle.std.specs.Prelude.{ℕ, ◌<◌, IfSome};
+ghost use Rattle.std.specs.Prelude.{◌≡◌, ◌+◌, ℕ, ◌<◌, [], length, Err, IfOk};
 ghost use Rattle.drawn_numbers.specs.Drawers.{IsDrawerOf};
+ghost use Rattle.drawn_numbers.specs.Drawn.{RisesFrom};
+ghost use Rattle.shared_jobs.specs.declared.workers.Stop.{Stop};
 ghost use Rattle.shared_jobs.specs.Results.{AllGiven, AreOfJobsBelow};
-ghost use Rattle.shared_jobs.specs.Teams.{IsAtWork};
+ghost use Rattle.shared_jobs.specs.Teams.{HasDone, HasStopped, IsAtWork, IsNewWorker};
 
 use crate::gate::Gate;
 use crate::jobs::{Jobs, run_one};
@@ -17,30 +19,41 @@ pub struct Worker<X: Drop> {
     pub results: VecDeque<(u64, X)>,
 }
 
+/// Why a worker has stopped.
+#[derive(Clone, Copy)]
+pub enum Stop {
+    /// It drew a number that is no job's: all jobs are claimed.
+    NoMoreJobs,
+    /// An allocation failed, or the worker has drawn as many numbers as a drawer may.
+    Refused,
+}
+
 /// Claims jobs and runs them, until it draws a number that is no job's. If an allocation fails, the worker stops
-/// sooner. The job at which that happens, if it had claimed one, is left undone.
+/// sooner. The job at which that happens, if it had claimed one, is left undone. Each other job that it claimed has its
+/// result in the worker's list, in the order in which they were claimed.
 pub fn work<X: Drop, S: Drop, J: Jobs<X, S>, G: Gate>(
     numbers: &Numbers,
     jobs: &J,
     gate: &G,
     count: u64,
     worker: &mut Worker<X>,
-)
-    requires { IsAtWork numbers.now (J.gives jobs.now) count worker.old }
-    ensures { IsAtWork numbers.now (J.gives jobs.now) count worker.new }
+) -> Stop
+    requires { IsNewWorker numbers.now worker.old }
+    ensures work { IsAtWork numbers.now (J.gives jobs.now) count worker.new }
+    ensures stop { HasStopped count result worker.new }
 {
     let Ok(mut state) = jobs.open() else {
-        return;
+        return Stop::Refused;
     };
-    for _ in 0..=count {
-        let Some(next) = do_one(numbers, jobs, gate, count, worker, state) else {
-            return;
-        };
-        state = next;
+    loop {
+        match do_one(numbers, jobs, gate, count, worker, state) {
+            Ok(next) => state = next,
+            Err(stop) => return stop,
+        }
     }
 }
 
-// Claims one job, runs it and keeps its result. Gives the state back if there was such a job, and memory for it.
+// Claims one job, runs it and keeps its result. Gives the state back, or says why the worker stops.
 fn do_one<X: Drop, S: Drop, J: Jobs<X, S>, G: Gate>(
     numbers: &Numbers,
     jobs: &J,
@@ -48,28 +61,33 @@ fn do_one<X: Drop, S: Drop, J: Jobs<X, S>, G: Gate>(
     count: u64,
     worker: &mut Worker<X>,
     state: S,
-) -> Option<S>
+) -> Result<S, Stop>
     requires drawer { IsDrawerOf numbers.now worker.old.drawer }
     requires below { AreOfJobsBelow count worker.old.results.items }
     requires given { AllGiven (J.gives jobs.now) worker.old.results.items }
+    requires done { HasDone worker.old [] × RisesFrom 0 worker.old.drawer.drawn.items }
     requires ready { J.ready jobs.now state }
     ensures drawer { IsDrawerOf numbers.now worker.new.drawer }
     ensures below { AreOfJobsBelow count worker.new.results.items }
     ensures given { AllGiven (J.gives jobs.now) worker.new.results.items }
-    ensures ready { IfSome result (J.ready jobs.now) }
+    ensures ready { IfOk result (J.ready jobs.now) }
+    ensures done { IfOk result (λ state. HasDone worker.new [] ×
+        RisesFrom 0 worker.new.drawer.drawn.items ×
+        (length worker.new.results.items ≡ length worker.old.results.items + 1)) }
+    ensures stop { (stop : Stop) → result ≡ Err stop → HasStopped count stop worker.new }
 {
     if worker.results.reserve(1).is_err() {
-        return None;
+        return Err(Stop::Refused);
     }
     let Ok(number) = worker.drawer.draw(numbers) else {
-        return None;
+        return Err(Stop::Refused);
     };
     if number >= count {
-        return None;
+        return Err(Stop::NoMoreJobs);
     }
     let Ok((result, next)) = run_one(jobs, gate, state, number) else {
-        return None;
+        return Err(Stop::Refused);
     };
     worker.results.push_back_reserved((number, result));
-    Some(next)
+    Ok(next)
 }

@@ -1,18 +1,21 @@
 -- Each step of a signaler keeps the rule, and the rule holds at the opening.
-use Rattle.std.proofs.Common.{◌≡◌, ℕ, zero, suc, ◌+◌, ◌*◌, ◌%◌, ◌^◌, ◌<◌, ◌≤◌, true, false, true≢false}
+use Rattle.std.proofs.Common.{◌≡◌, ℕ, zero, suc, ◌+◌, ◌*◌, ◌%◌, ◌^◌, ◌<◌, ◌≤◌, true, false, true≢false, eqb}
 use Rattle.std.proofs.Common.{List, [], ◌∷◌, ◌++◌, length, get_or, set, ◌⊎◌, inl, inr, ⊎_elim, sym, refl, ap, ◌∙◌}
+use Rattle.std.proofs.lemmas.Bool.{eqb-true}
 use Rattle.std.proofs.Common.{subst, arith, length-set, get_or-set_same, mod-eq_of_lt, bit_or}
 use mathlib.Core.Option.{some, some-injective, some-ne-none}
 use lib.ListN.{get_elem?}
-use Rattle.atomic_table.specs.Table.{State, Me, keeps, Allows, Splits, opening}
+use Rattle.atomic_table.specs.Table.{State, Me, keeps, Allows, Splits, Joins, opening}
 use Rattle.seat_views.specs.declared.views.View.{View}
-use Rattle.seat_views.specs.Seated.{over, with_value_at, Shown, one_more, seat_view, first_view}
-use Rattle.seat_views.proofs.Lemmas.{within, shown_set, shown_split, at_put, over_put, put_here}
+use Rattle.seat_views.specs.Seated.{over, with_value_at, with_hold, Shown, one_more, knows, seat_view, spent_view}
+use Rattle.seat_views.specs.Seated.{first_view}
+use Rattle.seat_views.proofs.Lemmas.{within, shown_set, shown_split, shown_join, at_put, over_put, put_here}
+use Rattle.stop_flags.specs.declared.words.Look.{Look}
 use Rattle.stop_flags.specs.declared.words.Said.{Said}
 use Rattle.stop_flags.specs.declared.words.Voice.{Voice}
 use Rattle.stop_flags.specs.Told.{nothing, voice, one_finished, has_stopped, in_all, FinishedInAll, SomeStopped}
 use Rattle.stop_flags.specs.Told.{FlagsHold}
-use Rattle.stop_flags.specs.Told.{with_said, told_finished, told_stopped, heard_finished, heard_stopped}
+use Rattle.stop_flags.specs.Told.{told_finished, told_stopped, heard_finished, heard_stopped}
 
 abbrev V : Type 0
 V = View Voice
@@ -96,14 +99,19 @@ module _ (n : ℕ) where
           stopped = b.2;
         }
 
-    -- the seat now has said h, and the words are these
-    told_after : (h : Said) (words : List ℕ) → length words ≡ 2 →
+    -- the seat now has said h and found l, and the words are these, of which none has fallen
+    told_after : (h : Said) (l : Look) (words : List ℕ) → length words ≡ 2 →
         get_or words 0 0 + v.mine.said.finished ≡ get_or s.words 0 0 + h.finished → h.finished ≤ 4294967296 →
         (get_or words 1 0 ≡ get_or s.words 1 0) × (h.stops ≡ v.mine.said.stops)
-        ⊎ (get_or words 1 0 ≡ 1) × (h.stops ≡ true) →
-        FlagsHold n (record { words = words; homes = s.homes; views = set s.views id (with_said v h) })
-    told_after h words long sum few bit =
-        let w : Voice = voice v.mine.workers h in
+        ⊎ (get_or words 1 0 ≡ 1) × (h.stops ≡ true) → get_or s.words 0 0 ≤ get_or words 0 0 →
+        l.finished ≤ get_or words 0 0 → (l.is_stopped ≡ true → get_or words 1 0 ≡ 1) →
+        FlagsHold n (record {
+          words = words;
+          homes = s.homes;
+          views = set s.views id (with_hold v (record { said = h; heard = l; workers = v.mine.workers }));
+        })
+    told_after h l words long sum few bit more found stopped =
+        let w : Voice = record { said = h; heard = l; workers = v.mine.workers } in
         record {
           voices = with_value_at r.voices id w;
           shown = shown_set Voice (λ _. voice n nothing) n s.views r.voices id v w r.shown at live;
@@ -143,7 +151,20 @@ module _ (n : ℕ) where
               ))
               (λ x. (id, seat, ap (λ (g : Voice). g.said.stops) (put_here r.voices id w) ∙ x.1))
               bit;
+          heard_finished = λ j.
+              at_put r.voices id w (λ i g. g.heard.finished ≤ get_or words 0 0) j found
+              (λ _. let a = r.heard_finished j in omega arith);
+          heard_stopped = λ j.
+              at_put r.voices id w (λ i g. g.heard.is_stopped ≡ true → get_or words 1 0 ≡ 1) j stopped
+              (λ _ e. ⊎_elim (λ x. x.0 ∙ r.heard_stopped j e) (λ x. x.0) bit);
         }
+
+    -- what the seat found when it last looked
+    own_found : v.mine.heard.finished ≤ get_or s.words 0 0
+    own_found = let a = r.heard_finished id in let e = ap (λ (h : Voice). h.heard.finished) is in omega arith
+
+    own_stopped : v.mine.heard.is_stopped ≡ true → get_or s.words 1 0 ≡ 1
+    own_stopped e = r.heard_stopped id (ap (λ (h : Voice). h.heard.is_stopped) is ∙ e)
 
   module _ (slots id : ℕ) (me : Me (Unit {0}) V) (live : me.0.spent ≡ false) where
     pub finishes : me.0.mine.said.finished < 4294967296 →
@@ -158,14 +179,17 @@ module _ (n : ℕ) where
         let e : (x + 1) % 2 ^ 64 ≡ x + 1 = mod-eq_of_lt (omega arith) in
         let words : List ℕ = set s.words 0 ((x + 1) % 2 ^ 64) in
         let word : get_or words 0 0 ≡ x + 1 = get_or-set_same s.words 0 ((x + 1) % 2 ^ 64) 0 (omega arith) ∙ e in (
-          with_said v (one_finished v.mine.said),
+          with_hold v (record v.mine { said = one_finished v.mine.said }),
           keeps,
           tt,
-          told_after s r id v at live (one_finished v.mine.said) words
+          told_after s r id v at live (one_finished v.mine.said) v.mine.heard words
               (length-set s.words 0 ((x + 1) % 2 ^ 64) ∙ two)
               (omega arith)
               (omega arith)
-              (inl (other_word s.words ((x + 1) % 2 ^ 64), refl)),
+              (inl (other_word s.words ((x + 1) % 2 ^ 64), refl))
+              (omega arith)
+              (let found = own_found s r id v at live in omega arith)
+              (λ e. other_word s.words ((x + 1) % 2 ^ 64) ∙ own_stopped s r id v at live e),
           (refl, refl),
         )
 
@@ -179,37 +203,49 @@ module _ (n : ℕ) where
         get_or-set_same s.words 1 x 0 (omega arith) ∙ rung_bit (get_or s.words 1 0) r.one_bit in
         let same : get_or words 0 0 ≡ get_or s.words 0 0 = first_word s.words x in
         let said = own_few s r id v at live in (
-          with_said v (has_stopped v.mine.said),
+          with_hold v (record v.mine { said = has_stopped v.mine.said }),
           keeps,
           tt,
-          told_after s r id v at live (has_stopped v.mine.said) words
+          told_after s r id v at live (has_stopped v.mine.said) v.mine.heard words
               (length-set s.words 1 x ∙ two)
               (omega arith)
               said
-              (inr (word, refl)),
+              (inr (word, refl))
+              (omega arith)
+              (let found = own_found s r id v at live in omega arith)
+              (λ e. word),
           (refl, refl),
         )
 
     -- a word that is read is written back as it was
-    heard : (s : S) (r : FlagsHold n s) → get_elem? s.views id ≡ some me.0 → (words : List ℕ) → length words ≡ 2 →
-        get_or words 0 0 ≡ get_or s.words 0 0 → get_or words 1 0 ≡ get_or s.words 1 0 →
-        FlagsHold n (record { words = words; homes = s.homes; views = set s.views id (with_said me.0 me.0.mine.said) })
-    heard s r at words long first second =
+    heard : (s : S) (r : FlagsHold n s) → get_elem? s.views id ≡ some me.0 → (l : Look) (words : List ℕ) →
+        length words ≡ 2 → get_or words 0 0 ≡ get_or s.words 0 0 → get_or words 1 0 ≡ get_or s.words 1 0 →
+        l.finished ≤ get_or s.words 0 0 → (l.is_stopped ≡ true → get_or s.words 1 0 ≡ 1) →
+        FlagsHold n (record {
+          words = words;
+          homes = s.homes;
+          views = set s.views id (with_hold me.0 (record me.0.mine { heard = l }));
+        })
+    heard s r at l words long first second found stopped =
         let v = me.0 in
         let said = own_few s r id v at live in
-        told_after s r id v at live v.mine.said words long (omega arith) said (inl (second, refl))
+        told_after s r id v at live v.mine.said l words long (omega arith) said (inl (second, refl)) (omega arith)
+        (omega arith) (λ e. second ∙ stopped e)
 
     pub hears_finished : Allows (FlagsHold n) slots id me 0 (λ x. x) (heard_finished me)
     hears_finished s r wide at fits =
         let v = me.0 in
         let x : ℕ = get_or s.words 0 0 in
+        let l : Look = record v.mine.heard { finished = x } in
         let two = r.two_words in (
-          with_said v v.mine.said,
+          with_hold v (record v.mine { heard = l }),
           keeps,
           tt,
-          heard s r at (set s.words 0 x) (length-set s.words 0 x ∙ two)
+          heard s r at l (set s.words 0 x) (length-set s.words 0 x ∙ two)
               (get_or-set_same s.words 0 x 0 (omega arith))
-              (other_word s.words x),
+              (other_word s.words x)
+              (omega arith)
+              (own_stopped s r id v at live),
           ((refl, refl), own_within s r id v at live, finished_in_all s r id v at live),
         )
 
@@ -217,13 +253,16 @@ module _ (n : ℕ) where
     hears_stopped s r wide at fits =
         let v = me.0 in
         let x : ℕ = get_or s.words 1 0 in
+        let l : Look = record v.mine.heard { is_stopped = eqb x 1 } in
         let two = r.two_words in (
-          with_said v v.mine.said,
+          with_hold v (record v.mine { heard = l }),
           keeps,
           tt,
-          heard s r at (set s.words 1 x) (length-set s.words 1 x ∙ two)
+          heard s r at l (set s.words 1 x) (length-set s.words 1 x ∙ two)
               (first_word s.words x)
-              (get_or-set_same s.words 1 x 0 (omega arith)),
+              (get_or-set_same s.words 1 x 0 (omega arith))
+              (own_found s r id v at live)
+              (eqb-true x 1),
           (
             (refl, refl),
             (λ e. r.rung id (stops_is s r id v at live ∙ e)),
@@ -249,6 +288,27 @@ module _ (n : ℕ) where
         one_bit = r.one_bit;
         rung = r.rung;
         by_some = r.by_some;
+        heard_finished = r.heard_finished;
+        heard_stopped = r.heard_stopped;
+      }
+
+  pub joining : (id : ℕ) (v : V) (other : ℕ) (u : V) → v.spent ≡ false → u.spent ≡ false →
+      Joins (FlagsHold n) id v other u (knows v u) (spent_view (voice 0 nothing))
+  joining id v other u live lives s r at two at' =
+      record {
+        voices = r.voices;
+        shown = shown_join Voice (λ _. voice n nothing) (voice 0 nothing) n s.views r.voices id v other u r.shown at
+            live two at' lives;
+        two_words = r.two_words;
+        few = r.few;
+        counted = r.counted;
+        total = r.total;
+        bounded = r.bounded;
+        one_bit = r.one_bit;
+        rung = r.rung;
+        by_some = r.by_some;
+        heard_finished = r.heard_finished;
+        heard_stopped = r.heard_stopped;
       }
 
   at_first : (v u : V) (j : ℕ) → get_elem? (v ∷ []) j ≡ some u → (j ≡ 0) × (v ≡ u)
@@ -287,4 +347,6 @@ module _ (n : ℕ) where
         one_bit = inl refl;
         rung = λ j e. absurd (true≢false (sym e));
         by_some = λ e. absurd (omega arith);
+        heard_finished = λ j. omega arith;
+        heard_stopped = λ j e. absurd (true≢false (sym e));
       }

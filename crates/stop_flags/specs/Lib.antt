@@ -1,3 +1,4 @@
 pub mod Told
 pub mod Ties
 pub mod Signalers
+pub mod Heard

@@ -1,6 +1,7 @@
 //! What workers tell each other: how many programs are finished, and that some seat has stopped, without a lock.
 #![tactic(auto)]
 
+mod closing;
 mod opening;
 mod signaler;
 mod signals;

@@ -1,5 +1,5 @@
 //! The signals as they open, with all their signalers.
-ghost use Rattle.std.specs.Prelude.{◌≡◌, ℕ, ◌+◌, ◌<◌, ◌≤◌, false, length, IfOk};
+ghost use Rattle.std.specs.Prelude.{◌≡◌, ℕ, ◌+◌, ◌<◌, ◌≤◌, false, [], length, IfOk};
 ghost use Rattle.stop_flags.specs.Told.{nothing};
 ghost use Rattle.stop_flags.specs.Signalers.{AreNewSignalers, AllNewSignalers, HasMade};
 
@@ -41,7 +41,7 @@ fn open_others(
 ) -> Result<Vec<Signaler>, AllocError>
     requires { HasMade signals.now 1 first.old }
     ensures others { IfOk result (λ ss. (length ss.items + 1 ≡ signals.now.workers) ×
-        AllNewSignalers signals.now ss.items) }
+        AllNewSignalers signals.now 1 ss.items) }
     ensures first { IfOk result (λ ss. HasMade signals.now signals.now.workers first.new) }
 {
     let mut others = Vec::new(alloc);
@@ -54,7 +54,7 @@ fn open_others(
 
 // A signaler as it opens.
 fn new_signaler(seat: FlagSeat) -> Signaler
-    requires { (seat.me.0.spent ≡ false) × (seat.me.0.mine.said ≡ nothing) }
+    requires { (seat.me.0.spent ≡ false) × (seat.me.0.mine.said ≡ nothing) × (seat.me.1 ≡ []) }
     ensures { (result.seat ≡ seat) × (result.said ≡ nothing) }
 {
     let said = Said {

@@ -19,12 +19,14 @@ pub struct Signaler {
 
 impl Signaler {
     ghost use Rattle.stop_flags.specs.Told.{one_finished, has_stopped, FinishedInAll, SomeStopped};
-    ghost use Rattle.stop_flags.specs.Signalers.{IsSignalerOf};
+    ghost use Rattle.stop_flags.specs.Signalers.{IsSignalerOf, last_look, number_of};
 
     /// Signals that one more program is finished, by one addition to the word that counts them.
     pub fn finish(&mut self, signals: &Signals) -> Result<(), TooMany>
         requires { IsSignalerOf signals.now self.old }
         ensures signaler { IsSignalerOf signals.now self.new }
+        ensures kept { (number_of self.new ≡ number_of self.old) ×
+            (last_look self.new ≡ last_look self.old) }
         ensures told { IsOk result → self.new.said ≡ one_finished self.old.said }
         ensures refused { IsErr result → self.new ≡ self.old }
         ensures many { self.old.said.finished ≡ 4294967296 → IsErr result }
@@ -42,6 +44,8 @@ impl Signaler {
     pub fn stop(&mut self, signals: &Signals)
         requires { IsSignalerOf signals.now self.old }
         ensures signaler { IsSignalerOf signals.now self.new }
+        ensures kept { (number_of self.new ≡ number_of self.old) ×
+            (last_look self.new ≡ last_look self.old) }
         ensures told { self.new.said ≡ has_stopped self.old.said }
     {
         tell_stopped(&signals.table.shared, &mut self.seat);
@@ -53,6 +57,7 @@ impl Signaler {
     pub fn look(&mut self, signals: &Signals) -> Look
         requires { IsSignalerOf signals.now self.old }
         ensures signaler { IsSignalerOf signals.now self.new × (self.new.said ≡ self.old.said) }
+        ensures kept { (number_of self.new ≡ number_of self.old) × (last_look self.new ≡ result) }
         ensures own { self.old.said.finished ≤ result.finished }
         ensures finished { FinishedInAll signals.now.workers self.old.said result.finished }
         ensures stopped { self.old.said.stops ≡ true → result.is_stopped ≡ true }

@@ -1,14 +1,14 @@
 //! The single steps of a signaler: it signals that a program is finished or that a seat has stopped, and reads the two
-//! words. The first one makes the others.
+//! words. The first one makes the others, and the last one takes them in at the end.
 ghost use Rattle.std.specs.Prelude.{◌≡◌, ℕ, ◌+◌, ◌*◌, ◌<◌, ◌≤◌, false, []};
 ghost use Rattle.atomic_table.specs.Table.{step};
 ghost use mathlib.Core.Option.{none};
-ghost use Rattle.seat_views.specs.Seated.{one_more, seat_view};
+ghost use Rattle.seat_views.specs.Seated.{one_more, seat_view, knows};
 ghost use Rattle.stop_flags.specs.Told.{nothing, voice, Belongs};
 ghost use Rattle.stop_flags.specs.Told.{told_finished, told_stopped, heard_finished, heard_stopped};
 
 use crate::words::Voice;
-use atomic_table::{Play, Seat, Shared, Split, TableRule};
+use atomic_table::{Join, Play, Seat, Shared, Split, TableRule};
 use seat_views::View;
 
 type Known = View<Voice>;
@@ -61,6 +61,16 @@ impl Split<Known> for Makes {
     ghost left = { one_more };
 
     ghost right = { λ v. seat_view v.made (voice v.mine.workers nothing) };
+}
+
+struct Meets;
+
+impl Join<Known> for Meets {
+    ghost use Rattle.seat_views.specs.Seated.{spent_view};
+
+    ghost both = { knows };
+
+    ghost spent = { spent_view (voice 0 nothing) };
 }
 
 /// Adds 1 to the word of the finished programs.
@@ -119,4 +129,16 @@ pub fn make(table: &FlagTable, first: &mut FlagSeat) -> FlagSeat
         )) }
 {
     table.split_seat::<Makes>(first)
+}
+
+/// Takes in what another seat knows, which is then given up.
+pub fn meet(table: &FlagTable, seat: &mut FlagSeat, other: FlagSeat)
+    requires table { Belongs seat.old.table_id table.now.table_id table.now.key ×
+        (other.table_id ≡ table.now.table_id) }
+    requires live { (seat.old.me.0.spent ≡ false) × (other.me.0.spent ≡ false) ×
+        (other.me.1 ≡ []) }
+    ensures table { (seat.new.table_id ≡ seat.old.table_id) × (seat.new.id ≡ seat.old.id) }
+    ensures met { seat.new.me ≡ (knows seat.old.me.0 other.me.0, seat.old.me.1) }
+{
+    table.join_seat::<Meets>(seat, other);
 }

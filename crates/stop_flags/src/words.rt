@@ -7,9 +7,11 @@ pub struct Said {
     pub stops: bool,
 }
 
-/// What a seat holds: what it has said, and how many workers there are. Only proofs use it; no value of it is made.
+/// What a seat holds: what it has said, what its last look found, and how many workers there are. Only proofs use it;
+/// no value of it is made.
 pub struct Voice {
     pub said: Said,
+    pub heard: Look,
     pub workers: u64,
 }
 

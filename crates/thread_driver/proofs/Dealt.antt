@@ -17,8 +17,9 @@ use Rattle.round_robin.specs.Dealing.{IsDealtInTurn, hand_of}
 use Rattle.round_robin.proofs.Lemmas.{item_of, lengths_of, same_lengths}
 use Rattle.thread_driver.specs.declared.shift.Shift.{Shift}
 use Rattle.thread_driver.specs.declared.told.Told.{Told}
+use Rattle.thread_driver.specs.declared.worker.Rota.{Rota}
 use Rattle.thread_driver.specs.declared.worker.Worker.{Worker}
-use Rattle.thread_driver.specs.Given.{IsBankTurn, IsCoreTurn, SeatsGiven, quiet, told_by_both}
+use Rattle.thread_driver.specs.Given.{AtMost, IsBankTurn, IsCoreTurn, SeatsGiven, quiet, told_by_both}
 use Rattle.thread_driver.specs.Hands.{AreDealt, HaveLengths, core_hands, program_hands, bank_hands}
 use Rattle.thread_driver.specs.Playing.{AreAhead}
 use Rattle.thread_driver.specs.Teams.{AllWork, Works}
@@ -51,11 +52,17 @@ same_number (suc x) (suc y) a b =
     ap suc (same_number x y (λ k lt. let c = a (suc k) (omega arith) in omega arith)
     (λ k lt. let c = b (suc k) (omega arith) in omega arith))
 
-gave_by : {P : Type 0} (acts : Acts P) (m : Machine) (signals : Signals) (limit : ℕ) (ws vs : List (Worker P)) →
-    AllWork acts m signals limit ws vs → (i : ℕ) (w v : Worker P) → slice_get ws i ≡ Some w →
-    slice_get vs i ≡ Some v → Gave acts m limit w v
+-- each of a team gave its seats turns, so many each
+pub record AllGave {P : Type 0} (acts : Acts P) (m : Machine) (Many : ℕ → Type 0) (ws vs : List (Worker P)) : Type 0
+  where
+    pub long : length vs ≡ length ws
+    pub each : (i : ℕ) (w v : Worker P) → slice_get ws i ≡ Some w → slice_get vs i ≡ Some v → Gave acts m Many w v
+
+pub all_gave : {P : Type 0} (acts : Acts P) (m : Machine) (signals : Signals) (rota : Rota) (ws vs : List (Worker P)) →
+    AllWork acts m signals rota ws vs → AllGave acts m (AtMost rota.turns) ws vs
 unfolding Works
-gave_by acts m signals limit ws vs work i w v e f = (work.each i w v e f).1
+all_gave acts m signals rota ws vs work =
+    record { long = work.long; each = λ i w v e f. (work.each i w v e f).1.given }
 
 module _ {P : Type 0} (acts : Acts P) (m : Machine) (n : ℕ) where
   -- before they work: what the machine and the programs give is so of each worker's share
@@ -127,11 +134,8 @@ module _ {P : Type 0} (acts : Acts P) (m : Machine) (n : ℕ) where
 
   -- after they worked
   module _ (cores : List CoreSeat) (programs : List P) (banks : List BankSeat) (ws vs : List (Worker P))
-      (dealt : AreDealt n cores programs banks (core_hands ws) (program_hands ws) (bank_hands ws)) (signals : Signals)
-      (limit : ℕ) (work : AllWork acts m signals limit ws vs) where
-    gave : (i : ℕ) (w v : Worker P) → slice_get ws i ≡ Some w → slice_get vs i ≡ Some v → Gave acts m limit w v
-    gave = gave_by acts m signals limit ws vs work
-
+      (dealt : AreDealt n cores programs banks (core_hands ws) (program_hands ws) (bank_hands ws))
+      (Many : ℕ → Type 0) (work : AllGave acts m Many ws vs) where
     core_count : length ws ≡ n
     core_count =
         let count = dealt.cores_dealt.count in
@@ -162,7 +166,7 @@ module _ {P : Type 0} (acts : Acts P) (m : Machine) (n : ℕ) where
               let x = w j lt' in
               let y = v j lt' in
               ap length (read_map (λ (z : Worker P). z.cores.items) vs j y.0 y.1)
-              ∙ (gave j x.0 y.0 x.1 y.1).cores_long
+              ∙ (work.each j x.0 y.0 x.1 y.1).cores_long
               ∙ sym (ap length (read_map (λ (z : Worker P). z.cores.items) ws j x.0 x.1)));
           program_lengths = same_lengths (length programs) 0 n (program_hands ws) (program_hands vs)
               (lengths_of programs 0 n (program_hands ws) dealt.programs_dealt)
@@ -173,7 +177,7 @@ module _ {P : Type 0} (acts : Acts P) (m : Machine) (n : ℕ) where
               let x = w j lt' in
               let y = v j lt' in
               ap length (read_map (λ (z : Worker P). z.programs.items) vs j y.0 y.1)
-              ∙ (gave j x.0 y.0 x.1 y.1).programs_long
+              ∙ (work.each j x.0 y.0 x.1 y.1).programs_long
               ∙ sym (ap length (read_map (λ (z : Worker P). z.programs.items) ws j x.0 x.1)));
           bank_lengths = same_lengths (length banks) (length cores) n (bank_hands ws) (bank_hands vs)
               (lengths_of banks (length cores) n (bank_hands ws) dealt.banks_dealt)
@@ -184,12 +188,12 @@ module _ {P : Type 0} (acts : Acts P) (m : Machine) (n : ℕ) where
               let x = w j lt' in
               let y = v j lt' in
               ap length (read_map (λ (z : Worker P). z.banks.items) vs j y.0 y.1)
-              ∙ given_long (gave j x.0 y.0 x.1 y.1).of_banks
+              ∙ given_long (work.each j x.0 y.0 x.1 y.1).of_banks
               ∙ sym (ap length (read_map (λ (z : Worker P). z.banks.items) ws j x.0 x.1)));
         }
 
 -- what each worker has of cores with their programs
-abbrev pair_hands : {P : Type 0} → List (Worker P) → List (List (CoreSeat × P))
+abbrev pub pair_hands : {P : Type 0} → List (Worker P) → List (List (CoreSeat × P))
 pair_hands ws = map (λ w. zip w.cores.items w.programs.items) ws
 
 module _ {P : Type 0} where
@@ -199,7 +203,7 @@ module _ {P : Type 0} where
   pairs_in_hand (w ∷ ws) zero = refl
   pairs_in_hand (w ∷ ws) (suc h) = pairs_in_hand ws h
 
-  pairs_dealt : (n : ℕ) (cores : List CoreSeat) (programs : List P) (ws : List (Worker P)) →
+  pub pairs_dealt : (n : ℕ) (cores : List CoreSeat) (programs : List P) (ws : List (Worker P)) →
       IsDealtInTurn cores 0 n (core_hands ws) → IsDealtInTurn programs 0 n (program_hands ws) →
       IsDealtInTurn (zip cores programs) 0 n (pair_hands ws)
   pairs_dealt n cores programs ws dealt others =
@@ -215,17 +219,17 @@ module _ {P : Type 0} where
       }
 
   -- all that workers gave their seats, hand by hand, and what they told
-  module _ (acts : Acts P) (m : Machine) (limit : ℕ) where
+  module _ (acts : Acts P) (m : Machine) (Many : ℕ → Type 0) where
     record Handed (ws vs : List (Worker P)) : Type 0 where
       pub core_tolds : List Told
       pub bank_tolds : List Told
-      pub cores : HandsGiven (IsCoreTurn acts m) limit (pair_hands ws) core_tolds (pair_hands vs)
-      pub banks : HandsGiven (IsBankTurn m) limit (bank_hands ws) bank_tolds (bank_hands vs)
+      pub cores : HandsGiven (IsCoreTurn acts m) Many (pair_hands ws) core_tolds (pair_hands vs)
+      pub banks : HandsGiven (IsBankTurn m) Many (bank_hands ws) bank_tolds (bank_hands vs)
       pub told : (says : Told → Bool) → ((a b : Told) → says (told_by_both a b) ≡ (says a || says b)) →
           list_any (λ w. says w.told) vs ≡ (list_any says core_tolds || list_any says bank_tolds)
 
     handed : (ws vs : List (Worker P)) → length vs ≡ length ws →
-        ((i : ℕ) (w v : Worker P) → slice_get ws i ≡ Some w → slice_get vs i ≡ Some v → Gave acts m limit w v) →
+        ((i : ℕ) (w v : Worker P) → slice_get ws i ≡ Some w → slice_get vs i ≡ Some v → Gave acts m Many w v) →
         Handed ws vs
     handed [] [] long each =
         record {
@@ -253,19 +257,19 @@ module _ {P : Type 0} where
         }
 
     -- the seats and programs of a shift, dealt before and gathered afterwards
-    pub all_worked : (signals : Signals) (n : ℕ) (s t : Shift P) (ws vs : List (Worker P)) (told : Told) →
+    pub all_worked : (n : ℕ) (s t : Shift P) (ws vs : List (Worker P)) (told : Told) →
         AreDealt n s.cores.items s.programs.items s.banks.items (core_hands ws) (program_hands ws) (bank_hands ws) →
-        AllWork acts m signals limit ws vs → length t.cores.items ≡ length s.cores.items →
+        AllGave acts m Many ws vs → length t.cores.items ≡ length s.cores.items →
         length t.programs.items ≡ length s.programs.items → length t.banks.items ≡ length s.banks.items →
         length s.programs.items ≡ length s.cores.items →
         AreDealt n t.cores.items t.programs.items t.banks.items (core_hands vs) (program_hands vs) (bank_hands vs) →
         told.no_memory ≡ list_any (λ w. w.told.no_memory) vs →
         told.is_exhausted ≡ list_any (λ w. w.told.is_exhausted) vs →
         told.has_progressed ≡ list_any (λ w. w.told.has_progressed) vs →
-        SeatsGiven acts m limit s.cores.items s.banks.items s.programs.items told t.cores.items t.banks.items
+        SeatsGiven acts m Many s.cores.items s.banks.items s.programs.items told t.cores.items t.banks.items
         t.programs.items
-    all_worked signals n s t ws vs told dealt work core_long program_long bank_long one_each after lacks stops moves =
-        let all = handed ws vs work.long (gave_by acts m signals limit ws vs work) in
+    all_worked n s t ws vs told dealt work core_long program_long bank_long one_each after lacks stops moves =
+        let all = handed ws vs work.long work.each in
         let pairs = zip s.cores.items s.programs.items in
         let pairs' = zip t.cores.items t.programs.items in
         let d = pairs_dealt n s.cores.items s.programs.items ws dealt.cores_dealt dealt.programs_dealt in
@@ -280,22 +284,22 @@ module _ {P : Type 0} where
         (silent : says quiet ≡ false).
         all.told says adds
         ∙ sym (ap₂ (λ a b. a || b)
-        (said_together limit 0 n pairs pairs' (pair_hands ws) (pair_hands vs) all.core_tolds all.cores d d' long says
+        (said_together Many 0 n pairs pairs' (pair_hands ws) (pair_hands vs) all.core_tolds all.cores d d' long says
         adds silent)
-        (said_together limit first n s.banks.items t.banks.items (bank_hands ws) (bank_hands vs) all.bank_tolds
+        (said_together Many first n s.banks.items t.banks.items (bank_hands ws) (bank_hands vs) all.bank_tolds
         all.banks e e' bank_long says adds silent)) in
-        let core_told : Told = gathered_told limit 0 n pairs pairs' (pair_hands ws) (pair_hands vs) all.core_tolds
+        let core_told : Told = gathered_told Many 0 n pairs pairs' (pair_hands ws) (pair_hands vs) all.core_tolds
         all.cores d d' long in
-        let bank_told : Told = gathered_told limit first n s.banks.items t.banks.items (bank_hands ws) (bank_hands vs)
+        let bank_told : Told = gathered_told Many first n s.banks.items t.banks.items (bank_hands ws) (bank_hands vs)
         all.bank_tolds all.banks e e' bank_long in
         record {
           cores_long = core_long;
           programs_long = program_long;
           core_told = core_told;
           bank_told = bank_told;
-          of_cores = gathered_given limit 0 n pairs pairs' (pair_hands ws) (pair_hands vs) all.core_tolds all.cores d d'
+          of_cores = gathered_given Many 0 n pairs pairs' (pair_hands ws) (pair_hands vs) all.core_tolds all.cores d d'
               long;
-          of_banks = gathered_given limit first n s.banks.items t.banks.items (bank_hands ws) (bank_hands vs)
+          of_banks = gathered_given Many first n s.banks.items t.banks.items (bank_hands ws) (bank_hands vs)
               all.bank_tolds all.banks e e' bank_long;
           told_is = same_told told (told_by_both core_told bank_told)
               (lacks ∙ bit (λ t. t.no_memory) (λ a b. refl) refl)

@@ -5,14 +5,14 @@ use Rattle.std.specs.Prelude.{if◌then◌else◌, is_ok}
 use Rattle.std.proofs.lemmas.List.{length-map, map-append}
 use Rattle.mailboxes.specs.declared.core_seat.CoreSeat.{CoreSeat}
 use Rattle.mailboxes.specs.declared.bank_seat.BankSeat.{BankSeat}
-use Rattle.round_robin.specs.Dealing.{HasLengths, IsDealtInTurn}
+use Rattle.round_robin.specs.Dealing.{HasLengths, IsDealtInTurn, total_length}
 use Rattle.thread_driver.specs.declared.worker.Worker.{Worker}
 use Rattle.thread_driver.specs.declared.worker.Hands.{Hands}
 use Rattle.thread_driver.specs.Hands.{AreBack, AreDealt, AreHands, AreSplit, HaveLengths}
 use Rattle.thread_driver.specs.Hands.{core_hands, program_hands, bank_hands, cores_in, programs_in, banks_in}
 
 -- lists of which the last one goes to the front of others
-one_over : {A V : Type 0} (f : V → List A) (all : List (List A)) (old new : List V) (v : V) (rest : List (List A)) →
+pub one_over : {B V : Type 0} (f : V → B) (all : List B) (old new : List V) (v : V) (rest : List B) →
     all ≡ map f old ++ rest → old ≡ new ++ v ∷ [] → all ≡ map f new ++ (f v ∷ rest)
 one_over f all old new v rest e is =
     e ∙ ap (λ vs. map f vs ++ rest) is ∙ ap (λ ls. ls ++ rest) (map-append f new (v ∷ []))
@@ -73,6 +73,28 @@ module _ {P : Type 0} where
               (s.banks ∙ ap (λ vs. map (λ v. v.items) vs ++ bank_hands ws) (none_left left.banks.items none.banks))
               d.banks_dealt;
         }
+
+    -- and so are all that were in them
+    pub total_to : AreSplit all left ws → AreHands 0 left →
+        total_length (core_hands ws) ≡ total_length (cores_in all)
+    total_to s none =
+        ap total_length
+        (sym (s.cores ∙ ap (λ vs. map (λ v. v.items) vs ++ core_hands ws) (none_left left.cores.items none.cores)))
+
+  -- one worker's hands are back
+  pub back_more : (all old new : List (Worker P)) (w : Worker P) (h h' : Hands P) → AreBack all old h →
+      old ≡ new ++ w ∷ [] → h'.cores.items ≡ w.cores ∷ h.cores.items →
+      h'.programs.items ≡ w.programs ∷ h.programs.items → h'.banks.items ≡ w.banks ∷ h.banks.items →
+      AreBack all new h'
+  back_more all old new w h h' b split cores programs banks =
+      record {
+        cores = one_over (λ (v : Worker P). v.cores.items) (core_hands all) old new w (cores_in h) b.cores split
+            ∙ ap (λ vs. core_hands new ++ map (λ v. v.items) vs) (sym cores);
+        programs = one_over (λ (v : Worker P). v.programs.items) (program_hands all) old new w (programs_in h)
+            b.programs split ∙ ap (λ vs. program_hands new ++ map (λ v. v.items) vs) (sym programs);
+        banks = one_over (λ (v : Worker P). v.banks.items) (bank_hands all) old new w (banks_in h) b.banks split
+            ∙ ap (λ vs. bank_hands new ++ map (λ v. v.items) vs) (sym banks);
+      }
 
   -- all workers' hands are back
   module _ (n : ℕ) (vs : List (Worker P)) (h : Hands P) (long : length vs ≡ n) (back : AreBack vs [] h) where

@@ -15,6 +15,9 @@ mod Formed
 mod Ordered
 mod Served
 mod Worked
+mod Counted
+mod Working
+mod Used
 mod Numbered
 mod OwnRecords
 mod Seats

@@ -38,9 +38,9 @@ module _ (m : Machine) where
         };
       }
 
-  pub order_of_banks : (limit : ℕ) (banks banks' : List BankSeat) (told : Told) → AreBanksInOrder m banks →
-      AllGiven (IsBankTurn m) limit banks told banks' → AreBanksInOrder m banks'
-  order_of_banks limit banks banks' told b given =
+  pub order_of_banks : (Many : ℕ → Type 0) (banks banks' : List BankSeat) (told : Told) → AreBanksInOrder m banks →
+      AllGiven (IsBankTurn m) Many banks told banks' → AreBanksInOrder m banks'
+  order_of_banks Many banks banks' told b given =
       record {
         long = given_long given ∙ b.long;
         each = λ i q at.
@@ -50,9 +50,9 @@ module _ (m : Machine) where
             (stays.0, stays.1 ∙ before.1);
       }
 
-  module _ {P : Type 0} (acts : Acts P) (limit : ℕ) (cores cores' : List CoreSeat) (programs programs' : List P)
+  module _ {P : Type 0} (acts : Acts P) (Many : ℕ → Type 0) (cores cores' : List CoreSeat) (programs programs' : List P)
       (told : Told) (order : AreCoresInOrder m cores) (none : NoneOpen cores)
-      (given : AllGiven (IsCoreTurn acts m) limit (zip cores programs) told (zip cores' programs'))
+      (given : AllGiven (IsCoreTurn acts m) Many (zip cores programs) told (zip cores' programs'))
       (long : length cores' ≡ length cores) where
     -- a core's seat and its program, before and after
     played : (i : ℕ) (p : CoreSeat) (a : P) (q : CoreSeat) (b : P) → slice_get cores i ≡ Some p →
@@ -104,20 +104,20 @@ pub record Comes {P : Type 0} (acts : Acts P) (m : Machine) (cores : List CoreSe
   pub whole : AreAll m cores' banks'
   pub are_served : AreServed acts cores programs cores' programs'
 
-pub comes_of : {P : Type 0} (acts : Acts P) (m : Machine) (limit : ℕ) (cores cores' : List CoreSeat)
+pub comes_of : {P : Type 0} (acts : Acts P) (m : Machine) (Many : ℕ → Type 0) (cores cores' : List CoreSeat)
     (banks banks' : List BankSeat) (programs programs' : List P) (told : Told) → IssuedLaw →
     AreCoresInOrder m cores → NoneOpen cores → AreBanksInOrder m banks → length programs ≡ length cores →
-    SeatsGiven acts m limit cores banks programs told cores' banks' programs' →
+    SeatsGiven acts m Many cores banks programs told cores' banks' programs' →
     Comes acts m cores programs cores' banks' programs'
-comes_of acts m limit cores cores' banks banks' programs programs' told law order none behind one_each given =
-    let in_order = order_of_cores m acts limit cores cores' programs programs' given.core_told order none given.of_cores
+comes_of acts m Many cores cores' banks banks' programs programs' told law order none behind one_each given =
+    let in_order = order_of_cores m acts Many cores cores' programs programs' given.core_told order none given.of_cores
     given.cores_long one_each given.programs_long in
-    let banks_behind = order_of_banks m limit banks banks' given.bank_told behind given.of_banks in
+    let banks_behind = order_of_banks m Many banks banks' given.bank_told behind given.of_banks in
     record {
       in_order = in_order;
       behind = banks_behind;
       whole = all_there m cores' banks' in_order banks_behind;
-      are_served = all_served m acts limit cores cores' programs programs' given.core_told order none given.of_cores
+      are_served = all_served m acts Many cores cores' programs programs' given.core_told order none given.of_cores
           given.cores_long law given.programs_long;
     }
 

@@ -1,6 +1,6 @@
 -- Two lists as one list of pairs.
 use Rattle.std.proofs.Common.{◌≡◌, ℕ, zero, suc, List, [], ◌∷◌, length, Option, Some, None, refl, sym, ap, ap₂, ◌∙◌}
-use Rattle.std.proofs.Common.{arith}
+use Rattle.std.proofs.Common.{◌≤◌, arith}
 use Rattle.std.specs.Prelude.{slice_get, slice_set}
 use Rattle.std.specs.List.{zip}
 use Rattle.thread_driver.proofs.Lists.{none_some}
@@ -49,6 +49,11 @@ module _ {A B : Type 0} where
   pairs_set (a ∷ xs) [] (suc i) x y = refl
   pairs_set (a ∷ xs) (b ∷ ys) zero x y = refl
   pairs_set (a ∷ xs) (b ∷ ys) (suc i) x y = ap (λ zs. (a, b) ∷ zs) (pairs_set xs ys i x y)
+
+  pub pairs_few : (xs : List A) (ys : List B) → length (zip xs ys) ≤ length xs
+  pairs_few [] ys = omega arith
+  pairs_few (x ∷ xs) [] = omega arith
+  pairs_few (x ∷ xs) (y ∷ ys) = let a = pairs_few xs ys in omega arith
 
   pub pairs_long : (xs : List A) (ys : List B) → length ys ≡ length xs → length (zip xs ys) ≡ length xs
   pairs_long [] ys e = refl

@@ -1,5 +1,5 @@
 -- Turns that all of a list were given: one pass more, what is at each place, and lists that were dealt to hands.
-use Rattle.std.proofs.Common.{◌≡◌, inl, inr, ℕ, zero, suc, ◌+◌, ◌*◌, ◌/◌, ◌%◌, ◌<◌, ◌≤◌, Bool, true, false, ◌||◌}
+use Rattle.std.proofs.Common.{◌≡◌, inl, inr, ℕ, zero, suc, ◌+◌, ◌*◌, ◌/◌, ◌%◌, ◌<◌, Bool, true, false, ◌||◌}
 use Rattle.std.proofs.Common.{List, [], ◌∷◌}
 use Rattle.std.proofs.Common.{length, Some, get_or, refl, sym, ap, ap₂, subst, ◌∙◌, arith, true≢false}
 use Rattle.std.specs.Prelude.{slice_get}
@@ -15,82 +15,97 @@ use Rattle.thread_driver.specs.Teams.{PassGiven, ends, goes_on}
 use Rattle.thread_driver.proofs.Lists.{none_some, some_is}
 use Rattle.thread_driver.proofs.Sums.{same_bool, told_quiet, told_swap}
 
--- one was given turns, at most so many, that told this
-abbrev IsGiven : {X : Type 0} → (X → Told → X → Type 0) → ℕ → X → Told → X → Type 0
-IsGiven Turn limit x told y = (n : ℕ) × (n ≤ limit) × TurnsGiven Turn x n told y
+-- one was given turns, so many, that told this
+abbrev IsGiven : {X : Type 0} → (X → Told → X → Type 0) → (ℕ → Type 0) → X → Told → X → Type 0
+IsGiven Turn Many x told y = (n : ℕ) × Many n × TurnsGiven Turn x n told y
 
 module _ {X : Type 0} {Turn : X → Told → X → Type 0} where
   -- no turns
-  pub none_given : (limit : ℕ) (xs : List X) → AllGiven Turn limit xs quiet xs
-  none_given limit [] = none
-  none_given limit (x ∷ xs) = one_more {n = zero} (omega arith) rests (none_given limit xs)
+  pub none_given : (Many : ℕ → Type 0) → Many zero → (xs : List X) → AllGiven Turn Many xs quiet xs
+  none_given Many is [] = none
+  none_given Many is (x ∷ xs) = one_more {n = zero} is rests (none_given Many is xs)
 
-  -- at most as many as a higher limit
-  pub given_within : {limit most : ℕ} {xs ys : List X} {all : Told} → limit ≤ most → AllGiven Turn limit xs all ys →
-      AllGiven Turn most xs all ys
-  given_within le none = none
-  given_within le (one_more {n = n} few given rest) =
-      one_more {n = n} (omega (arith, few, le)) given (given_within le rest)
+  -- as many turns, said otherwise
+  pub given_within : {Many Most : ℕ → Type 0} {xs ys : List X} {all : Told} → ((n : ℕ) → Many n → Most n) →
+      AllGiven Turn Many xs all ys → AllGiven Turn Most xs all ys
+  given_within within none = none
+  given_within within (one_more {n = n} many given rest) =
+      one_more {n = n} (within n many) given (given_within within rest)
 
-  -- a pass more
-  pub given_on : {limit k : ℕ} {xs ys zs : List X} {all told : Told} → AllGiven Turn limit xs all ys →
-      PassGiven Turn k ys told zs → AllGiven Turn (limit + 1) xs (told_by_both all told) zs
-  given_on {limit = limit} {xs = xs} {ys = ys} {all = all} given ends =
-      subst (λ t. AllGiven Turn (limit + 1) xs t ys) (sym (told_quiet all)) (given_within (omega arith) given)
-  given_on {limit = limit} (one_more {n = n} {told = a} {all = c} {x = x} {xs = xs} few given rest)
-      (goes_on {told = b} {all = d} {y = z} {ys = zs} turn others) =
-      subst (λ t. AllGiven Turn (limit + 1) (x ∷ xs) t (z ∷ zs)) (told_swap a b c d)
-      (one_more {n = suc n} (omega (arith, few)) (more given turn) (given_on rest others))
+  -- a pass more, of which some have a turn
+  pub given_on : {Many Most : ℕ → Type 0} {k : ℕ} {xs ys zs : List X} {all told : Told} →
+      ((n : ℕ) → Many n → Most n) → ((n : ℕ) → Many n → Most (suc n)) → AllGiven Turn Many xs all ys →
+      PassGiven Turn k ys told zs → AllGiven Turn Most xs (told_by_both all told) zs
+  given_on {Most = Most} {xs = xs} {ys = ys} {all = all} within grows given ends =
+      subst (λ t. AllGiven Turn Most xs t ys) (sym (told_quiet all)) (given_within within given)
+  given_on {Most = Most} within grows (one_more {n = n} {told = a} {all = c} {x = x} {xs = xs} many given rest)
+      (goes_on {told = b} {all = d} {y = z} {ys = zs} turn last others) =
+      subst (λ t. AllGiven Turn Most (x ∷ xs) t (z ∷ zs)) (told_swap a b c d)
+      (one_more {n = suc n} (grows n many) (more given turn) (given_on within grows rest others))
+
+  -- a pass more, of which all have a turn
+  pub given_whole : {Many Most : ℕ → Type 0} {k : ℕ} {xs ys zs : List X} {all told : Told} →
+      ((n : ℕ) → Many n → Most (suc n)) → AllGiven Turn Many xs all ys → PassGiven Turn k ys told zs →
+      k ≡ length ys → AllGiven Turn Most xs (told_by_both all told) zs
+  given_whole grows none ends whole = none
+  given_whole grows (one_more many given rest) ends whole = absurd (omega (arith, whole))
+  given_whole {Most = Most} grows (one_more {n = n} {told = a} {all = c} {x = x} {xs = xs} many given rest)
+      (goes_on {k = k} {told = b} {all = d} {y = z} {ys = zs} turn last others) whole =
+      subst (λ t. AllGiven Turn Most (x ∷ xs) t (z ∷ zs)) (told_swap a b c d)
+      (one_more {n = suc n} (grows n many) (more given turn)
+      (given_whole {k = k} grows rest others (omega (arith, whole))))
 
   -- the lists are as long
-  pub given_long : {limit : ℕ} {xs ys : List X} {all : Told} → AllGiven Turn limit xs all ys → length ys ≡ length xs
+  pub given_long : {Many : ℕ → Type 0} {xs ys : List X} {all : Told} → AllGiven Turn Many xs all ys →
+      length ys ≡ length xs
   given_long none = refl
-  given_long (one_more few given rest) = ap suc (given_long rest)
+  given_long (one_more many given rest) = ap suc (given_long rest)
 
   -- what is at a place was given turns
-  pub given_to : {limit : ℕ} {xs ys : List X} {all : Told} → AllGiven Turn limit xs all ys → (i : ℕ) (y : X) →
+  pub given_to : {Many : ℕ → Type 0} {xs ys : List X} {all : Told} → AllGiven Turn Many xs all ys → (i : ℕ) (y : X) →
       slice_get ys i ≡ Some y →
       (x : X) × (slice_get xs i ≡ Some x) × ((n : ℕ) × (told : Told) × TurnsGiven Turn x n told y)
   given_to none i y at = none_some at
-  given_to (one_more {n = n} {told = told} {x = x} few given rest) zero y at =
+  given_to (one_more {n = n} {told = told} {x = x} many given rest) zero y at =
       (x, refl, (n, told, subst (λ z. TurnsGiven Turn x n told z) (some_is at) given))
-  given_to (one_more few given rest) (suc i) y at = given_to rest i y at
+  given_to (one_more many given rest) (suc i) y at = given_to rest i y at
 
   -- what the turns told of the one at a place
-  abbrev told_at : {limit : ℕ} {xs ys : List X} {all : Told} → AllGiven Turn limit xs all ys → ℕ → Told
+  abbrev told_at : {Many : ℕ → Type 0} {xs ys : List X} {all : Told} → AllGiven Turn Many xs all ys → ℕ → Told
   told_at none i = quiet
-  told_at (one_more {told = told} few given rest) zero = told
-  told_at (one_more few given rest) (suc i) = told_at rest i
+  told_at (one_more {told = told} many given rest) zero = told
+  told_at (one_more many given rest) (suc i) = told_at rest i
 
-  given_at : {limit : ℕ} {xs ys : List X} {all : Told} (given : AllGiven Turn limit xs all ys) (i : ℕ) (x y : X) →
-      slice_get xs i ≡ Some x → slice_get ys i ≡ Some y → IsGiven Turn limit x (told_at given i) y
+  given_at : {Many : ℕ → Type 0} {xs ys : List X} {all : Told} (given : AllGiven Turn Many xs all ys) (i : ℕ)
+      (x y : X) →
+      slice_get xs i ≡ Some x → slice_get ys i ≡ Some y → IsGiven Turn Many x (told_at given i) y
   given_at none i x y at_x at_y = none_some at_x
-  given_at (one_more {n = n} {told = told} {x = v} few given rest) zero x y at_x at_y = (
+  given_at (one_more {n = n} {told = told} {x = v} many given rest) zero x y at_x at_y = (
     n,
-    few,
+    many,
     subst (λ z. TurnsGiven Turn z n told y) (some_is at_x)
         (subst (λ z. TurnsGiven Turn v n told z) (some_is at_y) given),
   )
-  given_at (one_more few given rest) (suc i) x y at_x at_y = given_at rest i x y at_x at_y
+  given_at (one_more many given rest) (suc i) x y at_x at_y = given_at rest i x y at_x at_y
 
   -- all of a list, of which each was given turns
-  at_front : (told : ℕ → Told) {limit n : ℕ} {all : Told} {x y : X} {xs ys : List X} (few : n ≤ limit)
-      (first : TurnsGiven Turn x n (told zero) y) (given : AllGiven Turn limit xs all ys) →
+  at_front : (told : ℕ → Told) {Many : ℕ → Type 0} {n : ℕ} {all : Told} {x y : X} {xs ys : List X} (many : Many n)
+      (first : TurnsGiven Turn x n (told zero) y) (given : AllGiven Turn Many xs all ys) →
       ((i : ℕ) → i < length xs → told_at given i ≡ told (suc i)) → (i : ℕ) → i < length (x ∷ xs) →
-      told_at (one_more few first given) i ≡ told i
-  at_front told few first given same zero lt = refl
-  at_front told few first given same (suc i) lt = same i (omega arith)
+      told_at (one_more many first given) i ≡ told i
+  at_front told many first given same zero lt = refl
+  at_front told many first given same (suc i) lt = same i (omega arith)
 
-  gathered : (limit : ℕ) (xs ys : List X) (told : ℕ → Told) → length ys ≡ length xs →
-      ((i : ℕ) (x y : X) → slice_get xs i ≡ Some x → slice_get ys i ≡ Some y → IsGiven Turn limit x (told i) y) →
-      (all : Told) × (given : AllGiven Turn limit xs all ys)
+  gathered : (Many : ℕ → Type 0) (xs ys : List X) (told : ℕ → Told) → length ys ≡ length xs →
+      ((i : ℕ) (x y : X) → slice_get xs i ≡ Some x → slice_get ys i ≡ Some y → IsGiven Turn Many x (told i) y) →
+      (all : Told) × (given : AllGiven Turn Many xs all ys)
       × ((i : ℕ) → i < length xs → told_at given i ≡ told i)
-  gathered limit [] [] told long each = (quiet, none, λ i lt. absurd (omega (arith, lt)))
-  gathered limit [] (y ∷ ys) told long each = absurd (omega (arith, long))
-  gathered limit (x ∷ xs) [] told long each = absurd (omega (arith, long))
-  gathered limit (x ∷ xs) (y ∷ ys) told long each =
+  gathered Many [] [] told long each = (quiet, none, λ i lt. absurd (omega (arith, lt)))
+  gathered Many [] (y ∷ ys) told long each = absurd (omega (arith, long))
+  gathered Many (x ∷ xs) [] told long each = absurd (omega (arith, long))
+  gathered Many (x ∷ xs) (y ∷ ys) told long each =
       let first = each zero x y refl refl in
-      let rest = gathered limit xs ys (λ i. told (suc i)) (omega (arith, long)) (λ i v w e f. each (suc i) v w e f) in (
+      let rest = gathered Many xs ys (λ i. told (suc i)) (omega (arith, long)) (λ i v w e f. each (suc i) v w e f) in (
         told_by_both (told zero) rest.0,
         one_more first.1 first.2 rest.1,
         at_front told first.1 first.2 rest.1 rest.2,
@@ -99,51 +114,52 @@ module _ {X : Type 0} {Turn : X → Told → X → Type 0} where
   -- what turns told, one by one and together
   module _ (says : Told → Bool) (adds : (a b : Told) → says (told_by_both a b) ≡ (says a || says b))
       (silent : says quiet ≡ false) where
-    said_at : {limit : ℕ} {xs ys : List X} {all : Told} (given : AllGiven Turn limit xs all ys) (i : ℕ) →
+    said_at : {Many : ℕ → Type 0} {xs ys : List X} {all : Told} (given : AllGiven Turn Many xs all ys) (i : ℕ) →
         says (told_at given i) ≡ true → says all ≡ true
     said_at none i is = absurd (true≢false (sym is ∙ silent))
-    said_at (one_more {told = told} {all = all} few given rest) zero is =
+    said_at (one_more {told = told} {all = all} many given rest) zero is =
         adds told all ∙ or_left (says told) (says all) is
-    said_at (one_more {told = told} {all = all} few given rest) (suc i) is =
+    said_at (one_more {told = told} {all = all} many given rest) (suc i) is =
         adds told all ∙ or_right (says told) (says all) (said_at rest i is)
 
-    said_by : {limit : ℕ} {xs ys : List X} {all : Told} (given : AllGiven Turn limit xs all ys) → says all ≡ true →
+    said_by : {Many : ℕ → Type 0} {xs ys : List X} {all : Told} (given : AllGiven Turn Many xs all ys) →
+        says all ≡ true →
         (i : ℕ) × (i < length xs) × (says (told_at given i) ≡ true)
     said_by none is = absurd (true≢false (sym is ∙ silent))
-    said_by (one_more {told = told} {all = all} few given rest) is =
+    said_by (one_more {told = told} {all = all} many given rest) is =
         elim (or_cases (says told) (says all) (sym (adds told all) ∙ is)) [
           | inl here ↦ (zero, omega arith, here)
           | inr later ↦ (let s = said_by rest later in (suc s.0, (let lt = s.1 in omega (arith, lt)), s.2))
         ]
 
 -- The lists in hands were given turns, and what was told in each hand.
-pub data HandsGiven {X : Type 0} (Turn : X → Told → X → Type 0) (limit : ℕ) : List (List X) → List Told →
+pub data HandsGiven {X : Type 0} (Turn : X → Told → X → Type 0) (Many : ℕ → Type 0) : List (List X) → List Told →
     List (List X) → Type 0 where
-  no_hand : HandsGiven Turn limit [] [] []
+  no_hand : HandsGiven Turn Many [] [] []
   one_hand : {told : Told} {xs ys : List X} {tolds : List Told} {before after : List (List X)} →
-      AllGiven Turn limit xs told ys → HandsGiven Turn limit before tolds after →
-      HandsGiven Turn limit (xs ∷ before) (told ∷ tolds) (ys ∷ after)
+      AllGiven Turn Many xs told ys → HandsGiven Turn Many before tolds after →
+      HandsGiven Turn Many (xs ∷ before) (told ∷ tolds) (ys ∷ after)
 
 module _ {X : Type 0} {Turn : X → Told → X → Type 0} where
   -- what was told at a place of a hand
-  abbrev told_in : {limit : ℕ} {before after : List (List X)} {tolds : List Told} →
-      HandsGiven Turn limit before tolds after → ℕ → ℕ → Told
+  abbrev told_in : {Many : ℕ → Type 0} {before after : List (List X)} {tolds : List Told} →
+      HandsGiven Turn Many before tolds after → ℕ → ℕ → Told
   told_in no_hand h k = quiet
   told_in (one_hand given rest) zero k = told_at given k
   told_in (one_hand given rest) (suc h) k = told_in rest h k
 
-  given_in : {limit : ℕ} {before after : List (List X)} {tolds : List Told}
-      (hands : HandsGiven Turn limit before tolds after) (h k : ℕ) (x y : X) →
+  given_in : {Many : ℕ → Type 0} {before after : List (List X)} {tolds : List Told}
+      (hands : HandsGiven Turn Many before tolds after) (h k : ℕ) (x y : X) →
       slice_get (get_or before h []) k ≡ Some x → slice_get (get_or after h []) k ≡ Some y →
-      IsGiven Turn limit x (told_in hands h k) y
+      IsGiven Turn Many x (told_in hands h k) y
   given_in no_hand h k x y at_x at_y = none_some at_x
   given_in (one_hand given rest) zero k x y at_x at_y = given_at given k x y at_x at_y
   given_in (one_hand given rest) (suc h) k x y at_x at_y = given_in rest h k x y at_x at_y
 
   module _ (says : Told → Bool) (adds : (a b : Told) → says (told_by_both a b) ≡ (says a || says b))
       (silent : says quiet ≡ false) where
-    said_in : {limit : ℕ} {before after : List (List X)} {tolds : List Told}
-        (hands : HandsGiven Turn limit before tolds after) (h k : ℕ) → says (told_in hands h k) ≡ true →
+    said_in : {Many : ℕ → Type 0} {before after : List (List X)} {tolds : List Told}
+        (hands : HandsGiven Turn Many before tolds after) (h k : ℕ) → says (told_in hands h k) ≡ true →
         list_any says tolds ≡ true
     said_in no_hand h k is = absurd (true≢false (sym is ∙ silent))
     said_in (one_hand {told = told} {tolds = tolds} given rest) zero k is =
@@ -151,8 +167,8 @@ module _ {X : Type 0} {Turn : X → Told → X → Type 0} where
     said_in (one_hand {told = told} {tolds = tolds} given rest) (suc h) k is =
         or_right (says told) (list_any says tolds) (said_in rest h k is)
 
-    said_by_hand : {limit : ℕ} {before after : List (List X)} {tolds : List Told}
-        (hands : HandsGiven Turn limit before tolds after) → list_any says tolds ≡ true →
+    said_by_hand : {Many : ℕ → Type 0} {before after : List (List X)} {tolds : List Told}
+        (hands : HandsGiven Turn Many before tolds after) → list_any says tolds ≡ true →
         (h : ℕ) × (k : ℕ) × (h < length before) × (k < length (get_or before h []))
         × (says (told_in hands h k) ≡ true)
     said_by_hand no_hand is = absurd (true≢false (sym is))
@@ -164,23 +180,23 @@ module _ {X : Type 0} {Turn : X → Told → X → Type 0} where
         ]
 
   -- A list that was dealt to hands, and the one that is gathered from them
-  module _ (limit first n : ℕ) (xs ys : List X) (before after : List (List X)) (tolds : List Told)
-      (hands : HandsGiven Turn limit before tolds after) (dealt : IsDealtInTurn xs first n before)
+  module _ (Many : ℕ → Type 0) (first n : ℕ) (xs ys : List X) (before after : List (List X)) (tolds : List Told)
+      (hands : HandsGiven Turn Many before tolds after) (dealt : IsDealtInTurn xs first n before)
       (back : IsDealtInTurn ys first n after) (long : length ys ≡ length xs) where
     abbrev told_of : ℕ → Told
     told_of i = told_in hands (hand_of first n (i % n)) (i / n)
 
-    all_gathered : (all : Told) × (given : AllGiven Turn limit xs all ys)
+    all_gathered : (all : Told) × (given : AllGiven Turn Many xs all ys)
         × ((i : ℕ) → i < length xs → told_at given i ≡ told_of i)
     all_gathered =
-        gathered limit xs ys told_of long
+        gathered Many xs ys told_of long
         (λ i x y at_x at_y. given_in hands (hand_of first n (i % n)) (i / n) x y
         (sym (item_at xs first n before dealt i) ∙ at_x) (sym (item_at ys first n after back i) ∙ at_y))
 
     pub gathered_told : Told
     gathered_told = all_gathered.0
 
-    pub gathered_given : AllGiven Turn limit xs gathered_told ys
+    pub gathered_given : AllGiven Turn Many xs gathered_told ys
     unfolding gathered_told
     gathered_given = all_gathered.1
 

@@ -174,7 +174,7 @@ module _ {X : Type 0} (Turn : X → Told → X → Type 0) (stopped : X → Bool
         λ on. second.1 (first.1 on),
       )
 
-  pub all_report : {limit : ℕ} {xs ys : List X} {told : Told} → AllGiven Turn limit xs told ys →
+  pub all_report : {Many : ℕ → Type 0} {xs ys : List X} {told : Told} → AllGiven Turn Many xs told ys →
       told.is_exhausted ≡ one_stopped stopped xs ys
   all_report none = refl
   all_report (one_more few given rest) = ap₂ (λ a b. a || b) (turns_report given).0 (all_report rest)
@@ -192,12 +192,12 @@ module _ {P : Type 0} where
   of_pairs (p ∷ ps) (q ∷ qs) (a ∷ left) (b ∷ left') e f g =
       ap (λ x. has_stopped p.is_stopped q.is_stopped || x) (of_pairs ps qs left left' (omega arith) (omega arith) (omega arith))
 
-  pub given_report : (acts : Acts P) (m : Machine) (limit : ℕ) (cores cores' : List CoreSeat)
+  pub given_report : (acts : Acts P) (m : Machine) (Many : ℕ → Type 0) (cores cores' : List CoreSeat)
       (banks banks' : List BankSeat) (programs programs' : List P) (told : Told) → length programs ≡ length cores →
-      SeatsGiven acts m limit cores banks programs told cores' banks' programs' →
+      SeatsGiven acts m Many cores banks programs told cores' banks' programs' →
       told.is_exhausted ≡ (one_stopped (λ (p : CoreSeat). p.is_stopped) cores cores'
       || one_stopped (λ (p : BankSeat). p.is_stopped) banks banks')
-  given_report acts m limit cores cores' banks banks' programs programs' told many given =
+  given_report acts m Many cores cores' banks banks' programs programs' told many given =
       ap (λ (a : Told). a.is_exhausted) given.told_is
       ∙ ap₂ (λ a b. a || b)
       (all_report (IsCoreTurn acts m) (λ (z : CoreSeat × P). z.0.is_stopped) (core_reports acts m) given.of_cores

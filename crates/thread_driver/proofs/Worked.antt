@@ -1,6 +1,7 @@
 -- Turns of seats, one after the other: what stays so of a seat. And a worker after it told what is finished, and in and
 -- after a pass.
-use Rattle.std.proofs.Common.{◌≡◌, ℕ, suc, ◌+◌, ◌<◌, ◌≤◌, List, length, Some, ⊎_elim, refl, sym, ap, ap₂, subst, ◌∙◌}
+use Rattle.std.proofs.Common.{◌≡◌, ℕ, zero, suc, ◌+◌, ◌<◌, false, List, length, Some, ⊎_elim, refl, sym}
+use Rattle.std.proofs.Common.{ap, ap₂, subst, ◌∙◌}
 use Rattle.std.proofs.Common.{arith}
 use Rattle.std.specs.Prelude.{slice_get, slice_index_or, slice_set}
 use Rattle.std.specs.List.{zip}
@@ -14,15 +15,15 @@ use Rattle.mailboxes.specs.Seats.{AllBankSeats, AllCoreSeats, IsBankSeat, IsCore
 use Rattle.programs.specs.Acts.{Acts}
 use Rattle.thread_driver.specs.declared.told.Told.{Told}
 use Rattle.thread_driver.specs.declared.worker.Worker.{Worker}
-use Rattle.thread_driver.specs.Given.{AllGiven, IsBankTurn, IsCoreTurn, SeatsGiven}
+use Rattle.thread_driver.specs.Given.{AllGiven, AtMost, Exactly, IsBankTurn, IsCoreTurn, SeatsGiven}
 use Rattle.thread_driver.specs.Given.{TurnsGiven, more, quiet, rests, told_by_both}
-use Rattle.thread_driver.specs.Teams.{PassGiven, SeatsPassed}
+use Rattle.thread_driver.specs.Teams.{PassGiven, SeatsPassed, ends_all}
 use Rattle.thread_driver.specs.Playing.{AreAhead, IsAhead, Plays}
 use Rattle.thread_driver.proofs.Lemmas.{plays_both, plays_none}
 use Rattle.thread_driver.proofs.Lists.{here, there}
-use Rattle.thread_driver.proofs.Pairs.{pair_there, pairs_set, parts_there}
-use Rattle.thread_driver.proofs.Passes.{not_passed, passed_at, passed_on}
-use Rattle.thread_driver.proofs.Shares.{given_on, given_within, none_given}
+use Rattle.thread_driver.proofs.Pairs.{pair_there, pairs_long, pairs_set, parts_there}
+use Rattle.thread_driver.proofs.Passes.{neither_ends, not_passed, passed_at, passed_on}
+use Rattle.thread_driver.proofs.Shares.{given_on, given_whole, given_within, none_given}
 use Rattle.thread_driver.proofs.Sums.{told_swap}
 
 -- a bank's seat
@@ -78,66 +79,83 @@ module _ {P : Type 0} (acts : Acts P) (m : Machine) where
         }
 
   -- seats of which none had a turn
-  pub not_given : (limit : ℕ) (cores : List CoreSeat) (banks : List BankSeat) (programs : List P) →
-      SeatsGiven acts m limit cores banks programs quiet cores banks programs
-  not_given limit cores banks programs =
+  pub not_given : (Many : ℕ → Type 0) → Many zero → (cores : List CoreSeat) (banks : List BankSeat)
+      (programs : List P) → SeatsGiven acts m Many cores banks programs quiet cores banks programs
+  not_given Many is cores banks programs =
       record {
         cores_long = refl;
         programs_long = refl;
         core_told = quiet;
         bank_told = quiet;
-        of_cores = none_given limit (zip cores programs);
-        of_banks = none_given limit banks;
+        of_cores = none_given Many is (zip cores programs);
+        of_banks = none_given Many is banks;
         told_is = refl;
       }
 
-  -- a pass more, with at most as many turns as a higher limit
-  pub given_more : (limit most : ℕ) → limit + 1 ≤ most → (cores cores' cores'' : List CoreSeat)
-      (banks banks' banks'' : List BankSeat) (programs programs' programs'' : List P) (all told both : Told) →
-      SeatsGiven acts m limit cores banks programs all cores' banks' programs' →
-      SeatsPassed acts m cores' banks' programs' told cores'' banks'' programs'' → both ≡ told_by_both all told →
-      SeatsGiven acts m most cores banks programs both cores'' banks'' programs''
-  given_more limit most le cores cores' cores'' banks banks' banks'' programs programs' programs'' all told both g p
-      is =
-      record {
-        cores_long = p.cores_long ∙ g.cores_long;
-        programs_long = p.programs_long ∙ g.programs_long;
-        core_told = told_by_both g.core_told p.core_told;
-        bank_told = told_by_both g.bank_told p.bank_told;
-        of_cores = given_within le (given_on g.of_cores p.of_cores);
-        of_banks = given_within le (given_on g.of_banks p.of_banks);
-        told_is =
-            is ∙ ap₂ told_by_both g.told_is p.told_is
-            ∙ told_swap g.core_told g.bank_told p.core_told p.bank_told;
-      }
+  -- a pass more, and one that is whole
+  module _ (n most : ℕ) (lt : n < most) (cores cores' cores'' : List CoreSeat) (banks banks' banks'' : List BankSeat)
+      (programs programs' programs'' : List P) (all told both : Told)
+      (g : SeatsGiven acts m (Exactly n) cores banks programs all cores' banks' programs')
+      (p : SeatsPassed acts m cores' banks' programs' told cores'' banks'' programs'')
+      (is : both ≡ told_by_both all told) where
+    both_told : both ≡ told_by_both (told_by_both g.core_told p.core_told) (told_by_both g.bank_told p.bank_told)
+    both_told =
+        is ∙ ap₂ told_by_both g.told_is p.told_is ∙ told_swap g.core_told g.bank_told p.core_told p.bank_told
+
+    pub given_more : SeatsGiven acts m (AtMost most) cores banks programs both cores'' banks'' programs''
+    given_more =
+        record {
+          cores_long = p.cores_long ∙ g.cores_long;
+          programs_long = p.programs_long ∙ g.programs_long;
+          core_told = told_by_both g.core_told p.core_told;
+          bank_told = told_by_both g.bank_told p.bank_told;
+          of_cores = given_on (λ k e. omega (arith, e, lt)) (λ k e. omega (arith, e, lt)) g.of_cores p.of_cores;
+          of_banks = given_on (λ k e. omega (arith, e, lt)) (λ k e. omega (arith, e, lt)) g.of_banks p.of_banks;
+          told_is = both_told;
+        }
+
+    pub given_all : length programs' ≡ length cores' → ends_all told ≡ false →
+        SeatsGiven acts m (Exactly (n + 1)) cores banks programs both cores'' banks'' programs''
+    given_all one_each goes =
+        let neither = neither_ends p.core_told p.bank_told (ap ends_all (sym p.told_is) ∙ goes) in
+        record {
+          cores_long = p.cores_long ∙ g.cores_long;
+          programs_long = p.programs_long ∙ g.programs_long;
+          core_told = told_by_both g.core_told p.core_told;
+          bank_told = told_by_both g.bank_told p.bank_told;
+          of_cores = given_whole (λ k e. omega (arith, e)) g.of_cores p.of_cores
+              (p.all_cores neither.0 ∙ sym (pairs_long cores' programs' one_each));
+          of_banks = given_whole (λ k e. omega (arith, e)) g.of_banks p.of_banks (p.all_banks neither.0 neither.1);
+          told_is = both_told;
+        }
 
 -- the seats and programs are as before, and so is what was told
 abbrev pub SameLists : {P : Type 0} → Worker P → Worker P → Type 0
 SameLists l t =
     (t.cores ≡ l.cores) × (t.banks ≡ l.banks) × (t.programs.items ≡ l.programs.items) × (t.told ≡ l.told)
 
--- the worker gave its seats turns, at most so many each, and keeps what these told
-abbrev pub Gave : {P : Type 0} → Acts P → Machine → ℕ → Worker P → Worker P → Type 0
-Gave acts m limit w v =
-    SeatsGiven acts m limit w.cores.items w.banks.items w.programs.items v.told v.cores.items v.banks.items
+-- the worker gave its seats turns, so many each, and keeps what these told
+abbrev pub Gave : {P : Type 0} → Acts P → Machine → (ℕ → Type 0) → Worker P → Worker P → Type 0
+Gave acts m Many w v =
+    SeatsGiven acts m Many w.cores.items w.banks.items w.programs.items v.told v.cores.items v.banks.items
     v.programs.items
 
 module _ {P : Type 0} (acts : Acts P) (m : Machine) where
-  -- a worker that told what is finished, with at most as many turns as a higher limit
-  pub works_told : (limit most : ℕ) (w l t : Worker P) → limit ≤ most → Gave acts m limit w l → SameLists l t →
-      Gave acts m most w t
-  works_told limit most w l t le gave same =
+  -- a worker that told what is finished, with as many turns, said otherwise
+  pub works_told : (Many Most : ℕ → Type 0) (w l t : Worker P) → ((n : ℕ) → Many n → Most n) →
+      Gave acts m Many w l → SameLists l t → Gave acts m Most w t
+  works_told Many Most w l t le gave same =
       let pairs = zip w.cores.items w.programs.items in
       record {
         cores_long = ap (λ (v : Vec CoreSeat Global). length v.items) same.0 ∙ gave.cores_long;
         programs_long = ap length same.2 ∙ gave.programs_long;
         core_told = gave.core_told;
         bank_told = gave.bank_told;
-        of_cores = subst (λ xs. AllGiven (IsCoreTurn acts m) most pairs gave.core_told (zip t.cores.items xs))
+        of_cores = subst (λ xs. AllGiven (IsCoreTurn acts m) Most pairs gave.core_told (zip t.cores.items xs))
             (sym same.2)
-            (subst (λ (v : Vec CoreSeat Global). AllGiven (IsCoreTurn acts m) most pairs gave.core_told
+            (subst (λ (v : Vec CoreSeat Global). AllGiven (IsCoreTurn acts m) Most pairs gave.core_told
             (zip v.items l.programs.items)) (sym same.0) (given_within le gave.of_cores));
-        of_banks = subst (λ (v : Vec BankSeat Global). AllGiven (IsBankTurn m) most w.banks.items gave.bank_told
+        of_banks = subst (λ (v : Vec BankSeat Global). AllGiven (IsBankTurn m) Most w.banks.items gave.bank_told
             v.items) (sym same.1) (given_within le gave.of_banks);
         told_is = same.3 ∙ gave.told_is;
       }
@@ -162,12 +180,12 @@ module _ (m : Machine) (banks banks' : List BankSeat) (k : ℕ) (told : Told) (a
   pub next_bank : IsBankSeat m q
   next_bank = all k q (sym (not_passed passed) ∙ here banks' k q lt at)
 
-  pub bank_had_turn : (had : Told) (r : BankSeat) → IsBankTurn m q had r →
+  pub bank_had_turn : ends_all told ≡ false → (had : Told) (r : BankSeat) → IsBankTurn m q had r →
       PassGiven (IsBankTurn m) (k + 1) banks (told_by_both told had) (slice_set banks' k r)
-  bank_had_turn had r turn =
+  bank_had_turn goes had r turn =
       let next : suc k ≡ k + 1 = omega arith in
       subst (λ i. PassGiven (IsBankTurn m) i banks (told_by_both told had) (slice_set banks' k r)) next
-      (passed_on had q r passed (here banks' k q lt at) turn)
+      (passed_on had q r goes passed (here banks' k q lt at) turn)
 
 module _ {P : Type 0} (acts : Acts P) (m : Machine) (cores cores' : List CoreSeat) (programs programs' : List P)
     (k : ℕ) (told : Told) (all : AllCoreSeats m cores) (ahead : AreAhead acts cores programs)
@@ -186,12 +204,13 @@ module _ {P : Type 0} (acts : Acts P) (m : Machine) (cores cores' : List CoreSea
   pub next_ahead : IsAhead acts q y
   next_ahead = ahead.each k q y next_there.0 next_there.1
 
-  pub core_had_turn : (had : Told) (r : CoreSeat) (z : P) → IsCoreTurn acts m (q, y) had (r, z) →
+  pub core_had_turn : ends_all told ≡ false → (had : Told) (r : CoreSeat) (z : P) →
+      IsCoreTurn acts m (q, y) had (r, z) →
       PassGiven (IsCoreTurn acts m) (k + 1) (zip cores programs) (told_by_both told had)
       (zip (slice_set cores' k r) (slice_set programs' k z))
-  core_had_turn had r z turn =
+  core_had_turn goes had r z turn =
       let next : suc k ≡ k + 1 = omega arith in
       subst (λ i. PassGiven (IsCoreTurn acts m) i (zip cores programs) (told_by_both told had)
       (zip (slice_set cores' k r) (slice_set programs' k z))) next
       (subst (λ ys. PassGiven (IsCoreTurn acts m) (suc k) (zip cores programs) (told_by_both told had) ys)
-      (pairs_set cores' programs' k r z) (passed_on had (q, y) (r, z) passed next_pair turn))
+      (pairs_set cores' programs' k r z) (passed_on had (q, y) (r, z) goes passed next_pair turn))

@@ -29,12 +29,20 @@ pub data TurnsGiven {X : Type 0} (Turn : X → Told → X → Type 0) (x : X) : 
   more : {n : ℕ} {all told : Told} {y z : X} → TurnsGiven Turn x n all y → Turn y told z →
       TurnsGiven Turn x (suc n) (told_by_both all told) z
 
--- Each of a list was given at most `limit` turns, and is at the same place in the other list; and what all of these
--- turns reported together.
-pub data AllGiven {X : Type 0} (Turn : X → Told → X → Type 0) (limit : ℕ) : List X → Told → List X → Type 0 where
-  none : AllGiven Turn limit [] quiet []
-  one_more : {n : ℕ} {told all : Told} {x y : X} {xs ys : List X} → n ≤ limit → TurnsGiven Turn x n told y →
-      AllGiven Turn limit xs all ys → AllGiven Turn limit (x ∷ xs) (told_by_both told all) (y ∷ ys)
+-- numbers of turns: at most so many, or all of them
+abbrev pub AtMost : ℕ → ℕ → Type 0
+AtMost limit n = n ≤ limit
+
+abbrev pub Exactly : ℕ → ℕ → Type 0
+Exactly limit n = n ≡ limit
+
+-- Each of a list was given a number of turns, of which `Many` holds, and is at the same place in the other list; and
+-- what all of these turns reported together.
+pub data AllGiven {X : Type 0} (Turn : X → Told → X → Type 0) (Many : ℕ → Type 0) : List X → Told → List X → Type 0
+  where
+    none : AllGiven Turn Many [] quiet []
+    one_more : {n : ℕ} {told all : Told} {x y : X} {xs ys : List X} → Many n → TurnsGiven Turn x n told y →
+        AllGiven Turn Many xs all ys → AllGiven Turn Many (x ∷ xs) (told_by_both told all) (y ∷ ys)
 
 -- what `bank_turn` promises of a bank's seat, before and after
 pub record IsBankTurn (m : Machine) (before : BankSeat) (told : Told) (after : BankSeat) : Type 0 where
@@ -49,14 +57,14 @@ module _ {P : Type 0} (acts : Acts P) (m : Machine) where
     pub plays : Plays acts before.0 before.1 after.0 after.1
     pub turn : CoreHadTurn acts m before.0 before.1 told after.0 after.1
 
-  -- Seats of cores with their programs, by index, and seats of banks were given turns, at most `limit` each, and what
-  -- all of these reported together.
-  pub record SeatsGiven (limit : ℕ) (cores : List CoreSeat) (banks : List BankSeat) (programs : List P) (told : Told)
-      (cores' : List CoreSeat) (banks' : List BankSeat) (programs' : List P) : Type 0 where
+  -- Seats of cores with their programs, by index, and seats of banks were given turns, so many each, and what all of
+  -- these reported together.
+  pub record SeatsGiven (Many : ℕ → Type 0) (cores : List CoreSeat) (banks : List BankSeat) (programs : List P)
+      (told : Told) (cores' : List CoreSeat) (banks' : List BankSeat) (programs' : List P) : Type 0 where
     pub cores_long : length cores' ≡ length cores
     pub programs_long : length programs' ≡ length programs
     pub core_told : Told
     pub bank_told : Told
-    pub of_cores : AllGiven IsCoreTurn limit (zip cores programs) core_told (zip cores' programs')
-    pub of_banks : AllGiven (IsBankTurn m) limit banks bank_told banks'
+    pub of_cores : AllGiven IsCoreTurn Many (zip cores programs) core_told (zip cores' programs')
+    pub of_banks : AllGiven (IsBankTurn m) Many banks bank_told banks'
     pub told_is : told ≡ told_by_both core_told bank_told

@@ -11,7 +11,7 @@ use Rattle.mailboxes.specs.Seats.{IsCoreSeat, IsBankSeat}
 use Rattle.programs.specs.Acts.{Acts}
 use Rattle.machine_theorem.specs.Service.{IsServed}
 use Rattle.thread_driver.specs.declared.told.Told.{Told}
-use Rattle.thread_driver.specs.Given.{SeatsGiven}
+use Rattle.thread_driver.specs.Given.{AtMost, Exactly, SeatsGiven}
 use Rattle.thread_driver.specs.Turns.{has_stopped}
 
 -- the seats of all cores of the machine, in order
@@ -42,6 +42,11 @@ abbrev pub end_told : Told → End
 end_told told =
     if told.no_memory then end.NoMemory else (if told.is_exhausted then end.Exhausted else end.TurnsUsed)
 
+-- how many turns each seat had at an end, if it may have `limit`: all of them where the turns were used
+abbrev pub TurnsBy : End → ℕ → ℕ → Type 0
+TurnsBy end.TurnsUsed limit = Exactly limit
+TurnsBy _ limit = AtMost limit
+
 module _ {P : Type 0} (acts : Acts P) where
   -- A core's seat and its program, before and after: the core was served, with the records that were added. The seat
   -- had no open operation before.
@@ -64,13 +69,13 @@ module _ {P : Type 0} (acts : Acts P) where
       (i : ℕ) (p : CoreSeat) (a : P) → slice_get cores i ≡ Some p → slice_get programs i ≡ Some a →
       (p.part.core.open_op ≡ None) × (acts.next a ≡ None)
 
-  -- Seats of the machine were given at most `limit` turns each. All is done exactly if nothing is left to do.
-  -- Otherwise what the turns reported decides how it ends. They reported a stop exactly if a seat is stopped now that
-  -- wasn't before.
+  -- Seats of the machine were given at most `limit` turns each, and where the turns are used, exactly so many. All is
+  -- done exactly if nothing is left to do. Otherwise what the turns reported decides how it ends. They reported a stop
+  -- exactly if a seat is stopped now that wasn't before.
   pub record Ran (m : Machine) (limit : ℕ) (cores : List CoreSeat) (banks : List BankSeat) (programs : List P)
       (cores' : List CoreSeat) (banks' : List BankSeat) (programs' : List P) (e : End) : Type 0 where
     pub told : Told
-    pub given : SeatsGiven acts m limit cores banks programs told cores' banks' programs'
+    pub given : SeatsGiven acts m (TurnsBy e limit) cores banks programs told cores' banks' programs'
     pub done : e ≡ end.AllDone → AreOver cores' programs'
     pub all_done : AreOver cores' programs' → e ≡ end.AllDone
     pub otherwise : e ≢ end.AllDone → e ≡ end_told told

@@ -1,28 +1,49 @@
 -- Workers, and what they do with what they were dealt.
-use Rattle.std.specs.Prelude.{◌≡◌, ℕ, zero, suc, List, ◌∷◌, length, Some, slice_get}
+use Rattle.std.specs.Prelude.{◌≡◌, ◌||◌, ◌&&◌, is_none, Bool, true, false, ℕ, zero, suc, ◌+◌, ◌<◌, ◌≤◌, ◌^◌}
+use Rattle.std.specs.Prelude.{List, [], ◌∷◌, length, Some, slice_get}
+use Rattle.std.specs.Int.{from_bool}
 use Rattle.std.specs.List.{zip}
 use Rattle.mailboxes.specs.declared.machine.Machine.{Machine}
 use Rattle.mailboxes.specs.declared.core_seat.CoreSeat.{CoreSeat}
 use Rattle.mailboxes.specs.declared.bank_seat.BankSeat.{BankSeat}
 use Rattle.mailboxes.specs.Seats.{AllCoreSeats, AllBankSeats}
 use Rattle.stop_flags.specs.declared.signals.Signals.{Signals}
-use Rattle.stop_flags.specs.Signalers.{IsSignalerOf}
+use Rattle.stop_flags.specs.Signalers.{IsSignalerOf, last_look, number_of}
+use Rattle.stop_flags.specs.Told.{nothing}
 use Rattle.programs.specs.Acts.{Acts}
 use Rattle.thread_driver.specs.declared.told.Told.{Told}
+use Rattle.thread_driver.specs.declared.worker.Rota.{Rota}
 use Rattle.thread_driver.specs.declared.worker.Worker.{Worker}
-use Rattle.thread_driver.specs.Given.{IsBankTurn, IsCoreTurn, SeatsGiven, quiet, told_by_both}
+use Rattle.thread_driver.specs.Given.{AtMost, Exactly, IsBankTurn, IsCoreTurn, SeatsGiven, quiet, told_by_both}
 use Rattle.thread_driver.specs.Playing.{AreAhead}
 
--- A pass: the first n of a list had a turn each, and the others none.
+-- whether no worker goes on after a turn that reported this
+abbrev pub ends_all : Told → Bool
+ends_all told = told.no_memory || told.is_exhausted
+
+-- A pass: the first n of a list had a turn each, and the others none. After a turn that ends all there is no other.
 pub data PassGiven {X : Type 0} (Turn : X → Told → X → Type 0) : ℕ → List X → Told → List X → Type 0 where
   ends : {xs : List X} → PassGiven Turn zero xs quiet xs
-  goes_on : {k : ℕ} {told all : Told} {x y : X} {xs ys : List X} → Turn x told y → PassGiven Turn k xs all ys →
-      PassGiven Turn (suc k) (x ∷ xs) (told_by_both told all) (y ∷ ys)
+  goes_on : {k : ℕ} {told all : Told} {x y : X} {xs ys : List X} → Turn x told y → (ends_all told ≡ true → k ≡ zero) →
+      PassGiven Turn k xs all ys → PassGiven Turn (suc k) (x ∷ xs) (told_by_both told all) (y ∷ ys)
 
-module _ {P : Type 0} (acts : Acts P) (m : Machine) where
+-- A pass is whole: all of the list had a turn, unless one ended all.
+abbrev pub IsWhole : {X : Type 0} → ℕ → List X → Told → Type 0
+IsWhole n xs told = ends_all told ≡ false → n ≡ length xs
+
+module _ {P : Type 0} (acts : Acts P) where
+  -- whether a core has no open operation, and its program no next step
+  abbrev pub is_over : CoreSeat × P → Bool
+  is_over x = is_none x.0.part.core.open_op && is_none (acts.next x.1)
+
+  -- of how many cores with their programs that is so
+  abbrev pub over_in : List (CoreSeat × P) → ℕ
+  over_in [] = 0
+  over_in (x ∷ xs) = from_bool (is_over x) + over_in xs
+
   -- A pass of seats of cores with their programs, by index, and of seats of banks, and what its turns reported
-  -- together.
-  pub record SeatsPassed (cores : List CoreSeat) (banks : List BankSeat) (programs : List P) (told : Told)
+  -- together. Each seat had its turn, unless one ended all; there was none after that.
+  pub record SeatsPassed (m : Machine) (cores : List CoreSeat) (banks : List BankSeat) (programs : List P) (told : Told)
       (cores' : List CoreSeat) (banks' : List BankSeat) (programs' : List P) : Type 0 where
     pub cores_long : length cores' ≡ length cores
     pub programs_long : length programs' ≡ length programs
@@ -32,6 +53,9 @@ module _ {P : Type 0} (acts : Acts P) (m : Machine) where
     pub bank_told : Told
     pub of_cores : PassGiven (IsCoreTurn acts m) core_turns (zip cores programs) core_told (zip cores' programs')
     pub of_banks : PassGiven (IsBankTurn m) bank_turns banks bank_told banks'
+    pub all_cores : IsWhole core_turns cores core_told
+    pub no_banks : ends_all core_told ≡ true → bank_turns ≡ 0
+    pub all_banks : ends_all core_told ≡ false → IsWhole bank_turns banks bank_told
     pub told_is : told ≡ told_by_both core_told bank_told
 
 module _ {P : Type 0} where
@@ -41,22 +65,35 @@ module _ {P : Type 0} where
     pub cores : AllCoreSeats m w.cores.items
     pub banks : AllBankSeats m w.banks.items
 
-  -- its programs are ahead of its cores
+  -- its programs are ahead of its cores, of which there are few, and it has signaled nothing
   abbrev pub IsReady : Acts P → Machine → Signals → Worker P → Type 0
-  IsReady acts m signals w = IsAtWork m signals w × AreAhead acts w.cores.items w.programs.items
+  IsReady acts m signals w =
+      IsAtWork m signals w × AreAhead acts w.cores.items w.programs.items × (w.signaler.said ≡ nothing)
+      × (length w.cores.items < 2 ^ 32)
 
-  -- the worker gave its seats turns, at most `limit` each, and keeps what these reported
-  unfoldable pub Works : Acts P → Machine → ℕ → Worker P → Worker P → Type 0
-  Works acts m limit w v =
-      SeatsGiven acts m limit w.cores.items w.banks.items w.programs.items v.told v.cores.items v.banks.items
-      v.programs.items
+  -- The worker gave its seats turns, and keeps what these reported: at most `rota.turns` each, and exactly so many
+  -- unless one of its turns ended all, or its last look found a stop or that all programs are finished. It has signaled
+  -- a stop exactly if one of its turns ended all, and no more finished programs than it has.
+  pub record HasWorked (acts : Acts P) (m : Machine) (rota : Rota) (w v : Worker P) : Type 0 where
+    pub number : number_of v.signaler ≡ number_of w.signaler
+    pub given : SeatsGiven acts m (AtMost rota.turns) w.cores.items w.banks.items w.programs.items v.told v.cores.items
+        v.banks.items v.programs.items
+    pub all_given : ends_all v.told ≡ false → (last_look v.signaler).is_stopped ≡ false →
+        (last_look v.signaler).finished < rota.programs →
+        SeatsGiven acts m (Exactly rota.turns) w.cores.items w.banks.items w.programs.items v.told v.cores.items
+        v.banks.items v.programs.items
+    pub stops : v.signaler.said.stops ≡ ends_all v.told
+    pub finished : v.signaler.said.finished ≤ over_in acts (zip v.cores.items v.programs.items)
 
-  -- each of a team is ready; each gave its seats turns, and still has one of these signalers
+  unfoldable pub Works : Acts P → Machine → Rota → Worker P → Worker P → Type 0
+  Works acts m rota w v = HasWorked acts m rota w v
+
+  -- each of a team is ready; each worked, and still has one of these signalers
   abbrev pub AreReady : Acts P → Machine → Signals → List (Worker P) → Type 0
   AreReady acts m signals ws = (i : ℕ) (w : Worker P) → slice_get ws i ≡ Some w → IsReady acts m signals w
 
-  pub record AllWork (acts : Acts P) (m : Machine) (signals : Signals) (limit : ℕ) (ws vs : List (Worker P)) :
+  pub record AllWork (acts : Acts P) (m : Machine) (signals : Signals) (rota : Rota) (ws vs : List (Worker P)) :
       Type 0 where
     pub long : length vs ≡ length ws
     pub each : (i : ℕ) (w v : Worker P) → slice_get ws i ≡ Some w → slice_get vs i ≡ Some v →
-        IsSignalerOf signals v.signaler × Works acts m limit w v
+        IsSignalerOf signals v.signaler × Works acts m rota w v

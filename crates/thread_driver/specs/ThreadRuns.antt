@@ -39,11 +39,11 @@ module _ {P : Type 0} (acts : Acts P) where
   IsOver m programs =
       (core : ℕ) → core < m.config.cores → (open_op m core ≡ None) × (next_in acts programs core ≡ None)
 
-  -- A machine opened. Its seats, with these programs, were given at most `limit` turns each, or memory for the workers
-  -- was refused; that decides how it ended. What the seats stored then is what the run has: the parts of one reached
-  -- state. The cores were issued what the programs gave. If all is done, nothing is left to do. If nothing is left to
-  -- do, all is done, or else memory was refused and all is as it opened. It ends exhausted only if a seat is stopped,
-  -- and with its turns used only if none is.
+  -- A machine opened. Its seats, with these programs, were given at most `limit` turns each (exactly, if these were
+  -- used), or memory for the workers was refused; that decides how it ended. What the seats stored then is what the
+  -- run has: the parts of one reached state. The cores were issued what the programs gave. If all is done, nothing is
+  -- left to do. If nothing is left to do, all is done, or else memory was refused and all is as it opened. It ends
+  -- exhausted only if a seat is stopped, and with its turns used only if none is.
   pub record IsRunFrom (limit : ℕ) (before : List P) (run : Run) (after : List P) (e : End) : Type 0 where
     pub parts : Parts run
     pub reached : Reached run.set_up.config run.set_up.memory (state_of_run run parts)

@@ -1,6 +1,8 @@
 //! Counts the cores that are done.
-ghost use Rattle.std.specs.Prelude.{◌≡◌, ◌≤◌, true, length};
+ghost use Rattle.std.specs.Prelude.{◌≡◌, true, length};
+ghost use Rattle.std.specs.List.{zip};
 ghost use Rattle.thread_driver.specs.Shifts.{AreOver};
+ghost use Rattle.thread_driver.specs.Teams.{over_in};
 
 use crate::core_turns::is_over;
 use mailboxes::CoreSeat;
@@ -24,14 +26,12 @@ pub(crate) fn are_over<P: Program>(cores: &[CoreSeat], programs: &mut Vec<P>) ->
 /// How many cores have no open operation, and a program without a next step.
 pub(crate) fn over_count<P: Program>(cores: &[CoreSeat], programs: &mut Vec<P>) -> u64
     requires { length programs.old.items ≡ length cores.now }
-    ensures few { result ≤ length cores.now }
+    ensures over { result ≡ over_in P.acts (zip cores.now programs.old.items) }
     ensures same { programs.new.items ≡ programs.old.items }
 {
     let mut count = 0;
     for i in 0..cores.len() {
-        if is_over(&cores[i], &mut programs[i]) {
-            count += 1;
-        }
+        count += u64::from(is_over(&cores[i], &mut programs[i]));
     }
     count
 }

@@ -1,6 +1,7 @@
 //! Deals seats and programs to workers, and collects them again.
 ghost use Rattle.std.specs.Prelude.{◌≡◌, ℕ, ◌<◌, ◌≤◌, ◌^◌, [], IfOk, length, map, vec_capacity};
 ghost use Rattle.thread_driver.specs.Hands.{AreBack, AreDealt, AreHands, AreRoomy, AreSplit, HaveHandRoom, HaveLengths};
+ghost use Rattle.round_robin.specs.Dealing.{total_length};
 ghost use Rattle.thread_driver.specs.Hands.{banks_in, cores_in, programs_in};
 
 use crate::shift::Shift;
@@ -39,6 +40,7 @@ pub(crate) fn deal_all<P: Drop>(shift: &mut Shift<P>, hands: &mut Hands<P>)
     ensures dealt { AreDealt (length hands.old.cores.items)
         shift.old.cores.items shift.old.programs.items shift.old.banks.items
         (cores_in hands.new) (programs_in hands.new) (banks_in hands.new) }
+    ensures total { total_length (cores_in hands.new) ≡ length shift.old.cores.items }
     ensures empty { (shift.new.cores.items ≡ []) × (shift.new.programs.items ≡ []) ×
         (shift.new.banks.items ≡ []) }
     ensures capacity { (vec_capacity shift.new.cores ≡ vec_capacity shift.old.cores) ×
@@ -88,16 +90,18 @@ pub(crate) fn gather_all<P: Drop>(
 #[tactic(auto, using(crate::proofs::Formed::split_more))]
 pub(crate) fn form<P: Drop>(
     hands: &mut Hands<P>,
-    mut signalers: Vec<Signaler>,
+    signalers: &mut Vec<Signaler>,
     team: &mut Vec<Worker<P>>,
 )
-    requires hands { AreHands (length signalers.items) hands.old }
+    requires hands { AreHands (length signalers.old.items) hands.old }
     requires none { team.old.items ≡ [] }
-    requires room { length signalers.items ≤ vec_capacity team.old }
+    requires room { length signalers.old.items ≤ vec_capacity team.old }
     ensures split { AreSplit hands.old hands.new team.new.items }
     ensures empty { AreHands 0 hands.new }
     ensures room { (n : ℕ) → HaveHandRoom n hands.old → HaveHandRoom n hands.new }
-    ensures signalers { map (λ w. w.signaler) team.new.items ≡ signalers.items }
+    ensures signalers { map (λ w. w.signaler) team.new.items ≡ signalers.old.items }
+    ensures none_left { (signalers.new.items ≡ []) ×
+        (vec_capacity signalers.new ≡ vec_capacity signalers.old) }
 {
     while let Some(signaler) = signalers.pop() {
         let cores = hands.cores.pop();
@@ -115,19 +119,28 @@ pub(crate) fn form<P: Drop>(
     }
 }
 
-/// Workers put what they have into the hands again.
-pub(crate) fn disband<P: Drop>(mut team: Vec<Worker<P>>, hands: &mut Hands<P>)
-    requires empty { AreHands 0 hands.old }
-    requires room { HaveHandRoom (length team.items) hands.old }
+/// Workers put what they have into the hands again, and their signalers into a list.
+pub(crate) fn disband<P: Drop>(
+    mut team: Vec<Worker<P>>,
+    hands: &mut Hands<P>,
+    signalers: &mut Vec<Signaler>,
+)
+    requires empty { AreHands 0 hands.old × (signalers.old.items ≡ []) }
+    requires room { HaveHandRoom (length team.items) hands.old ×
+        (length team.items ≤ vec_capacity signalers.old) }
     ensures back { AreBack team.items [] hands.new }
+    ensures signalers { signalers.new.items ≡ map (λ w. w.signaler) team.items }
 {
     while let Some(worker) = team.pop() {
         let Worker {
+            signaler,
             cores,
             programs,
             banks,
             ..
         } = worker;
+        let kept = signalers.insert(0, signaler);
+        kept.unwrap();
         let first = hands.cores.insert(0, cores);
         first.unwrap();
         let second = hands.programs.insert(0, programs);

@@ -1,14 +1,14 @@
 //! Seats that workers drive, and the result.
-ghost use Rattle.std.specs.Prelude.{◌≡◌, ◌≢◌, ◌⊎◌, ◌<◌, ◌≤◌, ◌^◌, true, IfOk, OnErr, length};
+ghost use Rattle.std.specs.Prelude.{◌≡◌, ◌≢◌, ◌⊎◌, ◌<◌, ◌≤◌, ◌^◌, true, false, IfOk, OnErr, length};
 ghost use Rattle.std.specs.List.{list_any};
 ghost use Rattle.programs.specs.declared.ends.End.TheVariants as end;
 ghost use Rattle.mailboxes.specs.Seats.{AllBankSeats, AllCoreSeats, AreAll};
 ghost use Rattle.stop_flags.specs.Signalers.{IsSignalerOf};
-ghost use Rattle.thread_driver.specs.Given.{SeatsGiven};
+ghost use Rattle.thread_driver.specs.Given.{AtMost, Exactly, SeatsGiven};
 ghost use Rattle.thread_driver.specs.Playing.{AreAhead};
 ghost use Rattle.thread_driver.specs.Shifts.{AreBanksInOrder, AreCoresInOrder, AreOver, AreServed, NoneOpen};
 ghost use Rattle.thread_driver.specs.Shifts.{Ran, RefusedAtOnce, end_told};
-ghost use Rattle.thread_driver.specs.Teams.{AllWork, AreReady, IsReady, Works};
+ghost use Rattle.thread_driver.specs.Teams.{AllWork, AreReady, IsReady, Works, ends_all};
 
 use crate::counting::are_over;
 use crate::dealing::{deal_all, disband, form, gather_all, open_hands};
@@ -31,7 +31,7 @@ use stop_flags::{Signals, open_signals};
 /// the gate. docs/SCHEDULES.md has the order within a turn. Each core has a program, which gives it its steps. At any
 /// end, each core was issued what its program gave, in order, and the program received what each completed operation
 /// did, in order. An operation that is still open is the program's next. Turns are all that seats are given, and each
-/// has at most `turn_limit` of them.
+/// has at most `turn_limit` of them; if the end is TurnsUsed, each has had exactly so many.
 ///
 /// A worker goes on until all programs are done, each of its seats had `turn_limit` turns, or some seat lacked memory
 /// or stopped. If memory for the workers can't be allocated, no turn is made, all is as it was given, and the end is
@@ -98,25 +98,31 @@ fn drive_shift<R: Threads + Sync, P: Program + Send + Drop, G: Gate + Sync>(
     requires ahead { AreAhead P.acts shift.old.cores.items shift.old.programs.items }
     requires few { length shift.old.cores.items < 2 ^ 32 }
     requires workers { (0 < workers) × (workers ≤ 16) }
-    ensures worked { IfOk result (λ told. SeatsGiven P.acts machine.now turn_limit
+    ensures worked { IfOk result (λ told. SeatsGiven P.acts machine.now (AtMost turn_limit)
         shift.old.cores.items shift.old.banks.items shift.old.programs.items told
         shift.new.cores.items shift.new.banks.items shift.new.programs.items) }
+    ensures used { IfOk result (λ told. ends_all told ≡ false →
+        SeatsGiven P.acts machine.now (Exactly turn_limit)
+        shift.old.cores.items shift.old.banks.items shift.old.programs.items told
+        shift.new.cores.items shift.new.banks.items shift.new.programs.items
+        ⊎ AreOver P.acts shift.new.cores.items shift.new.programs.items) }
     ensures refused { OnErr result (shift.new ≡ shift.old) }
 {
     let count = workers as usize;
     let (cores, programs, banks) = (shift.cores.len(), shift.programs.len(), shift.banks.len());
-    let (signals, signalers) = open_signals(alloc, workers)?;
+    let (signals, mut signalers) = open_signals(alloc, workers)?;
     let mut hands = open_hands(alloc, count, shift)?;
     let mut team = Vec::with_capacity(alloc, count)?;
     deal_all(shift, &mut hands);
-    form(&mut hands, signalers, &mut team);
+    form(&mut hands, &mut signalers, &mut team);
     let rota = Rota {
         programs: cores as u64,
         turns: turn_limit,
     };
     drive_team(rt, machine, &signals, gate, rota, &mut team);
     let told = told_by_team(team.as_slice());
-    disband(team, &mut hands);
+    disband(team, &mut hands, &mut signalers);
+    signals.close(signalers);
     gather_all(hands, shift, cores, programs, banks);
     Ok(told)
 }
@@ -131,8 +137,7 @@ fn drive_team<R: Threads + Sync, P: Program + Send + Drop, G: Gate + Sync>(
     team: &mut Vec<Worker<P>>,
 )
     requires ready { AreReady P.acts machine.now signals.now team.old.items }
-    ensures work { AllWork P.acts machine.now signals.now rota.turns team.old.items
-        team.new.items }
+    ensures work { AllWork P.acts machine.now signals.now rota team.old.items team.new.items }
 {
     thread::for_each_mut(
         rt,
@@ -141,7 +146,7 @@ fn drive_team<R: Threads + Sync, P: Program + Send + Drop, G: Gate + Sync>(
         &|_, worker: &mut Worker<P>| -> ()
             requires { IsReady P.acts machine.now signals.now worker.now }
             ensures { IsSignalerOf signals.entry.now worker.exit.now.signaler ×
-                Works P.acts machine.entry.now rota.turns worker.entry.now worker.exit.now }
+                Works P.acts machine.entry.now rota worker.entry.now worker.exit.now }
         { work(machine, signals, gate, rota, worker) },
     );
 }

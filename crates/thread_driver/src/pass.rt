@@ -3,7 +3,7 @@ ghost use Rattle.std.specs.Prelude.{◌≡◌, ℕ, length};
 ghost use Rattle.std.specs.List.{zip};
 ghost use Rattle.mailboxes.specs.Seats.{AllBankSeats, AllCoreSeats};
 ghost use Rattle.thread_driver.specs.Given.{IsBankTurn, IsCoreTurn};
-ghost use Rattle.thread_driver.specs.Teams.{PassGiven};
+ghost use Rattle.thread_driver.specs.Teams.{IsWhole, PassGiven, ends_all};
 ghost use Rattle.thread_driver.specs.Playing.{AreAhead};
 
 use crate::bank_turns::bank_turn;
@@ -14,7 +14,9 @@ use programs::program::Program;
 use shared_jobs::Gate;
 
 /// Whether no worker goes on after this.
-pub(crate) fn ends_all(told: &Told) -> bool {
+pub(crate) fn ends_all(told: &Told) -> bool
+    ensures { result ≡ ends_all told.now }
+{
     told.no_memory || told.is_exhausted
 }
 
@@ -31,7 +33,8 @@ pub(crate) fn core_pass<P: Program, G: Gate>(
     ensures seats { AllCoreSeats machine.now cores.new.items }
     ensures ahead { AreAhead P.acts cores.new.items programs.new.items }
     ensures long { length cores.new.items ≡ length cores.old.items }
-    ensures turns { (turns : ℕ) × PassGiven (IsCoreTurn P.acts machine.now) turns
+    ensures turns { (turns : ℕ) × IsWhole turns cores.old.items result ×
+        PassGiven (IsCoreTurn P.acts machine.now) turns
         (zip cores.old.items programs.old.items) result
         (zip cores.new.items programs.new.items) }
 {
@@ -58,7 +61,7 @@ pub(crate) fn bank_pass<G: Gate>(
 ) -> Told
     requires seats { AllBankSeats machine.now banks.old.items }
     ensures seats { AllBankSeats machine.now banks.new.items }
-    ensures turns { (turns : ℕ) ×
+    ensures turns { (turns : ℕ) × IsWhole turns banks.old.items result ×
         PassGiven (IsBankTurn machine.now) turns banks.old.items result banks.new.items }
 {
     let mut all = QUIET;

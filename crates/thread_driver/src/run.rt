@@ -26,9 +26,9 @@ pub struct ThreadRun<P: Drop> {
 
 /// Opens a machine with this memory, lets 1 to 16 workers drive its seats with at most `turn_limit` turns each, and
 /// closes it. Each core has a program, which gives it its steps. docs/SCHEDULES.md has the order of turns, and the
-/// ends. The machine is then in a reached state, which is consistent (`closed_machines_are_consistent`). The turns
-/// that lead from the opened seats to the closed ones decide how it ends. AllocError if memory to open the machine or
-/// to close it can't be allocated.
+/// ends. After it the machine is in a reached state, which is consistent (`closed_machines_are_consistent`). The turns
+/// that lead from the opened seats to the closed ones decide how it ends; if that is TurnsUsed, each seat had exactly
+/// `turn_limit` of them. AllocError if memory to open the machine or to close it can't be allocated.
 pub fn run_threads<R: Threads + Sync, P: Program + Send + Drop, G: Gate + Sync>(
     rt: &R,
     alloc: Global,

@@ -1,9 +1,10 @@
 //! What a worker does: it gives its seats turns until there is nothing left to do.
-ghost use Rattle.std.specs.Prelude.{◌≡◌, length};
+ghost use Rattle.std.specs.Prelude.{◌≡◌, ◌≤◌, ◌<◌, ◌^◌, length};
+ghost use Rattle.std.specs.List.{zip};
 ghost use Rattle.mailboxes.specs.Seats.{AllBankSeats, AllCoreSeats};
-ghost use Rattle.stop_flags.specs.Signalers.{IsSignalerOf};
+ghost use Rattle.stop_flags.specs.Signalers.{IsSignalerOf, last_look, number_of};
 ghost use Rattle.thread_driver.specs.Playing.{AreAhead};
-ghost use Rattle.thread_driver.specs.Teams.{IsAtWork, SeatsPassed, Works};
+ghost use Rattle.thread_driver.specs.Teams.{IsReady, SeatsPassed, Works, over_in};
 
 use crate::counting::over_count;
 use crate::pass::{bank_pass, core_pass, ends_all};
@@ -16,7 +17,7 @@ use std::thread;
 use stop_flags::Signals;
 
 /// Gives the worker's seats turns, one pass after the other, until all programs are done, its seats had their most
-/// turns, or some seat lacked memory or stopped.
+/// turns, or some seat lacked memory or stopped. Then it has signaled a stop exactly if that was a seat of its own.
 pub(crate) fn work<P: Program + Drop, G: Gate>(
     machine: &Machine,
     signals: &Signals,
@@ -24,10 +25,9 @@ pub(crate) fn work<P: Program + Drop, G: Gate>(
     rota: Rota,
     worker: &mut Worker<P>,
 )
-    requires work { IsAtWork machine.now signals.now worker.old }
-    requires ahead { AreAhead P.acts worker.old.cores.items worker.old.programs.items }
+    requires { IsReady P.acts machine.now signals.now worker.old }
     ensures signaler { IsSignalerOf signals.now worker.new.signaler }
-    ensures works { Works P.acts machine.now rota.turns worker.old worker.new }
+    ensures works { Works P.acts machine.now rota worker.old worker.new }
 {
     worker.told = QUIET;
     let mut idle = 0;
@@ -86,11 +86,19 @@ fn pass<P: Program + Drop, G: Gate>(
     both(told, bank_pass(machine, gate, &mut worker.banks, turn))
 }
 
-// Tells of each program that was finished since.
+// Tells of each program that was finished since: then so many are told as are over.
 fn tell<P: Program + Drop>(signals: &Signals, worker: &mut Worker<P>)
     requires signaler { IsSignalerOf signals.now worker.old.signaler }
     requires long { length worker.old.programs.items ≡ length worker.old.cores.items }
+    requires few { length worker.old.cores.items < 2 ^ 32 }
+    requires finished { worker.old.signaler.said.finished ≤
+        over_in P.acts (zip worker.old.cores.items worker.old.programs.items) }
     ensures signaler { IsSignalerOf signals.now worker.new.signaler }
+    ensures told { worker.new.signaler.said.finished ≡
+        over_in P.acts (zip worker.new.cores.items worker.new.programs.items) }
+    ensures kept { (number_of worker.new.signaler ≡ number_of worker.old.signaler) ×
+        (last_look worker.new.signaler ≡ last_look worker.old.signaler) ×
+        (worker.new.signaler.said.stops ≡ worker.old.signaler.said.stops) }
     ensures same { (worker.new.cores ≡ worker.old.cores) × (worker.new.banks ≡ worker.old.banks) ×
         (worker.new.programs.items ≡ worker.old.programs.items) ×
         (worker.new.told ≡ worker.old.told) }

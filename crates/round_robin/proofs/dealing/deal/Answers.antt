@@ -1,8 +1,8 @@
 use Rattle.std.proofs.Common.{◌≡◌, ℕ, ◌+◌, ◌/◌, ◌%◌, ◌<◌, ◌≤◌, [], ◌∷◌, ◌++◌, length, map, reverse, length-set}
 use Rattle.std.proofs.Common.{length-append, refl, sym, ap, ◌∙◌, subst, arith, vec_capacity}
-use Rattle.std.proofs.lemmas.List.{reverse-reverse}
+use Rattle.std.proofs.lemmas.List.{length-reverse, reverse-reverse}
 use Rattle.round_robin.specs.Dealing.{IsDealtInTurn, hand_of}
-use Rattle.round_robin.proofs.Steps.{hand_is_there, empty_dealt, goes_to_hand, hand_has_room}
+use Rattle.round_robin.proofs.Steps.{hand_is_there, empty_dealt, goes_to_hand, hand_has_room, none_held, one_more_held}
 use Rattle.round_robin.proofs.Turned.{one_more_turned, one_is_left, all_set}
 use Rattle.round_robin.proofs.dealing.deal.Goals as goal
 
@@ -19,6 +19,11 @@ loop-item-init g c =
             (empty_dealt (λ v. v.items) c.args.first n c.args.hands.now.items
             (λ v. length c.args.items.now.items / n + 1 ≤ vec_capacity v) c.requires.some refl c.requires.room),
       );
+      total =
+          let none = none_held (λ v. v.items) c.args.hands.now.items
+          (λ v. length c.args.items.now.items / n + 1 ≤ vec_capacity v) c.requires.room in
+          let turned = ap length c.reverse.ensures.items ∙ length-reverse c.args.items.now.items in
+          omega arith;
       room = λ k d lt. (
           let z = (c.requires.room k d lt).1 in
           let e : length c.args.items.now.items / n ≡ length c.args.items.now.items / c.len-count.result =
@@ -71,6 +76,13 @@ loop-item-preserved g c =
         goes_to_hand (λ v. v.items) d.0 c.args.first n vs c.loop-item.at v c.push_reserved.new.self c.in-Some.item d.3
             d.1 value c.push_reserved.ensures.items,
       );
+      total =
+          let more = one_more_held (λ v. v.items) vs at v c.push_reserved.new.self c.in-Some.item there value
+          c.push_reserved.ensures.items in
+          let fewer = ap length c.in-Some.ensures.items
+          ∙ length-append c.pop.new.self.items (c.in-Some.item ∷ []) in
+          let before = i.total in
+          omega arith;
       room = all_set (λ z. all / n < vec_capacity z) vs at c.push_reserved.new.self i.room (omega arith);
       capacity = c.pop.ensures.capacity ∙ i.capacity;
       long = length-set vs at c.push_reserved.new.self ∙ i.long;

@@ -1,5 +1,5 @@
-use Rattle.std.proofs.Common.{◌≡◌, ◌/◌, ◌<◌, ◌++◌, List, length, map, reverse, All, vec_capacity}
-use Rattle.round_robin.specs.Dealing.{IsDealtInTurn}
+use Rattle.std.proofs.Common.{◌≡◌, ◌+◌, ◌/◌, ◌<◌, ◌++◌, List, length, map, reverse, All, vec_capacity}
+use Rattle.round_robin.specs.Dealing.{IsDealtInTurn, total_length}
 use Rattle.round_robin.proofs.dealing.deal.Given as goal
 
 -- The front of the list is dealt, and the rest is still there, turned round. Each hand has room for its whole share.
@@ -8,6 +8,7 @@ invariant-loop-item g l = record {
   dealt :
       (front : List g.row.T.Denot) × (length front ≡ l.at) × (front ++ reverse l.items.items ≡ l.fn.items.items)
       × IsDealtInTurn front l.first l.count (map (λ v. v.items) l.hands.items);
+  total : total_length (map (λ v. v.items) l.hands.items) + length l.items.items ≡ length l.fn.items.items;
   room : All (λ v. length l.fn.items.items / l.count < vec_capacity v) l.hands.items;
   capacity : vec_capacity l.items ≡ vec_capacity l.fn.items;
   long : length l.hands.items ≡ length l.fn.hands.items;

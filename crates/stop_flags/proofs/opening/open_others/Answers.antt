@@ -28,12 +28,14 @@ loop-number-preserved c =
     let s : Signaler = c.new_signaler.result in
     let ss : List Signaler = c.loop-number.others.items in
     let new = c.new_signaler.ensures in
+    let v = ap (λ y. y.0.made) i.0.1 in
     let workers = ap (λ y. y.0.mine.workers) made.made.1 ∙ ap (λ y. y.0.mine.workers) i.0.1 in
     let items : c.push.new.self.items ≡ ss ++ s ∷ [] = c.in_ok-push.ensures.items in
     let long : length c.push.new.self.items ≡ length ss + 1 = ap length items ∙ length-append ss (s ∷ []) in (
       (made.table.0 ∙ i.0.0, made.made.0 ∙ ap (λ y. (one_more y.0, y.1)) i.0.1),
       omega arith,
       omega arith,
-      more_signalers m ss c.push.new.self.items s items i.3
-          (new_signaler m s c.make-seat.result (made.table.2 ∙ i.0.0) workers new.0 new.1),
+      more_signalers m 1 ss c.push.new.self.items s items i.3
+          (new_signaler m (1 + length ss) s c.make-seat.result (made.table.2 ∙ i.0.0) workers
+          (ap (λ y. y.0.number) made.made.1 ∙ v ∙ omega arith) new.0 new.1),
     )

@@ -5,4 +5,4 @@ use Rattle.stop_flags.proofs.opening.open_others.Given as goal
 abbrev pub invariant-loop-number : goal.invariant-loop-number
 invariant-loop-number l =
     HasMade l.signals l.number l.first × (1 ≤ l.number) × (length l.others.items + 1 ≡ l.number)
-    × AllNewSignalers l.signals l.others.items
+    × AllNewSignalers l.signals 1 l.others.items

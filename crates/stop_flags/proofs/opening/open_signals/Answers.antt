@@ -1,6 +1,7 @@
 use Rattle.std.proofs.Common.{◌≡◌, ◌+◌, List, ◌∷◌, length, sym, subst, ap, arith}
+use Rattle.std.specs.Prelude.{slice_index_or}
 use Rattle.stop_flags.specs.declared.signaler.Signaler.{Signaler}
-use Rattle.stop_flags.specs.Signalers.{AllNewSignalers, AreNewSignalers}
+use Rattle.stop_flags.specs.Signalers.{AllNewSignalers, AreNewSignalers, IsNewSignaler}
 use Rattle.stop_flags.proofs.SignalerLists.{new_signaler, front_signaler, get_index}
 use Rattle.stop_flags.proofs.opening.open_signals.Goals as goal
 
@@ -16,10 +17,15 @@ returns c =
     let items : c.insert.new.self.items ≡ s ∷ ss = c.in_ok-insert.ensures.items in
     let long : length c.insert.new.self.items ≡ length (s ∷ ss) = ap length items in
     let count : length ss + 1 ≡ m.workers = others.0 in
-    let all : AllNewSignalers m (s ∷ ss) = front_signaler m ss s others.1
-    (new_signaler m s c.open_others.new.first made.0 (ap (λ y. y.0.mine.workers) made.1) new.0 new.1) in
+    let all : AllNewSignalers m 0 (s ∷ ss) = front_signaler m ss s others.1
+    (new_signaler m 0 s c.open_others.new.first made.0 (ap (λ y. y.0.mine.workers) made.1)
+    (ap (λ y. y.0.number) made.1) new.0 new.1) in
     let asked = c.in_ok-signals.ensures.0 in (
       asked,
       omega arith,
-      subst (AreNewSignalers m) (sym items) (λ i e lt. all i _ (get_index (s ∷ ss) i e lt)),
+      subst (AreNewSignalers m) (sym items)
+          (λ i e lt.
+          let first : 0 + i ≡ i = omega arith in
+          subst (λ k. IsNewSignaler m k (slice_index_or (s ∷ ss) i e)) first
+          (all i (slice_index_or (s ∷ ss) i e) (get_index (s ∷ ss) i e lt))),
     )

@@ -1,4 +1,4 @@
-use Rattle.std.proofs.Common.{◌≤◌, ◌+◌, length}
+use Rattle.std.proofs.Common.{◌≡◌, ◌≤◌, ◌+◌, ◌++◌, length, map, vec_capacity}
 use Rattle.thread_driver.specs.Hands.{AreBack, AreHands, HaveHandRoom}
 use Rattle.thread_driver.proofs.dealing.disband.Given as goal
 
@@ -8,6 +8,8 @@ invariant-loop-worker g l =
     × (length l.team.items + length l.hands.cores.items ≤ length l.fn.team.items)
     × AreHands (length l.hands.cores.items) l.hands
     × HaveHandRoom (length l.fn.team.items) l.hands
+    × (map (λ w. w.signaler) l.fn.team.items ≡ map (λ w. w.signaler) l.team.items ++ l.signalers.items)
+    × (length l.signalers.items ≡ length l.hands.cores.items) × (length l.fn.team.items ≤ vec_capacity l.signalers)
 
 abbrev pub decreases-loop-worker : goal.decreases-loop-worker
 decreases-loop-worker g l = goal.left-loop-worker g l

@@ -57,4 +57,5 @@ loop-signaler-preserved g c =
           let room = i.4 in
           let kept = c.insert-stored.ensures.capacity in
           omega arith,
+      c.pop.ensures.capacity ∙ i.5,
     )

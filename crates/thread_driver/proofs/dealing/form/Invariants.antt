@@ -8,6 +8,7 @@ invariant-loop-signaler g l =
     × ((n : ℕ) → HaveHandRoom n l.fn.hands → HaveHandRoom n l.hands)
     × (l.fn.signalers.items ≡ l.signalers.items ++ map (λ w. w.signaler) l.team.items)
     × (length l.team.items + length l.signalers.items ≤ vec_capacity l.team)
+    × (vec_capacity l.signalers ≡ vec_capacity l.fn.signalers)
 
 abbrev pub decreases-loop-signaler : goal.decreases-loop-signaler
 decreases-loop-signaler g l = length l.signalers.items

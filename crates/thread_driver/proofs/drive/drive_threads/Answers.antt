@@ -1,14 +1,15 @@
-use Rattle.std.proofs.Common.{inl, inr, refl, sym, subst}
+use Rattle.std.proofs.Common.{inl, inr, refl, sym, subst, arith}
 use Rattle.std.specs.Prelude.{List}
 use Rattle.std.specs.declared.vec.Vec.{Vec}
 use Rattle.std.specs.declared.alloc.Global.{Global}
 use Rattle.mailboxes.specs.declared.core_seat.CoreSeat.{CoreSeat}
 use Rattle.mailboxes.specs.declared.bank_seat.BankSeat.{BankSeat}
 use Rattle.thread_driver.specs.declared.shift.Shift.{Shift}
-use Rattle.thread_driver.specs.Given.{quiet}
-use Rattle.thread_driver.specs.Shifts.{Ran, RefusedAtOnce}
+use Rattle.thread_driver.specs.Given.{AtMost, SeatsGiven, quiet}
+use Rattle.thread_driver.specs.Shifts.{AreOver, Ran, RefusedAtOnce}
 use Rattle.thread_driver.proofs.Ordered.{Comes, ahead_at_first, comes_of, same_three}
 use Rattle.thread_driver.proofs.Stops.{given_report}
+use Rattle.thread_driver.proofs.Used.{given_by}
 use Rattle.thread_driver.proofs.Worked.{not_given}
 use Rattle.thread_driver.proofs.drive.drive_threads.Goals as goal
 
@@ -32,9 +33,9 @@ returns-in-Err g c =
     let programs = c.args.programs.items in
     let comes = subst (λ (s : Shift g.row.P.Denot). Comes acts m cores programs s.cores.items s.banks.items
     s.programs.items) (sym c.in-Err.ensures.refused)
-    (comes_of acts m c.args.turn_limit cores cores banks banks programs programs quiet
+    (comes_of acts m (AtMost c.args.turn_limit) cores cores banks banks programs programs quiet
     c.records_of_seats_are_counted.ensures.issued c.requires.cores.0 c.requires.cores.1 c.requires.banks
-    c.requires.programs (not_given acts m c.args.turn_limit cores banks programs)) in
+    c.requires.programs (not_given acts m (AtMost c.args.turn_limit) (omega arith) cores banks programs)) in
     record {
       cores = comes.in_order;
       banks = comes.behind;
@@ -60,17 +61,20 @@ returns-in-Ok g c =
     let comes = same_three (λ (v : Vec CoreSeat Global) (w : Vec BankSeat Global) (ps : List g.row.P.Denot).
     Comes acts m cores programs v.items w.items ps) s.cores t.cores s.banks t.banks s.programs.items t.programs.items
     e.same
-    (comes_of acts m limit cores s.cores.items banks s.banks.items programs s.programs.items c.in-Ok.told
+    (comes_of acts m (AtMost limit) cores s.cores.items banks s.banks.items programs s.programs.items c.in-Ok.told
     c.records_of_seats_are_counted.ensures.issued c.requires.cores.0 c.requires.cores.1 c.requires.banks
     c.requires.programs given) in
     let ran : Ran acts m limit cores banks programs s.cores.items s.banks.items s.programs.items c.end_of-shift.result =
     record {
       told = c.in-Ok.told;
-      given = given;
+      given = given_by c.end_of-shift.result c.in-Ok.told limit
+          (λ Many. SeatsGiven acts m Many cores banks programs c.in-Ok.told s.cores.items s.banks.items
+          s.programs.items)
+          (AreOver acts s.cores.items s.programs.items) e.otherwise e.all_done given c.in-Ok.ensures.used;
       done = e.done;
       all_done = e.all_done;
       otherwise = e.otherwise;
-      stopped = given_report acts m limit cores s.cores.items banks s.banks.items programs s.programs.items
+      stopped = given_report acts m (AtMost limit) cores s.cores.items banks s.banks.items programs s.programs.items
           c.in-Ok.told c.requires.programs given;
     } in
     record {

@@ -1,4 +1,4 @@
-use Rattle.std.proofs.Common.{◌+◌, refl, sym, subst, ◌∙◌, arith, length-set}
+use Rattle.std.proofs.Common.{◌+◌, refl, sym, subst, ◌∙◌, arith, length-set, true≢false}
 use Rattle.std.specs.Prelude.{slice_set}
 use Rattle.thread_driver.specs.Given.{IsBankTurn}
 use Rattle.thread_driver.specs.Teams.{PassGiven, ends}
@@ -20,11 +20,22 @@ loop-i-preserved g c =
     let turn = c.bank_turn-told.ensures in
     let passed = bank_had_turn c.args.machine.now c.args.banks.now.items c.loop-i.banks.items i c.loop-i.all
     c.requires.seats c.loop-i.invariant.0 (omega arith) c.index_mut.result.now c.index_mut.ensures.value
-    c.bank_turn-told.result q (record { seat = turn.seat.0; number = turn.seat.1; turn = turn.turn }) in (
+    (sym c.if-ends_all.ensures) c.bank_turn-told.result q
+    (record { seat = turn.seat.0; number = turn.seat.1; turn = turn.turn }) in (
       subst (λ t. PassGiven (IsBankTurn c.args.machine.now) (i + 1) c.args.banks.now.items t
           (slice_set c.loop-i.banks.items i q)) (sym c.both-all.ensures) passed,
       length-set c.loop-i.banks.items i q ∙ c.loop-i.invariant.1,
     )
+
+pub returns-after-loop-i-clause-turns : goal.returns-after-loop-i-clause-turns
+returns-after-loop-i-clause-turns g c = (c.loop-i.i, λ goes. omega arith, c.loop-i.invariant.0)
+
+pub returns-then-ends_all-clause-turns : goal.returns-then-ends_all-clause-turns
+returns-then-ends_all-clause-turns g c = (
+  c.loop-i.i,
+  λ goes. absurd (true≢false (c.if-ends_all.ensures ∙ goes)),
+  c.loop-i.invariant.0,
+)
 
 pub returns-after-loop-i-clause-seats : goal.returns-after-loop-i-clause-seats
 returns-after-loop-i-clause-seats g c =

@@ -1,7 +1,7 @@
 use Rattle.std.proofs.Common.{◌+◌, refl, sym, subst, arith}
 use Rattle.std.specs.Prelude.{slice_set}
 use Rattle.std.specs.List.{zip}
-use Rattle.std.proofs.Common.{length-set, ◌∙◌}
+use Rattle.std.proofs.Common.{length-set, ◌∙◌, true≢false}
 use Rattle.thread_driver.specs.Given.{IsCoreTurn}
 use Rattle.thread_driver.specs.Teams.{PassGiven, ends}
 use Rattle.thread_driver.proofs.Worked.{ahead_passed, core_had_turn, cores_passed, next_ahead, next_core}
@@ -39,7 +39,7 @@ loop-i-preserved g c =
     c.args.programs.now.items programs i c.loop-i.all c.requires.seats c.requires.ahead c.loop-i.invariant.0
     (omega arith) (let one_each = c.requires.ahead.long in let long = c.loop-i.invariant.2 in omega arith)
     c.index_mut.result.now c.index_mut-in-loop-i.result.now c.index_mut.ensures.value
-    c.index_mut-in-loop-i.ensures.value c.core_turn-told.result q b
+    c.index_mut-in-loop-i.ensures.value (sym c.if-ends_all.ensures) c.core_turn-told.result q b
     (record { seat = turn.seat; plays = turn.plays; turn = turn.turn }) in (
       subst (λ t. PassGiven (IsCoreTurn g.P.Program.acts c.args.machine.now) (i + 1)
           (zip c.args.cores.now.items c.args.programs.now.items) t (zip (slice_set cores i q) (slice_set programs i b)))
@@ -47,6 +47,17 @@ loop-i-preserved g c =
       length-set cores i q ∙ c.loop-i.invariant.1,
       length-set programs i b ∙ c.loop-i.invariant.2,
     )
+
+pub returns-after-loop-i-clause-turns : goal.returns-after-loop-i-clause-turns
+returns-after-loop-i-clause-turns g c =
+    (c.loop-i.i, λ goes. (let long = c.loop-i.invariant.1 in omega arith), c.loop-i.invariant.0)
+
+pub returns-then-ends_all-clause-turns : goal.returns-then-ends_all-clause-turns
+returns-then-ends_all-clause-turns g c = (
+  c.loop-i.i,
+  λ goes. absurd (true≢false (c.if-ends_all.ensures ∙ goes)),
+  c.loop-i.invariant.0,
+)
 
 pub returns-after-loop-i-clause-seats : goal.returns-after-loop-i-clause-seats
 returns-after-loop-i-clause-seats g c =

@@ -1,4 +1,4 @@
-use Rattle.std.proofs.Common.{sym, ◌∙◌}
+use Rattle.std.proofs.Common.{refl, sym, ◌∙◌, true≢false}
 use Rattle.thread_driver.specs.Given.{quiet}
 use Rattle.thread_driver.specs.Teams.{ends}
 use Rattle.thread_driver.proofs.Sums.{told_quiet}
@@ -14,8 +14,11 @@ returns-then-ends_all-clause-passed g c =
       bank_turns = 0;
       core_told = c.core_pass-told.result;
       bank_told = quiet;
-      of_cores = cores.turns.1;
+      of_cores = cores.turns.2;
       of_banks = ends;
+      all_cores = cores.turns.1;
+      no_banks = λ ended. refl;
+      all_banks = λ goes. absurd (true≢false (c.if-ends_all.ensures ∙ goes));
       told_is = sym (told_quiet c.core_pass-told.result);
     }
 
@@ -30,7 +33,10 @@ returns-clause-passed g c =
       bank_turns = banks.turns.0;
       core_told = c.core_pass-told.result;
       bank_told = c.bank_pass.result;
-      of_cores = cores.turns.1;
-      of_banks = banks.turns.1;
+      of_cores = cores.turns.2;
+      of_banks = banks.turns.2;
+      all_cores = cores.turns.1;
+      no_banks = λ ended. absurd (true≢false (sym ended ∙ sym c.if-ends_all.ensures));
+      all_banks = λ goes. banks.turns.1;
       told_is = c.both.ensures;
     }

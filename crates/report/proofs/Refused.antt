@@ -1,7 +1,7 @@
 -- A text that is refused is no test.
 use Rattle.std.proofs.Common.{◌≡◌, ◌≢◌, ℕ, ◌<◌, List, [], ◌∷◌, ◌++◌, length, Option, Some, None, IfSome, Ok, Err}
-use Rattle.std.proofs.Common.{ap, refl, sym, suc, ◌≤◌, nat_lt, replicate}
-use Rattle.std.proofs.lemmas.Bool.{cond-true, lt-ltb}
+use Rattle.std.proofs.Common.{ap, refl, sym, suc, ◌≤◌, nat_lt, replicate, Result, ◌∙◌, ⊎_elim}
+use Rattle.std.proofs.lemmas.Bool.{cases_lt, cond-true, lt-ltb}
 use Rattle.std.proofs.lemmas.List.{length-replicate}
 use Rattle.std.proofs.Common.{subst, ◌⊎◌, inl, inr, codes, length-append, arith}
 use Rattle.byte_streams.specs.Whole.{ReadsAll}
@@ -18,12 +18,19 @@ use Rattle.litmus_reader.specs.Grammar.{IsTest}
 use Rattle.litmus_reader.specs.Litmus.{Litmus}
 use Rattle.litmus_reader.specs.ReadingTest.{IsReadOrNoMemory, test_at}
 use Rattle.litmus_reader.specs.TestViews.{test_of}
+use Rattle.litmus_reader.specs.declared.contents.Test.{Test}
 use Rattle.run_options.specs.declared.options.LitmusOptions.{LitmusOptions}
 use Rattle.run_results.specs.declared.results.RunError.{RunError}
 use Rattle.run_results.specs.declared.results.RunError.TheVariants.{Read, Write, NoMemory, Litmus as Refused}
 use Rattle.run_results.specs.declared.results.RunError.TheVariants.{Trace, BadConfig}
 use Rattle.report.specs.Bytes.{HasNoText, OfBytes}
-use Rattle.report.specs.Litmus.{HasNoReport, IsLitmusFault, litmus_refusal, litmus_refusal_of}
+use Rattle.report.specs.Litmus.{HasNoReport, HasNoReportInMemory, IsLitmusFault, ReadingAllocates, litmus_refusal}
+use Rattle.report.specs.Litmus.{litmus_refusal_of}
+
+-- the kind of an answer's fault
+abbrev kind_told : {X : Type 0} → Result X LitmusError → Kind → Kind
+kind_told (Ok x) none = none
+kind_told (Err e) none = e.kind
 
 module _ (options : LitmusOptions) (text : List ℕ) (error : LitmusError) where
   -- an answer of reading that isn't want of memory
@@ -31,30 +38,33 @@ module _ (options : LitmusOptions) (text : List ℕ) (error : LitmusError) where
   or_memory P found (inl none) = absurd (found (ap (λ (e : LitmusError). e.kind) none))
   or_memory P found (inr is) = is
 
-  refused_as : (kind : Kind) → (kind ≡ LackOfMemory → 0 < length text) → (kind ≢ LackOfMemory → IsLitmusFault
+  refused_as : (kind : Kind) → (kind ≡ LackOfMemory → ReadingAllocates text) → (kind ≢ LackOfMemory → IsLitmusFault
       text error) →
-      HasNoReport options text (litmus_refusal_of kind error)
-  refused_as LackOfMemory some is = some refl
-  refused_as TooLarge some is = is (λ e. absurd cc)
-  refused_as BadByte some is = is (λ e. absurd cc)
-  refused_as BadHeader some is = is (λ e. absurd cc)
-  refused_as BadInitial some is = is (λ e. absurd cc)
-  refused_as DoubleInitial some is = is (λ e. absurd cc)
-  refused_as BadTable some is = is (λ e. absurd cc)
-  refused_as BadInstruction some is = is (λ e. absurd cc)
-  refused_as ValueRange some is = is (λ e. absurd cc)
-  refused_as MixedWidth some is = is (λ e. absurd cc)
-  refused_as AddressAsValue some is = is (λ e. absurd cc)
-  refused_as ValueAsAddress some is = is (λ e. absurd cc)
-  refused_as BadCondition some is = is (λ e. absurd cc)
-  refused_as CutShort some is = is (λ e. absurd cc)
+      HasNoReportInMemory options text (litmus_refusal_of kind error)
+  refused_as LackOfMemory allocates is = inl (allocates refl)
+  refused_as TooLarge allocates is = is (λ e. absurd cc)
+  refused_as BadByte allocates is = is (λ e. absurd cc)
+  refused_as BadHeader allocates is = is (λ e. absurd cc)
+  refused_as BadInitial allocates is = is (λ e. absurd cc)
+  refused_as DoubleInitial allocates is = is (λ e. absurd cc)
+  refused_as BadTable allocates is = is (λ e. absurd cc)
+  refused_as BadInstruction allocates is = is (λ e. absurd cc)
+  refused_as ValueRange allocates is = is (λ e. absurd cc)
+  refused_as MixedWidth allocates is = is (λ e. absurd cc)
+  refused_as AddressAsValue allocates is = is (λ e. absurd cc)
+  refused_as ValueAsAddress allocates is = is (λ e. absurd cc)
+  refused_as BadCondition allocates is = is (λ e. absurd cc)
+  refused_as CutShort allocates is = is (λ e. absurd cc)
 
   pub refused : (error ≡ record { line = 0; kind = LackOfMemory }) ⊎ Fault text error.kind error.line
       → ((test : Litmus) → IsTest text test → IsReadOrNoMemory test_of (Err error) (Ok test)) → IsReadOrNoMemory
       test_of (Err error)
       (test_at text) → ((kind : Kind) (n : ℕ) → FaultBefore (good_lines text) kind n →
-      (error.kind ≢ LackOfMemory) × Fault text error.kind error.line) → HasNoReport options text (litmus_refusal error)
-  refused fault only told early = refused_as error.kind (some_text text early) (λ found. (
+      (error.kind ≢ LackOfMemory) × Fault text error.kind error.line)
+      → (MOST_BYTES < length text → ◌≡◌ {A = Result Test LitmusError} (Err error)
+      (Err (record { line = 1; kind = TooLarge }))) →
+      HasNoReportInMemory options text (litmus_refusal error)
+  refused fault only told early large = refused_as error.kind allocates (λ found. (
     or_memory _ found told,
     (
       λ test is. let bad : Ok test ≡ Err error = or_memory _ found (only test is) in
@@ -64,15 +74,18 @@ module _ (options : LitmusOptions) (text : List ℕ) (error : LitmusError) where
     found,
   ))
     where
-      -- a text of nothing has a fault before its initial block
-      some_text : (bytes : List ℕ) → ((kind : Kind) (n : ℕ) → FaultBefore (good_lines bytes) kind n →
-          (error.kind ≢ LackOfMemory) × Fault bytes error.kind error.line) → error.kind ≡ LackOfMemory →
-          0 < length bytes
-      some_text [] early lacks = absurd ((early CutShort 1 (empty refl)).0 lacks)
-      some_text (b ∷ bytes) early lacks = omega arith
+      -- too many bytes, or a fault before the initial block, are told without memory
+      allocates : error.kind ≡ LackOfMemory → ReadingAllocates text
+      allocates lacks = (
+        ⊎_elim (λ more. let kinds : TooLarge ≡ LackOfMemory =
+            sym (ap (λ (r : Result Test LitmusError). kind_told r LackOfMemory) (large more)) ∙ lacks in
+            absurd cc)
+            (λ (few : length text ≤ MOST_BYTES). few) (cases_lt MOST_BYTES (length text)),
+        λ kind n before. (early kind n before).0 lacks,
+      )
 
--- nor is nothing a test
-pub some_test : (text : List ℕ) (test : Litmus) → IsTest text test → 0 < length text
+-- nothing is no test
+some_test : (text : List ℕ) (test : Litmus) → IsTest text test → 0 < length text
 some_test [] test is =
     let title = is.title in
     let count : 0 ≡ length (title.front ++ (codes "RISCV" ++ (title.gap ++ (test.name ++ title.back)))) =
@@ -113,7 +126,24 @@ unread known options before after Write is other = absurd is
 unread known options before after (Trace e) is other = absurd is
 unread known options before after BadConfig is other = absurd is
 
+-- memory is refused only for bytes that there are
+some_bytes : (bytes : List ℕ) → ReadingAllocates bytes → 0 < length bytes
+some_bytes [] is = absurd (is.1 CutShort 1 (empty refl))
+some_bytes (b ∷ bytes) is = omega arith
+
+of_bytes : (options : LitmusOptions) (text : List ℕ) (e : RunError) → HasNoReportInMemory options text e →
+    HasNoReport options text e
+of_bytes options text NoMemory is = ⊎_elim (λ allocates. some_bytes text allocates)
+    (λ run. some_test text run.0 run.1) is
+of_bytes options text Read is = is
+of_bytes options text Write is = is
+of_bytes options text (Refused e) is = is
+of_bytes options text (Trace e) is = is
+of_bytes options text BadConfig is = is
+
 -- and a fault speaks of those that were read
 pub unreported : (known : Option (List ℕ)) (options : LitmusOptions) (bytes text : List ℕ) (e : RunError) →
-    ReadsAll known bytes → text ≡ bytes → HasNoReport options text e → OfBytes known (λ b. HasNoReport options b e)
-unreported known options bytes text e all same is = (bytes, all, subst (λ b. HasNoReport options b e) same is)
+    ReadsAll known bytes → text ≡ bytes → HasNoReportInMemory options text e →
+    OfBytes known (λ b. HasNoReport options b e)
+unreported known options bytes text e all same is =
+    (bytes, all, subst (λ b. HasNoReport options b e) same (of_bytes options text e is))

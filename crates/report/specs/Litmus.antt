@@ -1,10 +1,11 @@
 -- The report on a litmus text, and why a text has none.
-use Rattle.std.specs.Prelude.{◌≡◌, ◌≢◌, ℕ, ◌<◌, Bool, true, false, List, length, Err}
+use Rattle.std.specs.Prelude.{◌≡◌, ◌≢◌, ◌⊎◌, ℕ, ◌<◌, ◌≤◌, Bool, true, false, List, length, Err}
 use Rattle.std.specs.List.{list_all, AllByRecursion}
 use Rattle.litmus_lexer.specs.declared.errors.Kind.{Kind}
 use Rattle.litmus_lexer.specs.declared.errors.Kind.TheVariants.{NoMemory as LackOfMemory}
 use Rattle.litmus_lexer.specs.declared.errors.LitmusError.{LitmusError}
-use Rattle.litmus_reader.specs.Faults.{Fault}
+use Rattle.litmus_lexer.specs.declared.limits.TheConstants.{MOST_BYTES}
+use Rattle.litmus_reader.specs.Faults.{Fault, FaultBefore, good_lines}
 use Rattle.litmus_reader.specs.Grammar.{IsTest}
 use Rattle.litmus_reader.specs.Litmus.{Litmus}
 use Rattle.litmus_reader.specs.ReadingTest.{test_at}
@@ -59,6 +60,17 @@ HasNoReport options bytes BadConfig =
 HasNoReport options bytes NoMemory = 0 < length bytes
 HasNoReport options bytes Read = ⊥
 HasNoReport options bytes Write = ⊥
+
+-- reading the bytes allocates only if they are few enough, and no fault stands before the initial block
+abbrev pub ReadingAllocates : List ℕ → Type 0
+ReadingAllocates bytes =
+    (length bytes ≤ MOST_BYTES) × ((kind : Kind) (n : ℕ) → FaultBefore (good_lines bytes) kind n → ⊥)
+
+-- why a text in memory has no report; NoMemory only if reading it allocates, or the machine is good
+abbrev pub HasNoReportInMemory : LitmusOptions → List ℕ → RunError → Type 0
+HasNoReportInMemory options bytes NoMemory = ReadingAllocates bytes
+    ⊎ ((test : Litmus) × IsTest bytes test × (is_good (config_of options.run.machine test.threads) ≡ true))
+HasNoReportInMemory options bytes e = HasNoReport options bytes e
 
 -- why a text is refused: refused memory is no fault of it
 abbrev pub litmus_refusal_of : Kind → LitmusError → RunError

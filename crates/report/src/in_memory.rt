@@ -4,7 +4,7 @@ ghost use Rattle.std.specs.List.{AllByRecursion};
 ghost use Rattle.litmus_reader.specs.Grammar.{IsTest};
 ghost use Rattle.litmus_reader.specs.TestViews.{test_of};
 ghost use Rattle.machine_table.specs.SetUp.{is_good};
-ghost use Rattle.report.specs.Litmus.{HasNoReport, IsLitmusReport, turns};
+ghost use Rattle.report.specs.Litmus.{HasNoReportInMemory, IsLitmusReport, turns};
 ghost use Rattle.report.specs.Reports.{HasNoRun, HasNoTraceReport, IsTraceReport, TellsTraceRun};
 ghost use Rattle.report.specs.Verdicts.{HasNoVerdict, IsCheckReport};
 ghost use Rattle.worker_driver.specs.Outcomes.{HasOutcome};
@@ -49,7 +49,8 @@ impl Source for InMemory<'_> {
 }
 
 /// The report on the litmus test that a text is, run as the options say by a schedule without threads. Litmus takes
-/// precedence over BadConfig.
+/// precedence over BadConfig. NoMemory comes only of a text of at most 65,536 bytes without a fault before its initial
+/// block, or of runs on a good machine.
 pub fn litmus_report(
     alloc: Global,
     text: &[u8],
@@ -58,7 +59,7 @@ pub fn litmus_report(
     requires { policy_of options.now.run ≢ None }
     ensures report { IfOk result (λ report.
         IsLitmusReport options.now text.now report.all_done report.text.items) }
-    ensures refused { IfErr result (HasNoReport options.now text.now) }
+    ensures refused { IfErr result (HasNoReportInMemory options.now text.now) }
 {
     let test = match test_in(alloc, text, options) {
         Ok(test) => test,

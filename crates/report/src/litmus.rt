@@ -9,7 +9,8 @@ ghost use Rattle.report.specs.Answers.{FailuresAreCounted, IsCutOff, IsReported}
 ghost use Rattle.worker_driver.specs.SetUp.{policy_of};
 ghost use Rattle.report_text.specs.Ends.{ends_as};
 ghost use Rattle.report.specs.Bytes.{OfBytes};
-ghost use Rattle.report.specs.Litmus.{HasNoReport, IsLitmusReport, litmus_refusal, turns};
+ghost use Rattle.report.specs.Litmus.{HasNoReport, HasNoReportInMemory, IsLitmusReport};
+ghost use Rattle.report.specs.Litmus.{litmus_refusal, turns};
 ghost use Rattle.worker_driver.specs.Outcomes.{HasOutcome};
 ghost use Rattle.worker_driver.specs.Runs.{AreFrom};
 
@@ -76,7 +77,7 @@ pub(crate) fn test_in(
 ) -> Result<Test, RunError>
     ensures found { IfOk result (λ test. IsTest bytes.now (test_of test)) }
     ensures few { IfOk result (λ test. (test_of test).threads ≤ 16) }
-    ensures refused { IfErr result (HasNoReport options.now bytes.now) }
+    ensures refused { IfErr result (HasNoReportInMemory options.now bytes.now) }
 {
     match read(alloc, bytes) {
         Ok(test) => Ok(test),
@@ -93,7 +94,7 @@ fn report_of<R: Threads + Sync>(
 ) -> Result<Report, RunError>
     ensures report { IfOk result (λ report.
         IsLitmusReport options.now bytes.now report.all_done report.text.items) }
-    ensures refused { IfErr result (HasNoReport options.now bytes.now) }
+    ensures refused { IfErr result (HasNoReportInMemory options.now bytes.now) }
 {
     let test = match test_in(alloc, bytes, options) {
         Ok(test) => test,

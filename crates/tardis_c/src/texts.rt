@@ -1,6 +1,6 @@
 //! Runs of litmus tests and of traces, and checks of records, from texts to texts.
 ghost use Rattle.std.specs.Prelude.{◌≡◌, Some};
-ghost use Rattle.report.specs.Litmus.{HasNoReport, IsLitmusReport};
+ghost use Rattle.report.specs.Litmus.{HasNoReportInMemory, IsLitmusReport};
 ghost use Rattle.report.specs.Reports.{HasNoTraceReport, IsTraceReport};
 ghost use Rattle.report.specs.Verdicts.{HasNoVerdict, IsCheckReport};
 ghost use Rattle.tardis_c.specs.Answers.{IsTold};
@@ -21,7 +21,7 @@ pub extern "C" fn tardis_c_litmus(
     long: &mut usize,
 ) -> u32
     ensures { IsTold (IsLitmusReport (litmus_options options.now) text.now)
-        (HasNoReport (litmus_options options.now) text.now)
+        (HasNoReportInMemory (litmus_options options.now) text.now)
         buffer.old buffer.new long.new result }
 {
     let came = litmus_report(alloc, text, &litmus_options(options));

@@ -1,9 +1,11 @@
 //! What only code can test of streams and texts: readers and writers that move few bytes a call or fail. Then the
-//! names of errors, and a report on sums that no run has.
+//! names of errors, reports on texts in memory, and a report on sums that no run has.
 #![tactic(auto)]
 
 #[cfg(test)]
 mod errors;
+#[cfg(test)]
+mod in_memory;
 #[cfg(test)]
 mod limited;
 #[cfg(test)]

@@ -1,5 +1,5 @@
 use Rattle.std.proofs.Common.{◌≢◌, None, subst, sym}
-use Rattle.report.specs.Litmus.{HasNoReport, IsLitmusReport}
+use Rattle.report.specs.Litmus.{HasNoReportInMemory, IsLitmusReport}
 use Rattle.run_options.specs.declared.options.LitmusOptions.{LitmusOptions}
 use Rattle.worker_driver.specs.SetUp.{policy_of}
 use Rattle.tardis_c.specs.Answers.{IsTold}
@@ -16,6 +16,6 @@ pub returns : goal.returns
 returns c =
     let text = c.args.text.now in
     let came = c.litmus_report-came in
-    subst (λ (o : LitmusOptions). IsTold (IsLitmusReport o text) (HasNoReport o text) c.args.buffer.now
+    subst (λ (o : LitmusOptions). IsTold (IsLitmusReport o text) (HasNoReportInMemory o text) c.args.buffer.now
     c.tell.new.buffer c.tell.new.long c.tell.result) c.litmus_options.ensures
     (told _ _ came.result _ _ _ _ came.ensures.report came.ensures.refused c.tell.ensures)

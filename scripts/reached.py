@@ -16,7 +16,7 @@ TABLES = {
     "core_pts": "CoreTable OnCopy", "private_cache": "CopyTable", "timestamp_manager": "Lease", "dram_mts": "Table",
     "llc_bank": "BankTable OnEntry", "network": "Mail", "machine_table": "Machine Opening Posted SetUp Step Transition",
     "interleaving_core": "LookUps", "machine_theorem": "Coherence", "inbox": "Serving",
-    "mailboxes": "Attempts BankCalls BankServing BoxMoves CoreServing Evictions Places Turns",
+    "mailboxes": "Attempts BankCalls BankServing BoxMoves CoreServing Evictions PartServing Places Turns",
     "closed_machine": "Sending",
     "schedules": "Acts Policies RoundSchedule Runs SeedSchedule Service",
 }

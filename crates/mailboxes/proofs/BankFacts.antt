@@ -1,56 +1,92 @@
--- What is known of a bank's seat, from what it stores and from the reached state that it stands in.
-use Rattle.std.proofs.Common.{◌≡◌, ℕ, ◌+◌, ◌-◌, ◌<◌, ◌⊎◌, inl, inr, true, List, ◌∷◌, sym, ap}
-use Rattle.std.proofs.Common.{Result, Ok, ◌∙◌, subst, arith}
-use Rattle.std.specs.Prelude.{slice_get}
-use Rattle.network.specs.declared.message.Node.TheVariants as node
+-- What is known of a bank's seat, from what it stores and from the reached state that it stands in: what it does is a
+-- move, after which it stores what it holds.
+use Rattle.std.proofs.Common.{◌≡◌, ℕ, ◌+◌, ◌-◌, ◌<◌, ◌⊎◌, inl, inr, true, false, ◌++◌, Option, Some, None}
+use Rattle.std.proofs.Common.{Result, Ok, Err, refl, sym, ap, ◌∙◌, subst, option_to_list, arith}
+use Rattle.network.specs.declared.message.Node.{Node}
+use Rattle.network.specs.declared.message.Node.TheVariants.{Bank, Dram}
 use Rattle.network.specs.declared.message.Message.{Message}
-use Rattle.network.specs.Routes.{has_endpoints}
 use Rattle.llc_bank.specs.declared.entry.Evict.{Evict}
+use Rattle.llc_bank.specs.declared.entry.Evict.TheVariants as evict
+use Rattle.llc_bank.specs.declared.entry.EvictError.{EvictError}
+use Rattle.llc_bank.specs.declared.decision.Eviction.{Eviction}
+use Rattle.llc_bank.specs.declared.decision.Eviction.TheVariants as eviction
+use Rattle.llc_bank.specs.OnEntry.{evicted}
 use Rattle.llc_bank.specs.BankTable as bank_table
-use Rattle.llc_bank.specs.BankTable.{BankState, bank_has_case}
-use Rattle.dram_mts.specs.Table.{dram_has_case}
+use Rattle.llc_bank.specs.BankTable.{BankState, after_eviction, bank_has_case, entry_of}
+use Rattle.dram_mts.specs.Table.{dram_has_case, dram_table}
+use Rattle.machine_table.specs.Step as step
+use Rattle.machine_table.specs.Step.{sent_by_eviction}
 use Rattle.machine_theorem.specs.Bags.{SameBag}
 use Rattle.machine_theorem.specs.Shape.{IsBank}
+use Rattle.inbox.specs.declared.answer.Answer.{Answer}
 use Rattle.inbox.specs.declared.answer.Refusal.{Refusal}
 use Rattle.inbox.specs.declared.answer.Served.{Served}
 use Rattle.inbox.specs.Inboxes.{InboxState}
-use Rattle.inbox.specs.Serving.{Place, in_hand, held_at, HaveCases}
-use Rattle.inbox.specs.Effects.{LiesAt, Effect}
+use Rattle.inbox.specs.Serving.{HaveCases, Place, places, sent_list}
+use Rattle.inbox.specs.Effects.{Effect, LiesAt, messages_of}
+use Rattle.seat_rule.proofs.Lemmas.{weigh-append}
 use Rattle.seat_rule.specs.declared.views.SetUp.{SetUp}
 use Rattle.seat_rule.specs.declared.views.Hold.{Hold}
+use Rattle.seat_rule.specs.Found.{MessagesFindParts, OfStanding}
+use Rattle.seat_rule.specs.Plays.{Standing}
 use Rattle.seat_rule.specs.Rule.{bag_of_hold, seat_count}
-use Rattle.seat_views.specs.Seated.{with_hold}
-use Rattle.seat_rule.specs.Plays.{SeatState, Standing}
-use Rattle.mailboxes.specs.Ties.{BankTied, BoxTied, SlotSeat}
-use Rattle.seat_rule.specs.Found.{FindsHere, MessagesFindParts, OfStanding}
+use Rattle.seat_rule.specs.SeatMoves.{SeatMove, bank_steps, dram_steps, sorts}
 use Rattle.seat_rule.specs.Staying.{BanksStay}
-use Rattle.seat_rule.specs.SeatMoves.{SeatMove}
 use Rattle.mailboxes.specs.declared.machine.Machine.{Machine}
 use Rattle.mailboxes.specs.declared.mailbox.Mailbox.{Mailbox}
 use Rattle.mailboxes.specs.declared.sending.SendingBank.{SendingBank}
-use Rattle.mailboxes.specs.BoxMoves.{hold}
-use Rattle.mailboxes.specs.Stored.{stored_bank}
-use Rattle.mailboxes.specs.Places.{AllOwn, AllLinked}
 use Rattle.mailboxes.specs.BankCalls.{IsBankMail, PartOf, evicted_part, evicted_inbox}
-use Rattle.mailboxes.specs.BankServing.{bank_has_case_at, sending_bank_table, sending_bank_has_case}
-use Rattle.mailboxes.proofs.BankEnds.{own-ends}
-use Rattle.mailboxes.proofs.BankMoves.{Holds, serving-moves, no-drop, no-start}
-use Rattle.mailboxes.proofs.BankAfter.{settled}
-use Rattle.mailboxes.proofs.BankEvictions.{eviction-moves, eviction-settled}
+use Rattle.mailboxes.specs.BankServing.{bank_has_case_at, reacts_at, sending_bank_has_case, sending_bank_table}
+use Rattle.mailboxes.specs.BoxMoves.{hold}
+use Rattle.mailboxes.specs.PartServing.{told_if}
+use Rattle.mailboxes.specs.Stored.{stored_bank}
+use Rattle.mailboxes.proofs.FoundMessages.{ends, finds, have_cases, lies_own}
+use Rattle.mailboxes.proofs.MessageEnds.{bank_goes, bank_sends, dram_sends, own_ends}
+use Rattle.mailboxes.proofs.Reactions.{Did, did, dram_drops, sends}
+use Rattle.mailboxes.proofs.ServedParts.{Settled, answer_moves, answer_settles, by_answer, hold_sends, hold_stays}
+use Rattle.mailboxes.proofs.ServedParts.{sent_settles, stays_settled}
+use Rattle.mailboxes.proofs.StoredSeats.{bank_stays}
 
-module _ (found : MessagesFindParts) (shape : OfStanding (λ z id a. (k : ℕ) → k < z.config.banks →
-    id ≡ z.config.cores + k → IsBank z.config k a.bank)) (m : Machine) (b : Mailbox) (p : SendingBank)
-    (is : IsBankMail m b) (has : PartOf b p) where
+-- what an eviction sends comes from the bank
+abbrev evict_sender : Result Evict EvictError → Option Node
+evict_sender (Err e) = None
+evict_sender (Ok evict.Clean) = None
+evict_sender (Ok (evict.Stored s)) = Some s.from
+evict_sender (Ok (evict.Recalled s)) = Some s.from
+
+evicted_from : (bank : BankState) (line : ℕ) (d : Eviction) (n : Node) →
+    evict_sender (after_eviction bank line d).0 ≡ Some n → n ≡ Bank bank.number
+evicted_from bank line eviction.NotThere n e = cc
+evicted_from bank line eviction.IsBusy n e = cc
+evicted_from bank line (eviction.Drops rts) n e = cc
+evicted_from bank line (eviction.Stores rts words) n e = cc
+evicted_from bank line (eviction.AsksBack owner) n e = cc
+
+sent_from : (e : Evict) (s : Message) → sent_by_eviction e ≡ Some s → evict_sender (Ok e) ≡ Some s.from
+sent_from evict.Clean s is = absurd (let no : None ≡ Some s = is in cc)
+sent_from (evict.Stored t) s is = let same : t ≡ s = cc in ap (λ (x : Message). Some x.from) same
+sent_from (evict.Recalled t) s is = let same : t ≡ s = cc in ap (λ (x : Message). Some x.from) same
+
+-- a message to the seat itself is one more of those that came in
+inbox_bag : (b : InboxState Message) (e : Evict) →
+    SameBag (messages_of (evicted_inbox b e)) (sent_list (told_if false (sent_by_eviction e)) ++ messages_of b)
+inbox_bag b e f =
+    let hand = option_to_list b.hand in
+    let sent = sent_list (told_if false (sent_by_eviction e)) in
+    let u = weigh-append f hand (b.held ++ sent) in
+    let v = weigh-append f b.held sent in
+    let w = weigh-append f sent (hand ++ b.held) in
+    let y = weigh-append f hand b.held in
+    omega arith
+
+module _ (m : Machine) (b : Mailbox) (p : SendingBank) (is : IsBankMail m b) (has : PartOf b p) where
   abbrev z : SetUp
   z = m.set_up
 
-  abbrev id : ℕ
-  id = b.number
-
   abbrev i : ℕ
-  i = id - z.config.cores
+  i = b.number - z.config.cores
 
-  named : id ≡ z.config.cores + i
+  named : b.number ≡ z.config.cores + i
   named = let least = is.1 in omega arith
 
   below : i < z.config.banks
@@ -59,143 +95,164 @@ module _ (found : MessagesFindParts) (shape : OfStanding (λ z id a. (k : ℕ) �
       let most = is.0.1 in
       omega arith
 
-  holds : Holds (hold b) p b.inbox
-  holds = record {
-    bank = has.tied.bank;
-    dram = has.tied.dram;
-    outbox = has.tied.outbox;
-    counts = has.tied.counts;
-    hand = b.tied.hand;
-    held = b.tied.held;
-  }
-
-  own : AllOwn z.config.cores id b.inbox
-  own = subst (λ k. AllOwn k id b.inbox) is.0.2 b.own
-
-  linked : AllLinked z.config.cores z.config.banks id p.outbox.messages
-  linked =
-      subst (λ (k : ℕ × ℕ). AllLinked k.0 k.1 id p.outbox.messages) (λ j. (is.0.2 j, is.0.3 j)) has.linked
-
-  numbered : p.bank.number ≡ i
-  numbered =
-      sym (ap (λ (x : BankState). x.number) has.tied.bank)
-      ∙ (shape z (seat_count z) id (hold b) m.good is.2 i below named).numbered
-
-  -- each message that came in goes to the seat's bank or DRAM, and that has a case for it
-  finds : (at : Place) (x : Message) → LiesAt b.inbox at x → FindsHere z id (hold b) x
-  finds in_hand x lies = found.hand z (seat_count z) id (hold b) m.good is.2 x (b.tied.hand ∙ lies)
-  finds (held_at k) x lies =
-      found.held z (seat_count z) id (hold b) m.good is.2 k x (ap (λ xs. slice_get xs k) b.tied.held ∙ lies)
-
-  goes-here : (at : Place) (x : Message) → LiesAt b.inbox at x → (x.to ≡ node.Bank i) ⊎ (x.to ≡ node.Dram i)
-  goes-here in_hand x lies = own-ends z.config.cores z.config.banks id i named x.to (own.hand x lies)
-  goes-here (held_at k) x lies = own-ends z.config.cores z.config.banks id i named x.to (own.held k x lies)
-
-  pub here : (at : Place) (x : Message) → LiesAt b.inbox at x →
-      ((x.to ≡ node.Bank i) ⊎ (x.to ≡ node.Dram i)) × (sending_bank_has_case p x ≡ true)
-  here at x lies =
-      let case = finds at x lies in
-      let goes = goes-here at x lies in (
-        goes,
-        elim goes [
-          | inl to ↦ ap (λ n. bank_has_case_at n p x) to
-              ∙ sym (ap (λ y. bank_has_case y x) has.tied.bank) ∙ (case.bank i named to).1
-          | inr to ↦ ap (λ n. bank_has_case_at n p x) to
-              ∙ sym (ap (λ y. dram_has_case y x) has.tied.dram) ∙ (case.dram i named to).1
-        ],
-      )
-
-  -- what the seat has goes between nodes of its kind, once it stands
-  ends : (a : Hold) → Standing z (seat_count z) id a → (s : Message) (xs : List Message) →
-      SameBag (bag_of_hold a) (s ∷ xs) → has_endpoints z.config.cores z.config.banks s ≡ true
-  ends a standing s xs bag = (found.any z (seat_count z) id a m.good standing s xs bag).endpoints
-
-  abbrev Settled : SendingBank → InboxState Message → Type 0
-  Settled q c = AllOwn b.cores id c × AllLinked b.cores b.banks id q.outbox.messages
-
-  at-mail : (q : SendingBank) (c : InboxState Message) →
-      AllOwn z.config.cores id c × AllLinked z.config.cores z.config.banks id q.outbox.messages → Settled q c
-  at-mail q c s = (
-    subst (λ k. AllOwn k id c) (sym is.0.2) s.0,
-    subst (λ (k : ℕ × ℕ). AllLinked k.0 k.1 id q.outbox.messages) (λ j. (sym is.0.2 j, sym is.0.3 j)) s.1,
-  )
+  here_named : b.number ≡ b.cores + i
+  here_named = named ∙ ap (λ k. k + i) (sym is.0.2)
 
   abbrev pub seat_number : ℕ
   seat_number = b.seat.me.0.number
 
-  -- the part has a case for each message
-  pub all-cases : HaveCases sending_bank_has_case b.inbox p
-  all-cases = record { hand = λ x e. (here in_hand x e).1; held = λ k x e. (here (held_at k) x e).1 }
+  abbrev after : SendingBank → InboxState Message → Hold
+  after q c = stored_bank (hold b) q c
 
-  -- what the seat holds is again what it stores
-  abbrev pub Stored : SlotSeat → SendingBank → InboxState Message → Type 0
-  Stored seat q c = seat.me ≡ (with_hold b.seat.me.0 (stored_bank (hold b) q c), b.seat.me.1)
+  -- the parts of these
+  abbrev parts : SendingBank → Hold
+  parts q = record (hold b) { bank = q.bank; dram = q.dram }
 
-  pub box-tied : (seat : SlotSeat) (q : SendingBank) (c : InboxState Message) → Stored seat q c →
-      BoxTied seat b.number c.hand c.held
-  box-tied seat q c is = record {
-    number = ap (λ (y : SeatState). y.0.number) is ∙ b.tied.number;
-    live = ap (λ (y : SeatState). y.0.spent) is ∙ b.tied.live;
-    none_out = ap (λ (y : SeatState). y.1) is ∙ b.tied.none_out;
-    idle = ap (λ (y : SeatState). y.0.mine.stage) is ∙ b.tied.idle;
-    hand = ap (λ (y : SeatState). y.0.mine.hand) is;
-    held = ap (λ (y : SeatState). y.0.mine.held) is;
-  }
+  -- a move from what the seat stores is one from what it holds
+  stored : (a : Hold) → SeatMove z b.number (after p b.inbox) a → SeatMove z seat_number (hold b) a
+  stored a move =
+      subst (λ (y : ℕ × Hold). SeatMove z y.0 y.1 a)
+      (λ j. (sym b.tied.number j, bank_stays b p p b.inbox has (refl, refl) j)) move
 
-  pub bank-tied : (seat : SlotSeat) (q : SendingBank) (c : InboxState Message) → Stored seat q c →
-      BankTied seat.me.0.mine q.bank q.dram q.outbox
-  bank-tied seat q c is = record {
-    bank = ap (λ (y : SeatState). y.0.mine.bank) is;
-    dram = ap (λ (y : SeatState). y.0.mine.dram) is;
-    outbox = ap (λ (y : SeatState). y.0.mine.outbox) is;
-    counts = ap (λ (y : SeatState). y.0.mine.counts) is;
-  }
+  -- what the tables said where this was answered, of a message to the bank, and of one to its DRAM
+  bank_did : (x : Message) (n : ℕ) (answer : Answer Message) (q : SendingBank) → x.to ≡ Bank i →
+      sending_bank_table p x n ≡ (answer, q) →
+      Did false p.outbox p.bank (bank_table.bank_table p.bank x) answer q.bank q.outbox × (q.dram ≡ p.dram)
+  bank_did x n answer q to asks =
+      let e : reacts_at (Bank i) p x n ≡ (answer, q) = ap (λ t. reacts_at t p x n) (sym to) ∙ asks in (
+        did false p.outbox p.bank n (bank_table.bank_table p.bank x) answer q.bank q.outbox
+            (ap (λ (y : Answer Message × SendingBank). (y.0, y.1.bank, y.1.outbox)) e),
+        sym (ap (λ (y : Answer Message × SendingBank). y.1.dram) e),
+      )
 
-  -- A serving
-
-  module _ (stay : BanksStay) where
-    pub serve-moves : (result : Result Served Refusal) (c : InboxState Message) (q : SendingBank) →
-        Effect sending_bank_table b.inbox p result c q →
-        SeatMove z seat_number (hold b) (stored_bank (hold b) q c)
-    serve-moves result c q effect =
-        subst (λ n. SeatMove z n (hold b) (stored_bank (hold b) q c)) (sym b.tied.number)
-        (serving-moves z id i below named (hold b) p b.inbox holds stay.dropped stay.answered here result c q
-        effect)
-
-    pub serve-settled : (result : Result Served Refusal) (c : InboxState Message) (q : SendingBank) →
-        Effect sending_bank_table b.inbox p result c q →
-        Standing z (seat_count z) seat_number (stored_bank (hold b) q c) → Settled q c
-    serve-settled result c q effect standing =
-        at-mail q c
-        (settled z id i below named (hold b) p b.inbox holds numbered own linked here q c
-        (no-start z id i below named (hold b) p b.inbox holds stay.dropped stay.answered here)
-        (no-drop z id i below named (hold b) p b.inbox holds stay.dropped stay.answered here)
-        (ends (stored_bank (hold b) q c)
-        (subst (λ n. Standing z (seat_count z) n (stored_bank (hold b) q c)) b.tied.number standing))
-        result effect)
+  dram_did : (x : Message) (n : ℕ) (answer : Answer Message) (q : SendingBank) → x.to ≡ Dram i →
+      sending_bank_table p x n ≡ (answer, q) →
+      Did false p.outbox p.dram (dram_table p.dram x) answer q.dram q.outbox × (q.bank ≡ p.bank)
+  dram_did x n answer q to asks =
+      let e : reacts_at (Dram i) p x n ≡ (answer, q) = ap (λ t. reacts_at t p x n) (sym to) ∙ asks in (
+        did false p.outbox p.dram n (dram_table p.dram x) answer q.dram q.outbox
+            (ap (λ (y : Answer Message × SendingBank). (y.0, y.1.dram, y.1.outbox)) e),
+        sym (ap (λ (y : Answer Message × SendingBank). y.1.bank) e),
+      )
 
   -- An eviction
 
-  pub evict-moves : (line : ℕ) (e : Evict) (c : InboxState Message) (q : SendingBank) →
-      (bank_table.evict p.bank line).0 ≡ Ok e →
-      q ≡ evicted_part p (bank_table.evict p.bank line).1 e → c ≡ evicted_inbox b.inbox e →
-      SeatMove z seat_number (hold b) (stored_bank (hold b) q c)
-  evict-moves line e c q did part messages =
-      subst (λ (y : ℕ × SendingBank × InboxState Message). SeatMove z y.0 (hold b)
-      (stored_bank (hold b) y.1 y.2))
-      (λ j. (sym b.tied.number j, sym part j, sym messages j))
-      (eviction-moves z id i below named (hold b) p b.inbox holds line e did)
+  pub evict_moves : (line : ℕ) (e : Evict) (q : SendingBank) (c : InboxState Message) →
+      (bank_table.evict p.bank line).0 ≡ Ok e → q ≡ evicted_part p (bank_table.evict p.bank line).1 e →
+      c ≡ evicted_inbox b.inbox e → SeatMove z seat_number (hold b) (after q c)
+  evict_moves line e q c done part messages =
+      let bank = (bank_table.evict p.bank line).1 in
+      let now = evicted_part p bank e in
+      subst (λ (y : SendingBank × InboxState Message). SeatMove z seat_number (hold b) (after y.0 y.1))
+      (λ j. (sym part j, sym messages j))
+      (stored (after now (evicted_inbox b.inbox e))
+      (bank_steps i (step.Evicting line) (bag_of_hold (after p b.inbox))
+      (step.Makes (step.became e) false (sent_by_eviction e) bank) below named refl
+      (ap (λ r. step.entry_evicted (r, bank)) done) (
+        refl,
+        hold_sends false p.outbox now.outbox b.inbox (evicted_inbox b.inbox e) (parts p) (parts now)
+            (sent_by_eviction e) (told_if false (sent_by_eviction e)) (messages_of b.inbox)
+            (sends false p.outbox (sent_by_eviction e)) (inbox_bag b.inbox e),
+      ) (record { core = refl; issued = refl }) refl))
 
-  pub evict-settled : (line : ℕ) (e : Evict) (c : InboxState Message) (q : SendingBank) →
-      (bank_table.evict p.bank line).0 ≡ Ok e →
-      q ≡ evicted_part p (bank_table.evict p.bank line).1 e → c ≡ evicted_inbox b.inbox e →
-      Standing z (seat_count z) seat_number (stored_bank (hold b) q c) → Settled q c
-  evict-settled line e c q did part messages standing =
-      let q0 = evicted_part p (bank_table.evict p.bank line).1 e in
-      let c0 = evicted_inbox b.inbox e in
-      subst (λ (y : SendingBank × InboxState Message). Settled y.0 y.1) (λ j. (sym part j, sym messages j))
-      (at-mail q0 c0
-      (eviction-settled z id i below named (hold b) p b.inbox holds line e did numbered own linked
-      (ends (stored_bank (hold b) q0 c0)
-      (subst (λ (y : ℕ × SendingBank × InboxState Message). Standing z (seat_count z) y.0
-      (stored_bank (hold b) y.1 y.2)) (λ j. (b.tied.number j, part j, messages j)) standing))))
+  module _ (found : MessagesFindParts) (shape : OfStanding (λ z id a. (k : ℕ) → k < z.config.banks →
+      id ≡ z.config.cores + k → IsBank z.config k a.bank)) where
+    numbered : p.bank.number ≡ i
+    numbered =
+        sym (ap (λ (x : BankState). x.number) has.tied.bank)
+        ∙ (shape z (seat_count z) b.number (hold b) m.good is.2 i below named).numbered
+
+    -- each message that came in goes to the bank or its DRAM, which has a case for it
+    here : (at : Place) (x : Message) → LiesAt b.inbox at x →
+        ((x.to ≡ Bank i) × (bank_has_case p.bank x ≡ true)) ⊎ ((x.to ≡ Dram i) × (dram_has_case p.dram x ≡ true))
+    here at x lies =
+        let case = finds found m b is.2 at x lies in
+        elim (own_ends b.cores b.banks b.number i here_named x.to (lies_own b at x lies)) [
+          | inl to ↦ inl (to, sym (ap (λ y. bank_has_case y x) has.tied.bank) ∙ (case.bank i named to).1)
+          | inr to ↦ inr (to, sym (ap (λ y. dram_has_case y x) has.tied.dram) ∙ (case.dram i named to).1)
+        ]
+
+    pub all_cases : HaveCases sending_bank_has_case b.inbox p
+    all_cases =
+        have_cases sending_bank_has_case b.inbox p
+        (λ at x lies.
+        elim (here at x lies) [
+          | inl t ↦ ap (λ n. bank_has_case_at n p x) t.0 ∙ t.1
+          | inr t ↦ ap (λ n. bank_has_case_at n p x) t.0 ∙ t.1
+        ])
+
+    pub evict_settled : (line : ℕ) (e : Evict) (q : SendingBank) (c : InboxState Message) →
+        (bank_table.evict p.bank line).0 ≡ Ok e → q ≡ evicted_part p (bank_table.evict p.bank line).1 e →
+        c ≡ evicted_inbox b.inbox e → Standing z (seat_count z) seat_number (after q c) →
+        Settled false b.cores b.banks b.number p.outbox q.outbox b.inbox c b.own has.linked
+    evict_settled line e q c done part messages standing =
+        let now = evicted_part p (bank_table.evict p.bank line).1 e in
+        subst (λ (y : SendingBank × InboxState Message).
+        Standing z (seat_count z) seat_number (after y.0 y.1) →
+        Settled false b.cores b.banks b.number p.outbox y.0.outbox b.inbox y.1 b.own has.linked)
+        (λ j. (sym part j, sym messages j))
+        (λ stands.
+        sent_settles false b.cores b.banks b.number p.outbox now.outbox b.inbox (evicted_inbox b.inbox e) b.own
+        has.linked (ends found m b is.0 seat_number (after now (evicted_inbox b.inbox e)) stands) (sent_by_eviction e)
+        (told_if false (sent_by_eviction e)) (sends false p.outbox (sent_by_eviction e)) (inbox_bag b.inbox e)
+        (λ s gives.
+        bank_goes b.cores b.banks b.number i here_named s
+        (inl (evicted_from p.bank line (evicted (entry_of p.bank line)) s.from (ap evict_sender done
+        ∙ sent_from e s gives) ∙ ap Bank numbered))))
+        standing
+
+    -- A serving
+
+    module _ (stay : BanksStay) (result : Result Served Refusal) (c : InboxState Message) (q : SendingBank)
+        (effect : Effect sending_bank_table b.inbox p result c q) where
+      pub serve_moves : SeatMove z seat_number (hold b) (after q c)
+      serve_moves =
+          stored (after q c) (by_answer sending_bank_table b.inbox p result c q
+          (λ at x answer asked before left.
+          elim (here at x asked.0) [
+            | inl t ↦ (let d = bank_did x (places b.inbox.held at) answer q t.0 asked.1 in
+                answer_moves false p.outbox q.outbox b.inbox c z b.number (parts p) (parts q) p.bank q.bank
+                (bank_table.bank_table p.bank x) x
+                (λ rest s apart gives sent.
+                bank_steps i (step.Getting x) rest s below named (apart, t.0, t.1) gives sent
+                (record { core = refl; issued = refl }) d.1)
+                (λ e. absurd (stay.dropped p.bank q.bank x t.1 e)) at answer d.0 before left)
+            | inr t ↦ (let d = dram_did x (places b.inbox.held at) answer q t.0 asked.1 in
+                answer_moves false p.outbox q.outbox b.inbox c z b.number (parts p) (parts q) p.dram q.dram
+                (dram_table p.dram x) x
+                (λ rest s apart gives sent.
+                dram_steps i (step.Getting x) rest s below named (apart, t.0, t.1) gives sent
+                (record { core = refl; issued = refl }) d.1)
+                (λ e. dram_drops p.dram q.dram x e) at answer d.0 before left)
+          ])
+          (λ same stays.
+          sorts (record { core = refl; issued = refl })
+          (record {
+            bank = ap (λ (y : SendingBank). y.bank) stays;
+            dram = ap (λ (y : SendingBank). y.dram) stays;
+          })
+          (hold_stays false p.outbox q.outbox b.inbox c (parts p) (parts q) same
+          (ap (λ (y : SendingBank). y.outbox) stays)))
+          effect)
+
+      pub serve_settled : Standing z (seat_count z) seat_number (after q c) →
+          Settled false b.cores b.banks b.number p.outbox q.outbox b.inbox c b.own has.linked
+      serve_settled standing =
+          let to = ends found m b is.0 seat_number (after q c) standing in
+          by_answer sending_bank_table b.inbox p result c q
+          (λ at x answer asked before left.
+          elim (here at x asked.0) [
+            | inl t ↦ answer_settles false b.cores b.banks b.number p.outbox q.outbox b.inbox c b.own has.linked to
+                p.bank q.bank (bank_table.bank_table p.bank x) x
+                (λ s sent. bank_goes b.cores b.banks b.number i here_named s
+                (inl (bank_sends p.bank x s sent ∙ ap Bank numbered))) at answer
+                (bank_did x (places b.inbox.held at) answer q t.0 asked.1).0 before left
+            | inr t ↦ answer_settles false b.cores b.banks b.number p.outbox q.outbox b.inbox c b.own has.linked to
+                p.dram q.dram (dram_table p.dram x) x
+                (λ s sent. bank_goes b.cores b.banks b.number i here_named s
+                (inr (dram_sends p.dram x s sent ∙ t.0))) at answer
+                (dram_did x (places b.inbox.held at) answer q t.0 asked.1).0 before left
+          ])
+          (λ same stays. stays_settled false b.cores b.banks b.number p.outbox q.outbox b.inbox c b.own has.linked same
+          (ap (λ (y : SendingBank). y.outbox) stays))
+          effect

@@ -1,5 +1,5 @@
--- What stays of a seat from one step to the next stays over both.
-use Rattle.std.proofs.Common.{◌∙◌}
+-- What stays of a seat: all, if nothing is done; and what stays from one step to the next stays over both.
+use Rattle.std.proofs.Common.{refl, ◌∙◌}
 use Rattle.seat_rule.specs.declared.views.Hold.{Hold}
 use Rattle.seat_rule.specs.Plays.{SamePart}
 use Rattle.mailboxes.specs.declared.mailbox.Mailbox.{Mailbox}
@@ -15,6 +15,24 @@ part_on a b c s t =
       records = t.records ∙ s.records;
       counts = t.counts ∙ s.counts;
       seen = t.seen ∙ s.seen;
+    }
+
+pub no_change : (p : Mailbox) → Stays p p
+no_change p =
+    record {
+      table = refl;
+      number = refl;
+      cores = refl;
+      banks = refl;
+      part = record {
+        core = refl;
+        bank = refl;
+        dram = refl;
+        issued = refl;
+        records = refl;
+        counts = refl;
+        seen = refl;
+      };
     }
 
 pub stays_on : (p q r : Mailbox) → Stays p q → Stays q r → Stays p r

@@ -27,7 +27,8 @@ use Rattle.mailboxes.specs.declared.bank_evicting.Eviction.{Eviction}
 use Rattle.mailboxes.specs.declared.bank_evicting.Eviction.TheVariants.{Evicted, Recalled}
 use Rattle.mailboxes.specs.declared.sending.SendingBank.{SendingBank}
 use Rattle.closed_machine.specs.Sending.{OutboxState}
-use Rattle.mailboxes.specs.BankServing.{finds_places, posted, told, sending_bank_table}
+use Rattle.mailboxes.specs.BankServing.{sending_bank_table}
+use Rattle.mailboxes.specs.PartServing.{finds_places, posted_if, told_if}
 
 -- the seat keeps its number, and where its next look begins
 abbrev pub SameBankPlace : BankSeat → BankSeat → Type 0
@@ -66,7 +67,7 @@ to_post None = None
 to_post (Some to) = Some (to, false)
 
 abbrev pub eviction_fits : OutboxState → List Message → Evict → Bool
-eviction_fits out held done = finds_places out (256 - length held) (to_post (sent_to done))
+eviction_fits out held done = finds_places false out (256 - length held) (to_post (sent_to done))
 
 -- an eviction by the bank's table, if what it sends finds its place; a stopped seat refuses
 abbrev pub bank_evict_answer : Bool → OutboxState → List Message → Result Evict EvictError → Result Eviction Refusal
@@ -75,22 +76,12 @@ bank_evict_answer false out held (Err evict_error.NotHere) = Err NoSuch
 bank_evict_answer false out held (Err evict_error.Busy) = Err Busy
 bank_evict_answer false out held (Ok done) = cond (eviction_fits out held done) (Ok (became done)) (Err NetworkFull)
 
--- a message is sent, if there is one: the outbox, and the messages that came in, with one to the seat itself at the
--- end of the held list
-abbrev pub posted_if : OutboxState → Option Message → OutboxState
-posted_if out None = out
-posted_if out (Some m) = posted out m
-
-abbrev pub told_if : Option Message → Option Message
-told_if None = None
-told_if (Some m) = told m
-
--- the part and the messages that came in, after an eviction
+-- the part after an eviction, and the messages that came in: one to the seat itself is at the end of the held list
 abbrev pub evicted_part : SendingBank → BankState → Evict → SendingBank
-evicted_part p bank done = record p { bank = bank; outbox = posted_if p.outbox (sent_by_eviction done) }
+evicted_part p bank done = record p { bank = bank; outbox = posted_if false p.outbox (sent_by_eviction done) }
 
 abbrev pub evicted_inbox : InboxState Message → Evict → InboxState Message
-evicted_inbox b done = inbox b.hand (b.held ++ sent_list (told_if (sent_by_eviction done)))
+evicted_inbox b done = inbox b.hand (b.held ++ sent_list (told_if false (sent_by_eviction done)))
 
 -- the line was evicted: the bank's table did this
 abbrev pub Evicts : Result Evict EvictError × BankState → InboxState Message → SendingBank → InboxState Message →

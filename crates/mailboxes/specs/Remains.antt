@@ -1,6 +1,5 @@
 -- What a machine leaves when all its seats are given up.
 use Rattle.std.specs.Prelude.{◌≡◌, ℕ, ◌<◌, List, [], ◌∷◌, ◌++◌, Option, Some, slice_get}
-use Rattle.atomic_table.specs.Seated.{TableId}
 use Rattle.physiological_order.specs.declared.operation.Record.{Record}
 use Rattle.network.specs.declared.message.Message.{Message}
 use Rattle.seat_views.specs.declared.views.View.{View}
@@ -57,13 +56,6 @@ bank_entry p = entry p.mail
 -- a view that knows these seats too
 abbrev pub knows_all : View Hold → List (ℕ × Hold) → View Hold
 knows_all v known = record v { known = v.known ++ known }
-
--- all seats of a list are of this table
-abbrev pub CoresAt : TableId → List CoreSeat → Type 0
-CoresAt t ps = (i : ℕ) (p : CoreSeat) → slice_get ps i ≡ Some p → p.mail.seat.table_id ≡ t
-
-abbrev pub BanksAt : TableId → List BankSeat → Type 0
-BanksAt t ps = (i : ℕ) (p : BankSeat) → slice_get ps i ≡ Some p → p.mail.seat.table_id ≡ t
 
 -- There is one reached and consistent state, with these records. Each given seat holds its own part of it, and its
 -- messages in flight are those of the seats and those in these slots. No link lost or doubled a message.

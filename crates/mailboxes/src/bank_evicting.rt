@@ -7,9 +7,9 @@ ghost use Rattle.inbox.specs.Inboxes.{inbox};
 ghost use Rattle.inbox.specs.Serving.{sent_list};
 ghost use Rattle.mailboxes.specs.BankCalls.{became, bank_evict_answer, evicted_inbox, evicted_part, eviction_fits};
 ghost use Rattle.mailboxes.specs.BankCalls.{to_post};
-ghost use Rattle.mailboxes.specs.BankServing.{finds_places, posted, told};
+ghost use Rattle.mailboxes.specs.PartServing.{finds_places, posted, told};
 
-use crate::bank_serving::{finds_places, post};
+use crate::part_serving::{finds_places, post};
 use crate::sending::SendingBank;
 use closed_machine::Outbox;
 use inbox::Inbox;
@@ -52,7 +52,7 @@ pub(crate) fn evictable(
         Err(EvictError::NotHere) => Err(Refusal::NoSuch),
         Err(EvictError::Busy) => Err(Refusal::Busy),
         Ok(to) => {
-            if finds_places(&part.outbox, came_in.places(), &to_post(to)) {
+            if finds_places(false, &part.outbox, came_in.places(), &to_post(to)) {
                 Ok(())
             } else {
                 Err(Refusal::NetworkFull)
@@ -63,14 +63,14 @@ pub(crate) fn evictable(
 
 // Sends a message: to the outbox, or to the end of the held list.
 fn send(outbox: &mut Outbox, came_in: &mut Inbox<Message>, message: Message)
-    requires { IsTrue (finds_places outbox.old (256 - length came_in.old.held)
+    requires { IsTrue (finds_places false outbox.old (256 - length came_in.old.held)
         (Some (message.to, false))) }
-    ensures sent { outbox.new ≡ posted outbox.old message }
+    ensures sent { outbox.new ≡ posted false outbox.old message }
     ensures told { came_in.new ≡
-        inbox came_in.old.hand (came_in.old.held ++ sent_list (told message)) }
+        inbox came_in.old.hand (came_in.old.held ++ sent_list (told false message)) }
 {
     let _body: Body = message.body;
-    if let Some(told) = post(outbox, message) {
+    if let Some(told) = post(false, outbox, message) {
         came_in.hold(told);
     }
 }

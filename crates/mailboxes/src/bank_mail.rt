@@ -12,11 +12,11 @@ use crate::bank_evicting::{Eviction, evict_line, evictable};
 use crate::changes::{change_bank, change_bank_if, may_change};
 use crate::machine::Machine;
 use crate::mailbox::Mailbox;
+use crate::part_serving::serve_part;
 use crate::sending::SendingBank;
 use inbox::Served;
-use inbox::laws::{memory_is_wanted_for_the_served, servings_do_one_of_five};
 use machine_table::Refusal;
-use network::{LineNo, Message};
+use network::LineNo;
 use seat_rule::move_laws::waiting_banks_stay;
 use seat_rule::parts::{messages_of_seats_find_their_parts, parts_of_seats_have_their_shape};
 
@@ -39,10 +39,8 @@ impl Mailbox {
         waiting_banks_stay();
         messages_of_seats_find_their_parts();
         parts_of_seats_have_their_shape();
-        servings_do_one_of_five::<Message, SendingBank>();
-        memory_is_wanted_for_the_served::<Message, SendingBank>();
         let was_full = self.hand_is_full();
-        let served = self.inbox.serve(part);
+        let served = serve_part(&mut self.inbox, part);
         let changes = may_change(was_full, &served);
         change_bank_if(changes, machine, &mut self.seat, part, &self.inbox);
         served

@@ -1,12 +1,11 @@
 //! The end: all seats are joined, and leave what they stored.
-ghost use Rattle.std.specs.Prelude.{◌≡◌, ℕ, List, ◌+◌, ◌<◌, ◌≤◌, false, [], ◌∷◌, ◌++◌, length, map, IfOk, vec_capacity};
+ghost use Rattle.std.specs.Prelude.{◌≡◌, ℕ, List, ◌+◌, ◌<◌, ◌≤◌, false, [], ◌∷◌, ◌++◌, length, map, IfOk, Some, slice_get, vec_capacity};
 ghost use Rattle.physiological_order.specs.declared.operation.Record.{Record};
 ghost use Rattle.machine_table.specs.SetUp.{is_good};
 ghost use Rattle.closed_machine.specs.PartsOfState.{PartsOfState};
 ghost use Rattle.mailboxes.specs.Places.{Belongs};
 ghost use Rattle.mailboxes.specs.Seats.{AllCoreSeats, AllBankSeats, AreAll};
-ghost use Rattle.mailboxes.specs.Remains.{backwards, core_part, bank_part, knows_all, core_entry};
-ghost use Rattle.mailboxes.specs.Remains.{bank_entry, CoresAt, BanksAt, OneState};
+ghost use Rattle.mailboxes.specs.Remains.{OneState, backwards, bank_part, core_part, entry, knows_all};
 
 use crate::bank_seat::BankSeat;
 use crate::core_seat::CoreSeat;
@@ -80,9 +79,10 @@ impl Machine {
         let mut slots = Vec::with_capacity(alloc, self.table.slot_count())?;
         let Machine { table, set_up } = self;
         let first = cores.pop();
-        let mut seat = leave_core(first.unwrap(), &mut core_parts);
-        join_cores(&table.shared, &mut seat, cores, &mut core_parts);
-        join_banks(&table.shared, &mut seat, banks, &mut bank_parts);
+        let first = first.unwrap();
+        let mut seat = first.leave(&mut core_parts);
+        join(&table.shared, &mut seat, cores, &mut core_parts);
+        join(&table.shared, &mut seat, banks, &mut bank_parts);
         core_parts.reverse();
         bank_parts.reverse();
         let last = table.slot_count();
@@ -99,111 +99,112 @@ impl Machine {
     }
 }
 
-// Joins seats of cores from the last to the first.
-fn join_cores(
-    table: &SlotTable,
-    seat: &mut SlotSeat,
-    mut cores: Vec<CoreSeat>,
-    parts: &mut Vec<CorePart>,
-)
-    requires table { Belongs seat.old.table_id table.now.table_id table.now.key }
-    requires cores { CoresAt table.now.table_id cores.items }
-    requires live { seat.old.me.0.spent ≡ false }
-    requires room { length parts.old.items + length cores.items ≤ vec_capacity parts.old }
-    ensures table { (seat.new.table_id ≡ seat.old.table_id) × (seat.new.id ≡ seat.old.id) }
-    ensures met { seat.new.me ≡
-        (knows_all seat.old.me.0 (backwards core_entry cores.items), seat.old.me.1) }
-    ensures parts { parts.new.items ≡ parts.old.items ++ backwards core_part cores.items }
-{
-    while let Some(port) = cores.pop() {
-        let other = leave_core(port, parts);
-        meet(table, seat, other);
+// A seat that is given up: it gives its seat at the table, and what it stores becomes a part.
+trait Leaver<Q> {
+    ghost use Rattle.mailboxes.specs.declared.mailbox.Mailbox.{Mailbox};
+
+    ghost mail: { Self → Mailbox };
+
+    ghost part: { Self → Q };
+
+    // Puts what the seat stores at the end of a list, and gives its seat at the table.
+    fn leave(self, parts: &mut Vec<Q>) -> SlotSeat
+        requires { length parts.old.items < vec_capacity parts.old }
+        ensures slot_seat { result ≡ (mail self).seat }
+        ensures part { parts.new.items ≡ parts.old.items ++ part self ∷ [] }
+        ensures room { vec_capacity parts.new ≡ vec_capacity parts.old };
+}
+
+impl Leaver<CorePart> for CoreSeat {
+    ghost use Rattle.mailboxes.specs.Remains.{core_part};
+
+    ghost mail = { λ p. p.mail };
+
+    ghost part = { core_part };
+
+    fn leave(self, parts: &mut Vec<CorePart>) -> SlotSeat {
+        let CoreSeat {
+            mail,
+            part,
+            issued,
+            records,
+            is_stopped,
+            ..
+        } = self;
+        let Mailbox {
+            seat,
+            number,
+            inbox,
+            ..
+        } = mail;
+        let SendingCore { core, outbox } = part;
+        parts.push_reserved(CorePart {
+            number,
+            core,
+            issued,
+            records,
+            outbox,
+            inbox,
+            is_stopped,
+        });
+        seat
     }
 }
 
-// Joins seats of banks from the last to the first.
-fn join_banks(
-    table: &SlotTable,
-    seat: &mut SlotSeat,
-    mut banks: Vec<BankSeat>,
-    parts: &mut Vec<BankPart>,
-)
-    requires table { Belongs seat.old.table_id table.now.table_id table.now.key }
-    requires banks { BanksAt table.now.table_id banks.items }
-    requires live { seat.old.me.0.spent ≡ false }
-    requires room { length parts.old.items + length banks.items ≤ vec_capacity parts.old }
-    ensures table { (seat.new.table_id ≡ seat.old.table_id) × (seat.new.id ≡ seat.old.id) }
-    ensures met { seat.new.me ≡
-        (knows_all seat.old.me.0 (backwards bank_entry banks.items), seat.old.me.1) }
-    ensures parts { parts.new.items ≡ parts.old.items ++ backwards bank_part banks.items }
-{
-    while let Some(port) = banks.pop() {
-        let other = leave_bank(port, parts);
-        meet(table, seat, other);
+impl Leaver<BankPart> for BankSeat {
+    ghost use Rattle.mailboxes.specs.Remains.{bank_part};
+
+    ghost mail = { λ p. p.mail };
+
+    ghost part = { bank_part };
+
+    fn leave(self, parts: &mut Vec<BankPart>) -> SlotSeat {
+        let BankSeat {
+            mail,
+            part,
+            is_stopped,
+            ..
+        } = self;
+        let Mailbox {
+            seat,
+            number,
+            inbox,
+            ..
+        } = mail;
+        let SendingBank { bank, dram, outbox } = part;
+        parts.push_reserved(BankPart {
+            number,
+            bank,
+            dram,
+            outbox,
+            inbox,
+            is_stopped,
+        });
+        seat
     }
 }
 
-// Puts what a core's seat stores at the end of a list, and gives its seat at the table.
-fn leave_core(port: CoreSeat, parts: &mut Vec<CorePart>) -> SlotSeat
-    requires { length parts.old.items < vec_capacity parts.old }
-    ensures slot_seat { result ≡ port.mail.seat }
-    ensures part { parts.new.items ≡ parts.old.items ++ core_part port ∷ [] }
-    ensures room { vec_capacity parts.new ≡ vec_capacity parts.old }
+// Joins seats from the last to the first.
+fn join<S: Leaver<Q> + Drop, Q: Drop>(
+    table: &SlotTable,
+    seat: &mut SlotSeat,
+    mut seats: Vec<S>,
+    parts: &mut Vec<Q>,
+)
+    requires table { Belongs seat.old.table_id table.now.table_id table.now.key }
+    requires seats { (i : ℕ) (p : S) → slice_get seats.items i ≡ Some p →
+        (S.mail p).seat.table_id ≡ table.now.table_id }
+    requires live { seat.old.me.0.spent ≡ false }
+    requires room { length parts.old.items + length seats.items ≤ vec_capacity parts.old }
+    ensures table { (seat.new.table_id ≡ seat.old.table_id) × (seat.new.id ≡ seat.old.id) }
+    ensures met { seat.new.me ≡ (
+      knows_all seat.old.me.0 (backwards (λ p. entry (S.mail p)) seats.items),
+      seat.old.me.1,
+    ) }
+    ensures parts { parts.new.items ≡ parts.old.items ++ backwards S.part seats.items }
 {
-    let CoreSeat {
-        mail,
-        part,
-        issued,
-        records,
-        is_stopped,
-        ..
-    } = port;
-    let Mailbox {
-        seat,
-        number,
-        inbox,
-        ..
-    } = mail;
-    let SendingCore { core, outbox } = part;
-    parts.push_reserved(CorePart {
-        number,
-        core,
-        issued,
-        records,
-        outbox,
-        inbox,
-        is_stopped,
-    });
-    seat
-}
-
-// Puts what a bank's seat stores at the end of a list, and gives its seat at the table.
-fn leave_bank(port: BankSeat, parts: &mut Vec<BankPart>) -> SlotSeat
-    requires { length parts.old.items < vec_capacity parts.old }
-    ensures slot_seat { result ≡ port.mail.seat }
-    ensures part { parts.new.items ≡ parts.old.items ++ bank_part port ∷ [] }
-    ensures room { vec_capacity parts.new ≡ vec_capacity parts.old }
-{
-    let BankSeat {
-        mail,
-        part,
-        is_stopped,
-        ..
-    } = port;
-    let Mailbox {
-        seat,
-        number,
-        inbox,
-        ..
-    } = mail;
-    let SendingBank { bank, dram, outbox } = part;
-    parts.push_reserved(BankPart {
-        number,
-        bank,
-        dram,
-        outbox,
-        inbox,
-        is_stopped,
-    });
-    seat
+    while let Some(port) = seats.pop() {
+        let other = port.leave(parts);
+        meet(table, seat, other);
+    }
 }

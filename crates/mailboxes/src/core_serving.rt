@@ -15,11 +15,10 @@ use crate::changes::{change_core_if, may_change};
 use crate::core_seat::CoreSeat;
 use crate::machine::Machine;
 use crate::mailbox::Mailbox;
+use crate::part_serving::serve_part;
 use crate::sending::SendingCore;
 use inbox::Served;
-use inbox::laws::{memory_is_wanted_for_the_served, servings_do_one_of_five};
 use machine_table::Refusal;
-use network::Message;
 use physiological_order::Op;
 use seat_rule::move_laws::waiting_cores_stay;
 use seat_rule::parts::messages_of_seats_find_their_parts;
@@ -45,10 +44,8 @@ impl Mailbox {
     {
         waiting_cores_stay();
         messages_of_seats_find_their_parts();
-        servings_do_one_of_five::<Message, SendingCore>();
-        memory_is_wanted_for_the_served::<Message, SendingCore>();
         let was_full = self.hand_is_full();
-        let served = self.inbox.serve(part);
+        let served = serve_part(&mut self.inbox, part);
         let changes = may_change(was_full, &served);
         change_core_if(changes, machine, &mut self.seat, part, issued, &self.inbox);
         served

@@ -18,7 +18,8 @@ use Rattle.inbox.specs.Serving as serving
 use Rattle.inbox.specs.Serving.{finds_no_place, fitted}
 use Rattle.mailboxes.specs.declared.sending.SendingBank.{SendingBank}
 use Rattle.seat_edges.specs.BankPlaceLaws.{IsRequest, Lacks, LoadsWantTwoHeld, asked, load, to_own, to_read}
-use Rattle.mailboxes.specs.BankServing.{reacts, replied, sending_bank_table, sending_bank_takes_memory}
+use Rattle.mailboxes.specs.PartServing.{reacts, replied}
+use Rattle.mailboxes.specs.BankServing.{sending_bank_table, sending_bank_takes_memory}
 use Rattle.closed_machine.specs.Sending.{OutboxState, can_still_send}
 use Rattle.seat_edges.proofs.StayingHands.{stays}
 
@@ -44,12 +45,12 @@ full : (p : SendingBank) (core n line places : ℕ) (body : Body) → IsRequest 
 full p core n line places body is lacks few =
     let m = asked core n line body in
     let sent : Option (Reaction × BankState) = Some (HeldAfter (load p.bank line), with_used p.bank line Loading) in
-    ap (λ d. finds_no_place (fitted places (reacts p.outbox places p.bank (after_decision p.bank m d)).0))
+    ap (λ d. finds_no_place (fitted places (reacts false p.outbox places p.bank (after_decision p.bank m d)).0))
     (loads p.bank core n line body is lacks)
     ∙ ap (λ x. finds_no_place (fitted places
-    (cond (can_still_send p.outbox && x) (replied p.outbox p.bank sent) (Refused Full, p.bank, p.outbox)).0))
+    (cond (can_still_send p.outbox && x) (replied false p.outbox p.bank sent) (Refused Full, p.bank, p.outbox)).0))
     (lt-leb 2 places (omega (arith, few)))
-    ∙ unplaced places (replied p.outbox p.bank sent) p.bank p.outbox (can_still_send p.outbox)
+    ∙ unplaced places (replied false p.outbox p.bank sent) p.bank p.outbox (can_still_send p.outbox)
 
 pub two_held : LoadsWantTwoHeld
 two_held b c p q result core bank line body is hand many lacks served =

@@ -17,7 +17,6 @@ use Rattle.inbox.specs.declared.answer.Refusal.TheVariants.{Full}
 use Rattle.inbox.specs.declared.answer.Served.{Served}
 use Rattle.inbox.specs.Inboxes.{InboxState}
 use Rattle.inbox.specs.Serving.{fitted, stays_held}
-use Rattle.seat_rule.specs.declared.views.Hold.{Hold}
 use Rattle.seat_rule.specs.declared.views.SetUp.{SetUp}
 use Rattle.mailboxes.specs.declared.machine.Machine.{Machine}
 use Rattle.mailboxes.specs.declared.mailbox.Mailbox.{Mailbox}
@@ -28,15 +27,17 @@ use Rattle.mailboxes.specs.declared.sending.SendingCore.{SendingCore}
 use Rattle.mailboxes.specs.declared.taken.Take.{Take}
 use Rattle.mailboxes.specs.declared.taken.Take.TheVariants.{Taken, Nothing, HandFull}
 use Rattle.mailboxes.specs.declared.turning.Turn.{Turn}
-use Rattle.mailboxes.specs.BankServing.{sending_bank_table, sending_bank_takes_memory, reacts, reacts_at}
-use Rattle.mailboxes.specs.BankTurns.{BankPuts, BankServes, BankTakes, BankTurns, bank_hand}
+use Rattle.mailboxes.specs.BankServing.{sending_bank_table, sending_bank_takes_memory, reacts_at}
+use Rattle.mailboxes.specs.BankTurns.{BankPuts, BankServes}
 use Rattle.mailboxes.specs.BoxMoves.{IsAt, Stays, Takes, hold}
-use Rattle.mailboxes.specs.CoreServing.{core_reacts, sending_core_table, sending_core_takes_memory}
-use Rattle.mailboxes.specs.CoreTurns.{CorePuts, CoreServes, CoreTakes, CoreTurns, core_hand}
+use Rattle.mailboxes.specs.PartServing.{reacts}
+use Rattle.mailboxes.specs.CoreServing.{sending_core_table, sending_core_takes_memory}
+use Rattle.mailboxes.specs.CoreTurns.{CorePuts, CoreServes}
 use Rattle.mailboxes.specs.Places.{AllFoundEmpty, found_empty, incoming, incoming_count}
 use Rattle.mailboxes.specs.SeatServing.{SeatServes}
 use Rattle.seat_edges.specs.TurnLaws.{BankWaits, CoreWaits, EmptyBankHandsTake, EmptyCoreHandsTake}
-use Rattle.mailboxes.specs.Turns.{Ends, is_idle}
+use Rattle.mailboxes.specs.Turns.{Ends, Turns, is_idle}
+use Rattle.seat_edges.proofs.Calls.{Calls, bank_calls, core_calls, full}
 use Rattle.seat_edges.proofs.FullHands.{came_in}
 use Rattle.seat_edges.proofs.Turns.{with-empty}
 use Rattle.seat_edges.proofs.WaitingMessages.{AllWait, waits}
@@ -62,7 +63,7 @@ core-wait : (held : List Message) (p : SendingCore) → length held ≤ 256 →
 core-wait held p few wait i x e =
     let n = 257 - length held in
     held-fits n (sending_core_table p x n).0 (some-place (length held) few)
-    (ap (λ r. (core_reacts p r).0) (wait i x e))
+    (ap (λ r. (reacts true p.outbox n p.core r).0) (wait i x e))
 
 bank-wait : (held : List Message) (p : SendingBank) → length held ≤ 256 →
     ((i : ℕ) (x : Message) → slice_get held i ≡ Some x →
@@ -72,7 +73,7 @@ bank-wait held p few wait i x e =
     let n = 257 - length held in
     let w = wait i x e in
     held-fits n (sending_bank_table p x n).0 (some-place (length held) few)
-    (ap (λ t. (reacts_at t p x n).0) w.0.1 ∙ ap (λ r. (reacts p.outbox n p.bank r).0) w.1)
+    (ap (λ t. (reacts_at t p x n).0) w.0.1 ∙ ap (λ r. (reacts false p.outbox n p.bank r).0) w.1)
 
 -- What a take leaves
 
@@ -122,147 +123,111 @@ module _ (m : Machine) (law : LooksAtAll) (xs : List (ℕ × Message)) (at-first
         ),
       )
 
-  -- Cores
+  -- A seat of either kind, with what keeps it waiting
 
-  -- before the serving of the held messages
-  record CoreBefore (first p : CoreSeat) : Type 0 where
-    mail : Before p.mail
-    held : p.mail.inbox.held ≡ first.mail.inbox.held
-    core : p.part.core ≡ first.part.core
-    goes_on : p.is_stopped ≡ false
-
-  core-put : (first : CoreSeat) (done : Bool) (p q : CoreSeat) → CorePuts m done p q → CoreBefore first p →
-      CoreBefore first q
-  core-put first done p q put b =
-      let s = came_in done p.mail q.mail p.part.outbox.messages q.part.outbox.messages put.2 in
-      record {
-        mail = record {
-          taken = s.taken ∙ b.mail.taken;
-          cursor = s.cursor ∙ b.mail.cursor;
-          number = put.1.number ∙ b.mail.number;
-          hand = s.hand ∙ b.mail.hand;
-        };
-        held = s.held ∙ b.held;
-        core = put.0.0 ∙ b.core;
-        goes_on = put.0.4 ∙ b.goes_on;
-      }
-
-  core-waits : (first : CoreSeat) → CoreWaits first → (told : Result Served Refusal) (p q : CoreSeat) →
-      CoreServes m told p q → CoreBefore first p → Before q.mail × (is_idle told ≡ true)
-  core-waits first wait told p q s b =
-      let served = subst (λ stopped. SeatServes sending_core_table sending_core_takes_memory stopped p.mail.inbox p.part
-      told q.mail.inbox q.part) b.goes_on s.1 in
-      let all = core-wait p.mail.inbox.held p.part (subst (λ ys. length ys ≤ 256) (sym b.held) wait.few)
-      (λ i x e. subst (λ (k : CoreState). core_table k x ≡ Some (does.Held, k)) (sym b.core)
-      (wait.wait i x (ap (λ ys. slice_get ys i) (sym b.held) ∙ e))) in
-      let w = waits sending_core_table sending_core_takes_memory p.mail.inbox p.part b.mail.hand all served.0
-      q.mail.inbox q.part served.2 in (
+  module _ {S : Type 0} {mail : S → Mailbox} {out : S → List Message} {puts : Bool → S → S → Type 0}
+      {serves : Result Served Refusal → S → S → Type 0} {takes : Take → S → S → Type 0}
+      (calls : Calls m.set_up mail out puts serves takes) (Waits : S → Type 0)
+      (kept : (done : Bool) (p q : S) → puts done p q → Waits p → Waits q)
+      (idle : (told : Result Served Refusal) (p q : S) → serves told p q → Waits p →
+      ((mail q).inbox ≡ (mail p).inbox) × (is_idle told ≡ true)) where
+    after-put : (done : Bool) (p q : S) → puts done p q → Before (mail p) → Before (mail q)
+    after-put done p q put b =
+        let e = calls.put done p q put in
+        let s = came_in done (mail p) (mail q) (out p) (out q) e.1 in
         record {
-          taken = ap (λ (h : Hold). h.taken) s.2 ∙ b.mail.taken;
-          cursor = s.0.1 ∙ b.mail.cursor;
-          number = s.0.0 ∙ b.mail.number;
-          hand = ap (λ (y : InboxState Message). y.hand) w.0 ∙ b.mail.hand;
-        },
-        ap is_idle served.1 ∙ w.1,
-      )
+          taken = s.taken ∙ b.taken;
+          cursor = s.cursor ∙ b.cursor;
+          number = e.0.number ∙ b.number;
+          hand = s.hand ∙ b.hand;
+        }
 
-  core-takes : (before told : Result Served Refusal) (p q u : CoreSeat) (t : Take) → CoreTakes m t p u →
-      Ends (CoreServes m) (CoreTakes m) t before u told q → Before p.mail → IsAt m q.mail → After q.mail
-  core-takes before told p q u Taken t e b at =
-      let one = took-one p.mail u.mail b t.3 in
-      inl (one.0, one.1, ap (λ (h : Hold). h.taken) e.2 ∙ one.2)
-  core-takes before told p q u Nothing t e b at =
-      subst (λ (s : CoreSeat). After s.mail) (sym e.1)
-      (found-none p.mail u.mail b t.1 (subst (λ (s : CoreSeat). IsAt m s.mail) e.1 at) t.3)
-  core-takes before told p q u HandFull t e b at =
-      absurd (let some : None ≡ Some t.3.0.0 = sym b.hand ∙ t.3.0.1 in cc)
-
-  cores-take : (p q : CoreSeat) (result : Result Turn Refusal) → CoreBefore p p → CoreWaits p →
-      CoreTurns m p result q → IsAt m q.mail → After q.mail
-  cores-take p q result first wait turns at =
-      with-empty (CoreServes m) (CoreTakes m) core_hand (CorePuts m) (CoreBefore p) (core-put p)
-      (λ s. Before s.mail) (λ s. IsAt m s.mail → After s.mail) (λ s b. ap is_some b.mail.hand) (core-waits p wait)
-      (λ before told s r f b there. core-takes before told s r f.1 f.0 f.2 f.3 b there) p q result turns first at
-
-  -- Banks
-
-  record BankBefore (first p : BankSeat) : Type 0 where
-    mail : Before p.mail
-    held : p.mail.inbox.held ≡ first.mail.inbox.held
-    bank : p.part.bank ≡ first.part.bank
-    goes_on : p.is_stopped ≡ false
-
-  bank-put : (first : BankSeat) (done : Bool) (p q : BankSeat) → BankPuts m done p q → BankBefore first p →
-      BankBefore first q
-  bank-put first done p q put b =
-      let s = came_in done p.mail q.mail p.part.outbox.messages q.part.outbox.messages put.2 in
-      record {
-        mail = record {
-          taken = s.taken ∙ b.mail.taken;
-          cursor = s.cursor ∙ b.mail.cursor;
-          number = put.1.number ∙ b.mail.number;
-          hand = s.hand ∙ b.mail.hand;
-        };
-        held = s.held ∙ b.held;
-        bank = put.0.0 ∙ b.bank;
-        goes_on = put.0.3 ∙ b.goes_on;
-      }
-
-  bank-waits : (first : BankSeat) → BankWaits first → (told : Result Served Refusal) (p q : BankSeat) →
-      BankServes m told p q → BankBefore first p → Before q.mail × (is_idle told ≡ true)
-  bank-waits first wait told p q s b =
-      let served = subst (λ stopped. SeatServes sending_bank_table sending_bank_takes_memory stopped p.mail.inbox p.part
-      told q.mail.inbox q.part) b.goes_on s.1 in
-      let all = bank-wait p.mail.inbox.held p.part (subst (λ ys. length ys ≤ 256) (sym b.held) wait.few)
-      (λ i x e. let w = wait.wait i x (ap (λ ys. slice_get ys i) (sym b.held) ∙ e) in
-      (w.0, subst (λ (k : BankState). bank_table k x ≡ Some (does.Held, k)) (sym b.bank) w.1)) in
-      let w = waits sending_bank_table sending_bank_takes_memory p.mail.inbox p.part b.mail.hand all served.0
-      q.mail.inbox q.part served.2 in (
+    after-serve : (told : Result Served Refusal) (p q : S) → serves told p q → (mail q).inbox ≡ (mail p).inbox →
+        Before (mail p) → Before (mail q)
+    after-serve told p q serve same b =
+        let s = calls.serve told p q serve in
         record {
-          taken = ap (λ (h : Hold). h.taken) s.2 ∙ b.mail.taken;
-          cursor = s.0.1 ∙ b.mail.cursor;
-          number = s.0.0 ∙ b.mail.number;
-          hand = ap (λ (y : InboxState Message). y.hand) w.0 ∙ b.mail.hand;
-        },
-        ap is_idle served.1 ∙ w.1,
-      )
+          taken = s.taken ∙ b.taken;
+          cursor = s.cursor ∙ b.cursor;
+          number = s.number ∙ b.number;
+          hand = ap (λ (y : InboxState Message). y.hand) same ∙ b.hand;
+        }
 
-  bank-takes : (before told : Result Served Refusal) (p q u : BankSeat) (t : Take) → BankTakes m t p u →
-      Ends (BankServes m) (BankTakes m) t before u told q → Before p.mail → IsAt m q.mail → After q.mail
-  bank-takes before told p q u Taken t e b at =
-      let one = took-one p.mail u.mail b t.3 in
-      inl (one.0, one.1, ap (λ (h : Hold). h.taken) e.2 ∙ one.2)
-  bank-takes before told p q u Nothing t e b at =
-      subst (λ (s : BankSeat). After s.mail) (sym e.1)
-      (found-none p.mail u.mail b t.1 (subst (λ (s : BankSeat). IsAt m s.mail) e.1 at) t.3)
-  bank-takes before told p q u HandFull t e b at =
-      absurd (let some : None ≡ Some t.3.0.0 = sym b.hand ∙ t.3.0.1 in cc)
+    after-take : (before told : Result Served Refusal) (p q u : S) (t : Take) → takes t p u →
+        Ends serves takes t before u told q → Before (mail p) → IsAt m (mail q) → After (mail q)
+    after-take before told p q u Taken t e b at =
+        let one = took-one (mail p) (mail u) b (calls.take Taken p u t).1 in
+        inl (one.0, one.1, (calls.serve told u q e).taken ∙ one.2)
+    after-take before told p q u Nothing t e b at =
+        let x = calls.take Nothing p u t in
+        subst (λ s. After (mail s)) (sym e.1)
+        (found-none (mail p) (mail u) b x.0 (subst (λ s. IsAt m (mail s)) e.1 at) x.1)
+    after-take before told p q u HandFull t e b at =
+        let x = (calls.take HandFull p u t).1 in
+        absurd (let some : None ≡ Some x.0.0 = sym b.hand ∙ x.0.1 in cc)
 
-  banks-take : (p q : BankSeat) (result : Result Turn Refusal) → BankBefore p p → BankWaits p →
-      BankTurns m p result q → IsAt m q.mail → After q.mail
-  banks-take p q result first wait turns at =
-      with-empty (BankServes m) (BankTakes m) bank_hand (BankPuts m) (BankBefore p) (bank-put p)
-      (λ s. Before s.mail) (λ s. IsAt m s.mail → After s.mail) (λ s b. ap is_some b.mail.hand) (bank-waits p wait)
-      (λ before told s r f b there. bank-takes before told s r f.1 f.0 f.2 f.3 b there) p q result turns first at
+    seats-take : (p q : S) (result : Result Turn Refusal) → Before (mail p) → Waits p →
+        Turns serves takes (full mail) puts p result q → IsAt m (mail q) → After (mail q)
+    seats-take p q result before waits turns at =
+        with-empty serves takes (full mail) puts (λ s. Before (mail s) × Waits s)
+        (λ done r s put w. (after-put done r s put w.0, kept done r s put w.1))
+        (λ s. Before (mail s)) (λ s. IsAt m (mail s) → After (mail s)) (λ s w. ap is_some w.0.hand)
+        (λ told r s serve w. let x = idle told r s serve w.1 in (after-serve told r s serve x.0 w.0, x.1))
+        (λ earlier told s r f b there. after-take earlier told s r f.1 f.0 f.2 f.3 b there) p q result turns
+        (before, waits) at
+
+-- Cores
+
+core-kept : (m : Machine) (done : Bool) (p q : CoreSeat) → CorePuts m done p q → CoreWaits p → CoreWaits q
+core-kept m done p q put w =
+    let s = came_in done p.mail q.mail p.part.outbox.messages q.part.outbox.messages put.2 in
+    record {
+      goes_on = put.0.4 ∙ w.goes_on;
+      hand = s.hand ∙ w.hand;
+      few = subst (λ ys. length ys ≤ 256) (sym s.held) w.few;
+      wait = λ i x e.
+          subst (λ (k : CoreState). core_table k x ≡ Some (does.Held, k)) (sym put.0.0)
+          (w.wait i x (ap (λ ys. slice_get ys i) (sym s.held) ∙ e));
+    }
+
+core-idle : (m : Machine) (told : Result Served Refusal) (p q : CoreSeat) → CoreServes m told p q → CoreWaits p →
+    (q.mail.inbox ≡ p.mail.inbox) × (is_idle told ≡ true)
+core-idle m told p q s w =
+    let served = subst (λ stopped. SeatServes sending_core_table sending_core_takes_memory stopped p.mail.inbox p.part
+    told q.mail.inbox q.part) w.goes_on s.1 in
+    let x = waits sending_core_table sending_core_takes_memory p.mail.inbox p.part w.hand
+    (core-wait p.mail.inbox.held p.part w.few w.wait) served.0 q.mail.inbox q.part served.2 in
+    (x.0, ap is_idle served.1 ∙ x.1)
 
 pub empty_cores : LooksAtAll → EmptyCoreHandsTake
 empty_cores law m p q result wait turns at =
-    cores-take m law (hold p.mail).taken p.mail.cursor p.mail.number p q result
-    (record {
-      mail = record { taken = refl; cursor = refl; number = refl; hand = wait.hand };
-      held = refl;
-      core = refl;
-      goes_on = wait.goes_on;
-    })
-    wait turns at
+    seats-take m law (hold p.mail).taken p.mail.cursor p.mail.number (core_calls m) CoreWaits (core-kept m)
+    (core-idle m) p q result (record { taken = refl; cursor = refl; number = refl; hand = wait.hand }) wait turns at
+
+-- Banks
+
+bank-kept : (m : Machine) (done : Bool) (p q : BankSeat) → BankPuts m done p q → BankWaits p → BankWaits q
+bank-kept m done p q put w =
+    let s = came_in done p.mail q.mail p.part.outbox.messages q.part.outbox.messages put.2 in
+    record {
+      goes_on = put.0.3 ∙ w.goes_on;
+      hand = s.hand ∙ w.hand;
+      few = subst (λ ys. length ys ≤ 256) (sym s.held) w.few;
+      wait = λ i x e.
+          let y = w.wait i x (ap (λ ys. slice_get ys i) (sym s.held) ∙ e) in
+          (y.0, subst (λ (k : BankState). bank_table k x ≡ Some (does.Held, k)) (sym put.0.0) y.1);
+    }
+
+bank-idle : (m : Machine) (told : Result Served Refusal) (p q : BankSeat) → BankServes m told p q → BankWaits p →
+    (q.mail.inbox ≡ p.mail.inbox) × (is_idle told ≡ true)
+bank-idle m told p q s w =
+    let served = subst (λ stopped. SeatServes sending_bank_table sending_bank_takes_memory stopped p.mail.inbox p.part
+    told q.mail.inbox q.part) w.goes_on s.1 in
+    let x = waits sending_bank_table sending_bank_takes_memory p.mail.inbox p.part w.hand
+    (bank-wait p.mail.inbox.held p.part w.few w.wait) served.0 q.mail.inbox q.part served.2 in
+    (x.0, ap is_idle served.1 ∙ x.1)
 
 pub empty_banks : LooksAtAll → EmptyBankHandsTake
 empty_banks law m p q result wait turns at =
-    banks-take m law (hold p.mail).taken p.mail.cursor p.mail.number p q result
-    (record {
-      mail = record { taken = refl; cursor = refl; number = refl; hand = wait.hand };
-      held = refl;
-      bank = refl;
-      goes_on = wait.goes_on;
-    })
-    wait turns at
+    seats-take m law (hold p.mail).taken p.mail.cursor p.mail.number (bank_calls m) BankWaits (bank-kept m)
+    (bank-idle m) p q result (record { taken = refl; cursor = refl; number = refl; hand = wait.hand }) wait turns at

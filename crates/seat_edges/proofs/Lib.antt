@@ -1,6 +1,7 @@
 mod BankPlaces
 mod CursorMoves
 mod EmptyHands
+mod Calls
 mod FullHands
 mod FullTurns
 mod StayingHands

@@ -1,6 +1,6 @@
 -- What a turn puts, and what it looked at.
-use Rattle.std.proofs.Common.{◌≡◌, ℕ, suc, ◌+◌, ◌*◌, true, List, [], ◌∷◌, ◌++◌, append_assoc, append-nil, length}
-use Rattle.std.proofs.Common.{Result, Ok, Err, refl, sym, ap, ◌∙◌, arith}
+use Rattle.std.proofs.Common.{◌≡◌, ℕ, suc, ◌+◌, ◌*◌, Bool, true, false, List, [], ◌∷◌, ◌++◌, append_assoc, append-nil, length}
+use Rattle.std.proofs.Common.{Result, Ok, Err, sym, ap, ◌∙◌, arith}
 use Rattle.std.proofs.lemmas.List.{length-append}
 use Rattle.std.proofs.lemmas.List.Edits.{length-remove}
 use Rattle.std.proofs.lemmas.Option.{slice_get_within}
@@ -9,19 +9,16 @@ use Rattle.machine_table.specs.declared.event.Refusal.{Refusal}
 use Rattle.inbox.specs.declared.answer.Served.{Served}
 use Rattle.seat_rule.specs.declared.views.Hold.{Hold}
 use Rattle.seat_rule.specs.declared.views.SetUp.{SetUp}
-use Rattle.mailboxes.specs.declared.machine.Machine.{Machine}
 use Rattle.mailboxes.specs.declared.mailbox.Mailbox.{Mailbox}
-use Rattle.mailboxes.specs.declared.core_seat.CoreSeat.{CoreSeat}
-use Rattle.mailboxes.specs.declared.bank_seat.BankSeat.{BankSeat}
 use Rattle.mailboxes.specs.declared.taken.Take.{Take}
 use Rattle.mailboxes.specs.declared.taken.Take.TheVariants.{Taken, Nothing, HandFull}
-use Rattle.mailboxes.specs.BankTurns.{BankPuts, BankServes, BankTakes, bank_hand}
 use Rattle.mailboxes.specs.BoxMoves.{PutNothing, Puts, Stays, Takes, hold}
-use Rattle.mailboxes.specs.CoreTurns.{CorePuts, CoreServes, CoreTakes, core_hand}
 use Rattle.mailboxes.specs.Places.{found_full, link_to}
-use Rattle.seat_edges.specs.TurnLaws.{BankTurnsPut, CoreTurnsPut, PutsFirst}
-use Rattle.mailboxes.specs.Turns.{TurnsBy}
-use Rattle.mailboxes.proofs.Lemmas.{stays_on}
+use Rattle.mailboxes.specs.declared.turning.Turn.{Turn}
+use Rattle.mailboxes.specs.Turns.{Turns, TurnsBy}
+use Rattle.seat_edges.specs.TurnLaws.{BankTurnsPut, CoreTurnsPut, CountsPut, PutsFirst}
+use Rattle.mailboxes.proofs.Lemmas.{no_change, stays_on}
+use Rattle.seat_edges.proofs.Calls.{Calls, bank_calls, core_calls, full}
 use Rattle.seat_edges.proofs.Turns.{put-count, rests}
 
 -- so many messages of those out were put, and these are left
@@ -30,26 +27,8 @@ pub record PutSum (p : Mailbox) (out : List Message) (n : ℕ) (q : Mailbox) (re
   pub left : length rest + n ≡ length out
   pub put : length (hold q).put ≡ length (hold p).put + n
 
-no-change : (p : Mailbox) → Stays p p
-no-change p =
-    record {
-      table = refl;
-      number = refl;
-      cores = refl;
-      banks = refl;
-      part = record {
-        core = refl;
-        bank = refl;
-        dram = refl;
-        issued = refl;
-        records = refl;
-        counts = refl;
-        seen = refl;
-      };
-    }
-
 pub none_put : (p : Mailbox) (out : List Message) → PutSum p out 0 p out
-none_put p out = record { stays = no-change p; left = omega arith; put = omega arith }
+none_put p out = record { stays = no_change p; left = omega arith; put = omega arith }
 
 pub one_put : (p : Mailbox) (out : List Message) (n : ℕ) (q r : Mailbox) (rest less : List Message) → Stays q r →
     Puts true q rest r less → PutSum p out n q rest → PutSum p out (suc n) r less
@@ -102,57 +81,36 @@ put_first p out n q r u rest left sum none adds =
       omega (arith, many, count),
     )
 
-module _ (m : Machine) where
-  -- Cores
+module _ {S : Type 0} {z : SetUp} {mail : S → Mailbox} {out : S → List Message} {puts : Bool → S → S → Type 0}
+    {serves : Result Served Refusal → S → S → Type 0} {takes : Take → S → S → Type 0}
+    (calls : Calls z mail out puts serves takes) where
+  abbrev Sum : S → ℕ → S → Type 0
+  Sum p n q = PutSum (mail p) (out p) n (mail q) (out q)
 
-  core-sum : (p : CoreSeat) (n : ℕ) (q r : CoreSeat) → CorePuts m true q r →
-      PutSum p.mail p.part.outbox.messages n q.mail q.part.outbox.messages →
-      PutSum p.mail p.part.outbox.messages (suc n) r.mail r.part.outbox.messages
-  core-sum p n q r put sum =
-      one_put p.mail p.part.outbox.messages n q.mail r.mail q.part.outbox.messages r.part.outbox.messages put.1 put.2
-      sum
+  one_more : (p : S) (n : ℕ) (q r : S) → puts true q r → Sum p n q → Sum p (suc n) r
+  one_more p n q r put sum =
+      let e = calls.put true q r put in
+      one_put (mail p) (out p) n (mail q) (mail r) (out q) (out r) e.0 e.1 sum
 
-  pub core_turn : (n : ℕ) (p q : CoreSeat) (told : Result Served Refusal) →
-      TurnsBy (CoreServes m) (CoreTakes m) core_hand (CorePuts m) n p told q →
-      PutsFirst p.mail p.part.outbox.messages q.mail × (length (hold p.mail).put + n ≡ length (hold q.mail).put)
-  core_turn n p q told t =
+  pub turn_puts : (n : ℕ) (p q : S) (told : Result Served Refusal) → TurnsBy serves takes (full mail) puts n p told q →
+      PutsFirst (mail p) (out p) (mail q) × (length (hold (mail p)).put + n ≡ length (hold (mail q)).put)
+  turn_puts n p q told t =
       let r = t.0 in
       let s = t.1.0 in
-      put_first p.mail p.part.outbox.messages n s.mail r.mail q.mail s.part.outbox.messages r.part.outbox.messages
-      (put-count (CoreServes m) (CoreTakes m) core_hand (CorePuts m)
-      (λ k c. PutSum p.mail p.part.outbox.messages k c.mail c.part.outbox.messages) (core-sum p) n p s t.1.1
-      (none_put p.mail p.part.outbox.messages)) t.1.2.2
-      (rests (CoreServes m) (CoreTakes m) core_hand (CorePuts m) (λ c. (hold c.mail).looks) (λ c. (hold c.mail).put)
-      (λ told c d e. (ap (λ (h : Hold). h.looks) e.2, ap (λ (h : Hold). h.put) e.2))
-      (λ k c d e. take_adds m.set_up k c.mail d.mail e.3) (core_hand r) r q told t.2)
+      put_first (mail p) (out p) n (mail s) (mail r) (mail q) (out s) (out r)
+      (put-count serves takes (full mail) puts (Sum p) (one_more p) n p s t.1.1 (none_put (mail p) (out p)))
+      (calls.put false s r t.1.2).1
+      (rests serves takes (full mail) puts (λ c. (hold (mail c)).looks) (λ c. (hold (mail c)).put)
+      (λ told c d e. let same = calls.serve told c d e in (same.looks, same.put))
+      (λ k c d e. take_adds z k (mail c) (mail d) (calls.take k c d e).1) (full mail r) r q told t.2)
 
-  -- Banks
-
-  bank-sum : (p : BankSeat) (n : ℕ) (q r : BankSeat) → BankPuts m true q r →
-      PutSum p.mail p.part.outbox.messages n q.mail q.part.outbox.messages →
-      PutSum p.mail p.part.outbox.messages (suc n) r.mail r.part.outbox.messages
-  bank-sum p n q r put sum =
-      one_put p.mail p.part.outbox.messages n q.mail r.mail q.part.outbox.messages r.part.outbox.messages put.1 put.2
-      sum
-
-  pub bank_turn : (n : ℕ) (p q : BankSeat) (told : Result Served Refusal) →
-      TurnsBy (BankServes m) (BankTakes m) bank_hand (BankPuts m) n p told q →
-      PutsFirst p.mail p.part.outbox.messages q.mail × (length (hold p.mail).put + n ≡ length (hold q.mail).put)
-  bank_turn n p q told t =
-      let r = t.0 in
-      let s = t.1.0 in
-      put_first p.mail p.part.outbox.messages n s.mail r.mail q.mail s.part.outbox.messages r.part.outbox.messages
-      (put-count (BankServes m) (BankTakes m) bank_hand (BankPuts m)
-      (λ k c. PutSum p.mail p.part.outbox.messages k c.mail c.part.outbox.messages) (bank-sum p) n p s t.1.1
-      (none_put p.mail p.part.outbox.messages)) t.1.2.2
-      (rests (BankServes m) (BankTakes m) bank_hand (BankPuts m) (λ c. (hold c.mail).looks) (λ c. (hold c.mail).put)
-      (λ told c d e. (ap (λ (h : Hold). h.looks) e.2, ap (λ (h : Hold). h.put) e.2))
-      (λ k c d e. take_adds m.set_up k c.mail d.mail e.3) (bank_hand r) r q told t.2)
+  turns_put : (p q : S) (result : Result Turn Refusal) → Turns serves takes (full mail) puts p result q →
+      PutsFirst (mail p) (out p) (mail q) × CountsPut result (mail p) (mail q)
+  turns_put p q (Ok turn) t = turn_puts turn.put p q (Ok turn.served) t
+  turns_put p q (Err refusal) t = ((turn_puts t.0 p q (Err refusal) t.1).0, tt)
 
 pub cores_put : CoreTurnsPut
-cores_put m p q (Ok turn) t = core_turn m turn.put p q (Ok turn.served) t
-cores_put m p q (Err refusal) t = ((core_turn m t.0 p q (Err refusal) t.1).0, tt)
+cores_put m p q result t = turns_put (core_calls m) p q result t
 
 pub banks_put : BankTurnsPut
-banks_put m p q (Ok turn) t = bank_turn m turn.put p q (Ok turn.served) t
-banks_put m p q (Err refusal) t = ((bank_turn m t.0 p q (Err refusal) t.1).0, tt)
+banks_put m p q result t = turns_put (bank_calls m) p q result t

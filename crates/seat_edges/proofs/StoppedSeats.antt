@@ -31,9 +31,10 @@ use Rattle.mailboxes.specs.declared.bank_seat.BankSeat.{BankSeat}
 use Rattle.mailboxes.specs.declared.sending.SendingBank.{SendingBank}
 use Rattle.mailboxes.specs.declared.sending.SendingCore.{SendingCore}
 use Rattle.seat_edges.specs.BankPlaceLaws.{asked}
-use Rattle.mailboxes.specs.BankServing.{reacts, sending_bank_table, sending_bank_takes_memory}
+use Rattle.mailboxes.specs.BankServing.{sending_bank_table, sending_bank_takes_memory}
 use Rattle.mailboxes.specs.BankTurns.{BankServes}
-use Rattle.mailboxes.specs.CoreServing.{core_reacts, sending_core_table, sending_core_takes_memory}
+use Rattle.mailboxes.specs.PartServing.{reacts}
+use Rattle.mailboxes.specs.CoreServing.{sending_core_table, sending_core_takes_memory}
 use Rattle.seat_edges.specs.PlaceLaws.{Owns}
 use Rattle.mailboxes.specs.SeatServing.{SeatServes, is_exhausted, seat_result}
 use Rattle.seat_edges.specs.StopLaws.{IsLate, LateReadersStop, LateRecallsStop, LateReturnsStop, StopsSeat}
@@ -124,7 +125,7 @@ module _ (p : SendingBank) (core n line pts : ℕ) (version : Option ℕ) where
 
   late_bank : bank_table p.bank m ≡ None → (places : ℕ) → sending_bank_table p m places ≡ (Refused Exhausted, p)
   late_bank e places =
-      ap (λ r. let a = reacts p.outbox places p.bank r in (a.0, record p { bank = a.1; outbox = a.2 })) e
+      ap (λ r. let a = reacts false p.outbox places p.bank r in (a.0, record p { bank = a.1; outbox = a.2 })) e
 
   late_reader : (dirty : Bool) (timed : TimedLine) → entry_of p.bank line ≡ Some (Shared dirty timed) →
       IsLate (timed.wts + p.bank.lease) ⊎ IsLate (pts + p.bank.lease) → bank_table p.bank m ≡ None
@@ -188,7 +189,9 @@ returns_late m p q result x until copy goes_on hand is owns h s =
     let by = subst (λ stopped. SeatServes sending_core_table sending_core_takes_memory stopped p.mail.inbox p.part
     result q.mail.inbox q.part) goes_on s.1 in
     let e = ends sending_core_table sending_core_takes_memory p.part x p.mail.inbox hand
-    (λ places. ap (core_reacts p.part) (late_core p.part x until copy is owns h)) refl by.0 q.mail.inbox q.part by.2 in
+    (λ places. ap (λ r. let a = reacts true p.part.outbox places p.part.core r in
+    (a.0, record { core = a.1; outbox = a.2 })) (late_core p.part x until copy is owns h)) refl by.0 q.mail.inbox q.part
+    by.2 in
     let told = by.1 ∙ ap seat_result e.answer in
     record {
       answer = told;

@@ -3,7 +3,7 @@ use Rattle.std.proofs.Common.{Some, ap, sym, refl, ◌∙◌}
 use Rattle.network.specs.declared.message.Body.TheVariants.{ShReq, ExReq}
 use Rattle.core_pts.specs.CoreTable.{to_bank}
 use Rattle.machine_table.specs.Step.{attempt_open, attempted}
-use Rattle.mailboxes.proofs.SentMessages.{opened_is}
+use Rattle.mailboxes.proofs.CoreFacts.{opened_is}
 use Rattle.mailboxes.proofs.attempting.try_open.Goals as goal
 
 pub returns-in-Ok-NeedShared-clause-core : goal.returns-in-Ok-NeedShared-clause-core

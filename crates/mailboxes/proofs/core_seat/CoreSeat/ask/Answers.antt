@@ -1,54 +1,37 @@
-use Rattle.std.proofs.Common.{◌+◌, ◌<◌, ◌≤◌, length, refl, sym, ap, subst, vec_capacity, ◌∙◌}
+use Rattle.std.proofs.Common.{◌+◌, ◌≤◌, length, refl, sym, subst, vec_capacity}
 use Rattle.protocol.specs.Issued.{listed}
 use Rattle.core_pts.specs.CoreTable.{CoreState}
-use Rattle.seat_rule.specs.declared.views.SetUp.{SetUp}
-use Rattle.seat_rule.specs.declared.views.Hold.{Hold}
-use Rattle.seat_rule.specs.Rule.{seat_count}
-use Rattle.seat_rule.specs.SeatMoves.{SeatMove}
 use Rattle.mailboxes.specs.declared.sending.SendingCore.{SendingCore}
-use Rattle.mailboxes.specs.Attempts.{Asks, asking}
 use Rattle.mailboxes.specs.Stored.{stored_core}
-use Rattle.mailboxes.proofs.SentMessages.{ask_goes, ask_moves, box_stands, core_stands, linked_sent, stored_sending}
+use Rattle.mailboxes.proofs.CoreFacts.{ask_moves, asked_linked, part_of}
+use Rattle.mailboxes.proofs.StoredSeats.{box_stands, core_stands}
 use Rattle.mailboxes.proofs.core_seat.CoreSeat.ask.Goals as goal
 
 pub change_core-requires-clause-change : goal.change_core-requires-clause-change
 change_core-requires-clause-change c =
     let p = c.args.self.now in
-    let z : SetUp = c.args.machine.now.set_up in
-    let a : Hold = p.mail.seat.me.0.mine in
-    let part : SendingCore = record { core = c.requested.new.self; outbox = c.send.new.self } in
-    subst (SeatMove z p.mail.seat.me.0.number a)
-    (sym (stored_sending a part p.issued.items p.mail.inbox p.tied.issued p.mail.tied.hand p.mail.tied.held))
-    (ask_moves z p.mail.seat.me.0.number a c.args.request part.core p.part.outbox part.outbox
-    (subst (λ k. k < z.config.cores) (sym p.mail.tied.number) c.requires.seat.1)
-    (subst (λ k. Asks k c.args.request) (sym p.tied.core) c.requires.asks)
-    (c.requested.ensures ∙ ap asking (sym p.tied.core)) p.tied.outbox p.tied.counts c.send.ensures)
+    ask_moves c.args.machine.now p.mail p.part p.issued.items c.requires.seat (part_of p)
+    (record { core = c.requested.new.self; outbox = c.send.new.self }) c.args.request c.requires.asks
+    c.requested.ensures c.send.ensures
 
 pub invariant_of-self-2 : goal.invariant_of-self-2
 invariant_of-self-2 c =
     let p = c.args.self.now in
-    let m = c.args.machine.now in
-    let z : SetUp = m.set_up in
     let part : SendingCore = record { core = c.requested.new.self; outbox = c.send.new.self } in
-    let b : Hold = stored_core p.mail.seat.me.0.mine part p.issued.items p.mail.inbox in
-    let seat = c.requires.seat in
-    let goes = ask_goes p.part.core c.args.request c.requires.asks in
     let changed = c.change_core.ensures.changed in (
       (
-        box_stands p.mail.seat c.change_core.new.seat b p.mail.number p.mail.inbox.hand p.mail.inbox.held p.mail.inbox
-            changed p.mail.tied refl refl refl,
+        box_stands p.mail.seat c.change_core.new.seat
+            (stored_core p.mail.seat.me.0.mine part p.issued.items p.mail.inbox) p.mail.number p.mail.inbox.hand
+            p.mail.inbox.held p.mail.inbox changed p.mail.tied refl refl refl,
         (p.mail.own, (p.mail.turned, tt)),
       ),
       (
         core_stands p.mail.seat c.change_core.new.seat part p.issued.items p.records.items p.mail.inbox changed
             p.tied.records,
         (
-          linked_sent z p.mail.seat.me.0.number p.mail.cores p.mail.banks p.mail.number goes.0 b c.args.request
-              p.part.outbox c.send.new.self (subst (λ k. p.mail.number < k) (sym seat.0.2) seat.1) seat.0.2 seat.0.3
-              goes.1 c.send.ensures
-              (c.messages_of_seats_find_their_parts.ensures.outbox z (seat_count z) p.mail.seat.me.0.number b m.good
-              c.change_core.ensures.standing)
-              p.linked,
+          asked_linked c.args.machine.now p.mail p.part p.issued.items c.requires.seat (part_of p)
+              c.messages_of_seats_find_their_parts.ensures part c.args.request c.requires.asks c.send.ensures
+              c.change_core.ensures.standing,
           (
             subst
                 (λ (k : CoreState). length p.records.items + length (listed k.open_op) ≤ vec_capacity p.records)

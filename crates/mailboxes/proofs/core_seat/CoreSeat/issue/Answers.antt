@@ -1,8 +1,5 @@
-use Rattle.std.proofs.Common.{◌≡◌, Ok, sym, ap, subst, refl, ◌∙◌, ◌++◌, ◌∷◌, []}
-use Rattle.seat_rule.specs.declared.views.Hold.{Hold}
-use Rattle.seat_rule.specs.SeatMoves.{SeatMove}
-use Rattle.mailboxes.specs.declared.sending.SendingCore.{SendingCore}
-use Rattle.mailboxes.proofs.CoreMoves.{core_alone, issue-moves, issued_well}
+use Rattle.std.proofs.Common.{◌≡◌, Ok, sym, ap, refl, ◌∙◌, ◌++◌, ◌∷◌, []}
+use Rattle.mailboxes.proofs.CoreFacts.{issue_moves, issued_well, part_of}
 use Rattle.mailboxes.proofs.core_seat.CoreSeat.issue.Goals as goal
 
 pub unwrap-requires : goal.unwrap-requires
@@ -13,14 +10,7 @@ unwrap-requires c =
 pub change_core-requires-clause-change : goal.change_core-requires-clause-change
 change_core-requires-clause-change c =
     let p = c.args.self.now in
-    let m = c.args.machine.now in
-    let a : Hold = p.mail.seat.me.0.mine in
-    let part : SendingCore = record { core = c.issue-issued.new.self; outbox = p.part.outbox } in
-    subst (SeatMove m.set_up p.mail.seat.me.0.number a)
-    (sym
-    (core_alone a part p.part.outbox c.push_reserved.new.self.items p.mail.inbox p.tied.outbox p.tied.counts
-    p.mail.tied.hand p.mail.tied.held refl))
-    (issue-moves m.set_up m.set_up p.mail.seat.me.0.number p.mail.number a p.part.core c.issue-issued.new.self c.args.op
-    p.issued.items c.push_reserved.new.self.items refl p.mail.tied.number c.requires.1 p.tied.core p.tied.issued
+    issue_moves c.args.machine.now p.mail p.part p.issued.items c.requires (part_of p) c.issue-issued.new.self c.args.op
+    c.push_reserved.new.self.items
     (sym c.issue-issued.ensures ∙ ap (λ r. (r, c.issue-issued.new.self)) c.unwrap.ensures)
-    (c.push_reserved.ensures.items ∙ ap (λ xs. xs ++ c.args.op ∷ []) c.has_room.ensures.issued.0))
+    (c.push_reserved.ensures.items ∙ ap (λ xs. xs ++ c.args.op ∷ []) c.has_room.ensures.issued.0)

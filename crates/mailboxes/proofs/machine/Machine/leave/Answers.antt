@@ -19,52 +19,52 @@ use Rattle.mailboxes.proofs.JoinedSeats.{get_front, backwards_snoc, reversed}
 use Rattle.mailboxes.proofs.OneStates.{split_of, table_of_first, at_table, view_of_first, one_state}
 use Rattle.mailboxes.proofs.machine.Machine.leave.Goals as goal
 
-pub unwrap-requires : goal.unwrap-requires
-unwrap-requires c =
+pub unwrap-first-requires : goal.unwrap-first-requires
+unwrap-first-requires c =
     let some : 0 < c.args.self.set_up.config.cores = search rules in
     let h = c.requires.whole.cores_there.there 0 some in
     let within = slice_get_within c.args.cores.items h.0 h.1 h.2 in
     let long = c.args.cores.ok.0 in
     c.pop-first.ensures.variant.1 (omega arith)
 
-pub join_cores-requires-clause-table : goal.join_cores-requires-clause-table
-join_cores-requires-clause-table c =
-    let split = split_of _ c.pop-first.new.self.items _ _ c.pop-first.ensures.items c.unwrap.ensures in
-    at_table c.args.self c.leave_core-seat.result.table_id
-    (table_of_first c.args.self _ _ _ _ c.requires.cores split c.leave_core-seat.ensures.slot_seat)
+pub join-requires-clause-table : goal.join-requires-clause-table
+join-requires-clause-table c =
+    let split = split_of _ c.pop-first.new.self.items _ _ c.pop-first.ensures.items c.unwrap-first.ensures in
+    at_table c.args.self c.leave-seat.result.table_id
+    (table_of_first c.args.self _ _ _ _ c.requires.cores split c.leave-seat.ensures.slot_seat)
 
-pub join_cores-requires-clause-cores : goal.join_cores-requires-clause-cores
-join_cores-requires-clause-cores c =
+pub join-requires-clause-seats : goal.join-requires-clause-seats
+join-requires-clause-seats c =
     let rest : List CoreSeat = c.pop-first.new.self.items in
-    let split = split_of _ rest _ _ c.pop-first.ensures.items c.unwrap.ensures in
+    let split = split_of _ rest _ _ c.pop-first.ensures.items c.unwrap-first.ensures in
     λ i p e.
-    (c.requires.cores i p (ap (λ y. slice_get y i) split ∙ get_front rest (c.unwrap.result ∷ []) i p e)).0.0
+    (c.requires.cores i p (ap (λ y. slice_get y i) split ∙ get_front rest (c.unwrap-first.result ∷ []) i p e)).0.0
 
-pub join_banks-requires-clause-table : goal.join_banks-requires-clause-table
-join_banks-requires-clause-table c =
-    let split = split_of _ c.pop-first.new.self.items _ _ c.pop-first.ensures.items c.unwrap.ensures in
-    at_table c.args.self c.join_cores.new.seat.table_id
-    (c.join_cores.ensures.table.0
-    ∙ table_of_first c.args.self _ _ _ _ c.requires.cores split c.leave_core-seat.ensures.slot_seat)
+pub join-requires-2-clause-table : goal.join-requires-2-clause-table
+join-requires-2-clause-table c =
+    let split = split_of _ c.pop-first.new.self.items _ _ c.pop-first.ensures.items c.unwrap-first.ensures in
+    at_table c.args.self c.join.new.seat.table_id
+    (c.join.ensures.table.0
+    ∙ table_of_first c.args.self _ _ _ _ c.requires.cores split c.leave-seat.ensures.slot_seat)
 
-pub join_banks-requires-clause-banks : goal.join_banks-requires-clause-banks
-join_banks-requires-clause-banks c = λ i p e. (c.requires.banks i p e).0.0
+pub join-requires-2-clause-seats : goal.join-requires-2-clause-seats
+join-requires-2-clause-seats c = λ i p e. (c.requires.banks i p e).0.0
 
 pub close_with-closed-requires : goal.close_with-closed-requires
 close_with-closed-requires c =
-    let split = split_of _ c.pop-first.new.self.items _ _ c.pop-first.ensures.items c.unwrap.ensures in
-    c.join_banks.ensures.table.0 ∙ c.join_cores.ensures.table.0
-    ∙ table_of_first c.args.self _ _ _ _ c.requires.cores split c.leave_core-seat.ensures.slot_seat
+    let split = split_of _ c.pop-first.new.self.items _ _ c.pop-first.ensures.items c.unwrap-first.ensures in
+    c.join-2.ensures.table.0 ∙ c.join.ensures.table.0
+    ∙ table_of_first c.args.self _ _ _ _ c.requires.cores split c.leave-seat.ensures.slot_seat
 
 pub returns-clause-cores : goal.returns-clause-cores
 returns-clause-cores c =
     let rest : List CoreSeat = c.pop-first.new.self.items in
-    let first : CoreSeat = c.unwrap.result in
-    let split = split_of _ rest _ _ c.pop-first.ensures.items c.unwrap.ensures in
+    let first : CoreSeat = c.unwrap-first.result in
+    let split = split_of _ rest _ _ c.pop-first.ensures.items c.unwrap-first.ensures in
     let parts : List CorePart = backwards core_part rest in
     c.reverse.ensures.items
     ∙ ap (reverse {A = CorePart})
-    (c.join_cores.ensures.parts ∙ ap (λ (y : List CorePart). y ++ parts) c.leave_core-seat.ensures.part
+    (c.join.ensures.parts ∙ ap (λ (y : List CorePart). y ++ parts) c.leave-seat.ensures.part
     ∙ ap (λ (y : List CorePart). (y ++ core_part first ∷ []) ++ parts) c.in_ok-core_parts.ensures.items
     ∙ sym (backwards_snoc core_part rest first) ∙ ap (backwards core_part) (sym split))
     ∙ reversed core_part c.args.cores.items
@@ -74,7 +74,7 @@ returns-clause-banks c =
     let banks : List BankSeat = c.args.banks.items in
     c.reverse-2.ensures.items
     ∙ ap (reverse {A = BankPart})
-    (c.join_banks.ensures.parts
+    (c.join-2.ensures.parts
     ∙ ap (λ (y : List BankPart). y ++ backwards bank_part banks) c.in_ok-bank_parts.ensures.items)
     ∙ reversed bank_part banks
 
@@ -84,16 +84,16 @@ returns-clause-state c =
     let z : SetUp = m.set_up in
     let banks : List BankSeat = c.args.banks.items in
     let rest : List CoreSeat = c.pop-first.new.self.items in
-    let first : CoreSeat = c.unwrap.result in
-    let split = split_of _ rest _ _ c.pop-first.ensures.items c.unwrap.ensures in
+    let first : CoreSeat = c.unwrap-first.result in
+    let split = split_of _ rest _ _ c.pop-first.ensures.items c.unwrap-first.ensures in
     let w : View Hold =
     knows_all (knows_all first.mail.seat.me.0 (backwards core_entry rest)) (backwards bank_entry banks) in
-    let all : c.join_banks.new.seat.me.0 ≡ w =
-    view_of_first first rest banks c.leave_core-seat.result c.join_cores.new.seat c.join_banks.new.seat
-    c.leave_core-seat.ensures.slot_seat c.join_cores.ensures.met c.join_banks.ensures.met in
+    let all : c.join-2.new.seat.me.0 ≡ w =
+    view_of_first first rest banks c.leave-seat.result c.join.new.seat c.join-2.new.seat
+    c.leave-seat.ensures.slot_seat c.join.ensures.met c.join-2.ensures.met in
     let words : List ℕ = slots_items c.close_with-closed.result.words in
     let slots : List (Option Message) = slots_items c.close_with-closed.result.slots in
-    let id : ℕ = c.join_banks.new.seat.id in
+    let id : ℕ = c.join-2.new.seat.id in
     let final : Final (Seen (Holds z) id w) words slots =
     subst (λ (y : SetUp × View Hold). Final (Seen (Holds y.0) id y.1) words slots) (λ i. (m.keyed i, all i))
     c.close_with-closed.ensures.values.2 in

@@ -6,10 +6,9 @@ use Rattle.network.specs.declared.message.Message.{Message}
 use Rattle.seat_views.proofs.Lemmas.{some_is}
 use Rattle.inbox.specs.Queues.{values_of, IsAfter}
 use Rattle.mailboxes.specs.Places.{link_to, found_full, links_of}
-use Rattle.mailboxes.specs.BoxMoves.{Stays}
 use Rattle.closed_machine.proofs.Lemmas.{walked_all}
 use Rattle.mailboxes.proofs.FullEnds.{Marks, marked_more, none_marked}
-use Rattle.mailboxes.proofs.Lemmas.{stays_on}
+use Rattle.mailboxes.proofs.Lemmas.{no_change, stays_on}
 use Rattle.mailboxes.proofs.Sweeps.{SweptTo, link_on, links_more, own_mark, put_more, swept_more, swept_same}
 use Rattle.mailboxes.proofs.mailbox.Mailbox.put.Goals as goal
 use Rattle.mailboxes.proofs.mailbox.Mailbox.put.Goals.{else-not-full-end-via-then-not-full-end+else-put_at}
@@ -17,25 +16,10 @@ use Rattle.mailboxes.proofs.mailbox.Mailbox.put.Goals.{else-not-full-end-via-els
 
 pub loop-index-init : goal.loop-index-init
 loop-index-init c =
-    let p = c.args.self.now in
-    let same : Stays p p = record {
-      table = refl;
-      number = refl;
-      cores = refl;
-      banks = refl;
-      part = record {
-        core = refl;
-        bank = refl;
-        dram = refl;
-        issued = refl;
-        records = refl;
-        counts = refl;
-        seen = refl;
-      };
-    } in (
+    let p = c.args.self.now in (
       (
         c.requires.seat,
-        same,
+        no_change p,
         (
           sym (append-nil _),
           refl,

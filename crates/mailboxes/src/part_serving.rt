@@ -1,0 +1,129 @@
+//! A core, a bank or a DRAM answers messages, and its seat sends what it answers.
+ghost use Rattle.std.specs.Prelude.{◌≡◌, ℕ, Bool, ◌≤◌, ◌⊎◌, IsTrue, true, false, Some, Err, is_some};
+ghost use Rattle.network.specs.Sends.{sent_in};
+ghost use Rattle.inbox.specs.declared.answer.Refusal.TheVariants.{NoMemory};
+ghost use Rattle.inbox.specs.Effects.{Effect, LeavesPart, NeverNoMemory};
+ghost use Rattle.inbox.specs.Serving.{HaveCases, Serves, WantsMemory, is_quiet, needs, order_of};
+ghost use Rattle.mailboxes.specs.PartServing.{Reacts, reaction_answer, finds_places, leaves, places_for, posted};
+ghost use Rattle.mailboxes.specs.PartServing.{sent_for, told};
+ghost use Rattle.mailboxes.specs.SeatServing.{may_change};
+
+use closed_machine::Outbox;
+use inbox::laws::{memory_is_wanted_for_the_served, servings_do_one_of_five};
+use inbox::{Answer, Inbox, Receiver, Refusal, Served};
+use network::{Message, Node, Part, PartError, Reaction};
+
+// Whether a message of the seat's part leaves the seat.
+fn leaves(is_core: bool, to: &Node) -> bool
+    ensures { result ≡ leaves is_core to.now }
+{
+    is_core || matches!(to, Node::Core(_))
+}
+
+// How many places of the held list are wanted.
+fn places_for(stays: bool, leaves: bool) -> u32
+    ensures { result ≡ places_for stays leaves }
+{
+    match (stays, leaves) {
+        (true, true) => 1,
+        (true, false) => 2,
+        (false, true) => 0,
+        (false, false) => 1,
+    }
+}
+
+/// Whether what would be sent, if anything, and the delivered message find their places.
+pub(crate) fn finds_places(
+    is_core: bool,
+    outbox: &Outbox,
+    places: u32,
+    sends: &Option<(Node, bool)>,
+) -> bool
+    ensures { result ≡ finds_places is_core outbox.now places sends.now }
+{
+    match sends {
+        None => true,
+        Some((to, stays)) => {
+            let leaves = leaves(is_core, to);
+            let can_go = if leaves {
+                outbox.can_send_out()
+            } else {
+                outbox.can_send()
+            };
+            can_go && places_for(*stays, leaves) <= places
+        }
+    }
+}
+
+/// Sends a message: one that leaves goes to the outbox, and the answer has any other.
+pub(crate) fn post(is_core: bool, outbox: &mut Outbox, message: Message) -> Option<Message>
+    requires { (places : ℕ) × (stays : Bool) ×
+        IsTrue (finds_places is_core outbox.old places (Some (message.to, stays))) }
+    ensures told { result ≡ told is_core message }
+    ensures posted { outbox.new ≡ posted is_core outbox.old message }
+{
+    if leaves(is_core, &message.to) {
+        outbox.send(message);
+        return None;
+    }
+    outbox.note(&message);
+    Some(message)
+}
+
+// Sends what a part sends, if anything, and answers what it did.
+fn answered(is_core: bool, outbox: &mut Outbox, reaction: Reaction) -> Answer<Message>
+    requires { (places : ℕ) × IsTrue (finds_places is_core outbox.old places (sent_in reaction)) }
+    ensures answer { result ≡ reaction_answer is_core reaction }
+    ensures sent { outbox.new ≡ sent_for is_core outbox.old reaction }
+{
+    match reaction {
+        Reaction::Done(None) => Answer::Delivered(None),
+        Reaction::Done(Some(sent)) => Answer::Delivered(post(is_core, outbox, sent)),
+        Reaction::Dropped => Answer::Dropped,
+        Reaction::Held => Answer::Held,
+        Reaction::HeldAfter(sent) => Answer::Started(post(is_core, outbox, sent)),
+    }
+}
+
+/// Hands a message to the part, if all that it would send finds a place, and sends that.
+pub(crate) fn react<P: Part>(
+    is_core: bool,
+    part: &mut P,
+    outbox: &mut Outbox,
+    message: &Message,
+    places: u32,
+) -> Answer<Message>
+    requires { IsTrue (P.has_case part.old message.now) }
+    ensures answer { Reacts is_core (P.takes_memory part.old message.now) outbox.old places
+        part.old (P.table part.old message.now) result part.new outbox.new }
+    ensures fits { (result ≡ Answer.Held) ⊎ (needs result ≤ places) }
+{
+    if !finds_places(is_core, outbox, places, &part.sends(message)) {
+        return Answer::Refused(Refusal::Full);
+    }
+    match part.deliver(message) {
+        Ok(reaction) => answered(is_core, outbox, reaction),
+        Err(PartError::Exhausted) => Answer::Refused(Refusal::Exhausted),
+        Err(PartError::NoMemory) => Answer::Refused(Refusal::NoMemory),
+    }
+}
+
+/// Serves a message by the seat's part.
+pub(crate) fn serve_part<P: Receiver<Message>>(
+    came_in: &mut Inbox<Message>,
+    part: &mut P,
+) -> Result<Served, Refusal>
+    requires cases { HaveCases P.has_case came_in.old part.old }
+    requires quiet { LeavesPart P.table }
+    requires never { NeverNoMemory P.table }
+    ensures served { Serves P.table P.takes_memory came_in.old part.old result came_in.new part.new }
+    ensures effect { Effect P.table came_in.old part.old result came_in.new part.new }
+    ensures same { may_change (is_some came_in.old.hand) result ≡ false →
+        (came_in.new ≡ came_in.old) × (part.new ≡ part.old) }
+    ensures memory { result ≡ Err NoMemory → WantsMemory P.table P.takes_memory came_in.old.held
+        part.old (order_of came_in.old.hand came_in.old.held) }
+{
+    servings_do_one_of_five::<Message, P>();
+    memory_is_wanted_for_the_served::<Message, P>();
+    came_in.serve(part)
+}

@@ -155,6 +155,11 @@ module _ {P S : Type 0} (acts : Acts P) (schedule : Schedule P S) where
         (is_next limit turns),
   )
 
+  -- nowhere else
+  pub leads_nowhere : (p q : Point P S) → q ≡ p → Leads acts schedule p q
+  leads_nowhere p q same =
+      subst (λ (r : Point P S). Leads acts schedule p r) (sym same) (refl, λ limit start turns before. before)
+
   module _ (p q : Point P S) (first : Leads acts schedule p q) where
     -- one part of a run behind the other
     pub and_then : (s : Point P S) → Leads acts schedule q s → Leads acts schedule p s

@@ -1,5 +1,6 @@
 -- What an operation and a message do with a core's copy of one line.
-use Rattle.std.specs.Prelude.{ℕ, ◌+◌, nat_le, max, Bool, true, false, ◌||◌, ◌&&◌, Option, Some, None, if◌then◌else◌}
+use Rattle.std.specs.Prelude.{ℕ, ◌+◌, nat_le, max, Bool, true, false, ◌||◌, ◌&&◌, not, Option, Some, None}
+use Rattle.std.specs.Prelude.{if◌then◌else◌}
 use Rattle.std.specs.Prelude.{slice_index, slice_set}
 use Rattle.physiological_order.specs.declared.operation.Op.{Op}
 use Rattle.physiological_order.specs.declared.operation.Op.TheVariants.{Load, Store, Swap}
@@ -102,9 +103,10 @@ at_core lease is_open copy (DramLdRep words) = NoCase
 at_core lease is_open copy (DramSt words) = NoCase
 at_core lease is_open copy DramStRep = NoCase
 
--- what a reaction writes has a place: a copy that arrives has a place in its set, and one that is changed is there
-abbrev pub finds_place : (there place : Bool) → CoreReaction → Bool
-finds_place there place (Arrives copy) = place
-finds_place there place (Grants copy) = there
-finds_place there place (Returns kept sent) = there
-finds_place there place _ = true
+-- what a reaction writes has a place: a copy that arrives is of the open operation's line and has a place in its set,
+-- one that is changed is there, and one that goes back is there and isn't of the open operation's line
+abbrev pub finds_place : (is_open there place : Bool) → CoreReaction → Bool
+finds_place is_open there place (Arrives copy) = is_open && place
+finds_place is_open there place (Grants copy) = there
+finds_place is_open there place (Returns kept sent) = there && not is_open
+finds_place is_open there place _ = true

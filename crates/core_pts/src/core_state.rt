@@ -8,7 +8,7 @@ ghost use Rattle.ranked_lines.specs.Rising.{sorted};
 ghost use Rattle.line_sets.specs.SetTable.{all_listed};
 ghost use Rattle.private_cache.specs.CopyTable.{copy_of, place_for, victim_for, with_used, without_copy};
 ghost use Rattle.core_pts.specs.SetUp.{IsInRange};
-ghost use Rattle.core_pts.specs.CoreTable.{advance, attempt, attempt_unserved, attempt_without, evict};
+ghost use Rattle.core_pts.specs.CoreTable.{advance, attempt, attempt_on, attempt_unserved, attempt_without, evict};
 ghost use Rattle.core_pts.specs.FreeCopies.{free_copies};
 ghost use Rattle.core_pts.specs.CoreTable.{index_of, is_pinned, issue, line_of, need, opened, pinned_line, to_bank};
 
@@ -296,37 +296,47 @@ impl Core {
         let Some(op) = self.open_op else {
             return Ok(Attempt::Idle);
         };
-        let line = self.line_of_word(&op);
         if !self.has_copy {
-            return Ok(self.answer_without(&op, line));
+            return Ok(self.answer_without(&op));
         }
+        self.attempt_on_copy(&op)
+    }
+
+    // The same where there is a copy of the line. What only a completion uses is kept out of the other attempts: they
+    // would clear it.
+    #[inline(always)]
+    fn attempt_on_copy(&mut self, op: &Op) -> Result<Attempt, Exhausted>
+        requires there { IsSome (copy_of self.old.cache (line_of self.old op.now)) }
+        ensures { (result_ok result, self.new) ≡ attempt_on self.old op.now
+            (copy_of self.old.cache (line_of self.old op.now)) }
+    {
+        let line = self.line_of_word(op);
         let Some(copy) = self.cache.find(line) else {
             unreachable!();
         };
-        if !serves(&op, self.pts, copy) {
-            return Ok(self.answer_unserved(&op, copy.wts));
+        if !serves(op, self.pts, copy) {
+            return Ok(self.answer_unserved(op, copy.wts));
         }
-        let Some(ts) = time_of(self.config.private_write, self.pts, &op, copy) else {
+        let Some(ts) = time_of(self.config.private_write, self.pts, op, copy) else {
             return Err(Exhausted);
         };
-        let index = self.index_of(&op);
-        let received = received_at(index, &op, copy);
-        let after = copy_after(index, ts, &op, copy);
+        let index = self.index_of(op);
+        let received = received_at(index, op, copy);
+        let after = copy_after(index, ts, op, copy);
         self.complete(line, after, ts);
         Ok(Attempt::Completed(received, ts))
     }
 
     // The answer to an attempt without a copy.
     #[inline(always)]
-    fn answer_without(&self, op: &Op, line: LineNo) -> Attempt
-        requires line { line ≡ line_of self.now op.now }
-        requires absent { copy_of self.now.cache line ≡ None }
+    fn answer_without(&self, op: &Op) -> Attempt
+        requires { copy_of self.now.cache (line_of self.now op.now) ≡ None }
         ensures { result ≡ attempt_without self.now op.now }
     {
         if self.is_out {
             return Attempt::Waiting;
         }
-        if !self.cache.has_room(line) {
+        if !self.cache.has_room(self.line_of_word(op)) {
             return Attempt::NoRoom;
         }
         need(self.pts, op, None)
@@ -392,7 +402,6 @@ impl Core {
     {
         let pinned = self.pinned_line();
         let copy = self.cache.evict(line, pinned)?;
-        self.has_copy = self.cache.has_pinned(&pinned);
         if !is_exclusive(copy.state) {
             return Ok(None);
         }

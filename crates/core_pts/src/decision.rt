@@ -1,10 +1,12 @@
 //! What a message does to a core's copy of one line: a decision, which changes nothing.
-ghost use Rattle.std.specs.Prelude.{◌≡◌, option_copied};
-ghost use Rattle.private_cache.specs.CopyTable.{renewed, upgraded};
-ghost use Rattle.core_pts.specs.OnCopy.{at_core, flushed, with_copy, written_back};
+ghost use Rattle.std.specs.Prelude.{◌≡◌, IsTrue, is_some, option_copied};
+ghost use Rattle.private_cache.specs.CopyTable.{copy_of, place_for, renewed, upgraded};
+ghost use Rattle.core_pts.specs.OnCopy.{finds_place, flushed, with_copy, written_back};
+ghost use Rattle.core_pts.specs.CoreTable.{core_has_case, decided, is_pinned, pinned_line};
 
+use crate::core_state::Core;
 use crate::on_copy::{is_exclusive, words_of_copy};
-use network::Body;
+use network::{Body, Message};
 use private_cache::{CopyState, LineCopy};
 use timestamp_manager::downgrade;
 
@@ -87,25 +89,31 @@ fn written_back(lease: u64, until: u64, copy: Option<&LineCopy>) -> CoreReaction
     }
 }
 
-/// What a core with this lease does at a message with this body about a line that it has this copy of. `is_open` says
-/// whether its open operation is on the line.
-#[inline(always)]
-pub(crate) fn decide(
-    lease: u64,
-    is_open: bool,
-    copy: Option<&LineCopy>,
-    body: &Body,
-) -> CoreReaction
-    ensures { result ≡ at_core lease is_open (option_copied copy.entry) body.now }
-{
-    match *body {
-        Body::ShRep(timed) => CoreReaction::Arrives(LineCopy::arrived(CopyState::Shared, timed)),
-        Body::ExRep(timed) => CoreReaction::Arrives(LineCopy::arrived(CopyState::Exclusive, timed)),
-        Body::RenewRep { rts } => renewed(copy, rts),
-        Body::UpgradeRep { rts } => upgraded(copy, rts),
-        Body::FlushReq | Body::WbReq { .. } if is_open => CoreReaction::Holds,
-        Body::FlushReq => flushed(copy),
-        Body::WbReq { rts } => written_back(lease, rts, copy),
-        _ => CoreReaction::NoCase,
+impl Core {
+    /// What the core does at a message. A copy of the line is looked for only where it decides.
+    #[inline(always)]
+    pub(crate) fn decided(&self, message: &Message) -> CoreReaction
+        requires { IsTrue (core_has_case self.now message.now) }
+        ensures decision { result ≡ decided self.now message.now.line message.now.body }
+        ensures place { IsTrue (finds_place (is_pinned (pinned_line self.now) message.now.line)
+            (is_some (copy_of self.now.cache message.now.line))
+            (place_for self.now.cache message.now.line) result) }
+    {
+        let line = message.line;
+        match message.body {
+            Body::ShRep(timed) => CoreReaction::Arrives(LineCopy::arrived(
+                CopyState::Shared,
+                timed,
+            )),
+            Body::ExRep(timed) => {
+                CoreReaction::Arrives(LineCopy::arrived(CopyState::Exclusive, timed))
+            }
+            Body::RenewRep { rts } => renewed(self.cache.find(line), rts),
+            Body::UpgradeRep { rts } => upgraded(self.cache.find(line), rts),
+            Body::FlushReq | Body::WbReq { .. } if self.is_pinned(line) => CoreReaction::Holds,
+            Body::FlushReq => flushed(self.cache.find(line)),
+            Body::WbReq { rts } => written_back(self.lease(), rts, self.cache.find(line)),
+            _ => CoreReaction::NoCase,
+        }
     }
 }

@@ -1,47 +1,60 @@
 //! What a core does with a message.
 ghost use Rattle.std.specs.Prelude.{◌≡◌, ◌≢◌, IfOk, IsSome, IsTrue, false, is_some, Err, None, OnErr, Some};
 ghost use Rattle.network.specs.Sends.{sent_by};
-ghost use Rattle.private_cache.specs.CopyTable.{copy_of, place_for};
-ghost use Rattle.core_pts.specs.OnCopy.{finds_place};
-ghost use Rattle.core_pts.specs.CoreTable.{core_has_case, core_table, decided, kept_in};
+ghost use Rattle.private_cache.specs.CopyTable.{copy_of, place_for, with_changed, with_used};
+ghost use Rattle.core_pts.specs.CoreTable.{core_has_case, core_table, is_pinned, kept_in, pinned_line};
 
 use crate::core_state::Core;
-use crate::decision::{CoreReaction, decide};
+use crate::decision::CoreReaction;
 use network::{LineNo, Message, Node, Part, PartError, Reaction};
 use private_cache::LineCopy;
 
 impl Core {
-    // What the core does at a message.
+    // A reply brings this copy of the open operation's line.
     #[inline(always)]
-    fn decided(&self, message: &Message) -> CoreReaction
-        requires { IsTrue (core_has_case self.now message.now) }
-        ensures decision { result ≡ decided self.now message.now.line message.now.body }
-        ensures place { IsTrue (finds_place (is_some (copy_of self.now.cache message.now.line))
-            (place_for self.now.cache message.now.line) result) }
+    fn arrive(&mut self, line: LineNo, copy: LineCopy)
+        requires pinned { IsTrue (is_pinned (pinned_line self.old) line) }
+        requires place { IsTrue (place_for self.old.cache line) }
+        ensures { self.new ≡ record self.old {
+          cache = with_used self.old.cache line copy;
+          is_out = false;
+        } }
     {
-        let line = message.line;
-        decide(
-            self.lease(),
-            self.is_pinned(line),
-            self.cache.find(line),
-            &message.body,
-        )
+        self.is_out = false;
+        if self.has_copy {
+            self.cache.put(line, copy);
+            return;
+        }
+        self.cache.add(line, copy);
+        self.has_copy = true;
     }
 
-    // This copy stays of a line that goes back, if any.
+    // A reply changes the copy of a line into this one.
+    #[inline(always)]
+    fn grant(&mut self, line: LineNo, copy: LineCopy)
+        requires { IsSome (copy_of self.old.cache line) }
+        ensures { self.new ≡ record self.old {
+          cache = with_changed self.old.cache line copy;
+          is_out = false;
+        } }
+    {
+        self.cache.change(line, copy);
+        self.is_out = false;
+    }
+
+    // This copy stays of a line that goes back, if any. It isn't the open operation's line.
     #[inline(always)]
     fn keep(&mut self, line: LineNo, kept: Option<LineCopy>)
-        requires { IsSome (copy_of self.old.cache line) }
+        requires there { IsSome (copy_of self.old.cache line) }
+        requires free { is_pinned (pinned_line self.old) line ≡ false }
         ensures { self.new ≡ record self.old { cache = kept_in self.old line kept } }
     {
-        let pinned = self.pinned_line();
         match kept {
             Some(copy) => self.cache.change(line, copy),
             None => {
                 let _gone = self.cache.evict(line, None);
             }
         }
-        self.has_copy = self.cache.has_pinned(&pinned);
     }
 }
 
@@ -78,18 +91,13 @@ impl Part for Core {
         ensures sure { result ≢ Err PartError.NoMemory }
     {
         let line = message.line;
-        let pinned = self.pinned_line();
         match self.decided(message) {
             CoreReaction::Arrives(copy) => {
-                self.cache.put(line, copy);
-                self.has_copy = self.cache.has_pinned(&pinned);
-                self.is_out = false;
+                self.arrive(line, copy);
                 Ok(Reaction::Done(None))
             }
             CoreReaction::Grants(copy) => {
-                self.cache.change(line, copy);
-                self.has_copy = self.cache.has_pinned(&pinned);
-                self.is_out = false;
+                self.grant(line, copy);
                 Ok(Reaction::Done(None))
             }
             CoreReaction::Returns { kept, sent } => {

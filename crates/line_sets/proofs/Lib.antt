@@ -8,5 +8,6 @@ mod ShiftedPairs
 mod StoredSets
 mod TableLaws
 mod TaggedCells
+mod UnlistedCounts
 mod Walks
 pub mod Lemmas

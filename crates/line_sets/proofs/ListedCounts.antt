@@ -16,7 +16,7 @@ use Rattle.line_sets.proofs.StoredSets.{entries-at, is-found, length-sets, secon
 use Rattle.line_sets.proofs.TaggedCells.{entry-there}
 
 -- the same of how many there are
-counted-as : {X : Type 0} (passes : X → Bool) (line : ℕ) (o : Option X) →
+pub counted-as : {X : Type 0} (passes : X → Bool) (line : ℕ) (o : Option X) →
     weigh passes (λ _. 1) line o ≡ count_of passes o
 counted-as passes line None = refl
 counted-as passes line (Some x) = refl
@@ -51,7 +51,7 @@ module _ {X : Type 0} (passes : X → Bool) where
   one-at-most : (x : X) → count_of passes (Some x) ≤ 1
   one-at-most x = cond_both (passes x) 1 0 (λ n. n ≤ 1) (λ e. omega arith) (λ e. omega arith)
 
-  listed-few : (ps : List (ℕ × X)) → length (lines_passing passes ps) ≤ length ps
+  pub listed-few : (ps : List (ℕ × X)) → length (lines_passing passes ps) ≤ length ps
   listed-few [] = omega arith
   listed-few (p ∷ ps) =
       let more = listed-more passes length (λ _. 1) refl length-more p ps in let later = listed-few ps in
@@ -65,7 +65,7 @@ module _ {X : Type 0} (passes : X → Bool) where
       let first = h 0 (omega arith) in let later = all-few n sets (λ i lt. h (suc i) (omega (arith, lt))) in
       omega (arith, more, few, first, later)
 
-  set-short : (ways : ℕ) (a : Lists (ℕ × X)) (rows : List (List (ℕ × ℕ))) → IsStored ways a rows → (i : ℕ) →
+  pub set-short : (ways : ℕ) (a : Lists (ℕ × X)) (rows : List (List (ℕ × ℕ))) → IsStored ways a rows → (i : ℕ) →
       i < length (sets_of a.lists) → length (set_at (sets_of a.lists) i) ≤ ways
   set-short ways a rows stored i lt =
       let h : i < length a.lists = omega (arith, lt, length-sets a.lists) in

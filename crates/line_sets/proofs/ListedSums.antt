@@ -31,7 +31,7 @@ module _ {X : Type 0} (passes : X → Bool) (w : List ℕ → ℕ) (one : ℕ �
       go true = more p.0 (lines_passing passes ps)
       go false = omega arith
 
-  sum-without : (ps : List (ℕ × X)) (line : ℕ) → IsDistinct ps →
+  pub sum-without : (ps : List (ℕ × X)) (line : ℕ) → IsDistinct ps →
       w (lines_passing passes (without ps line)) + weigh passes one line (find ps line) ≡ w (lines_passing passes ps)
   sum-without [] line once = omega arith
   sum-without (p ∷ ps) line once = elim (cases_eq p.0 line) [
@@ -58,14 +58,14 @@ module _ {X : Type 0} (passes : X → Bool) (w : List ℕ → ℕ) (one : ℕ �
       let after = listed-more p (ps ++ (line, x) ∷ []) in let before = listed-more p ps in
       let later = sum-push ps line x in omega (arith, after, before, later)
 
-  sum-put_last : (ps : List (ℕ × X)) (line : ℕ) (x : X) → IsDistinct ps →
+  pub sum-put_last : (ps : List (ℕ × X)) (line : ℕ) (x : X) → IsDistinct ps →
       w (lines_passing passes (put_last ps line x)) + weigh passes one line (find ps line)
       ≡ w (lines_passing passes ps) + weigh passes one line (Some x)
   sum-put_last ps line x once =
       let cut = sum-without ps line once in let after = sum-push (without ps line) line x in
       omega (arith, cut, after)
 
-  sum-put_in_place : (ps : List (ℕ × X)) (line : ℕ) (x : X) → is_there ps line ≡ true →
+  pub sum-put_in_place : (ps : List (ℕ × X)) (line : ℕ) (x : X) → is_there ps line ≡ true →
       w (lines_passing passes (put_in_place ps line x)) + weigh passes one line (find ps line)
       ≡ w (lines_passing passes ps) + weigh passes one line (Some x)
   sum-put_in_place [] line x there = cc

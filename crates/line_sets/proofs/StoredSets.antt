@@ -73,6 +73,15 @@ module _ {X : Type 0} where
       ∙ missing-find (entries_of (get_or a.lists i [])) line
       (entry-there (get_or a.lists i []) line ∙ ap is_some (sym (fits.found line) ∙ e))
 
+  -- a line that its set doesn't have
+  pub is-absent : (ways : ℕ) (a : Lists (ℕ × X)) (rows : List (List (ℕ × ℕ))) (i line : ℕ) → IsStored ways a rows →
+      i < length a.lists → look (sets_of a.lists) i line ≡ None → find (set_at rows i) line ≡ None
+  is-absent ways a rows i line stored h e =
+      let fits : Fits ways (set_at rows i) (get_or a.lists i []) = stored.fits i h in
+      missing-find (set_at rows i) line
+      (ap is_some (fits.found line) ∙ sym (entry-there (get_or a.lists i []) line)
+      ∙ ap is_some (ap (λ us. find us line) (sym (entries-at a.lists i h)) ∙ e))
+
   -- one list and its row are changed
   stored-set : (ways : ℕ) (a : Lists (ℕ × X)) (rows : List (List (ℕ × ℕ))) (i : ℕ) (row : List (ℕ × ℕ))
       (xs : List (ℕ × (ℕ × X))) → IsStored ways a rows → i < length a.lists → Fits ways row xs →
@@ -226,12 +235,11 @@ module _ {X : Type 0} where
       }
 
   -- a set that has room
-  pub has-room : (ways : ℕ) (a : Lists (ℕ × X)) (rows : List (List (ℕ × ℕ))) (i line : ℕ) → IsStored ways a rows →
-      i < length a.lists → find (set_at rows i) line ≡ None →
-      has_place (table_of ways (sets_of a.lists)) i line ≡ true → length (get_or a.lists i []) < ways
-  has-room ways a rows i line stored h e place =
-      let none : is_there (set_at (sets_of a.lists) i) line ≡ false =
-      ap is_some (is-missing ways a rows i line stored h e) in
+  pub has-room : (ways : ℕ) (a : Lists (ℕ × X)) (i line : ℕ) → i < length a.lists →
+      look (sets_of a.lists) i line ≡ None → has_place (table_of ways (sets_of a.lists)) i line ≡ true →
+      length (get_or a.lists i []) < ways
+  has-room ways a i line h absent place =
+      let none : is_there (set_at (sets_of a.lists) i) line ≡ false = ap is_some absent in
       ⊎_elim
       (λ (there : is_there (set_at (sets_of a.lists) i) line ≡ true).
       absurd (let two : true ≡ false = sym there ∙ none in cc))

@@ -1,8 +1,8 @@
 -- How a table is stored: lists of lines and values in the cells of an arena, in order of use, and beside them a row of
 -- lines and cells for each set.
-use Rattle.std.specs.Prelude.{◌≡◌, ℕ, ◌*◌, ◌<◌, ◌≤◌, List, [], length, map, get_or}
+use Rattle.std.specs.Prelude.{◌≡◌, ℕ, ◌+◌, ◌*◌, ◌<◌, ◌≤◌, Bool, not, List, [], length, map, get_or}
 use Rattle.line_arena.specs.Arenas.{Lists}
-use Rattle.line_sets.specs.Order.{find, IsDistinct}
+use Rattle.line_sets.specs.Order.{find, lines_passing, IsDistinct}
 use Rattle.line_sets.specs.SetTable.{set_at}
 
 module _ {X : Type 0} where
@@ -33,3 +33,13 @@ module _ {X : Type 0} where
     pub small : length arena.lists ≤ 1024
     pub many : length rows ≡ length arena.lists
     pub fits : (set : ℕ) → set < length arena.lists → Fits ways (set_at rows set) (get_or arena.lists set [])
+
+-- how many values of each set don't pass a test
+abbrev pub counts_without : {X : Type 0} → (X → Bool) → List (List (ℕ × X)) → List ℕ
+counts_without passes sets = map (λ ps. length (lines_passing (λ x. not (passes x)) ps)) sets
+
+-- one of the counts can fall by the first number, and rise by the second
+pub record CanCount (counts : List ℕ) (at before after : ℕ) : Type 0 where
+  pub there : at < length counts
+  pub enough : before ≤ get_or counts at 0
+  pub few : get_or counts at 0 + after < 256

@@ -1,6 +1,7 @@
 //! Which lines of a table are listed, and which are looked for.
-ghost use Rattle.std.specs.Prelude.{◌≡◌, ◌≤◌, Bool, IfOk, Some};
+ghost use Rattle.std.specs.Prelude.{◌≡◌, ◌≤◌, ◌-◌, ◌+◌, Bool, IfOk, Some, get_or, not, slice_set};
 ghost use Rattle.line_sets.specs.SetTable.{count_of};
+ghost use Rattle.line_sets.specs.Stored.{CanCount};
 
 use network::LineNo;
 use std::alloc::AllocError;
@@ -29,6 +30,25 @@ pub(crate) fn count_of<V: Listed>(value: &V) -> usize
     ensures one { result ≤ 1 }
 {
     if value.is_listed() { 1 } else { 0 }
+}
+
+/// How many values this is of those that aren't listed: one or none.
+#[inline(always)]
+pub(crate) fn uncount_of<V: Listed>(value: &V) -> u8
+    ensures count { result ≡ count_of (λ x. not (V.is_listed x)) (Some value.now) }
+    ensures one { result ≤ 1 }
+{
+    if value.is_listed() { 0 } else { 1 }
+}
+
+/// Lowers the count of a set by a number, and raises it by another one.
+#[inline(always)]
+pub(crate) fn recount(counts: &mut Vec<u8>, set: usize, before: u8, after: u8)
+    requires { CanCount counts.old.items set before after }
+    ensures { counts.new.items ≡ slice_set counts.old.items set
+        (get_or counts.old.items set 0 - before + after) }
+{
+    counts[set] = counts[set] - before + after;
 }
 
 /// The number of a line, if there is one.

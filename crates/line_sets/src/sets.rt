@@ -1,6 +1,7 @@
 //! A table of sets of lines in order of use, whose memory is all taken when it is made.
 ghost use Rattle.std.specs.Prelude.{◌≡◌, ◌<◌, ◌≤◌, IfOk, IsOk, IsTrue, length, OnErr, OnOk};
-ghost use Rattle.std.specs.Prelude.{slice_get, Some, ◌++◌, ℕ};
+ghost use Rattle.std.specs.Prelude.{slice_get, None, Some, ◌++◌, ℕ};
+ghost use Rattle.std.specs.List.{list_all};
 ghost use Rattle.std.specs.Option.{option_copied};
 ghost use Rattle.line_sets.specs.Order.{first_where, is_there, lines_passing, oldest, IsDistinct};
 ghost use Rattle.line_sets.specs.Geometry.{IsGeometry};
@@ -8,7 +9,7 @@ ghost use Rattle.ranked_lines.specs.Rising.{all_but, sorted};
 ghost use Rattle.line_sets.specs.SetTable.{all_listed, drop_line, empty_sets, has_place, has_room, look, put};
 ghost use Rattle.line_sets.specs.SetTable.{put_within, set_at};
 
-use crate::listed::{LineTest, Listed, count_of, line_numbers, number_of};
+use crate::listed::{LineTest, Listed, count_of, line_numbers, number_of, recount, uncount_of};
 use crate::rows::Rows;
 use line_arena::laws::{looked_up, taken_off};
 use line_arena::{Arena, ArenaError, Cell};
@@ -19,6 +20,9 @@ use ranked_lines::selection::{leave_out, number_at};
 use std::alloc::{AllocError, Global};
 use std::marker::Model;
 
+/// A place where no line is.
+pub const NOWHERE: usize = usize::MAX;
+
 /// Sets of lines by number, each from its least recently used line to its most recently used one, with a value for
 /// each line. A set has as many lines as it has ways, at most, and no line twice. Which set a line belongs to is the
 /// caller's to say. Contracts see the ways and the list of sets.
@@ -27,6 +31,8 @@ pub struct LineSets<V: Listed> {
     ways: usize,
     // How many values are listed.
     listed: usize,
+    // How many values of each set aren't.
+    unlisted: Vec<u8>,
     // Each set's lines and values, in order of use.
     arena: Arena<(u64, V)>,
     // Each set's lines and their cells of the arena.
@@ -39,15 +45,15 @@ impl<V: Listed> Model for LineSets<V> {
     ghost use Rattle.std.specs.Prelude.{◌≡◌, length};
     ghost use Rattle.line_sets.specs.SetTable.{Sets, all_listed};
     ghost use Rattle.ranked_lines.specs.Rising.{room_of, HasRoom, IsOrderOf};
-    ghost use Rattle.line_sets.specs.Stored.{sets_of, IsStored};
+    ghost use Rattle.line_sets.specs.Stored.{counts_without, sets_of, IsStored};
 
     ghost Value = { Sets V };
 
     ghost view = { λ table. record { ways = table.ways; sets = sets_of table.arena.lists } };
 
-    // The count and the order, if it is kept, are those of the listed lines. A kept order has room for all lines that
+    // The counts and the order, if it is kept, are those of the listed lines. A kept order has room for all lines that
     // there may be, so it stays kept whatever line comes.
-    ghost invariant = { λ table. IsStored table.ways table.arena table.rows × (table.listed ≡ length (all_listed V.is_listed (sets_of table.arena.lists))) × IsOrderOf table.order (all_listed V.is_listed (sets_of table.arena.lists)) × HasRoom table.arena.cells (room_of table.order) };
+    ghost invariant = { λ table. IsStored table.ways table.arena table.rows × (table.listed ≡ length (all_listed V.is_listed (sets_of table.arena.lists))) × IsOrderOf table.order (all_listed V.is_listed (sets_of table.arena.lists)) × HasRoom table.arena.cells (room_of table.order) × (table.unlisted.items ≡ counts_without V.is_listed (sets_of table.arena.lists)) };
 }
 
 impl<V: Copy + Listed> LineSets<V> {
@@ -57,10 +63,12 @@ impl<V: Copy + Listed> LineSets<V> {
         ensures { IfOk result (λ table. table ≡ empty_sets sets ways) }
     {
         let rows = Rows::new(alloc, sets)?;
+        let unlisted = vec![in alloc; 0; sets as usize]?;
         match Arena::new(alloc, sets * ways, sets) {
             Ok(arena) => Ok(LineSets {
                 ways: ways as usize,
                 listed: 0,
+                unlisted,
                 arena,
                 rows,
                 order: RankedLines::none(),
@@ -71,7 +79,8 @@ impl<V: Copy + Listed> LineSets<V> {
     }
 
     /// Takes all lines out. No memory is taken, and only that for the rising order is given back. The time grows with
-    /// how many sets had a line since the table was made or cleared, and with the most lines that it had at once.
+    /// how many sets had a line since the table was made or cleared, and with the most lines that it had at once; and
+    /// a byte is written for each set.
     pub fn clear(&mut self)
         ensures { self.new ≡ empty_sets (length self.old.sets) self.old.ways }
     {
@@ -79,6 +88,7 @@ impl<V: Copy + Listed> LineSets<V> {
         self.arena.clear();
         self.rows.clear();
         self.listed = 0;
+        self.unlisted.fill(0);
         self.order = RankedLines::none();
     }
 
@@ -119,9 +129,19 @@ impl<V: Copy + Listed> LineSets<V> {
         requires { set < length self.now.sets }
         ensures { option_copied result ≡ look self.now.sets set line }
     {
+        self.find_near(set, line, &mut NOWHERE)
+    }
+
+    /// What is kept of a line in a set. The line is tried first at a place where it may be, whatever that is; if it is
+    /// found, that place is then where it was found, so that the next call needn't search.
+    #[inline(always)]
+    pub fn find_near(&self, set: usize, line: u64, near: &mut usize) -> Option<&V>
+        requires { set < length self.now.sets }
+        ensures { option_copied result ≡ look self.now.sets set line }
+    {
         looked_up::<(u64, V)>();
         let _lists = self.arena.lists();
-        let Some(cell) = self.rows.find(set, line) else {
+        let Some(cell) = self.rows.find(set, line, near) else {
             return None;
         };
         Some(&self.arena.get(Cell(cell)).1)
@@ -179,27 +199,53 @@ impl<V: Copy + Listed> LineSets<V> {
         requires way { IsTrue (has_place self.old set line) }
         ensures { self.new ≡ record self.old { sets = put self.old.sets set line value } }
     {
+        self.insert_near(set, line, NOWHERE, value);
+    }
+
+    /// Does as `insert`. The line is tried first at a place where it may be, whatever that is.
+    #[inline(always)]
+    pub fn insert_near(&mut self, set: usize, line: u64, mut near: usize, value: V)
+        requires in_table { set < length self.old.sets }
+        requires way { IsTrue (has_place self.old set line) }
+        ensures { self.new ≡ record self.old { sets = put self.old.sets set line value } }
+    {
         looked_up::<(u64, V)>();
         taken_off::<(u64, V)>();
         let _lists = self.arena.lists();
-        let Some(cell) = self.rows.find(set, line) else {
-            let pushed = self.arena.push_back(set as u32, (line, value));
-            let cell = pushed.unwrap();
-            self.rows.push(set, line, cell.0);
-            let after = count_of(&value);
-            self.listed += after;
-            self.order.change(line, 0, after);
+        let Some(cell) = self.rows.find(set, line, &mut near) else {
+            self.add(set, line, value);
             return;
         };
-        let before = count_of(&self.arena.get(Cell(cell)).1);
+        let old = &self.arena.get(Cell(cell)).1;
+        let before = count_of(old);
         let after = count_of(&value);
         self.listed = self.listed - before + after;
+        recount(&mut self.unlisted, set, uncount_of(old), uncount_of(&value));
         self.order.change(line, before, after);
         *self.arena.get_mut(Cell(cell)) = (line, value);
         if self.arena.next(Cell(cell)).is_none() {
             return;
         }
         self.arena.move_to_back(set as u32, Cell(cell));
+    }
+
+    /// Puts a line that isn't in the set, but has room there, with this value, as the most recently used one. It is
+    /// not looked for.
+    #[inline(always)]
+    pub fn add(&mut self, set: usize, line: u64, value: V)
+        requires in_table { set < length self.old.sets }
+        requires absent { look self.old.sets set line ≡ None }
+        requires way { IsTrue (has_place self.old set line) }
+        ensures { self.new ≡ record self.old { sets = put self.old.sets set line value } }
+    {
+        let _lists = self.arena.lists();
+        let pushed = self.arena.push_back(set as u32, (line, value));
+        let cell = pushed.unwrap();
+        self.rows.push(set, line, cell.0);
+        let after = count_of(&value);
+        self.listed += after;
+        recount(&mut self.unlisted, set, 0, uncount_of(&value));
+        self.order.change(line, 0, after);
     }
 
     /// Changes what is kept of a line that is in the set, and keeps the order of use.
@@ -209,12 +255,24 @@ impl<V: Copy + Listed> LineSets<V> {
         requires there { IsTrue (is_there (set_at self.old.sets set) line) }
         ensures { self.new ≡ record self.old { sets = put_within self.old.sets set line value } }
     {
+        self.replace_near(set, line, NOWHERE, value);
+    }
+
+    /// Does as `replace`. The line is tried first at a place where it may be, whatever that is.
+    #[inline(always)]
+    pub fn replace_near(&mut self, set: usize, line: u64, mut near: usize, value: V)
+        requires in_table { set < length self.old.sets }
+        requires there { IsTrue (is_there (set_at self.old.sets set) line) }
+        ensures { self.new ≡ record self.old { sets = put_within self.old.sets set line value } }
+    {
         looked_up::<(u64, V)>();
         let _lists = self.arena.lists();
-        if let Some(cell) = self.rows.find(set, line) {
-            let before = count_of(&self.arena.get(Cell(cell)).1);
+        if let Some(cell) = self.rows.find(set, line, &mut near) {
+            let old = &self.arena.get(Cell(cell)).1;
+            let before = count_of(old);
             let after = count_of(&value);
             self.listed = self.listed - before + after;
+            recount(&mut self.unlisted, set, uncount_of(old), uncount_of(&value));
             self.order.change(line, before, after);
             *self.arena.get_mut(Cell(cell)) = (line, value);
         }
@@ -228,15 +286,27 @@ impl<V: Copy + Listed> LineSets<V> {
         ensures absent { result ≡ None → self.new ≡ self.old }
         ensures after { self.new ≡ record self.old { sets = drop_line self.old.sets set line } }
     {
+        self.remove_near(set, line, NOWHERE)
+    }
+
+    /// Does as `remove`. The line is tried first at a place where it may be, whatever that is.
+    #[inline(always)]
+    pub fn remove_near(&mut self, set: usize, line: u64, near: usize) -> Option<V>
+        requires { set < length self.old.sets }
+        ensures value { result ≡ look self.old.sets set line }
+        ensures absent { result ≡ None → self.new ≡ self.old }
+        ensures after { self.new ≡ record self.old { sets = drop_line self.old.sets set line } }
+    {
         looked_up::<(u64, V)>();
         taken_off::<(u64, V)>();
         let _lists = self.arena.lists();
-        let Some(cell) = self.rows.take(set, line) else {
+        let Some(cell) = self.rows.take(set, line, near) else {
             return None;
         };
         let (_line, value) = self.arena.unlink(Cell(cell));
         let before = count_of(&value);
         self.listed -= before;
+        recount(&mut self.unlisted, set, uncount_of(&value), 0);
         self.order.change(line, before, 0);
         Some(value)
     }
@@ -247,6 +317,15 @@ impl<V: Copy + Listed> LineSets<V> {
         ensures once { (set : ℕ) → IsDistinct (set_at self.now.sets set) }
     {
         self.listed
+    }
+
+    /// Whether all values of a set are listed.
+    #[inline(always)]
+    pub fn is_all_listed(&self, set: usize) -> bool
+        requires { set < length self.now.sets }
+        ensures { result ≡ list_all (λ p. V.is_listed p.1) (set_at self.now.sets set) }
+    {
+        self.unlisted[set] == 0
     }
 
     /// The line that comes after so many others, once the lines of all sets whose values are listed, but that one, are

@@ -1,5 +1,4 @@
 mod LawProofs
 mod SentMessages
-mod Tests
 mod RoomMade
 mod Sound

@@ -1,5 +1,5 @@
 -- What a message and an eviction do with a bank's entry of one line.
-use Rattle.std.specs.Prelude.{ℕ, ◌+◌, Bool, true, false, Option, Some, None, if◌then◌else◌, List}
+use Rattle.std.specs.Prelude.{ℕ, ◌+◌, Bool, true, false, not, ◌&&◌, Option, Some, None, if◌then◌else◌, List}
 use Rattle.network.specs.declared.message.TimedLine.{TimedLine}
 use Rattle.network.specs.declared.message.Body.{Body}
 use Rattle.network.specs.declared.message.Body.TheVariants.{ShReq, ExReq, ShRep, ExRep, RenewRep, UpgradeRep}
@@ -98,9 +98,10 @@ evicted (Some (Exclusive owner)) = AsksBack owner
 evicted (Some (Recalling owner)) = IsBusy
 evicted (Some Storing) = IsBusy
 
--- what a decision writes has a place: an entry that is there is changed, and one that is loaded finds room
+-- what a decision writes has a place: an entry that is there is changed, and one that isn't there is loaded and finds
+-- room
 abbrev pub finds_place : (there room : Bool) → Decision → Bool
-finds_place there room Loads = room
+finds_place there room Loads = not there && room
 finds_place there room (Recalls owner sent) = there
 finds_place there room (Grants entry sent) = there
 finds_place there room (Becomes entry) = there

@@ -1,5 +1,5 @@
 -- Entries that are settled: nothing is under way for them.
-use Rattle.std.specs.Prelude.{Bool, true, false, not}
+use Rattle.std.specs.Prelude.{Bool, true, false}
 use Rattle.llc_bank.specs.declared.choice.EntryTest.{EntryTest}
 use Rattle.llc_bank.specs.declared.choice.EntryTest.TheVariants as test
 use Rattle.llc_bank.specs.declared.entry.Entry.{Entry}
@@ -18,6 +18,5 @@ is_shared _ = false
 
 -- what a test asks of an entry
 abbrev pub passes : EntryTest → Entry → Bool
-passes test.UnderWay entry = not (is_settled entry)
 passes test.Settled entry = is_settled entry
 passes test.Shared entry = is_shared entry

@@ -10,12 +10,12 @@ ghost use Rattle.llc_bank.specs.OnEntry.{finds_place};
 ghost use Rattle.llc_bank.specs.Settled.{is_settled};
 ghost use Rattle.llc_bank.specs.BankTable.{core_of};
 
-use crate::choice::settled_choice;
+use crate::choice::choose;
 use crate::config::BankConfig;
 use crate::decision::{Decision, Eviction, decide, decide_eviction};
 use crate::entry::{Entry, Evict, EvictError};
 use dram_mts::MemoryTime;
-use line_sets::LineSets;
+use line_sets::{LineSets, NOWHERE};
 use network::{Body, LineNo, Message, Node, Part, PartError, Reaction, quotient, remainder};
 use std::alloc::{AllocError, Global};
 use std::marker::Model;
@@ -117,6 +117,16 @@ impl Bank {
         self.table.find(self.set_of(line), line.0)
     }
 
+    // The same, by the line's set and a place in it where the line may be: there it is tried first.
+    #[inline(always)]
+    fn entry_near(&self, line: LineNo, set: usize, near: &mut usize) -> Option<&Entry>
+        requires set { set ≡ set_of self.now line }
+        requires below { set < length self.now.table.sets }
+        ensures { option_copied result ≡ entry_of self.now line }
+    {
+        self.table.find_near(set, line.0, near)
+    }
+
     /// The time from which a line that comes from DRAM now would be valid.
     #[inline(always)]
     pub fn memory_time(&self) -> u64
@@ -127,31 +137,46 @@ impl Bank {
 
     // Sets the entry of a line that is there, or has room, and makes it the most recently used of its set.
     #[inline(always)]
-    fn use_entry(&mut self, line: LineNo, entry: Entry)
-        requires { IsTrue (has_place self.old.table (set_of self.old line) line) }
+    fn use_entry(&mut self, line: LineNo, set: usize, near: usize, entry: Entry)
+        requires set { set ≡ set_of self.old line }
+        requires below { set < length self.old.table.sets }
+        requires way { IsTrue (has_place self.old.table set line) }
         ensures { self.new ≡ with_used self.old line entry }
     {
-        let set = self.set_of(line);
-        self.table.insert(set, line.0, entry);
+        self.table.insert_near(set, line.0, near, entry);
+    }
+
+    // Gives a line an entry that has none, but room in its set, and makes it the most recently used of its set.
+    #[inline(always)]
+    fn add_entry(&mut self, line: LineNo, set: usize, entry: Entry)
+        requires set { set ≡ set_of self.old line }
+        requires below { set < length self.old.table.sets }
+        requires absent { entry_of self.old line ≡ None }
+        requires room { IsTrue (has_room self.old.table set) }
+        ensures { self.new ≡ with_used self.old line entry }
+    {
+        self.table.add(set, line.0, entry);
     }
 
     // Changes the entry of a line that is there, and keeps the order of use.
     #[inline(always)]
-    fn change_entry(&mut self, line: LineNo, entry: Entry)
-        requires { IsSome (entry_of self.old line) }
+    fn change_entry(&mut self, line: LineNo, set: usize, near: usize, entry: Entry)
+        requires set { set ≡ set_of self.old line }
+        requires below { set < length self.old.table.sets }
+        requires there { IsSome (entry_of self.old line) }
         ensures { self.new ≡ with_changed self.old line entry }
     {
-        let set = self.set_of(line);
-        self.table.replace(set, line.0, entry);
+        self.table.replace_near(set, line.0, near, entry);
     }
 
     // Takes out the entry of a line.
     #[inline(always)]
-    fn drop_entry(&mut self, line: LineNo)
+    fn drop_entry(&mut self, line: LineNo, set: usize, near: usize)
+        requires set { set ≡ set_of self.old line }
+        requires below { set < length self.old.table.sets }
         ensures { self.new ≡ without_entry self.old line }
     {
-        let set = self.set_of(line);
-        let _entry = self.table.remove(set, line.0);
+        let _entry = self.table.remove_near(set, line.0, near);
     }
 
     // A message of the bank about a line.
@@ -175,9 +200,11 @@ impl Bank {
         self.from_bank(line, Node::Dram(self.number), body)
     }
 
-    // What the bank does at a message.
+    // What the bank does at a message, by its line's set. If the bank has the line, its place is noted.
     #[inline(always)]
-    fn decided(&self, message: &Message) -> Decision
+    fn decided(&self, message: &Message, set: usize, near: &mut usize) -> Decision
+        requires set { set ≡ set_of self.now message.now.line }
+        requires below { set < length self.now.table.sets }
         ensures decision { result ≡ decided self.now message.now }
         ensures way { IsTrue (finds_place (is_some (entry_of self.now message.now.line)) (has_room
             self.now.table (set_of self.now message.now.line)) result) }
@@ -185,9 +212,9 @@ impl Bank {
         decide(
             self.lease,
             self.memory_time(),
-            self.table.has_room(self.set_of(message.line)),
+            self.table.has_room(set),
             core_of(message.from),
-            self.entry(message.line),
+            self.entry_near(message.line, set, near),
             &message.body,
         )
     }
@@ -198,21 +225,23 @@ impl Bank {
     pub fn evict(&mut self, line: LineNo) -> Result<Evict, EvictError>
         ensures { (result, self.new) ≡ evict self.old line }
     {
-        match decide_eviction(self.entry(line)) {
+        let set = self.set_of(line);
+        let mut near = NOWHERE;
+        match decide_eviction(self.entry_near(line, set, &mut near)) {
             Eviction::NotThere => Err(EvictError::NotHere),
             Eviction::IsBusy => Err(EvictError::Busy),
             Eviction::Drops { rts } => {
-                self.drop_entry(line);
+                self.drop_entry(line, set, near);
                 self.mts.raise(rts);
                 Ok(Evict::Clean)
             }
             Eviction::Stores { rts, words } => {
-                self.change_entry(line, Entry::Storing);
+                self.change_entry(line, set, near, Entry::Storing);
                 self.mts.raise(rts);
                 Ok(Evict::Stored(self.to_dram(line, Body::DramSt(words))))
             }
             Eviction::AsksBack { owner } => {
-                self.change_entry(line, Entry::Recalling { owner });
+                self.change_entry(line, set, near, Entry::Recalling { owner });
                 Ok(Evict::Recalled(self.from_bank(line, Node::Core(owner), Body::FlushReq)))
             }
         }
@@ -251,10 +280,13 @@ impl Bank {
         ensures sound { IsSound self.now.banks self.now.table }
     {
         let set = self.set_of(line);
-        if self.entry(line).is_some() || self.table.has_room(set) {
+        if self.table.has_room(set) || !self.table.is_all_listed(set) {
             return None;
         }
-        settled_choice(&self.table, set)
+        if self.table.find(set, line.0).is_some() {
+            return None;
+        }
+        choose(&self.table, set)
     }
 
     /// The lines that are Shared or Exclusive, in rising order.
@@ -319,7 +351,9 @@ impl Part for Bank {
     ghost takes_memory = { λ _ _. false };
 
     fn sends(&self, message: &Message) -> Option<(Node, bool)> {
-        match self.decided(message) {
+        let set = self.set_of(message.line);
+        let mut near = NOWHERE;
+        match self.decided(message, set, &mut near) {
             Decision::Loads => Some((Node::Dram(self.number), true)),
             Decision::Recalls { owner, sent: _ } => Some((Node::Core(owner), true)),
             Decision::Grants { entry: _, sent: _ } => Some((message.from, false)),
@@ -340,26 +374,28 @@ impl Part for Bank {
         ensures memory { result ≢ Err PartError.NoMemory }
     {
         let line = message.line;
-        match self.decided(message) {
+        let set = self.set_of(line);
+        let mut near = NOWHERE;
+        match self.decided(message, set, &mut near) {
             Decision::Waits => Ok(Reaction::Held),
             Decision::Loads => {
-                self.use_entry(line, Entry::Loading);
+                self.add_entry(line, set, Entry::Loading);
                 Ok(Reaction::HeldAfter(self.to_dram(line, Body::DramLd)))
             }
             Decision::Recalls { owner, sent } => {
-                self.change_entry(line, Entry::Recalling { owner });
+                self.change_entry(line, set, near, Entry::Recalling { owner });
                 Ok(Reaction::HeldAfter(self.from_bank(line, Node::Core(owner), sent)))
             }
             Decision::Grants { entry, sent } => {
-                self.use_entry(line, entry);
+                self.use_entry(line, set, near, entry);
                 Ok(Reaction::Done(Some(self.from_bank(line, message.from, sent))))
             }
             Decision::Becomes(entry) => {
-                self.change_entry(line, entry);
+                self.change_entry(line, set, near, entry);
                 Ok(Reaction::Done(None))
             }
             Decision::Leaves => {
-                self.drop_entry(line);
+                self.drop_entry(line, set, near);
                 Ok(Reaction::Done(None))
             }
             Decision::TooLate => Err(PartError::Exhausted),

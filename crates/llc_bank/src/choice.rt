@@ -1,7 +1,7 @@
 //! Which line of a full set makes room.
-ghost use Rattle.std.specs.Prelude.{◌≡◌, ◌<◌, None, if◌then◌else◌, length, not};
+ghost use Rattle.std.specs.Prelude.{◌≡◌, ◌<◌, length};
 ghost use Rattle.line_sets.specs.SetTable.{set_at};
-ghost use Rattle.llc_bank.specs.BankTable.{all_settled, chosen};
+ghost use Rattle.llc_bank.specs.BankTable.{chosen};
 ghost use Rattle.llc_bank.specs.Settled.{passes};
 
 use crate::entry::Entry;
@@ -10,8 +10,6 @@ use network::LineNo;
 
 /// What a test asks of the entry of a line.
 pub enum EntryTest {
-    /// Something is under way for the line.
-    UnderWay,
     /// Nothing is under way for it.
     Settled,
     /// No core owns it.
@@ -25,36 +23,15 @@ impl LineTest<Entry> for EntryTest {
 
     fn passes(&self, entry: &Entry) -> bool {
         match self {
-            EntryTest::UnderWay => !entry.is_settled(),
             EntryTest::Settled => entry.is_settled(),
             EntryTest::Shared => entry.is_shared(),
         }
     }
 }
 
-/// The line of a full set to evict to make room, if nothing is under way for any line of the set.
+/// The line of a full set to evict to make room, where nothing is under way for any line of the set.
 #[inline(never)]
-pub(crate) fn settled_choice(table: &LineSets<Entry>, set: usize) -> Option<LineNo>
-    requires { set < length table.now.sets }
-    ensures { result ≡ (if not (all_settled (set_at table.now.sets set)) then None else chosen
-        (set_at table.now.sets set)) }
-{
-    if !all_settled(table, set) {
-        return None;
-    }
-    choose(table, set)
-}
-
-// Whether nothing is under way for any line of a set.
-fn all_settled(table: &LineSets<Entry>, set: usize) -> bool
-    requires { set < length table.now.sets }
-    ensures { result ≡ all_settled (set_at table.now.sets set) }
-{
-    table.first_where(set, &EntryTest::UnderWay).is_none()
-}
-
-// The line of a set to evict to make room.
-fn choose(table: &LineSets<Entry>, set: usize) -> Option<LineNo>
+pub(crate) fn choose(table: &LineSets<Entry>, set: usize) -> Option<LineNo>
     requires { set < length table.now.sets }
     ensures { result ≡ chosen (set_at table.now.sets set) }
 {

@@ -7,6 +7,7 @@ use Rattle.std.proofs.lemmas.Bool.{cases_eq, cond-true, eq-eqb, lt-ltb, or_right
 use Rattle.line_sets.specs.Order.{is_there, find, oldest, without}
 use Rattle.line_sets.specs.SetTable.{Sets, set_at, look, put, put_within, drop_line, empty_sets}
 use Rattle.line_sets.proofs.Lemmas.{length-without_there, set_at-set_same, look-put_other, look-put_other_set}
+use Rattle.line_sets.proofs.Lemmas.{look-put_same}
 use Rattle.line_sets.proofs.Lemmas.{look-put_within_other, look-put_within_other_set, look-drop_line_other}
 use Rattle.line_sets.proofs.Lemmas.{look-drop_line_other_set, length-put, length-put_within, length-drop_line}
 use Rattle.private_cache.specs.declared.line_copy.LineCopy.{LineCopy}
@@ -48,6 +49,14 @@ sound-put cache new set line copy sound is e =
           (λ k j ne. look-put_other_set cache.sets (set_of cache line) line k j copy ne)
           sound.own_sets;
     })
+
+-- the line that is put has this copy
+pub put-there :
+    (cache new : Sets LineCopy) (set line : ℕ) (copy : LineCopy) → IsSound cache → set ≡ set_of cache line →
+    new ≡ record cache { sets = put cache.sets set line copy } → copy_of new line ≡ Some copy
+put-there cache new set line copy sound is e =
+    rw (e, is) (rw (length-put cache.sets (set_of cache line) line copy) (look-put_same cache.sets (set_of cache line)
+    line copy (below line (length cache.sets) sound.some_sets)))
 
 pub sound-put_within :
     (cache new : Sets LineCopy) (set line : ℕ) (copy : LineCopy) → IsSound cache → set ≡ set_of cache line →

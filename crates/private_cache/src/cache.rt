@@ -1,7 +1,7 @@
 //! A private cache. It allocates all its memory when it is made.
 ghost use Rattle.std.specs.Prelude.{◌≡◌, ◌≤◌, ◌<◌, length, IfOk, IfSome, IsSome, IsTrue};
 ghost use Rattle.std.specs.Prelude.{◌+◌, if◌then◌else◌, is_some, not, slice_get, true, IsOk, OnErr, OnOk};
-ghost use Rattle.std.specs.Prelude.{Option, Some, ℕ};
+ghost use Rattle.std.specs.Prelude.{None, Option, Some, ℕ};
 ghost use Rattle.std.specs.Option.{option_copied};
 ghost use Rattle.line_sets.specs.Geometry.{IsGeometry};
 ghost use Rattle.ranked_lines.specs.Rising.{sorted};
@@ -193,6 +193,19 @@ impl Cache {
     {
         let set = self.set_of(line);
         self.table.insert(set, line.0, copy);
+    }
+
+    /// Puts a copy of a line that has none, but room for one, and makes it the most recently used of its set. The line
+    /// is not looked for.
+    #[inline(always)]
+    pub fn add(&mut self, line: LineNo, copy: LineCopy)
+        requires absent { copy_of self.old line ≡ None }
+        requires place { IsTrue (place_for self.old line) }
+        ensures after { self.new ≡ with_used self.old line copy }
+        ensures there { copy_of self.new line ≡ Some copy }
+    {
+        let set = self.set_of(line);
+        self.table.add(set, line.0, copy);
     }
 
     /// Changes the copy of a line that has one, and keeps the order of use.

@@ -1,8 +1,11 @@
-use Rattle.std.proofs.Common.{[], length, replicate, sym, ap, ◌∙◌}
+use Rattle.std.proofs.Common.{[], ℕ, length, not, replicate, sym, ap, ◌∙◌}
+use Rattle.std.proofs.lemmas.List.{length-map}
+use Rattle.line_sets.specs.Order.{lines_passing}
 use Rattle.line_sets.specs.SetTable.{all_listed}
-use Rattle.line_sets.specs.Stored.{sets_of}
+use Rattle.line_sets.specs.Stored.{counts_without, sets_of}
 use Rattle.line_sets.proofs.ListedCounts.{none-listed}
 use Rattle.line_sets.proofs.StoredSets.{table_of, length-sets, sets-empty, stored-cleared}
+use Rattle.line_sets.proofs.UnlistedCounts.{none-anywhere}
 use Rattle.line_sets.proofs.sets.LineSets.clear.Goals as goal
 
 pub invariant_of-self : goal.invariant_of-self
@@ -15,6 +18,12 @@ invariant_of-self g c =
           ∙ ap length (none-listed g.V.Listed.is_listed n)),
       rw c.none.ensures tt,
       rw c.none.ensures tt,
+      c.fill.ensures.items (λ y e. e) ∙ ap (λ (k : ℕ). replicate {A = ℕ} k 0) (c.self.inside.unlisted.ok.0
+          ∙ ap length c.self.invariant.4
+          ∙ length-map (sets_of a.lists) (λ ps. length (lines_passing (λ x. not (g.V.Listed.is_listed x)) ps))
+          ∙ length-sets a.lists)
+          ∙ sym (ap (counts_without g.V.Listed.is_listed) (ap (λ b. sets_of b.lists) c.clear.ensures ∙ sets-empty n)
+          ∙ none-anywhere g.V.Listed.is_listed n),
     )
 
 pub returns : goal.returns

@@ -20,4 +20,5 @@ invariant_of-self g c =
       rw kept.1 (c.deref.ensures.value ∙ c.in_ok-numbers.ensures
           ∙ ap (λ t. sorted (all_listed g.V.Listed.is_listed t.sets)) (sym c.self.view_is)),
       rw kept.1 (omega (arith, cells, room)),
+      c.self.invariant.4,
     )

@@ -1,66 +1,29 @@
 use Rattle.std.proofs.Common.{arith, refl, sym, ap, ◌∙◌, not}
 use Rattle.std.specs.Option.{is_some}
-use Rattle.line_sets.proofs.ListedCounts.{counted-new, counted-put, in-count, next-fits, still-room}
-use Rattle.line_sets.proofs.ListedCounts.{was-counted}
-use Rattle.line_sets.specs.SetTable.{count_of}
+use Rattle.line_sets.proofs.ListedCounts.{counted-put, in-count, next-fits, still-room, was-counted}
 use Rattle.line_sets.proofs.ListedTallies.{tallied-put}
-use Rattle.line_sets.proofs.StoredSets.{table_of, below, has-room, is-free, is-found, is-missing, is-ok, if-ok}
-use Rattle.line_sets.proofs.StoredSets.{if-some, put-new}
-use Rattle.line_sets.proofs.StoredSets.{row-room, used, written-there}
+use Rattle.line_sets.proofs.StoredSets.{table_of, below, is-found, is-missing, if-some, used, written-there}
 use Rattle.line_sets.proofs.Walks.{is-none, used-last}
-use Rattle.line_sets.proofs.sets.LineSets.insert.Goals as goal
+use Rattle.line_sets.proofs.UnlistedCounts.{can-count, recounted-put}
+use Rattle.line_sets.proofs.sets.LineSets.insert_near.Goals as goal
 
-pub unwrap-cell-requires : goal.unwrap-cell-requires
-unwrap-cell-requires g c =
+pub recount-requires : goal.recount-requires
+recount-requires g c =
     let a = c.self.inside.arena in let rs = c.self.inside.rows in let w = c.self.inside.ways in
     let h = below a.lists c.args.set (rw (← c.self.view_is) at c.requires.in_table) in
-    let room = has-room w a rs c.args.set c.args.line c.self.invariant.0 h (sym c.find.ensures ∙ c.in_default.is)
-    (rw (← c.self.view_is) at c.requires.way) in
-    is-ok c.push_back-pushed.result
-    (λ err. is-free w a rs c.args.set c.self.invariant.0 h room (c.push_back-pushed.ensures.full.0 err))
+    can-count g.V.Listed.is_listed w a rs c.args.set c.args.line _ c.self.invariant.0 h c.self.invariant.4
+    c.uncount_of.result c.uncount_of-2.result
+    (was-counted (λ x. not (g.V.Listed.is_listed x)) w a rs c.args.set c.args.line c.in-Some.cell
+    c.uncount_of.result c.get.result.now c.self.invariant.0 c.lists-lists.ensures.once c.looked_up.ensures h
+    (sym c.find.ensures ∙ c.in-Some.is) c.get.ensures c.uncount_of.ensures.count)
+    c.uncount_of-2.ensures.one
 
-pub push-requires-clause-room : goal.push-requires-clause-room
-push-requires-clause-room g c =
-    let a = c.self.inside.arena in let rs = c.self.inside.rows in let w = c.self.inside.ways in
+pub add-requires-clause-absent : goal.add-requires-clause-absent
+add-requires-clause-absent g c =
+    let a = c.self.inside.arena in
     let h = below a.lists c.args.set (rw (← c.self.view_is) at c.requires.in_table) in
-    let room = has-room w a rs c.args.set c.args.line c.self.invariant.0 h (sym c.find.ensures ∙ c.in_default.is)
-    (rw (← c.self.view_is) at c.requires.way) in
-    row-room w a rs c.args.set c.self.invariant.0 h room
-
-pub invariant_of-self : goal.invariant_of-self
-invariant_of-self g c =
-    let a = c.self.inside.arena in let rs = c.self.inside.rows in let w = c.self.inside.ways in
-    let h = below a.lists c.args.set (rw (← c.self.view_is) at c.requires.in_table) in
-    let none = sym c.find.ensures ∙ c.in_default.is in
-    let room = has-room w a rs c.args.set c.args.line c.self.invariant.0 h none
-    (rw (← c.self.view_is) at c.requires.way) in
-    let after = if-ok _ c.push_back-pushed.result c.unwrap-cell.result c.push_back-pushed.ensures.after
-    c.unwrap-cell.ensures in
-    let new = put-new w a c.push_back-pushed.new.self rs c.args.set c.args.line c.cell.inside.0 c.args.value
-    c.self.invariant.0 h none room (rw (← c.cell.view_is) at after) in (
-      rw c.push.ensures new.stored,
-      counted-new g.V.Listed.is_listed w a rs c.args.set c.args.line c.self.inside.listed c.self.invariant.0 h
-          c.self.invariant.1 c.args.value c.count_of-after.result _
-          (is-missing w a rs c.args.set c.args.line c.self.invariant.0 h none) c.count_of-after.ensures.count new.are,
-      c.change.ensures.order _ _ c.self.invariant.2 (tallied-put g.V.Listed.is_listed w a rs c.args.set c.args.line
-          c.self.invariant.0 h c.args.value 0 c.count_of-after.result _
-          (sym (ap (count_of g.V.Listed.is_listed) (is-missing w a rs c.args.set c.args.line c.self.invariant.0 h none)))
-          c.count_of-after.ensures.count new.are),
-      still-room g.V.Listed.is_listed w a rs _ _ _ c.self.invariant.0 (ap (λ b. b.cells) after) c.self.invariant.3
-          (λ room. c.change.ensures.kept _ c.self.invariant.2 (λ lt. room)),
-    )
-
-pub returns-in_default : goal.returns-in_default
-returns-in_default g c =
-    let a = c.self.inside.arena in let rs = c.self.inside.rows in let w = c.self.inside.ways in
-    let h = below a.lists c.args.set (rw (← c.self.view_is) at c.requires.in_table) in
-    let none = sym c.find.ensures ∙ c.in_default.is in
-    let room = has-room w a rs c.args.set c.args.line c.self.invariant.0 h none
-    (rw (← c.self.view_is) at c.requires.way) in
-    let after = if-ok _ c.push_back-pushed.result c.unwrap-cell.result c.push_back-pushed.ensures.after
-    c.unwrap-cell.ensures in
-    rw (← c.self.view_is) (ap (table_of w) (put-new w a c.push_back-pushed.new.self rs c.args.set c.args.line
-    c.cell.inside.0 c.args.value c.self.invariant.0 h none room (rw (← c.cell.view_is) at after)).are)
+    rw (← c.self.view_is) (is-missing c.self.inside.ways a c.self.inside.rows c.args.set c.args.line c.self.invariant.0 h
+    (sym c.find.ensures ∙ c.in_default.is))
 
 pub get_mut-requires : goal.get_mut-requires
 get_mut-requires g c =
@@ -89,16 +52,22 @@ invariant_of-self-2 g c =
     c.lists-lists.ensures.once c.looked_up.ensures c.taken_off.ensures h here after in
     let was = was-counted g.V.Listed.is_listed w a rs c.args.set c.args.line c.in-Some.cell c.count_of-before.result
     c.get.result.now c.self.invariant.0 c.lists-lists.ensures.once c.looked_up.ensures h
-    (sym c.find.ensures ∙ c.in-Some.is) c.get.ensures c.count_of-before.ensures.count in (
+    (sym c.find.ensures ∙ c.in-Some.is) c.get.ensures c.count_of-before.ensures.count in
+    let fell = was-counted (λ x. not (g.V.Listed.is_listed x)) w a rs c.args.set c.args.line c.in-Some.cell
+    c.uncount_of.result c.get.result.now c.self.invariant.0 c.lists-lists.ensures.once c.looked_up.ensures h
+    (sym c.find.ensures ∙ c.in-Some.is) c.get.ensures c.uncount_of.ensures.count in (
       new.stored,
       counted-put g.V.Listed.is_listed w a rs c.args.set c.args.line c.self.inside.listed c.self.invariant.0 h
-          c.self.invariant.1 c.args.value c.count_of-before.result c.count_of-after-2.result _ was
-          c.count_of-after-2.ensures.count new.are,
-      c.change-2.ensures.order _ _ c.self.invariant.2 (tallied-put g.V.Listed.is_listed w a rs c.args.set c.args.line
-          c.self.invariant.0 h c.args.value c.count_of-before.result c.count_of-after-2.result _ was
-          c.count_of-after-2.ensures.count new.are),
+          c.self.invariant.1 c.args.value c.count_of-before.result c.count_of-after.result _ was
+          c.count_of-after.ensures.count new.are,
+      c.change.ensures.order _ _ c.self.invariant.2 (tallied-put g.V.Listed.is_listed w a rs c.args.set c.args.line
+          c.self.invariant.0 h c.args.value c.count_of-before.result c.count_of-after.result _ was
+          c.count_of-after.ensures.count new.are),
       still-room g.V.Listed.is_listed w a rs _ _ _ c.self.invariant.0 (ap (λ b. b.cells) after) c.self.invariant.3
-          (λ room. c.change-2.ensures.kept _ c.self.invariant.2 (λ lt. room)),
+          (λ room. c.change.ensures.kept _ c.self.invariant.2 (λ lt. room)),
+      c.recount.ensures ∙ recounted-put g.V.Listed.is_listed w a rs c.args.set c.args.line _ c.self.invariant.0 h
+          c.self.invariant.4 c.args.value c.uncount_of.result c.uncount_of-2.result _ fell
+          c.uncount_of-2.ensures.count new.are,
     )
 
 pub returns : goal.returns
@@ -120,8 +89,8 @@ next-requires g c =
     ap is_some (written-there w a rs c.args.set c.args.line c.in-Some.cell c.args.value c.self.invariant.0
     c.lists-lists.ensures.once c.looked_up.ensures h (sym c.find.ensures ∙ c.in-Some.is))
 
-pub invariant_of-self-then-is_none : goal.invariant_of-self-then-is_none
-invariant_of-self-then-is_none g c =
+pub invariant_of-self : goal.invariant_of-self
+invariant_of-self g c =
     let a = c.self.inside.arena in let rs = c.self.inside.rows in let w = c.self.inside.ways in
     let h = below a.lists c.args.set (rw (← c.self.view_is) at c.requires.in_table) in
     let last = sym c.next.ensures ∙ is-none c.next.result (c.is_none.ensures ∙ ap not c.if-is_none.true) in
@@ -129,16 +98,22 @@ invariant_of-self-then-is_none g c =
     c.lists-lists.ensures.once c.looked_up.ensures c.taken_off.ensures h (sym c.find.ensures ∙ c.in-Some.is) last in
     let was = was-counted g.V.Listed.is_listed w a rs c.args.set c.args.line c.in-Some.cell c.count_of-before.result
     c.get.result.now c.self.invariant.0 c.lists-lists.ensures.once c.looked_up.ensures h
-    (sym c.find.ensures ∙ c.in-Some.is) c.get.ensures c.count_of-before.ensures.count in (
+    (sym c.find.ensures ∙ c.in-Some.is) c.get.ensures c.count_of-before.ensures.count in
+    let fell = was-counted (λ x. not (g.V.Listed.is_listed x)) w a rs c.args.set c.args.line c.in-Some.cell
+    c.uncount_of.result c.get.result.now c.self.invariant.0 c.lists-lists.ensures.once c.looked_up.ensures h
+    (sym c.find.ensures ∙ c.in-Some.is) c.get.ensures c.uncount_of.ensures.count in (
       new.stored,
       counted-put g.V.Listed.is_listed w a rs c.args.set c.args.line c.self.inside.listed c.self.invariant.0 h
-          c.self.invariant.1 c.args.value c.count_of-before.result c.count_of-after-2.result _ was
-          c.count_of-after-2.ensures.count new.are,
-      c.change-2.ensures.order _ _ c.self.invariant.2 (tallied-put g.V.Listed.is_listed w a rs c.args.set c.args.line
-          c.self.invariant.0 h c.args.value c.count_of-before.result c.count_of-after-2.result _ was
-          c.count_of-after-2.ensures.count new.are),
+          c.self.invariant.1 c.args.value c.count_of-before.result c.count_of-after.result _ was
+          c.count_of-after.ensures.count new.are,
+      c.change.ensures.order _ _ c.self.invariant.2 (tallied-put g.V.Listed.is_listed w a rs c.args.set c.args.line
+          c.self.invariant.0 h c.args.value c.count_of-before.result c.count_of-after.result _ was
+          c.count_of-after.ensures.count new.are),
       still-room g.V.Listed.is_listed w a rs _ _ _ c.self.invariant.0 refl c.self.invariant.3
-          (λ room. c.change-2.ensures.kept _ c.self.invariant.2 (λ lt. room)),
+          (λ room. c.change.ensures.kept _ c.self.invariant.2 (λ lt. room)),
+      c.recount.ensures ∙ recounted-put g.V.Listed.is_listed w a rs c.args.set c.args.line _ c.self.invariant.0 h
+          c.self.invariant.4 c.args.value c.uncount_of.result c.uncount_of-2.result _ fell
+          c.uncount_of-2.ensures.count new.are,
     )
 
 pub returns-then-is_none : goal.returns-then-is_none
@@ -149,14 +124,6 @@ returns-then-is_none g c =
     rw (← c.self.view_is) (ap (table_of w) (used-last w a rs c.args.set c.args.line c.in-Some.cell c.args.value
     c.self.invariant.0 c.lists-lists.ensures.once c.looked_up.ensures c.taken_off.ensures h
     (sym c.find.ensures ∙ c.in-Some.is) last).are)
-
-pub overflow_add-self : goal.overflow_add-self
-overflow_add-self g c =
-    let a = c.self.inside.arena in let rs = c.self.inside.rows in let w = c.self.inside.ways in
-    let h = below a.lists c.args.set (rw (← c.self.view_is) at c.requires.in_table) in
-    let fits = next-fits g.V.Listed.is_listed w a rs c.args.set c.args.line c.self.inside.listed c.self.invariant.0 h
-    c.self.invariant.1 c.args.value c.count_of-after.result c.count_of-after.ensures.count in
-    omega (arith, fits)
 
 pub get-requires : goal.get-requires
 get-requires g c =
@@ -176,10 +143,10 @@ overflow_sub-self g c =
     in-count g.V.Listed.is_listed w a rs c.args.set c.args.line c.self.inside.listed c.self.invariant.0 h
     c.self.invariant.1 c.count_of-before.result was
 
-pub overflow_add-self-2 : goal.overflow_add-self-2
-overflow_add-self-2 g c =
+pub overflow_add-self : goal.overflow_add-self
+overflow_add-self g c =
     let a = c.self.inside.arena in let rs = c.self.inside.rows in let w = c.self.inside.ways in
     let h = below a.lists c.args.set (rw (← c.self.view_is) at c.requires.in_table) in
     let fits = next-fits g.V.Listed.is_listed w a rs c.args.set c.args.line c.self.inside.listed c.self.invariant.0 h
-    c.self.invariant.1 c.args.value c.count_of-after-2.result c.count_of-after-2.ensures.count in
+    c.self.invariant.1 c.args.value c.count_of-after.result c.count_of-after.ensures.count in
     omega (arith, fits)

@@ -1,9 +1,21 @@
-use Rattle.std.proofs.Common.{arith, refl, sym, ap, ◌∙◌, true≢false}
+use Rattle.std.proofs.Common.{arith, refl, sym, ap, ◌∙◌, not, true≢false}
 use Rattle.std.specs.Option.{is_some}
 use Rattle.line_sets.proofs.ListedCounts.{counted-put_within, in-count, next-fits, still-room, was-counted}
 use Rattle.line_sets.proofs.ListedTallies.{tallied-put_within}
 use Rattle.line_sets.proofs.StoredSets.{table_of, below, is-found, is-missing, written, written-in}
-use Rattle.line_sets.proofs.sets.LineSets.replace.Goals as goal
+use Rattle.line_sets.proofs.UnlistedCounts.{can-count, recounted-put_within}
+use Rattle.line_sets.proofs.sets.LineSets.replace_near.Goals as goal
+
+pub recount-requires : goal.recount-requires
+recount-requires g c =
+    let a = c.self.inside.arena in let rs = c.self.inside.rows in let w = c.self.inside.ways in
+    let h = below a.lists c.args.set (rw (← c.self.view_is) at c.requires.in_table) in
+    can-count g.V.Listed.is_listed w a rs c.args.set c.args.line _ c.self.invariant.0 h c.self.invariant.4
+    c.uncount_of.result c.uncount_of-in-Some.result
+    (was-counted (λ x. not (g.V.Listed.is_listed x)) w a rs c.args.set c.args.line c.in-Some.cell
+    c.uncount_of.result c.get.result.now c.self.invariant.0 c.lists-lists.ensures.once c.looked_up.ensures h
+    (sym c.find.ensures ∙ c.in-Some.is) c.get.ensures c.uncount_of.ensures.count)
+    c.uncount_of-in-Some.ensures.one
 
 pub get_mut-requires : goal.get_mut-requires
 get_mut-requires g c =
@@ -48,7 +60,10 @@ invariant_of-self g c =
     (sym c.find.ensures ∙ c.in-Some.is) refl in
     let was = was-counted g.V.Listed.is_listed w a rs c.args.set c.args.line c.in-Some.cell c.count_of-before.result
     c.get.result.now c.self.invariant.0 c.lists-lists.ensures.once c.looked_up.ensures h
-    (sym c.find.ensures ∙ c.in-Some.is) c.get.ensures c.count_of-before.ensures.count in (
+    (sym c.find.ensures ∙ c.in-Some.is) c.get.ensures c.count_of-before.ensures.count in
+    let fell = was-counted (λ x. not (g.V.Listed.is_listed x)) w a rs c.args.set c.args.line c.in-Some.cell
+    c.uncount_of.result c.get.result.now c.self.invariant.0 c.lists-lists.ensures.once c.looked_up.ensures h
+    (sym c.find.ensures ∙ c.in-Some.is) c.get.ensures c.uncount_of.ensures.count in (
       after.stored,
       counted-put_within g.V.Listed.is_listed w a rs c.args.set c.args.line c.self.inside.listed c.self.invariant.0 h
           c.self.invariant.1 c.args.value c.count_of-before.result c.count_of-after.result _
@@ -59,6 +74,9 @@ invariant_of-self g c =
           (rw (← c.self.view_is) at c.requires.there) was c.count_of-after.ensures.count after.are),
       still-room g.V.Listed.is_listed w a rs _ _ _ c.self.invariant.0 refl c.self.invariant.3
           (λ room. c.change.ensures.kept _ c.self.invariant.2 (λ lt. room)),
+      c.recount.ensures ∙ recounted-put_within g.V.Listed.is_listed w a rs c.args.set c.args.line _ c.self.invariant.0 h
+          c.self.invariant.4 c.args.value c.uncount_of.result c.uncount_of-in-Some.result _
+          (rw (← c.self.view_is) at c.requires.there) fell c.uncount_of-in-Some.ensures.count after.are,
     )
 
 pub returns-in-Some : goal.returns-in-Some

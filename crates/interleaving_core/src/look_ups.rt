@@ -56,6 +56,14 @@ impl MachineState {
         self.flight.look(number)
     }
 
+    // The number of the message in flight at an index, which is looked up soon.
+    pub(crate) fn seek_message(&mut self, at: u32) -> Option<MsgNo>
+        ensures number { result ≡ slice_get (map (λ m. m.0) self.old.mail.messages) at }
+        ensures same { self.new ≡ self.old }
+    {
+        self.flight.seek_nth(at)
+    }
+
     // The open operation of a core, and whether its request is out.
     #[inline(always)]
     pub(crate) fn open_op(&self, core: u32) -> Option<(Op, bool)>

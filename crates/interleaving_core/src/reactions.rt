@@ -119,7 +119,7 @@ fn delivery_of(reaction: &Reaction) -> PlainAnswer
     }
 }
 
-// What becomes of the messages in flight after a reaction to a delivered one.
+// What becomes of the messages in flight after a reaction to a delivered one. A message that stays is looked up soon.
 #[inline(always)]
 fn settle(flight: &mut InFlight, number: MsgNo, reaction: Reaction)
     requires there { IsSome (at_number number flight.old.mail.messages) }
@@ -129,11 +129,14 @@ fn settle(flight: &mut InFlight, number: MsgNo, reaction: Reaction)
     ensures set_up { SameNetwork flight.old flight.new }
 {
     match reaction {
-        Reaction::Held => (),
+        Reaction::Held => flight.seek(number),
         Reaction::Dropped => take(flight, number),
         Reaction::Done(None) => take(flight, number),
         Reaction::Done(Some(reply)) => answer(flight, number, reply),
-        Reaction::HeldAfter(started) => send(flight, started),
+        Reaction::HeldAfter(started) => {
+            send(flight, started);
+            flight.seek(number);
+        }
     }
 }
 

@@ -384,6 +384,15 @@ impl System {
         self.state.flight.nth(at)
     }
 
+    /// The same, for a message that is to be delivered next. The machine notes where it lies, and gives back the room of
+    /// messages that were delivered. So its delivery, and then that of those sent after it, one by one, needs no search.
+    pub fn seek_message(&mut self, at: u32) -> Option<MsgNo>
+        ensures number { result ≡ slice_get (map (λ m. m.0) self.old.mail.messages) at }
+        ensures same { self.new ≡ self.old }
+    {
+        self.state.seek_message(at)
+    }
+
     /// The numbers of the messages in flight, in rising order.
     pub fn in_flight(&self) -> Result<Vec<MsgNo>, AllocError>
         ensures numbers { IfOk result (λ numbers. numbers.items ≡ map (λ m. m.0)

@@ -1,7 +1,9 @@
 -- What sending and taking do to the slots, and to what is still there.
-use Rattle.std.proofs.Common.{◌≡◌, ℕ, zero, suc, ◌+◌, ◌≤◌, ◌++◌, List, [], ◌∷◌, length, filter, Bool, true, false}
+use Rattle.std.proofs.Common.{◌≡◌, ℕ, zero, suc, ◌+◌, ◌<◌, ◌≤◌, ◌++◌, List, [], ◌∷◌, length, filter, Bool, true, false}
 use Rattle.std.proofs.Common.{is_some, Option, Some, None, refl, sym, ap, ◌∙◌, subst, nat_eq, cond, IfSome}
 use Rattle.std.proofs.Common.{option_copied, Bor, arith, length-append}
+use Rattle.std.proofs.Common.{get_or, map, option_map}
+use Rattle.std.specs.List.{remove}
 use Rattle.std.specs.Prelude.{slice_get, slice_set, IsTrue}
 use Rattle.std.proofs.lemmas.Bool.Decides.{nat_tests}
 use Rattle.std.proofs.lemmas.Option.{slice_get_within}
@@ -138,6 +140,36 @@ module _ {X : Type 0} where
         | false ↦ IsRising-lower (x.0 + 1) low high (filter test xs) rest
             (omega (arith, rising.0))
       ]
+
+  -- an empty slot leaves no trace
+  pub still_there-remove : (k : ℕ) (x : ℕ × Option X) (xs : List (ℕ × Option X)) → k < length xs →
+      (get_or xs k x).1 ≡ None → still_there (remove xs k) ≡ still_there xs
+  still_there-remove k x [] within none = absurd (omega arith)
+  still_there-remove zero x (y ∷ ys) within none = sym (ap (λ o. given y.0 o (still_there ys)) none)
+  still_there-remove (suc k) x (y ∷ ys) within none =
+      ap (given y.0 y.1) (still_there-remove k x ys (omega arith) none)
+
+  pub IsRising-remove : (low high k : ℕ) (xs : List (ℕ × X)) → k < length xs → IsRising low xs high →
+      IsRising low (remove xs k) high
+  IsRising-remove low high k [] within rising = absurd (omega arith)
+  IsRising-remove low high zero (y ∷ ys) within rising =
+      IsRising-lower (y.0 + 1) low high ys rising.1 (omega (arith, rising.0))
+  IsRising-remove low high (suc k) (y ∷ ys) within rising =
+      (rising.0, IsRising-remove (y.0 + 1) high k ys (omega arith) rising.1)
+
+  -- no more are there than there are slots
+  still_there-most : (xs : List (ℕ × Option X)) → length (still_there xs) ≤ length xs
+  still_there-most [] = omega arith
+  still_there-most ((n, None) ∷ xs) = let rest = still_there-most xs in omega (arith, rest)
+  still_there-most ((n, Some x) ∷ xs) = let rest = still_there-most xs in omega (arith, rest)
+
+  -- where no slot is empty, what is there stands where its slot does
+  pub slice_get-all_there : (k : ℕ) (xs : List (ℕ × Option X)) → length (still_there xs) ≡ length xs →
+      slice_get (map (λ x. x.0) (still_there xs)) k ≡ option_map (λ x. x.0) (slice_get xs k)
+  slice_get-all_there k [] full = refl
+  slice_get-all_there k ((n, None) ∷ xs) full = let most = still_there-most xs in absurd (omega (arith, full, most))
+  slice_get-all_there zero ((n, Some x) ∷ xs) full = refl
+  slice_get-all_there (suc k) ((n, Some x) ∷ xs) full = slice_get-all_there k xs (omega (arith, full))
 
 -- what is found has the endpoints of its kind
 pub AllHaveEndpoints-at_number : (cores banks n : ℕ) (m : Message) (xs : List (ℕ × Message)) → AllHaveEndpoints cores

@@ -73,6 +73,23 @@ stored-sent cores banks next count places l c m slots arena stored laws here num
       are = rw there after.are;
     }
 
+-- the same cells have other slots, no more than may be kept
+pub stored-same : (cores banks next count places : ℕ) (slots new : List (ℕ × Option ℕ)) (arena : Lists (ℕ × Message)) →
+    IsStored cores banks next count places slots arena → still_there new ≡ still_there slots → IsRising 0 new next →
+    length new ≤ 2 * count + 1 → IsStored cores banks next count places new arena
+stored-same cores banks next count places slots new arena stored same rising few = record {
+  most_cores = stored.most_cores;
+  most_banks = stored.most_banks;
+  most_cells = stored.most_cells;
+  rising = rising;
+  numbered = stored.numbered;
+  counted = rw same stored.counted;
+  bounded = stored.bounded;
+  few = few;
+  room = stored.room;
+  linked = rw same stored.linked;
+}
+
 -- nothing is there to be taken
 pub stored-none : (cores banks next count places n : ℕ) (slots new : List (ℕ × Option ℕ))
     (arena : Lists (ℕ × Message)) → IsStored cores banks next count places slots arena → at_number n (still_there slots) ≡ None →
@@ -81,18 +98,7 @@ pub stored-none : (cores banks next count places n : ℕ) (slots new : List (ℕ
 stored-none cores banks next count places n slots new arena stored none after rising long =
     let same : still_there new ≡ still_there slots = after ∙ without_number-none n (still_there slots) none in (
       same,
-      record {
-        most_cores = stored.most_cores;
-        most_banks = stored.most_banks;
-        most_cells = stored.most_cells;
-        rising = rising;
-        numbered = stored.numbered;
-        counted = rw same stored.counted;
-        bounded = stored.bounded;
-        few = omega (arith, stored.few, long);
-        room = stored.room;
-        linked = rw same stored.linked;
-      },
+      stored-same cores banks next count places slots new arena stored same rising (omega (arith, stored.few, long)),
     )
 
 -- a message is taken

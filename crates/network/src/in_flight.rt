@@ -125,6 +125,15 @@ impl InFlight {
         self.linked.look(number.0)
     }
 
+    /// Notes where the message with this number lies, if it is in flight: the next look-up of it, and of the one sent
+    /// after it, needs no search. Contracts see nothing of that.
+    #[inline(always)]
+    pub fn seek(&mut self, number: MsgNo)
+        ensures { self.new ≡ self.old }
+    {
+        self.linked.seek(number.0);
+    }
+
     /// Reserves memory for one more message: `new` allocated it, so this never fails.
     pub fn reserve(&mut self) -> Result<(), AllocError>
         ensures after { self.new ≡ self.old }
@@ -269,6 +278,16 @@ impl InFlight {
         ensures { result ≡ slice_get (map (λ x. x.0) self.now.mail.messages) at }
     {
         self.linked.nth(at)
+    }
+
+    /// The same. The call gives back the slots of taken messages, and notes where the message lies, as `seek` does.
+    pub fn seek_nth(&mut self, at: u32) -> Option<MsgNo>
+        ensures number { result ≡ slice_get (map (λ x. x.0) self.old.mail.messages) at }
+        ensures after { IsWithMail self.old.mail self.old self.new }
+        ensures slots { self.new.slots ≡ length self.old.mail.messages }
+        ensures reserved { self.old.reserved ≤ self.new.reserved }
+    {
+        self.linked.seek_nth(at)
     }
 
     /// How many messages carry the line's ownership.

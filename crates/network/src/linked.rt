@@ -14,7 +14,10 @@ use crate::criteria::Wanted;
 use crate::links::{count_links, link_of};
 use crate::message::{Body, Message, Node};
 use crate::numbers::{LineNo, MsgNo};
-use crate::slots::{Slot, cell_of, drop_empty, list_numbers, nth_number, take_cell, with_room};
+use crate::slots::{
+    Slot, cell_of, drop_empty, drop_gaps, list_numbers, nth_number, place_behind, take_cell,
+    with_room,
+};
 use line_arena::laws::{appended, looked_up, taken_off};
 use line_arena::{Arena, ArenaError, Cell};
 use std::alloc::{AllocError, Global};
@@ -32,6 +35,8 @@ pub struct LinkedMessages {
     // how many slots still have a cell
     count: u32,
     slots: Vec<Slot>,
+    // the index behind the slot that was last found: the slot there is tried first
+    near: usize,
     // each link's messages with their numbers, in the order of sending
     arena: Arena<(u64, Message)>,
 }
@@ -170,6 +175,7 @@ impl LinkedMessages {
                 next: 0,
                 count: 0,
                 slots,
+                near: 0,
                 arena,
             }),
             Err(ArenaError::NoMemory) => Err(AllocError),
@@ -225,8 +231,16 @@ impl LinkedMessages {
         ensures endpoints { IfSome result
             (λ message. IsTrue (has_endpoints self.now.cores self.now.banks message.now)) }
     {
-        let cell = cell_of(&self.slots, number)?;
+        let cell = cell_of(&self.slots, number, self.near)?;
         Some(&self.arena.get(Cell(cell)).1)
+    }
+
+    /// Notes the slot of a number, if it is there. Later calls first try the slot behind it, then that one.
+    #[inline(always)]
+    pub(crate) fn seek(&mut self, number: u64)
+        ensures { self.new ≡ self.old }
+    {
+        self.near = place_behind(&self.slots, number, self.near);
     }
 
     /// Puts a message at the end of the list of its link, and gives it the next number.
@@ -270,12 +284,12 @@ impl LinkedMessages {
         looked_up::<(u64, Message)>();
         taken_off::<(u64, Message)>();
         let _lists = self.arena.lists();
-        let Some(cell) = take_cell(&mut self.slots, number) else {
+        let Some(cell) = take_cell(&mut self.slots, number, &mut self.near) else {
             return false;
         };
         let _message = self.arena.unlink(Cell(cell));
         self.count -= 1;
-        drop_empty(&mut self.slots, self.count as usize);
+        drop_empty(&mut self.slots, self.count as usize, &mut self.near);
         true
     }
 
@@ -303,12 +317,12 @@ impl LinkedMessages {
         let _body: Body = reply.body;
         let next = self.next;
         let link = link_of(self.cores, self.banks, reply.from, reply.to);
-        let taken = take_cell(&mut self.slots, number);
+        let taken = take_cell(&mut self.slots, number, &mut self.near);
         let cell = taken.unwrap();
         let _before = self.arena.refill(link.unwrap(), Cell(cell), (next, reply));
         self.slots.push_reserved((next, Some(cell)));
         self.next = next + 1;
-        drop_empty(&mut self.slots, self.count as usize);
+        drop_empty(&mut self.slots, self.count as usize, &mut self.near);
         next
     }
 
@@ -380,6 +394,23 @@ impl LinkedMessages {
     pub(crate) fn nth(&self, at: u32) -> Option<MsgNo>
         ensures { result ≡ slice_get (map (λ x. x.0) self.now.messages) at }
     {
-        nth_number(&self.slots, at)
+        nth_number(&self.slots, self.count as usize, at)
+    }
+
+    /// The same. The call drops the empty slots, and notes the message's slot, which is at the index then.
+    pub(crate) fn seek_nth(&mut self, at: u32) -> Option<MsgNo>
+        ensures number { result ≡ slice_get (map (λ x. x.0) self.old.messages) at }
+        ensures after { self.new ≡ record self.old {
+          slots = length self.old.messages;
+        } }
+        ensures slots { self.new.slots ≤ self.old.slots }
+    {
+        drop_gaps(
+            &mut self.slots,
+            self.count as usize,
+            self.near.wrapping_sub(1),
+        );
+        self.near = at as usize;
+        nth_number(&self.slots, self.count as usize, at)
     }
 }

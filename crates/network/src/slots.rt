@@ -1,6 +1,6 @@
 //! Slots of numbers in the order of sending, each with the cell where its message lies, if it is still there.
 ghost use Rattle.std.specs.Prelude.{◌≡◌, ◌+◌, ◌*◌, ◌<◌, ◌≤◌, ◌^◌, [], ℕ, None, Some, IfSome, IfNone, IfOk, OnErr, OnOk};
-ghost use Rattle.std.specs.Prelude.{length, map, slice_get, vec_capacity};
+ghost use Rattle.std.specs.Prelude.{get_or, length, map, slice_get, vec_capacity};
 ghost use Rattle.std.specs.Prelude.{vec_len};
 ghost use Rattle.network.specs.NumberedMessages.{IsRising, at_number, number_at, still_there, without_number};
 
@@ -103,13 +103,58 @@ pub(crate) fn slot_of(slots: &[Slot], number: u64) -> Option<usize>
     searched_slot_of(slots, at, number)
 }
 
-/// The cell of the number; `None` if there is none.
+/// The index, if the slot there has the number.
 #[inline(always)]
-pub(crate) fn cell_of(slots: &[Slot], number: u64) -> Option<u32>
+fn tried(slots: &[Slot], at: usize, number: u64) -> Option<usize>
+    requires { IsRising 0 slots.now (2 ^ 64) }
+    ensures { IfSome result (λ at. slice_get slots.now at ≡ Some
+        (number, at_number number (still_there slots.now))) }
+{
+    if at >= slots.len() {
+        return None;
+    }
+    if slots[at].0 != number {
+        return None;
+    }
+    Some(at)
+}
+
+/// The index of the slot with the number; `None` if there is none. The call first tries the slot at `near`, then the
+/// one before it. Whatever `near` is, the answer is the same.
+#[inline(always)]
+pub(crate) fn slot_near(slots: &[Slot], number: u64, near: usize) -> Option<usize>
+    requires { IsRising 0 slots.now (2 ^ 64) }
+    ensures found { IfSome result (λ at. slice_get slots.now at ≡ Some
+        (number, at_number number (still_there slots.now))) }
+    ensures absent { IfNone result (at_number number (still_there slots.now) ≡ None) }
+{
+    if let Some(at) = tried(slots, near, number) {
+        return Some(at);
+    }
+    if let Some(at) = tried(slots, near.wrapping_sub(1), number) {
+        return Some(at);
+    }
+    slot_of(slots, number)
+}
+
+/// The index behind the slot with the number; `near` if there is none. The slot at `near` is tried first.
+#[inline(always)]
+pub(crate) fn place_behind(slots: &[Slot], number: u64, near: usize) -> usize
+    requires { IsRising 0 slots.now (2 ^ 64) }
+{
+    match slot_near(slots, number, near) {
+        Some(at) => at.wrapping_add(1),
+        None => near,
+    }
+}
+
+/// The cell of the number; `None` if there is none. The slot at `near` is tried first.
+#[inline(always)]
+pub(crate) fn cell_of(slots: &[Slot], number: u64, near: usize) -> Option<u32>
     requires { IsRising 0 slots.now (2 ^ 64) }
     ensures { result ≡ at_number number (still_there slots.now) }
 {
-    let at = slot_of(slots, number)?;
+    let at = slot_near(slots, number, near)?;
     slots[at].1
 }
 
@@ -145,9 +190,21 @@ fn drop_all_empty(slots: &mut Vec<Slot>)
     slots.retain(|slot| slot.1.is_some());
 }
 
-/// Drops the empty slots if they outnumber the others by two or more. `count` slots have a cell.
+/// How many slots have a cell, of those before an index.
+fn full_before(slots: &[Slot], end: usize) -> usize {
+    let mut count = 0;
+    for at in 0..end.min(slots.len()) {
+        if slots[at].1.is_some() {
+            count += 1;
+        }
+    }
+    count
+}
+
+/// Drops the empty slots if they outnumber the others by two or more. `count` slots have a cell. The first one from
+/// `near` on is at `near` afterwards, too.
 #[inline(always)]
-pub(crate) fn drop_empty(slots: &mut Vec<Slot>, count: usize)
+pub(crate) fn drop_empty(slots: &mut Vec<Slot>, count: usize, near: &mut usize)
     requires { count ≡ length (still_there slots.old.items) }
     ensures few { length slots.new.items ≤ 2 * count + 1 }
     ensures same { still_there slots.new.items ≡ still_there slots.old.items }
@@ -157,13 +214,50 @@ pub(crate) fn drop_empty(slots: &mut Vec<Slot>, count: usize)
     ensures len { vec_len slots.new ≤ vec_len slots.old }
 {
     if slots.len() / 2 > count {
+        *near = full_before(slots, *near);
         drop_all_empty(slots);
     }
 }
 
-/// Takes the cell of the number, if it is there. Its slot stays empty.
+/// Drops an empty slot.
+fn drop_slot(slots: &mut Vec<Slot>, at: usize)
+    requires inside { at < length slots.old.items }
+    requires none { (slot : _) → (get_or slots.old.items at slot).1 ≡ None }
+    ensures long { length slots.new.items + 1 ≡ length slots.old.items }
+    ensures same { still_there slots.new.items ≡ still_there slots.old.items }
+    ensures rising { (high : ℕ) → IsRising 0 slots.old.items high →
+        IsRising 0 slots.new.items high }
+    ensures capacity { vec_capacity slots.new ≡ vec_capacity slots.old }
+    ensures len { vec_len slots.new ≤ vec_len slots.old }
+{
+    let _slot = slots.remove(at);
+}
+
+/// Drops all empty slots. `count` slots have a cell. If one slot is empty and it is at `gap`, only those behind it are
+/// moved.
+pub(crate) fn drop_gaps(slots: &mut Vec<Slot>, count: usize, gap: usize)
+    requires { count ≡ length (still_there slots.old.items) }
+    ensures long { length slots.new.items ≡ count }
+    ensures same { still_there slots.new.items ≡ still_there slots.old.items }
+    ensures rising { (high : ℕ) → IsRising 0 slots.old.items high →
+        IsRising 0 slots.new.items high }
+    ensures capacity { vec_capacity slots.new ≡ vec_capacity slots.old }
+    ensures len { vec_len slots.new ≤ vec_len slots.old }
+{
+    if slots.len() == count {
+        return;
+    }
+    if gap < slots.len() && slots.len() - 1 == count && slots[gap].1.is_none() {
+        drop_slot(slots, gap);
+        return;
+    }
+    drop_all_empty(slots);
+}
+
+/// Takes the cell of the number, if it is there. Its slot stays empty. The slot at `near` is tried first, and `near`
+/// then goes on to the slot behind the one that was found.
 #[inline(always)]
-pub(crate) fn take_cell(slots: &mut Vec<Slot>, number: u64) -> Option<u32>
+pub(crate) fn take_cell(slots: &mut Vec<Slot>, number: u64, near: &mut usize) -> Option<u32>
     requires { IsRising 0 slots.old.items (2 ^ 64) }
     ensures value { result ≡ at_number number (still_there slots.old.items) }
     ensures after { still_there slots.new.items ≡ without_number number
@@ -174,7 +268,8 @@ pub(crate) fn take_cell(slots: &mut Vec<Slot>, number: u64) -> Option<u32>
     ensures long { length slots.new.items ≡ length slots.old.items }
     ensures capacity { vec_capacity slots.new ≡ vec_capacity slots.old }
 {
-    let at = slot_of(slots, number)?;
+    let at = slot_near(slots, number, *near)?;
+    *near = at.wrapping_add(1);
     empty_slot(slots, at, number)
 }
 
@@ -201,10 +296,14 @@ pub(crate) fn list_numbers(
     Ok(())
 }
 
-/// The number at an index of the slots that have a cell; `None` past the last.
-pub(crate) fn nth_number(slots: &[Slot], at: u32) -> Option<MsgNo>
+/// The number at an index of the slots that have a cell; `None` past the last. `count` slots have one.
+pub(crate) fn nth_number(slots: &[Slot], count: usize, at: u32) -> Option<MsgNo>
+    requires { count ≡ length (still_there slots.now) }
     ensures { result ≡ slice_get (map (λ x. x.0) (still_there slots.now)) at }
 {
+    if slots.len() == count {
+        return Some(MsgNo(slots.get(at as usize)?.0));
+    }
     let mut left = at;
     for slot in slots {
         let here = u32::from(slot.1.is_some());

@@ -1,5 +1,5 @@
 #!/usr/bin/env python3
-"""Measures the program's speed beside yardsticks, as docs/BENCHMARKS.md has it: scripts/speed.py [--write]
+"""Measures the program's speed against yardsticks, as docs/BENCHMARKS.md has it: scripts/speed.py [--write]
 
 A yardstick is bench/plain, which makes the same events in tuned plain Rust and is built here by rustc, or another run
 of the program itself. Instructions and mispredicted branches are cachegrind's: those of a greater load, less those of
@@ -22,7 +22,7 @@ from types import SimpleNamespace
 
 TOP = Path(__file__).resolve().parent.parent
 PAGE = TOP / "docs/BENCHMARKS.md"
-HEADING = "## Beside yardsticks\n"
+HEADING = "## Against yardsticks\n"
 HEAD = "| Load | Unit | Instructions, mispredictions | Yardstick | Its own | Speed |", "|---|---|---|---|---|---|"
 RUNS = 5
 ENDS = 0, 1  # with 1 the program ends whose condition doesn't hold
@@ -43,7 +43,7 @@ def operation(draw, number):
 
 
 def write_trace(path, cores, operations):
-    """A trace of so many operations on 4,096 words, of the cores in turn."""
+    """A trace of this many operations on 4,096 words, by the cores in turn."""
     draw, lines = 12345, ["trace 2"]
     for number in range(operations):
         draw = (draw * 1103515245 + 12345) % 2147483648
@@ -133,7 +133,7 @@ def history(cores):
 
 
 def threads(count, cores, banks, beside):
-    """Seats by threads, beside an unshared machine by rounds, or fewer threads; a unit is an operation."""
+    """Seats by threads, against an unshared machine by rounds or fewer threads; a unit is an operation."""
     seats, rounds = ([built("bench_seats"), word, str(cores), str(banks), "{}"] for word in ("seats", "rounds"))
     return row(f"threads: {count}, {cores} cores, {banks} banks", "operation", [*seats, str(count)],
                loads=tuple(all_of // cores for all_of in (16000, 32000, 640000)), units=lambda each: each * cores,

@@ -120,7 +120,7 @@ fn tried(slots: &[Slot], at: usize, number: u64) -> Option<usize>
 }
 
 /// The index of the slot with the number; `None` if there is none. The call first tries the slot at `near`, then the
-/// one before it. Whatever `near` is, the answer is the same.
+/// one before it. The answer is the same for any `near`.
 #[inline(always)]
 pub(crate) fn slot_near(slots: &[Slot], number: u64, near: usize) -> Option<usize>
     requires { IsRising 0 slots.now (2 ^ 64) }

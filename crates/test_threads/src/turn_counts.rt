@@ -24,7 +24,7 @@ pub(crate) struct TurnCounts {
 }
 
 impl TurnCounts {
-    /// A gate for so many seats that nothing has passed yet.
+    /// A gate for `seats` seats that nothing has passed yet.
     pub(crate) fn new(alloc: Global, seats: u32, looks: u32) -> Result<TurnCounts, AllocError> {
         let mut counts = Vec::new(alloc);
         for _ in 0..seats {
@@ -69,7 +69,7 @@ impl TurnCounts {
         self.has_met(met)
     }
 
-    /// Whether so many of two first turns saw the other.
+    /// Whether `met` of two first turns saw the other.
     pub(crate) fn has_met(&self, met: u64) -> bool {
         self.met.load(Ordering::SeqCst) == met
     }

@@ -35,6 +35,10 @@ pub record IsSame (log after : Log) : Type 0 where
   pub events : after.events ≡ log.events
   pub has_progressed : after.has_progressed ≡ log.has_progressed
 
+abbrev pub is_refused : Answer → Bool
+is_refused (Refused why) = true
+is_refused _ = false
+
 abbrev pub is_no_memory : Answer → Bool
 is_no_memory (Refused NoMemoryAnswer) = true
 is_no_memory _ = false

@@ -1,7 +1,9 @@
 -- Where the stages of a round lead.
-use Rattle.std.proofs.Common.{◌≡◌, ℕ, ◌+◌, ◌<◌, Bool, true, false, List, Option, Some, None, refl}
+use Rattle.std.proofs.Common.{◌≡◌, ℕ, ◌+◌, ◌<◌, Bool, true, false, List, Option, Some, None, refl, ◌∷◌}
 use Rattle.std.proofs.Common.{sym, ap, ap₂, ◌∙◌, arith, rules}
 use Rattle.std.specs.Prelude.{is_some}
+use Rattle.std.proofs.Common.{length, get_or, drop}
+use Rattle.std.proofs.lemmas.List.{at_drop_more}
 use Rattle.std.proofs.lemmas.Bool.{cond_below, cond_above}
 use Rattle.physiological_order.specs.declared.operation.Op.{Op}
 use Rattle.programs.specs.declared.ends.End.TheVariants.{NoMemory}
@@ -78,3 +80,9 @@ module _ {P : Type 0} (acts : Acts P) (m : Machine) (programs : List P) (log : L
       NoMemory
   not_listed = refused acts (rounds acts) m programs log (round_at cores (Stepping cores))
       (λ over. let bad = sym listing ∙ over in absurd cc) (search rules)
+
+-- a number that is next is at the front of those that are left
+pub left_from : (numbers : List ℕ) (i number : ℕ) → i < length numbers → number ≡ get_or numbers i number →
+    drop i numbers ≡ number ∷ drop (i + 1) numbers
+left_from numbers i number below is =
+    at_drop_more (λ xs. xs) numbers i number below ∙ ap (λ n. n ∷ drop (i + 1) numbers) (sym is)

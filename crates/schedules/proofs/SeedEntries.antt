@@ -23,7 +23,11 @@ use Rattle.programs.specs.Acts.{Acts, next_in}
 use Rattle.schedules.specs.Schedules.{Choice, Does, Tries, Delivers, Advances, Over}
 use Rattle.schedules.specs.RoundSchedule.{numbers_in_flight}
 use Rattle.schedules.specs.SeedSchedule.{Seeded, advances, core_step, core_steps, choice_at, drawn_list, line_events, steps}
-use Rattle.schedules.specs.Notes.{step_choice}
+use Rattle.schedules.specs.SeedSchedule.{passed, seeded}
+use Rattle.schedules.specs.Notes.{Led, Point, step_choice}
+use Rattle.schedules.specs.SeedViews.{IsTurn, was_made}
+use Rattle.programs.specs.declared.ends.End.{End}
+use Rattle.std.specs.Prelude.{Result, Ok, Err}
 use Rattle.schedules.proofs.Pieces.{at_piece, length_more}
 
 is_end : Choice Seeded → Bool
@@ -200,3 +204,8 @@ drawn_steps acts m programs zero none one two = absurd (none refl)
 drawn_steps acts m programs (suc zero) none one two = absurd (one refl)
 drawn_steps acts m programs (suc (suc zero)) none one two = absurd (two refl)
 drawn_steps acts m programs (suc (suc (suc k))) none one two = refl
+
+pub is_turn : {P : Type 0} (acts : Acts P) (p q : Point P Seeded) (r : Result (Unit {0}) End) →
+    Led acts (seeded acts) p r (record q { own = passed false p.own }) → IsTurn acts p (was_made r) q
+is_turn acts p q (Ok done) led = led
+is_turn acts p q (Err end) led = led

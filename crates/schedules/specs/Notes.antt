@@ -35,6 +35,10 @@ pub record IsSame (log after : Log) : Type 0 where
   pub events : after.events ≡ log.events
   pub has_progressed : after.has_progressed ≡ log.has_progressed
 
+abbrev pub is_refused : Answer → Bool
+is_refused (Refused why) = true
+is_refused _ = false
+
 abbrev pub is_no_memory : Answer → Bool
 is_no_memory (Refused NoMemoryAnswer) = true
 is_no_memory _ = false
@@ -81,16 +85,19 @@ abbrev pub KeepsAs : Log → Log → Type 0
 KeepsAs log after = is_some after.events ≡ is_some log.events
 
 -- a run that follows its plan to the one point follows it to the other, for any limit of turns
-abbrev pub Leads : {P S : Type 0} → Acts P → Schedule P S → Point P S → Point P S → Type 0
-Leads {P} {S} acts schedule p q = KeepsAs p.log q.log × ((limit : ℕ) (start : Position P S) (turns : ℕ) →
-    Arrives (plan_of acts schedule limit) start p.log.events (position p turns) →
-    Arrives (plan_of acts schedule limit) start q.log.events (position q turns))
+pub record Leads {P S : Type 0} (acts : Acts P) (schedule : Schedule P S) (p q : Point P S) : Type 0 where
+  pub kept : KeepsAs p.log q.log
+  pub arrives : (limit : ℕ) (start : Position P S) (turns : ℕ) →
+      Arrives (plan_of acts schedule limit) start p.log.events (position p turns) →
+      Arrives (plan_of acts schedule limit) start q.log.events (position q turns)
 
 -- a run that follows its plan to the point ends with this machine, these programs and this log
-abbrev pub Stops : {P S : Type 0} → Acts P → Schedule P S → Point P S → Machine → List P → Log → End → Type 0
-Stops {P} {S} acts schedule p m programs log end = KeepsAs p.log log × ((limit : ℕ) (start : Position P S)
-    (turns : ℕ) → Arrives (plan_of acts schedule limit) start p.log.events (position p turns) →
-    Finishes (plan_of acts schedule limit) start log.events m programs end)
+pub record Stops {P S : Type 0} (acts : Acts P) (schedule : Schedule P S) (p : Point P S) (m : Machine)
+    (programs : List P) (log : Log) (end : End) : Type 0 where
+  pub kept : KeepsAs p.log log
+  pub finishes : (limit : ℕ) (start : Position P S) (turns : ℕ) →
+      Arrives (plan_of acts schedule limit) start p.log.events (position p turns) →
+      Finishes (plan_of acts schedule limit) start log.events m programs end
 
 -- a part of a run leads from the one point to the other, or ends the run
 abbrev pub Led : {X : Type 0} {P S : Type 0} → Acts P → Schedule P S → Point P S → Result X End →

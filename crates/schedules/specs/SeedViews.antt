@@ -22,6 +22,11 @@ IsTurn acts p (Ok true) q = Leads acts (seeded acts) p (record q { own = passed 
 IsTurn acts p (Ok false) q = (q ≡ p) × (seeded_next acts p.machine p.programs p.own.drawn ≡ Over)
 IsTurn acts p (Err end) q = Stops acts (seeded acts) p q.machine q.programs q.log end
 
+-- what was drawn is made, or ends the run
+abbrev pub was_made : Result (Unit {0}) End → Result Bool End
+was_made (Ok done) = Ok true
+was_made (Err end) = Err end
+
 -- the entry that is drawn is this line's eviction; or there is none; or an allocation failed, where there is one
 abbrev pub IsLine : {E : Type 0} → (ℕ → ℕ → Event) → Choice Seeded → Result (Option (ℕ × ℕ)) E → Type 0
 IsLine eviction next (Ok None) = next ≡ Over

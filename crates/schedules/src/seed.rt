@@ -14,7 +14,7 @@ ghost use Rattle.schedules.specs.SeedSchedule.{Seeded, advances, core_step, core
 ghost use Rattle.schedules.specs.SeedSchedule.{line_events, of_seed, seeded_next, steps};
 ghost use Rattle.schedules.specs.Runs.{Within};
 ghost use Rattle.schedules.specs.Notes.{at};
-ghost use Rattle.schedules.specs.SeedViews.{IsDrawn, IsLine, IsTurn};
+ghost use Rattle.schedules.specs.SeedViews.{IsDrawn, IsLine, IsTurn, was_made};
 
 use crate::log::Log;
 use crate::look_ups::next_in;
@@ -158,7 +158,18 @@ fn place_in(b: u32, total: u128) -> u32
     b % total as u32
 }
 
-// An advance of a core. Each function of a turn says whether there was something to make.
+// What a turn's functions say: there was something to make, and it was made, or the run ends.
+#[inline(always)]
+fn made(outcome: Result<(), End>) -> Result<bool, End>
+    ensures { result ≡ was_made outcome }
+{
+    match outcome {
+        Ok(()) => Ok(true),
+        Err(end) => Err(end),
+    }
+}
+
+// An advance of a core.
 fn advance<P: Program>(
     system: &mut System,
     programs: &mut [P],
@@ -174,8 +185,7 @@ fn advance<P: Program>(
     if cores == 0 {
         return Ok(false);
     }
-    make::<P, Seeds>(system, programs, log, &Event::Advance(b % cores))?;
-    Ok(true)
+    made(make::<P, Seeds>(system, programs, log, &Event::Advance(b % cores)))
 }
 
 // How many lines each holder has, and all together.
@@ -244,8 +254,7 @@ fn evict<P: Program, H: Holder>(
     let Some((holder, line)) = drawn else {
         return Ok(false);
     };
-    make::<P, Seeds>(system, programs, log, &H::eviction(holder, line))?;
-    Ok(true)
+    made(make::<P, Seeds>(system, programs, log, &H::eviction(holder, line)))
 }
 
 // The cores that have no open operation and whose programs have a step: core c is one exactly if bit c is set.
@@ -342,14 +351,12 @@ fn step<P: Program>(
     let at = place_in(b, total);
     if at < count {
         let core = core_at(system, programs, ready, at);
-        step_core(system, programs, log, core)?;
-        return Ok(true);
+        return made(step_core(system, programs, log, core));
     }
     match system.message(at - count) {
-        Some(number) => deliver::<P, Seeds>(system, log, number)?,
+        Some(number) => made(deliver::<P, Seeds>(system, log, number)),
         None => unreachable!(),
     }
-    Ok(true)
 }
 
 // What two words draw: the first the list, and the second its entry.

@@ -12,24 +12,24 @@ use Rattle.schedules.proofs.round.try_core.Goals as goal
 pub returns-in_err-attempt : goal.returns-in_err-attempt
 returns-in_err-attempt g c cores =
     let a = c.args in
+    let acts = g.P.Program.acts in
     let e = err_from_is_err_and c.from_residual.result c.from_residual.ensures.1 in
-    rw (e.1, e.2) (c.in_err-attempt.ensures (rounds g.P.Program.acts) (round_at cores (Attempting a.core))
-    (attempts g.P.Program.acts a.system.now a.programs.now cores a.core (open_op a.system.now a.core) refl c.requires))
+    rw (e.1, e.2) (c.in_err-attempt.ensures (rounds acts) (round_at cores (Attempting a.core))
+    (attempts acts a.system.now a.programs.now cores a.core (open_op a.system.now a.core) refl c.requires))
 
 pub returns-then-branch : goal.returns-then-branch
 returns-then-branch g c cores =
     let a = c.args in
-    and_led g.P.Program.acts (rounds g.P.Program.acts)
-    (at a.system.now a.programs.now a.log.now (round_at cores (Attempting a.core)) Within)
-    (at c.attempt.new.system c.attempt.new.programs c.attempt.new.log (round_at cores (AttemptingAgain a.core)) Within)
-    (rw c.if-branch.true at (c.in_ok-attempt.ensures (rounds g.P.Program.acts) (round_at cores (Attempting a.core))
-    (attempts g.P.Program.acts a.system.now a.programs.now cores a.core (open_op a.system.now a.core) refl c.requires)))
-    c.make.result
-    (at c.make.new.system c.make.new.programs c.make.new.log (round_at cores (Stepping (a.core + 1))) Within)
-    (c.make.ensures (rounds g.P.Program.acts) (round_at cores (AttemptingAgain a.core)) refl)
+    let n = c.make.new in
+    let acts = g.P.Program.acts in
+    and_led (rw c.if-branch.true at (c.in_ok-attempt.ensures (rounds acts) (round_at cores (Attempting a.core))
+    (attempts acts a.system.now a.programs.now cores a.core (open_op a.system.now a.core) refl c.requires)))
+    c.make.result (at n.system n.programs n.log (round_at cores (Stepping (a.core + 1))) Within)
+    (c.make.ensures (rounds acts) (round_at cores (AttemptingAgain a.core)) refl)
 
 pub returns : goal.returns
 returns g c cores =
     let a = c.args in
-    rw c.if-branch.false at (c.in_ok-attempt.ensures (rounds g.P.Program.acts) (round_at cores (Attempting a.core))
-    (attempts g.P.Program.acts a.system.now a.programs.now cores a.core (open_op a.system.now a.core) refl c.requires))
+    let acts = g.P.Program.acts in
+    rw c.if-branch.false at (c.in_ok-attempt.ensures (rounds acts) (round_at cores (Attempting a.core))
+    (attempts acts a.system.now a.programs.now cores a.core (open_op a.system.now a.core) refl c.requires))

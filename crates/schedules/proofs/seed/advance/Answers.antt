@@ -1,7 +1,6 @@
 use Rattle.std.proofs.Common.{◌%◌, ◌∙◌, ap, refl, arith}
-use Rattle.std.proofs.lemmas.Result.{err_from_is_err_and}
 use Rattle.schedules.specs.SeedSchedule.{advances, seeded}
-use Rattle.schedules.proofs.SeedEntries.{advance_entry, advance_count, no_entry}
+use Rattle.schedules.proofs.SeedEntries.{advance_count, advance_entry, is_turn, no_entry}
 use Rattle.schedules.proofs.seed.advance.Goals as goal
 
 pub returns-then-cores-eq0 : goal.returns-then-cores-eq0
@@ -13,19 +12,10 @@ returns-then-cores-eq0 g c own is =
           (omega (arith, count, c.if-cores-eq0.true, c.cores-cores.ensures.cores)),
     )
 
-pub returns-in_err-make : goal.returns-in_err-make
-returns-in_err-make g c own is =
-    let m = c.args.system.now in
-    let e = err_from_is_err_and c.from_residual.result c.from_residual.ensures.1 in
-    rw (e.1, e.2) (c.in_err-make.ensures (seeded g.P.Program.acts) own (is
-    ∙ advance_entry m c.args.b (c.args.b % c.cores-cores.result)
-    (omega (arith, c.if-cores-eq0.false, c.cores-cores.ensures.cores))
-    (ap (λ n. c.args.b % n) c.cores-cores.ensures.cores)))
-
 pub returns : goal.returns
 returns g c own is =
     let m = c.args.system.now in
-    c.in_ok-make.ensures (seeded g.P.Program.acts) own (is
+    rw c.made.ensures (is_turn g.P.Program.acts _ _ c.make.result (c.make.ensures (seeded g.P.Program.acts) own (is
     ∙ advance_entry m c.args.b (c.args.b % c.cores-cores.result)
     (omega (arith, c.if-cores-eq0.false, c.cores-cores.ensures.cores))
-    (ap (λ n. c.args.b % n) c.cores-cores.ensures.cores))
+    (ap (λ n. c.args.b % n) c.cores-cores.ensures.cores))))

@@ -1,7 +1,5 @@
 use Rattle.std.proofs.Common.{rules, true}
 use Rattle.std.proofs.lemmas.Result.{err_from_is_err_and}
-use Rattle.schedules.specs.Runs.{Within, Evicting}
-use Rattle.schedules.specs.Notes.{at}
 use Rattle.schedules.proofs.RunSteps.{and_then, and_stops}
 use Rattle.schedules.proofs.TurnSteps.{tried, found_no_room, tried_not}
 use Rattle.schedules.proofs.turn.attempt.Goals as goal
@@ -16,22 +14,19 @@ returns-in_err-answer g c rule own is =
 pub returns-in_err-evict : goal.returns-in_err-evict
 returns-in_err-evict g c rule own is =
     let a = c.args in
-    let e = err_from_is_err_and c.from_residual-in_err-evict.result c.from_residual-in_err-evict.ensures.1 in
-    rw (e.1, e.2) (and_stops g.P.Program.acts rule (at a.system.now a.programs.now a.log.now own Within)
-    (at c.step.new.system a.programs.now c.step.new.log (rule.behind true own) (Evicting a.core))
+    let e =
+    err_from_is_err_and c.from_residual-in_err-evict.result c.from_residual-in_err-evict.ensures.1 in
+    rw (e.1, e.2) (and_stops
     (found_no_room g.P.Program.acts rule a.system.now a.programs.now a.log.now own c.step.new.system c.step.new.log
     a.core is c.in_ok-answer.answer c.in_ok-answer.ensures (search rules))
-    c.evict.new.system a.programs.now c.evict.new.log c.in_err-evict.field-0.0
     (c.in_err-evict.ensures rule a.programs.now (rule.behind true own)))
 
 pub returns-then-is_no_room : goal.returns-then-is_no_room
 returns-then-is_no_room g c rule own is =
     let a = c.args in
-    and_then g.P.Program.acts rule (at a.system.now a.programs.now a.log.now own Within)
-    (at c.step.new.system a.programs.now c.step.new.log (rule.behind true own) (Evicting a.core))
+    and_then
     (found_no_room g.P.Program.acts rule a.system.now a.programs.now a.log.now own c.step.new.system c.step.new.log
     a.core is c.in_ok-answer.answer c.in_ok-answer.ensures (search rules))
-    (at c.evict.new.system a.programs.now c.evict.new.log (rule.behind true own) Within)
     (c.in_ok-evict.ensures rule a.programs.now (rule.behind true own))
 
 pub returns : goal.returns

@@ -1,6 +1,6 @@
 use Rattle.std.proofs.Common.{rules, false}
 use Rattle.std.proofs.lemmas.Result.{err_from_is_err_and}
-use Rattle.schedules.specs.Runs.{Within, MakingRoom}
+use Rattle.schedules.specs.Runs.{Within}
 use Rattle.schedules.specs.Notes.{at}
 use Rattle.schedules.proofs.RunSteps.{and_led}
 use Rattle.schedules.proofs.TurnSteps.{delivered, held, delivered_not}
@@ -16,9 +16,7 @@ returns-in_err-answer g c programs rule own is =
 pub returns-then-is_held : goal.returns-then-is_held
 returns-then-is_held g c programs rule own is =
     let a = c.args in
-    and_led g.P.Program.acts rule (at a.system.now programs a.log.now own Within)
-    (at c.step.new.system programs c.step.new.log (rule.behind false own) (MakingRoom a.number))
-    (held g.P.Program.acts rule a.system.now programs a.log.now own c.step.new.system c.step.new.log a.number is
+    and_led (held g.P.Program.acts rule a.system.now programs a.log.now own c.step.new.system c.step.new.log a.number is
     c.in_ok-answer.answer c.in_ok-answer.ensures (search rules))
     c.evict_bank.result (at c.evict_bank.new.system programs c.evict_bank.new.log (rule.behind false own) Within)
     (c.evict_bank.ensures rule programs (rule.behind false own))

@@ -1,6 +1,6 @@
 use Rattle.std.proofs.Common.{◌≡◌, ◌∙◌, Some, ap, refl, rules}
 use Rattle.std.proofs.lemmas.Result.{err_from_is_err_and}
-use Rattle.schedules.specs.SeedSchedule.{Seeded, draw, seeded, seeded_next}
+use Rattle.schedules.specs.SeedSchedule.{Seeded, draw, seeded_next}
 use Rattle.schedules.specs.Notes.{Point}
 use Rattle.schedules.proofs.RunSteps.{leads_nowhere}
 use Rattle.schedules.proofs.seed.SeedsSchedule.turn.Goals as goal
@@ -32,7 +32,7 @@ returns-clause-led g c =
     } in
     let is : draw c.args.self.now ≡ own = search rules in
     let none = rw c.if-branch.false at (c.in_ok-make_drawn.ensures own refl) in
-    rw is (leads_nowhere g.P.Program.acts (seeded g.P.Program.acts) _ _ none.0)
+    rw is (leads_nowhere none.0)
 
 pub returns-clause-over : goal.returns-clause-over
 returns-clause-over g c =

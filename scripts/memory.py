@@ -6,7 +6,8 @@ allocation answered by `?` or by an arm such as `Err(AllocError) => ..`.
     scripts/memory.py --check    compares them with tests/memory.table, and fails if they differ
 
 No contract can say that an allocation really failed. So a place that answers so by itself needs a reason, which the
-table has. A place that isn't there might be one that gives up past some size.
+table has. A place that isn't there might be one that gives up past some size. So might one that asks for an amount that
+a condition or a greatest number makes: it is listed, too.
 """
 import re
 import sys
@@ -19,6 +20,7 @@ NOT_PRODUCTION = ("test_", "bench", "play_", "event_text", "guide_uses")
 WANT = r"(?:\bAllocError\b|\b(?:ReadError::Memory|[A-Z]\w*::NoMemory)\b|\bErr\(NoMemory\)|= NoMemory;)"
 PASSED_ON = re.compile(r"\s*(?:Err\()?(?:AllocError|(?:\w+::)+(?:NoMemory|Memory))\)?\s*")
 SKIPPED = re.compile(r"\s*(ghost |ensures\b|requires\b|impl\b|\) ->|[^=]*[≡≢])")
+AMOUNT = re.compile(r"\b(?:reserve|with_capacity|from_elem)\w*\(.*(?:\bMAX\b|\bif\b|<<)")
 IMPORT = re.compile(r"\s*(pub )?use ")
 FUNCTION = re.compile(r"\s*(?:pub(?:\(crate\))? )?(?:const )?fn (\w+)")
 TYPES = re.compile(r"Result<[^;{]*?AllocError>|#\[.*\]")
@@ -54,7 +56,7 @@ def places_of(text):
         named = FUNCTION.match(line)
         if named:
             function, around = named.group(1), []
-        for _ in range(answers(line)):
+        for _ in range(answers(line) + bool(AMOUNT.search(line))):
             own = [] if re.match(r"\s*return\b", line) else [line.strip()]
             yield function, " > ".join([code for _, code in around] + own)
         if line.endswith(" {") and not named and line.strip() != "{":

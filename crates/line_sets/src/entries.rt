@@ -21,59 +21,30 @@ impl Model for Row {
     ghost invariant = { λ row. row.count ≤ 16 };
 }
 
-/// The index of a line. It is tried first at an index where it may be, whatever that is; then the last lines are looked
-/// at first: those that came last are asked for most often. Where the line is found it may be next time.
+/// The index of a line. The last lines are looked at first: those that came last are asked for most often.
 #[inline(always)]
-fn index_of(entries: &[(u64, u32)], line: u64, near: &mut usize) -> Option<usize>
+fn index_of(entries: &[(u64, u32)], line: u64) -> Option<usize>
     requires { IsDistinct entries.now }
     ensures index { IsIndexOf entries.now line result }
     ensures below { IfSome result (λ at. at < length entries.now) }
 {
-    let first = *near;
-    if first < entries.len() {
-        if entries[first].0 == line {
-            return Some(first);
-        }
-    }
     let mut left = entries.len();
     while left > 0 {
         left -= 1;
         if entries[left].0 == line {
-            *near = left;
             return Some(left);
         }
     }
     None
 }
 
-/// The index of a line that is to leave. It is tried first at an index where it may be, whatever that is; then the
-/// first lines are looked at first: those that came first leave most often.
+/// The cell of a line.
 #[inline(always)]
-fn leaving_index(entries: &[(u64, u32)], line: u64, near: usize) -> Option<usize>
-    requires { IsDistinct entries.now }
-    ensures index { IsIndexOf entries.now line result }
-    ensures below { IfSome result (λ at. at < length entries.now) }
-{
-    if near < entries.len() {
-        if entries[near].0 == line {
-            return Some(near);
-        }
-    }
-    for at in 0..entries.len() {
-        if entries[at].0 == line {
-            return Some(at);
-        }
-    }
-    None
-}
-
-/// The cell of a line, which is tried first at an index where it may be.
-#[inline(always)]
-fn find_cell(entries: &[(u64, u32)], line: u64, near: &mut usize) -> Option<u32>
+fn find_cell(entries: &[(u64, u32)], line: u64) -> Option<u32>
     requires { IsDistinct entries.now }
     ensures { result ≡ find entries.now line }
 {
-    match index_of(entries, line, near) {
+    match index_of(entries, line) {
         Some(at) => Some(entries[at].1),
         None => None,
     }
@@ -103,13 +74,13 @@ impl Row {
         }
     }
 
-    /// The cell of a line, which is tried first at an index where it may be.
+    /// The cell of a line.
     #[inline(always)]
-    pub(crate) fn find(&self, line: u64, near: &mut usize) -> Option<u32>
+    pub(crate) fn find(&self, line: u64) -> Option<u32>
         requires { IsDistinct self.now }
         ensures { result ≡ find self.now line }
     {
-        find_cell(&self.entries[..self.count as usize], line, near)
+        find_cell(&self.entries[..self.count as usize], line)
     }
 
     /// Puts a line with its cell at the end.
@@ -121,15 +92,15 @@ impl Row {
         self.count += 1;
     }
 
-    /// Takes a line out, if it is there, and gives its cell. It is tried first at an index where it may be.
+    /// Takes a line out, if it is there, and gives its cell.
     #[inline(always)]
-    pub(crate) fn take(&mut self, line: u64, near: usize) -> Option<u32>
+    pub(crate) fn take(&mut self, line: u64) -> Option<u32>
         requires { IsDistinct self.old }
         ensures value { result ≡ find self.old line }
         ensures items { self.new ≡ without self.old line }
     {
         let count = self.count as usize;
-        let Some(at) = leaving_index(&self.entries[..count], line, near) else {
+        let Some(at) = index_of(&self.entries[..count], line) else {
             return None;
         };
         let cell = self.entries[at].1;

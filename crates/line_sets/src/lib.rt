@@ -7,4 +7,4 @@ mod rows;
 pub mod sets;
 
 pub use listed::{LineTest, Listed};
-pub use sets::{LineSets, NOWHERE};
+pub use sets::LineSets;

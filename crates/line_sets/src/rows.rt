@@ -65,16 +65,16 @@ impl Rows {
         self.rows.clear();
     }
 
-    /// The cell of a line in a set, which is tried first at an index of its row where it may be.
+    /// The cell of a line in a set.
     #[inline(always)]
-    pub(crate) fn find(&self, set: usize, line: u64, near: &mut usize) -> Option<u32>
+    pub(crate) fn find(&self, set: usize, line: u64) -> Option<u32>
         requires in_table { set < length self.now }
         requires distinct { IsDistinct (set_at self.now set) }
         ensures { result ≡ find (set_at self.now set) line }
     {
         match self.places[set] {
             None => None,
-            Some(place) => self.rows[place as usize].find(line, near),
+            Some(place) => self.rows[place as usize].find(line),
         }
     }
 
@@ -96,10 +96,9 @@ impl Rows {
         self.rows[place as usize].push(line, cell);
     }
 
-    /// Takes a line out of the row of its set, if it is there, and gives its cell. It is tried first at an index of the
-    /// row where it may be.
+    /// Takes a line out of the row of its set, if it is there, and gives its cell.
     #[inline(always)]
-    pub(crate) fn take(&mut self, set: usize, line: u64, near: usize) -> Option<u32>
+    pub(crate) fn take(&mut self, set: usize, line: u64) -> Option<u32>
         requires in_table { set < length self.old }
         requires distinct { IsDistinct (set_at self.old set) }
         ensures value { result ≡ find (set_at self.old set) line }
@@ -108,6 +107,6 @@ impl Rows {
         let Some(place) = self.places[set] else {
             return None;
         };
-        self.rows[place as usize].take(line, near)
+        self.rows[place as usize].take(line)
     }
 }

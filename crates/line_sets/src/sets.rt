@@ -20,9 +20,6 @@ use ranked_lines::selection::{leave_out, number_at};
 use std::alloc::{AllocError, Global};
 use std::marker::Model;
 
-/// A place where no line is.
-pub const NOWHERE: usize = usize::MAX;
-
 /// Sets of lines by number, each from its least recently used line to its most recently used one, with a value for
 /// each line. A set has as many lines as it has ways, at most, and no line twice. Which set a line belongs to is the
 /// caller's to say. Contracts see the ways and the list of sets.
@@ -129,19 +126,9 @@ impl<V: Copy + Listed> LineSets<V> {
         requires { set < length self.now.sets }
         ensures { option_copied result ≡ look self.now.sets set line }
     {
-        self.find_near(set, line, &mut NOWHERE)
-    }
-
-    /// What is kept of a line in a set. The line is tried first at a place where it may be, whatever that is; if it is
-    /// found, that place is then where it was found, so that the next call needn't search.
-    #[inline(always)]
-    pub fn find_near(&self, set: usize, line: u64, near: &mut usize) -> Option<&V>
-        requires { set < length self.now.sets }
-        ensures { option_copied result ≡ look self.now.sets set line }
-    {
         looked_up::<(u64, V)>();
         let _lists = self.arena.lists();
-        let Some(cell) = self.rows.find(set, line, near) else {
+        let Some(cell) = self.rows.find(set, line) else {
             return None;
         };
         Some(&self.arena.get(Cell(cell)).1)
@@ -199,20 +186,10 @@ impl<V: Copy + Listed> LineSets<V> {
         requires way { IsTrue (has_place self.old set line) }
         ensures { self.new ≡ record self.old { sets = put self.old.sets set line value } }
     {
-        self.insert_near(set, line, NOWHERE, value);
-    }
-
-    /// Does as `insert`. The line is tried first at a place where it may be, whatever that is.
-    #[inline(always)]
-    pub fn insert_near(&mut self, set: usize, line: u64, mut near: usize, value: V)
-        requires in_table { set < length self.old.sets }
-        requires way { IsTrue (has_place self.old set line) }
-        ensures { self.new ≡ record self.old { sets = put self.old.sets set line value } }
-    {
         looked_up::<(u64, V)>();
         taken_off::<(u64, V)>();
         let _lists = self.arena.lists();
-        let Some(cell) = self.rows.find(set, line, &mut near) else {
+        let Some(cell) = self.rows.find(set, line) else {
             self.add(set, line, value);
             return;
         };
@@ -255,19 +232,9 @@ impl<V: Copy + Listed> LineSets<V> {
         requires there { IsTrue (is_there (set_at self.old.sets set) line) }
         ensures { self.new ≡ record self.old { sets = put_within self.old.sets set line value } }
     {
-        self.replace_near(set, line, NOWHERE, value);
-    }
-
-    /// Does as `replace`. The line is tried first at a place where it may be, whatever that is.
-    #[inline(always)]
-    pub fn replace_near(&mut self, set: usize, line: u64, mut near: usize, value: V)
-        requires in_table { set < length self.old.sets }
-        requires there { IsTrue (is_there (set_at self.old.sets set) line) }
-        ensures { self.new ≡ record self.old { sets = put_within self.old.sets set line value } }
-    {
         looked_up::<(u64, V)>();
         let _lists = self.arena.lists();
-        if let Some(cell) = self.rows.find(set, line, &mut near) {
+        if let Some(cell) = self.rows.find(set, line) {
             let old = &self.arena.get(Cell(cell)).1;
             let before = count_of(old);
             let after = count_of(&value);
@@ -286,21 +253,10 @@ impl<V: Copy + Listed> LineSets<V> {
         ensures absent { result ≡ None → self.new ≡ self.old }
         ensures after { self.new ≡ record self.old { sets = drop_line self.old.sets set line } }
     {
-        self.remove_near(set, line, NOWHERE)
-    }
-
-    /// Does as `remove`. The line is tried first at a place where it may be, whatever that is.
-    #[inline(always)]
-    pub fn remove_near(&mut self, set: usize, line: u64, near: usize) -> Option<V>
-        requires { set < length self.old.sets }
-        ensures value { result ≡ look self.old.sets set line }
-        ensures absent { result ≡ None → self.new ≡ self.old }
-        ensures after { self.new ≡ record self.old { sets = drop_line self.old.sets set line } }
-    {
         looked_up::<(u64, V)>();
         taken_off::<(u64, V)>();
         let _lists = self.arena.lists();
-        let Some(cell) = self.rows.take(set, line, near) else {
+        let Some(cell) = self.rows.take(set, line) else {
             return None;
         };
         let (_line, value) = self.arena.unlink(Cell(cell));

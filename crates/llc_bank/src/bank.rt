@@ -15,7 +15,7 @@ use crate::config::BankConfig;
 use crate::decision::{Decision, Eviction, decide, decide_eviction};
 use crate::entry::{Entry, Evict, EvictError};
 use dram_mts::MemoryTime;
-use line_sets::{LineSets, NOWHERE};
+use line_sets::LineSets;
 use network::{Body, LineNo, Message, Node, Part, PartError, Reaction, quotient, remainder};
 use std::alloc::{AllocError, Global};
 use std::marker::Model;
@@ -117,14 +117,14 @@ impl Bank {
         self.table.find(self.set_of(line), line.0)
     }
 
-    // The same, by the line's set and a place in it where the line may be: there it is tried first.
+    // The same, by the line's set, which needs two divisions: a message's is worked out once.
     #[inline(always)]
-    fn entry_near(&self, line: LineNo, set: usize, near: &mut usize) -> Option<&Entry>
+    fn entry_in(&self, set: usize, line: LineNo) -> Option<&Entry>
         requires set { set ≡ set_of self.now line }
         requires below { set < length self.now.table.sets }
         ensures { option_copied result ≡ entry_of self.now line }
     {
-        self.table.find_near(set, line.0, near)
+        self.table.find(set, line.0)
     }
 
     /// The time from which a line that comes from DRAM now would be valid.
@@ -137,18 +137,18 @@ impl Bank {
 
     // Sets the entry of a line that is there, or has room, and makes it the most recently used of its set.
     #[inline(always)]
-    fn use_entry(&mut self, line: LineNo, set: usize, near: usize, entry: Entry)
+    fn use_entry(&mut self, set: usize, line: LineNo, entry: Entry)
         requires set { set ≡ set_of self.old line }
         requires below { set < length self.old.table.sets }
         requires way { IsTrue (has_place self.old.table set line) }
         ensures { self.new ≡ with_used self.old line entry }
     {
-        self.table.insert_near(set, line.0, near, entry);
+        self.table.insert(set, line.0, entry);
     }
 
     // Gives a line an entry that has none, but room in its set, and makes it the most recently used of its set.
     #[inline(always)]
-    fn add_entry(&mut self, line: LineNo, set: usize, entry: Entry)
+    fn add_entry(&mut self, set: usize, line: LineNo, entry: Entry)
         requires set { set ≡ set_of self.old line }
         requires below { set < length self.old.table.sets }
         requires absent { entry_of self.old line ≡ None }
@@ -160,23 +160,23 @@ impl Bank {
 
     // Changes the entry of a line that is there, and keeps the order of use.
     #[inline(always)]
-    fn change_entry(&mut self, line: LineNo, set: usize, near: usize, entry: Entry)
+    fn change_entry(&mut self, set: usize, line: LineNo, entry: Entry)
         requires set { set ≡ set_of self.old line }
         requires below { set < length self.old.table.sets }
         requires there { IsSome (entry_of self.old line) }
         ensures { self.new ≡ with_changed self.old line entry }
     {
-        self.table.replace_near(set, line.0, near, entry);
+        self.table.replace(set, line.0, entry);
     }
 
     // Takes out the entry of a line.
     #[inline(always)]
-    fn drop_entry(&mut self, line: LineNo, set: usize, near: usize)
+    fn drop_entry(&mut self, set: usize, line: LineNo)
         requires set { set ≡ set_of self.old line }
         requires below { set < length self.old.table.sets }
         ensures { self.new ≡ without_entry self.old line }
     {
-        let _entry = self.table.remove_near(set, line.0, near);
+        let _entry = self.table.remove(set, line.0);
     }
 
     // A message of the bank about a line.
@@ -200,9 +200,9 @@ impl Bank {
         self.from_bank(line, Node::Dram(self.number), body)
     }
 
-    // What the bank does at a message, by its line's set. If the bank has the line, its place is noted.
+    // What the bank does at a message, by its line's set.
     #[inline(always)]
-    fn decided(&self, message: &Message, set: usize, near: &mut usize) -> Decision
+    fn decided(&self, message: &Message, set: usize) -> Decision
         requires set { set ≡ set_of self.now message.now.line }
         requires below { set < length self.now.table.sets }
         ensures decision { result ≡ decided self.now message.now }
@@ -214,7 +214,7 @@ impl Bank {
             self.memory_time(),
             self.table.has_room(set),
             core_of(message.from),
-            self.entry_near(message.line, set, near),
+            self.entry_in(set, message.line),
             &message.body,
         )
     }
@@ -226,22 +226,21 @@ impl Bank {
         ensures { (result, self.new) ≡ evict self.old line }
     {
         let set = self.set_of(line);
-        let mut near = NOWHERE;
-        match decide_eviction(self.entry_near(line, set, &mut near)) {
+        match decide_eviction(self.entry_in(set, line)) {
             Eviction::NotThere => Err(EvictError::NotHere),
             Eviction::IsBusy => Err(EvictError::Busy),
             Eviction::Drops { rts } => {
-                self.drop_entry(line, set, near);
+                self.drop_entry(set, line);
                 self.mts.raise(rts);
                 Ok(Evict::Clean)
             }
             Eviction::Stores { rts, words } => {
-                self.change_entry(line, set, near, Entry::Storing);
+                self.change_entry(set, line, Entry::Storing);
                 self.mts.raise(rts);
                 Ok(Evict::Stored(self.to_dram(line, Body::DramSt(words))))
             }
             Eviction::AsksBack { owner } => {
-                self.change_entry(line, set, near, Entry::Recalling { owner });
+                self.change_entry(set, line, Entry::Recalling { owner });
                 Ok(Evict::Recalled(self.from_bank(line, Node::Core(owner), Body::FlushReq)))
             }
         }
@@ -283,7 +282,7 @@ impl Bank {
         if self.table.has_room(set) || !self.table.is_all_listed(set) {
             return None;
         }
-        if self.table.find(set, line.0).is_some() {
+        if self.entry_in(set, line).is_some() {
             return None;
         }
         choose(&self.table, set)
@@ -352,8 +351,7 @@ impl Part for Bank {
 
     fn sends(&self, message: &Message) -> Option<(Node, bool)> {
         let set = self.set_of(message.line);
-        let mut near = NOWHERE;
-        match self.decided(message, set, &mut near) {
+        match self.decided(message, set) {
             Decision::Loads => Some((Node::Dram(self.number), true)),
             Decision::Recalls { owner, sent: _ } => Some((Node::Core(owner), true)),
             Decision::Grants { entry: _, sent: _ } => Some((message.from, false)),
@@ -375,27 +373,26 @@ impl Part for Bank {
     {
         let line = message.line;
         let set = self.set_of(line);
-        let mut near = NOWHERE;
-        match self.decided(message, set, &mut near) {
+        match self.decided(message, set) {
             Decision::Waits => Ok(Reaction::Held),
             Decision::Loads => {
-                self.add_entry(line, set, Entry::Loading);
+                self.add_entry(set, line, Entry::Loading);
                 Ok(Reaction::HeldAfter(self.to_dram(line, Body::DramLd)))
             }
             Decision::Recalls { owner, sent } => {
-                self.change_entry(line, set, near, Entry::Recalling { owner });
+                self.change_entry(set, line, Entry::Recalling { owner });
                 Ok(Reaction::HeldAfter(self.from_bank(line, Node::Core(owner), sent)))
             }
             Decision::Grants { entry, sent } => {
-                self.use_entry(line, set, near, entry);
+                self.use_entry(set, line, entry);
                 Ok(Reaction::Done(Some(self.from_bank(line, message.from, sent))))
             }
             Decision::Becomes(entry) => {
-                self.change_entry(line, set, near, entry);
+                self.change_entry(set, line, entry);
                 Ok(Reaction::Done(None))
             }
             Decision::Leaves => {
-                self.drop_entry(line, set, near);
+                self.drop_entry(set, line);
                 Ok(Reaction::Done(None))
             }
             Decision::TooLate => Err(PartError::Exhausted),

@@ -16,10 +16,6 @@ pub returns-then-entries-left-clause-index : goal.returns-then-entries-left-clau
 returns-then-entries-left-clause-index c = distinct-first c.args.entries.now c.args.line (c.loop-left.left - 1) _ c.requires
     (omega (arith, c.loop-left.invariant.within, c.loop-left-test.true)) c.if-entries-left.true
 
-pub returns-then-entries-first-clause-index : goal.returns-then-entries-first-clause-index
-returns-then-entries-first-clause-index c = distinct-first c.args.entries.now c.args.line _ _ c.requires
-    (omega (arith, c.if-first-entries.true)) c.if-entries-first.true
-
 pub returns-clause-index : goal.returns-clause-index
 returns-clause-index c = nowhere-missing c.args.entries.now c.args.line (0, 0)
     (λ k low. c.loop-left.invariant.behind k (omega arith) low)

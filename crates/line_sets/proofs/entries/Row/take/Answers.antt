@@ -9,18 +9,18 @@ pub returns-in_default-clause-value : goal.returns-in_default-clause-value
 returns-in_default-clause-value c =
     let row = take c.self.inside.count c.self.inside.entries in
     rw (← c.self.view_is) (sym (missing-find row c.args.line
-    (rw c.in_default.is at c.leaving_index.ensures.index)))
+    (rw c.in_default.is at c.index_of.ensures.index)))
 
 pub returns-in_default-clause-items : goal.returns-in_default-clause-items
 returns-in_default-clause-items c =
     let row = take c.self.inside.count c.self.inside.entries in
     rw (← c.self.view_is) (sym (missing-without row c.args.line
-    (rw c.in_default.is at c.leaving_index.ensures.index)))
+    (rw c.in_default.is at c.index_of.ensures.index)))
 
 pub returns-clause-value : goal.returns-clause-value
 returns-clause-value c =
     let row = take c.self.inside.count c.self.inside.entries in
-    let h : IsFirstAt row c.args.line c.in-Some.at = rw c.in-Some.is at c.leaving_index.ensures.index in
+    let h : IsFirstAt row c.args.line c.in-Some.at = rw c.in-Some.is at c.index_of.ensures.index in
     let below = first-below row c.args.line c.in-Some.at h in
     let most = length-first c.self.inside.count c.self.inside.entries in
     let low : c.in-Some.at < c.self.inside.count = omega arith in
@@ -31,6 +31,6 @@ returns-clause-value c =
 pub returns-clause-items : goal.returns-clause-items
 returns-clause-items c =
     let row = take c.self.inside.count c.self.inside.entries in
-    let h : IsFirstAt row c.args.line c.in-Some.at = rw c.in-Some.is at c.leaving_index.ensures.index in
+    let h : IsFirstAt row c.args.line c.in-Some.at = rw c.in-Some.is at c.index_of.ensures.index in
     let distinct = rw (← c.self.view_is) at c.requires in
     rw (← c.self.view_is) (removed row _ c.args.line c.in-Some.at distinct h c.move_down.ensures)

@@ -8,5 +8,5 @@ invariant_of-self c =
     let is : c.args.set ≡ (c.line.inside.0 / c.self.inside.banks) % length c.self.inside.table.sets =
     home_set c.self.inside.banks c.self.inside.table c.args.self.now _ _ _ (ap (λ (b : BankState). b.banks)
     c.self.view_is) (ap (λ (b : BankState). b.table) c.self.view_is) c.line.view_is c.requires.set in
-    sound-put c.self.inside.banks c.self.inside.table c.insert_near.new.self c.args.set c.line.inside.0 _
-    c.self.invariant is c.insert_near.ensures
+    sound-put c.self.inside.banks c.self.inside.table c.insert.new.self c.args.set c.line.inside.0 _
+    c.self.invariant is c.insert.ensures

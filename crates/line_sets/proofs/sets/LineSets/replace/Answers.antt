@@ -4,7 +4,7 @@ use Rattle.line_sets.proofs.ListedCounts.{counted-put_within, in-count, next-fit
 use Rattle.line_sets.proofs.ListedTallies.{tallied-put_within}
 use Rattle.line_sets.proofs.StoredSets.{table_of, below, is-found, is-missing, written, written-in}
 use Rattle.line_sets.proofs.UnlistedCounts.{can-count, recounted-put_within}
-use Rattle.line_sets.proofs.sets.LineSets.replace_near.Goals as goal
+use Rattle.line_sets.proofs.sets.LineSets.replace.Goals as goal
 
 pub recount-requires : goal.recount-requires
 recount-requires g c =

@@ -5,7 +5,7 @@ use Rattle.line_sets.proofs.ListedTallies.{tallied-put}
 use Rattle.line_sets.proofs.StoredSets.{table_of, below, is-found, is-missing, if-some, used, written-there}
 use Rattle.line_sets.proofs.Walks.{is-none, used-last}
 use Rattle.line_sets.proofs.UnlistedCounts.{can-count, recounted-put}
-use Rattle.line_sets.proofs.sets.LineSets.insert_near.Goals as goal
+use Rattle.line_sets.proofs.sets.LineSets.insert.Goals as goal
 
 pub recount-requires : goal.recount-requires
 recount-requires g c =

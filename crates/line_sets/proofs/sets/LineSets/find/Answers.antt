@@ -1,7 +1,7 @@
 use Rattle.std.proofs.Common.{sym, ap, ◌∙◌}
 use Rattle.std.specs.Option.{is_some}
 use Rattle.line_sets.proofs.StoredSets.{below, is-found, is-missing, second-of}
-use Rattle.line_sets.proofs.sets.LineSets.find_near.Goals as goal
+use Rattle.line_sets.proofs.sets.LineSets.find.Goals as goal
 
 pub returns-in_default : goal.returns-in_default
 returns-in_default g c =

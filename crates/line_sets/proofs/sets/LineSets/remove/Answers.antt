@@ -4,7 +4,7 @@ use Rattle.line_sets.proofs.ListedCounts.{counted-drop_line, in-count, still-roo
 use Rattle.line_sets.proofs.ListedTallies.{tallied-drop_line}
 use Rattle.line_sets.proofs.StoredSets.{table_of, below, is-found, is-missing, nothing-cut, cut-off, second-of}
 use Rattle.line_sets.proofs.UnlistedCounts.{can-count, recounted-drop_line}
-use Rattle.line_sets.proofs.sets.LineSets.remove_near.Goals as goal
+use Rattle.line_sets.proofs.sets.LineSets.remove.Goals as goal
 
 pub recount-requires : goal.recount-requires
 recount-requires g c =

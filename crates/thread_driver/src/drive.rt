@@ -31,7 +31,7 @@ use stop_flags::{Signals, open_signals};
 /// the gate. docs/SCHEDULES.md has the order within a turn. Each core has a program, which gives it its steps. At any
 /// end, each core was issued what its program gave, in order, and the program received what each completed operation
 /// did, in order. An operation that is still open is the program's next. Turns are all that seats are given, and each
-/// has at most `turn_limit` of them; if the end is TurnsUsed, each has had exactly `turn_limit`.
+/// has at most `turn_limit` of them; if the end is TurnsUsed, each has had all of these.
 ///
 /// A worker goes on until all programs are done, each of its seats had `turn_limit` turns, or some seat lacked memory
 /// or stopped. If memory for the workers can't be allocated, no turn is made, all is as it was given, and the end is

@@ -5,7 +5,7 @@ mod ReadyCores
 mod RunSteps
 mod TurnSteps
 mod TurnEnds
-mod Deliveries
+mod RoundTurns
 mod GivenSteps
 mod RoundSteps
 mod SeedSteps

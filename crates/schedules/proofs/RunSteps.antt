@@ -125,48 +125,57 @@ module _ {P S : Type 0} (acts : Acts P) (schedule : Schedule P S) where
       (at m programs log own stage) turns) →
       Leads acts schedule p (at m programs log own stage)
   unfolding Next
-  leads_by p event leads answer m programs log own stage is_next noted lands = (
-    noted_keeps p.log p.machine m event (Ok answer) log noted,
-    λ limit start turns before.
+  leads_by p event leads answer m programs log own stage is_next noted lands = record {
+    kept = noted_keeps p.log p.machine m event (Ok answer) log noted;
+    arrives = λ limit start turns before.
         subst (λ (d : Position P S). Arrives (plan_of acts schedule limit) start log.events d) (lands turns)
-        (did (plan_of acts schedule limit) start p turns event leads before (is_next limit turns) answer m log noted),
-  )
+        (did (plan_of acts schedule limit) start p turns event leads before (is_next limit turns) answer m log noted);
+  }
 
   -- by an event that ends the run
   pub stops_by : (p : Point P S) (event : Event) (leads : Answer → Position P S → Position P S) (e : End)
       (m : Machine) (log : Log) → Next p event leads →
       Noted p.machine p.log event (Err e) m log → Stops acts schedule p m p.programs log e
   unfolding Next
-  stops_by p event leads e m log is_next noted = (
-    noted_keeps p.log p.machine m event (Err e) log noted,
-    λ limit start turns before.
-        stopped (plan_of acts schedule limit) start p turns event leads before (is_next limit turns) e m log noted,
-  )
+  stops_by p event leads e m log is_next noted = record {
+    kept = noted_keeps p.log p.machine m event (Err e) log noted;
+    finishes = λ limit start turns before.
+        stopped (plan_of acts schedule limit) start p turns event leads before (is_next limit turns) e m log noted;
+  }
 
   -- without an event
   pub leads_over : (m : Machine) (programs : List P) (log : Log) (own own_after : S) (from to : Stage) →
       ((limit turns : ℕ) → next (plan_of acts schedule limit) (position (at m programs log own from) turns) ≡ Moves
       (position (at m programs log own_after to) turns)) →
       Leads acts schedule (at m programs log own from) (at m programs log own_after to)
-  leads_over m programs log own own_after from to is_next = (
-    refl,
-    λ limit start turns before. moved (plan_of acts schedule limit) start log.events
+  leads_over m programs log own own_after from to is_next = record {
+    kept = refl;
+    arrives = λ limit start turns before. moved (plan_of acts schedule limit) start log.events
         (position (at m programs log own from) turns) (position (at m programs log own_after to) turns) before
-        (is_next limit turns),
-  )
+        (is_next limit turns);
+  }
 
-  module _ (p q : Point P S) (first : Leads acts schedule p q) where
-    -- one part of a run behind the other
-    pub and_then : (s : Point P S) → Leads acts schedule q s → Leads acts schedule p s
-    and_then s more =
-        (more.0 ∙ first.0, λ limit start turns before. more.1 limit start turns (first.1 limit start turns before))
+module _ {P S : Type 0} {acts : Acts P} {schedule : Schedule P S} where
+  pub leads_nowhere : {p q : Point P S} → q ≡ p → Leads acts schedule p q
+  leads_nowhere {p} same =
+      subst (λ (r : Point P S). Leads acts schedule p r) (sym same)
+      (record { kept = refl; arrives = λ limit start turns before. before })
 
-    pub and_stops : (m : Machine) (programs : List P) (log : Log) (e : End) →
-        Stops acts schedule q m programs log e → Stops acts schedule p m programs log e
-    and_stops m programs log e more =
-        (more.0 ∙ first.0, λ limit start turns before. more.1 limit start turns (first.1 limit start turns before))
+  -- one part of a run behind the other
+  pub and_then : {p q s : Point P S} → Leads acts schedule p q → Leads acts schedule q s → Leads acts schedule p s
+  and_then first more = record {
+    kept = more.kept ∙ first.kept;
+    arrives = λ limit start turns before. more.arrives limit start turns (first.arrives limit start turns before);
+  }
 
-    pub and_led : {X : Type 0} (r : Result X End) (s : Point P S) → Led acts schedule q r s →
-        Led acts schedule p r s
-    and_led (Ok x) s more = and_then s more
-    and_led (Err e) s more = and_stops s.machine s.programs s.log e more
+  pub and_stops : {p q : Point P S} {m : Machine} {programs : List P} {log : Log} {e : End} →
+      Leads acts schedule p q → Stops acts schedule q m programs log e → Stops acts schedule p m programs log e
+  and_stops first more = record {
+    kept = more.kept ∙ first.kept;
+    finishes = λ limit start turns before. more.finishes limit start turns (first.arrives limit start turns before);
+  }
+
+  pub and_led : {X : Type 0} {p q : Point P S} → Leads acts schedule p q → (r : Result X End) (s : Point P S) →
+      Led acts schedule q r s → Led acts schedule p r s
+  and_led first (Ok x) s more = and_then first more
+  and_led first (Err e) s more = and_stops first more

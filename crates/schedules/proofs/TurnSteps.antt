@@ -183,9 +183,9 @@ module _ {P S : Type 0} (acts : Acts P) (schedule : Schedule P S) (m : Machine) 
   -- memory was refused before the turn was over
   pub refused : schedule.next m programs own ≢ Over → IsTrue (schedule.lists own) →
       Stops acts schedule Here m programs log NoMemory
-  refused more lists = (
-    refl,
-    λ limit start turns before.
+  refused more lists = record {
+    kept = refl;
+    finishes = λ limit start turns before.
         finished (plan_of acts schedule limit) start log.events (position Here turns) m programs NoMemory before
         (λ events follows. record {
           last = position Here turns;
@@ -197,5 +197,5 @@ module _ {P S : Type 0} (acts : Acts P) (schedule : Schedule P S) (m : Machine) 
             λ other ends. more (still_in limit turns other (schedule.next m programs own) ends),
             inr (refl, lists),
           );
-        }),
-  )
+        });
+  }

@@ -9,5 +9,4 @@ pub mod Policies
 pub mod Batches
 pub mod RunEvents
 pub mod Notes
-pub mod Turns
 pub mod GivenSteps

@@ -2,6 +2,7 @@
 use Rattle.std.specs.Prelude.{◌≡◌, ℕ, Bool, true, false, ◌||◌, List, [], ◌∷◌, ◌++◌, Option, is_some, option_map, IsTrue}
 use Rattle.std.specs.Prelude.{Result, Ok, Err}
 use Rattle.machine_table.specs.declared.event.Event.{Event}
+use Rattle.machine_table.specs.declared.event.Event.TheVariants as event
 use Rattle.machine_table.specs.declared.event.Answer.{Answer}
 use Rattle.machine_table.specs.declared.event.Answer.TheVariants.{Refused}
 use Rattle.machine_table.specs.declared.event.Refusal.TheVariants.{Exhausted as TimesEnd, NoMemory as NoMemoryAnswer}
@@ -10,9 +11,11 @@ use Rattle.machine_table.specs.Transition.{transition}
 use Rattle.interleaving_core.specs.StepAnswers.{asks_memory}
 use Rattle.programs.specs.declared.ends.End.{End}
 use Rattle.programs.specs.declared.ends.End.TheVariants.{AllDone, Stalled, TurnsUsed, Exhausted, NoMemory}
+use Rattle.programs.specs.declared.steps.Step.{Step}
+use Rattle.programs.specs.declared.steps.Step.TheVariants as step
 use Rattle.programs.specs.Acts.{Acts}
-use Rattle.schedules.specs.Schedules.{Schedule}
-use Rattle.schedules.specs.Runs.{Stage, Position, plan_of, is_progress, is_times_end}
+use Rattle.schedules.specs.Schedules.{Schedule, Choice, Does, Advances}
+use Rattle.schedules.specs.Runs.{Stage, Within, Position, plan_of, is_progress, is_times_end}
 use Rattle.schedules.specs.RunEvents.{Arrives, Finishes}
 
 -- the events so far, if they are kept, whether an answer of this turn was progress, and how many more can be noted
@@ -31,6 +34,10 @@ pub record IsNoted (log : Log) (event : Event) (answer : Answer) (after : Log) :
 pub record IsSame (log after : Log) : Type 0 where
   pub events : after.events ≡ log.events
   pub has_progressed : after.has_progressed ≡ log.has_progressed
+
+abbrev pub is_refused : Answer → Bool
+is_refused (Refused why) = true
+is_refused _ = false
 
 abbrev pub is_no_memory : Answer → Bool
 is_no_memory (Refused NoMemoryAnswer) = true
@@ -78,19 +85,40 @@ abbrev pub KeepsAs : Log → Log → Type 0
 KeepsAs log after = is_some after.events ≡ is_some log.events
 
 -- a run that follows its plan to the one point follows it to the other, for any limit of turns
-abbrev pub Leads : {P S : Type 0} → Acts P → Schedule P S → Point P S → Point P S → Type 0
-Leads {P} {S} acts schedule p q = KeepsAs p.log q.log × ((limit : ℕ) (start : Position P S) (turns : ℕ) →
-    Arrives (plan_of acts schedule limit) start p.log.events (position p turns) →
-    Arrives (plan_of acts schedule limit) start q.log.events (position q turns))
+pub record Leads {P S : Type 0} (acts : Acts P) (schedule : Schedule P S) (p q : Point P S) : Type 0 where
+  pub kept : KeepsAs p.log q.log
+  pub arrives : (limit : ℕ) (start : Position P S) (turns : ℕ) →
+      Arrives (plan_of acts schedule limit) start p.log.events (position p turns) →
+      Arrives (plan_of acts schedule limit) start q.log.events (position q turns)
 
 -- a run that follows its plan to the point ends with this machine, these programs and this log
-abbrev pub Stops : {P S : Type 0} → Acts P → Schedule P S → Point P S → Machine → List P → Log → End → Type 0
-Stops {P} {S} acts schedule p m programs log end = KeepsAs p.log log × ((limit : ℕ) (start : Position P S)
-    (turns : ℕ) → Arrives (plan_of acts schedule limit) start p.log.events (position p turns) →
-    Finishes (plan_of acts schedule limit) start log.events m programs end)
+pub record Stops {P S : Type 0} (acts : Acts P) (schedule : Schedule P S) (p : Point P S) (m : Machine)
+    (programs : List P) (log : Log) (end : End) : Type 0 where
+  pub kept : KeepsAs p.log log
+  pub finishes : (limit : ℕ) (start : Position P S) (turns : ℕ) →
+      Arrives (plan_of acts schedule limit) start p.log.events (position p turns) →
+      Finishes (plan_of acts schedule limit) start log.events m programs end
 
 -- a part of a run leads from the one point to the other, or ends the run
 abbrev pub Led : {X : Type 0} {P S : Type 0} → Acts P → Schedule P S → Point P S → Result X End →
     Point P S → Type 0
 Led acts schedule p (Ok x) q = Leads acts schedule p q
 Led acts schedule p (Err end) q = Stops acts schedule p q.machine q.programs q.log end
+
+-- what a schedule has next is made, with the eviction that follows: from wherever a schedule has it next, this leads to
+-- the stage behind, or ends the run
+abbrev pub IsMade : {X P S : Type 0} → Acts P → Choice S → Bool → Machine → List P → Log → Result X End → Machine →
+    List P → Log → Type 0
+IsMade {X} {P} {S} acts choice full m programs log result after told after_log =
+    (rule : Schedule P S) (own : S) → rule.next m programs own ≡ choice →
+    Led acts rule (at m programs log own Within) result (at after told after_log (rule.behind full own) Within)
+
+-- whether an attempt found no place
+abbrev pub is_full : Result Bool End → Bool
+is_full (Ok full) = full
+is_full (Err end) = false
+
+-- a step of a core's program as a choice
+abbrev pub step_choice : {S : Type 0} → ℕ → Step → Choice S
+step_choice core (step.Op op) = Does (event.Issue core op)
+step_choice core step.Advance = Advances core

@@ -1,37 +1,34 @@
--- How many steps are left in a seeded turn, and how an entry that is picked stands for what the schedule has next.
-use Rattle.std.specs.Prelude.{◌≡◌, ◌≢◌, ℕ, List, [], ◌∷◌, Option, Some, None, IsSome}
-use Rattle.std.specs.Prelude.{Result, Ok, Err}
-use Rattle.schedules.specs.declared.schedule.Choice.{Choice as Chosen}
-use Rattle.schedules.specs.declared.schedule.Choice.TheVariants as chosen
-use Rattle.schedules.specs.Schedules.{Choice, Does, Tries, Delivers, Advances, Over}
-use Rattle.schedules.specs.SeedSchedule.{Seeded}
+-- How a seeded turn makes what it drew.
+use Rattle.std.specs.Prelude.{◌≡◌, ◌≢◌, ℕ, Bool, true, false, List, Option, Some, None, Result, Ok, Err}
+use Rattle.machine_table.specs.declared.event.Event.{Event}
+use Rattle.machine_table.specs.Machine.{Machine}
+use Rattle.programs.specs.declared.ends.End.{End}
+use Rattle.programs.specs.Acts.{Acts}
+use Rattle.schedules.specs.Schedules.{Choice, Does, Over}
+use Rattle.schedules.specs.Runs.{Within}
+use Rattle.schedules.specs.SeedSchedule.{Seeded, passed, seeded, seeded_next}
+use Rattle.schedules.specs.Notes.{Log, Point, Leads, Stops, Led, at}
 
--- one step, while the words of the turn are there
-abbrev pub left_with : Option (ℕ × ℕ) → ℕ
-left_with None = 0
-left_with (Some words) = 1
+-- an entry of the list is made, where it was drawn
+abbrev pub IsDrawn : {X P : Type 0} → Acts P → Choice Seeded → Machine → List P → Log → Result X End → Machine →
+    List P → Log → Type 0
+IsDrawn acts choice m programs log result after told after_log =
+    (own : Seeded) → seeded_next acts m programs own.drawn ≡ choice →
+    Led acts (seeded acts) (at m programs log own Within) result (at after told after_log (passed false own) Within)
 
-abbrev pub draws_left : Seeded → ℕ
-draws_left own = left_with own.drawn
+-- a turn that drew its words makes their event; or there is none, and the turn is over; or the run ends
+abbrev pub IsTurn : {P : Type 0} → Acts P → Point P Seeded → Result Bool End → Point P Seeded → Type 0
+IsTurn acts p (Ok true) q = Leads acts (seeded acts) p (record q { own = passed false p.own })
+IsTurn acts p (Ok false) q = (q ≡ p) × (seeded_next acts p.machine p.programs p.own.drawn ≡ Over)
+IsTurn acts p (Err end) q = Stops acts (seeded acts) p q.machine q.programs q.log end
 
-abbrev pub IsDrawn : Seeded → Type 0
-IsDrawn own = IsSome own.drawn
+-- what was drawn is made, or ends the run
+abbrev pub was_made : Result (Unit {0}) End → Result Bool End
+was_made (Ok done) = Ok true
+was_made (Err end) = Err end
 
--- the code's choice stands for an entry
-abbrev pub Picks : Choice Seeded → Chosen → Type 0
-Picks next (chosen.Does event) = next ≡ Does event
-Picks next (chosen.Tries core) = next ≡ Tries core
-Picks next (chosen.Delivers number) = next ≡ Delivers number
-Picks next (chosen.Advances core) = next ≡ Advances core
-Picks next chosen.Goes = ⊥
-Picks next chosen.Over = next ≡ Over
-
--- or an allocation failed for an entry that there is
-abbrev pub PicksOne : {E : Type 0} → Choice Seeded → Result Chosen E → Type 0
-PicksOne next (Ok choice) = Picks next choice
-PicksOne next (Err e) = next ≢ Over
-
--- a list of at most one entry
-abbrev pub PicksAny : List (Choice Seeded) → Option Chosen → Type 0
-PicksAny choices None = choices ≡ []
-PicksAny choices (Some choice) = (next : Choice Seeded) × (choices ≡ next ∷ []) × Picks next choice
+-- the entry that is drawn is this line's eviction; or there is none; or an allocation failed, where there is one
+abbrev pub IsLine : {E : Type 0} → (ℕ → ℕ → Event) → Choice Seeded → Result (Option (ℕ × ℕ)) E → Type 0
+IsLine eviction next (Ok None) = next ≡ Over
+IsLine eviction next (Ok (Some x)) = next ≡ Does (eviction x.0 x.1)
+IsLine eviction next (Err e) = next ≢ Over

@@ -1,7 +1,7 @@
 //! The events that a run made, each noted when it is answered.
 ghost use Rattle.std.specs.Prelude.{◌≡◌, ◌<◌, ◌++◌, ◌∷◌, [], false, ◌||◌, IsSome, None, OnErr, OnOk, Some};
 ghost use Rattle.std.specs.Prelude.{is_some, option_map, true};
-ghost use Rattle.schedules.specs.Notes.{Noted, is_no_memory};
+ghost use Rattle.schedules.specs.Notes.{Noted, is_no_memory, is_refused};
 ghost use Rattle.schedules.specs.Runs.{is_advanced, is_times_end, is_held, is_progress, is_no_room};
 
 use interleaving_core::{Answer, Event, Refusal, System};
@@ -55,6 +55,15 @@ pub(crate) fn is_advanced(answer: &Answer) -> bool
     ensures { result ≡ is_advanced answer.now }
 {
     matches!(*answer, Answer::Advanced)
+}
+
+// Whether an event was refused; only a refusal may end a run.
+fn is_refused(answer: &Answer) -> bool
+    ensures refused { result ≡ is_refused answer.now }
+    ensures goes_on { result ≡ false →
+        (is_no_memory answer.now ≡ false) × (is_times_end answer.now ≡ false) }
+{
+    matches!(*answer, Answer::Refused(_))
 }
 
 fn is_no_memory(answer: &Answer) -> bool
@@ -173,6 +182,10 @@ pub(crate) fn step(log: &mut Log, system: &mut System, event: &Event) -> Result<
         return Err(End::NoMemory);
     }
     let answer = system.step(*event);
+    if !is_refused(&answer) {
+        log.note(event, &answer);
+        return Ok(answer);
+    }
     if is_no_memory(&answer) {
         return Err(End::NoMemory);
     }

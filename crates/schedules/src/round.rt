@@ -1,53 +1,35 @@
 //! Rounds as a schedule: each core has its turn, in rising order, and then each message that is in flight is delivered.
-ghost use Rattle.std.specs.Prelude.{◌≡◌, ◌<◌, IfOk};
+ghost use Rattle.std.specs.Prelude.{◌≡◌, ◌<◌, ◌+◌, [], ℕ, List, IfOk, is_some, true};
 ghost use Rattle.machine_table.specs.Machine.{open_op};
-ghost use Rattle.programs.specs.Acts.{next_in};
-ghost use Rattle.schedules.specs.RoundSchedule.{no_round, attempt_of, step_of, round_pass, Stepping, Attempting};
-ghost use Rattle.schedules.specs.RoundViews.{steps_left, IsUnderWay};
-ghost use Rattle.schedules.specs.Turns.{IsChoice, Fewer};
+ghost use Rattle.schedules.specs.RoundSchedule.{no_round, Stepping, Attempting, Delivering};
+ghost use Rattle.schedules.specs.RoundViews.{LedInRound};
 
+use crate::log::Log;
 use crate::look_ups::next_in;
-use crate::schedule::{Choice, Schedule};
+use crate::schedule::Schedule;
+use crate::turn::{attempt, deliver, do_step, make};
 use interleaving_core::{Event, System};
 use network::MsgNo;
-use physiological_order::Op;
-use programs::Step;
+use programs::End;
 use programs::program::Program;
-use std::alloc::{AllocError, Global};
+use std::alloc::Global;
 use std::marker::Model;
 
-// The stages of a round.
-#[derive(Clone, Copy, Debug)]
-pub(crate) enum RoundStage {
-    // A core's turn begins: it may do its program's next step.
-    Stepping(u32),
-    // Its open operation is tried.
-    Attempting(u32),
-    // A copy was to go: it is tried once more.
-    AttemptingAgain(u32),
-    // The messages are delivered.
-    Delivering,
-}
-
-// Where a round stands: how many cores have turns, the stage, and the messages to deliver, of which so many were. Their
-// list keeps its memory from round to round.
+// How many cores have turns, and the list of the messages that a round delivers. It keeps its memory from round to
+// round.
 #[derive(Drop)]
 pub(crate) struct Rounds {
     cores: u32,
-    stage: RoundStage,
     numbers: Vec<MsgNo>,
-    delivered: usize,
 }
 
 impl Model for Rounds {
-    ghost use Rattle.schedules.specs.RoundSchedule.{Round};
-    ghost use Rattle.schedules.specs.RoundViews.{stage_of, IsStage};
+    ghost use Rattle.schedules.specs.RoundSchedule.{Round, no_round};
 
     ghost Value = { Round };
 
-    ghost view = { λ a. record { cores = a.cores; stage = stage_of a.stage a.delivered a.numbers.items } };
-
-    ghost invariant = { λ a. IsStage a.cores a.stage };
+    // Between turns, all messages of the last one are delivered.
+    ghost view = { λ a. no_round a.cores };
 }
 
 impl Rounds {
@@ -57,50 +39,95 @@ impl Rounds {
     {
         Rounds {
             cores,
-            stage: RoundStage::Delivering,
             numbers: Vec::new(alloc),
-            delivered: 0,
         }
     }
+}
 
-    // A core without an open operation does its program's next step.
-    fn begin_core<P: Program>(&mut self, core: u32, system: &System, programs: &mut [P]) -> Choice
-        requires stage { self.old.stage ≡ Stepping core }
-        requires there { core < self.old.cores }
-        ensures same { programs.new ≡ programs.old }
-        ensures chosen { IsChoice (step_of self.old core (open_op system.now core)
-            (next_in P.acts programs.old core)) self.old result self.new }
-        ensures fewer { Fewer steps_left IsUnderWay round_pass self.old result self.new }
-    {
-        if system.open_op(core).is_some() {
-            self.stage = RoundStage::Attempting(core);
-            return Choice::Goes;
-        }
-        match next_in(programs, core) {
-            Some(Step::Op(op)) => Choice::Does(Event::Issue(core, op)),
-            Some(Step::Advance) => Choice::Advances(core),
-            None => {
-                self.stage = RoundStage::Attempting(core);
-                Choice::Goes
-            }
-        }
+// A core without an open operation does its program's next step. The result says whether it has one afterwards.
+#[inline(always)]
+fn begin_core<P: Program>(
+    system: &mut System,
+    programs: &mut [P],
+    log: &mut Log,
+    core: u32,
+) -> Result<bool, End>
+    ensures led { (cores : ℕ) → core < cores → LedInRound P.acts cores (Stepping core)
+        (Attempting core) system.old programs.old log.old result system.new programs.new log.new }
+    ensures has { IfOk result (λ has. has ≡ is_some (open_op system.new core)) }
+{
+    if system.open_op(core).is_some() {
+        return Ok(true);
     }
+    let Some(next) = next_in(programs, core) else {
+        return Ok(false);
+    };
+    do_step::<P, Rounds>(system, programs, log, core, &next)?;
+    Ok(system.open_op(core).is_some())
+}
 
-    // An open operation is tried; without one the next core has its turn.
-    fn try_core(&mut self, core: u32, system: &System) -> Choice
-        requires stage { self.old.stage ≡ Attempting core }
-        requires there { core < self.old.cores }
-        requires small { core < 4294967295 }
-        ensures chosen { IsChoice (attempt_of self.old core (open_op system.now core)) self.old
-            result self.new }
-        ensures fewer { Fewer steps_left IsUnderWay round_pass self.old result self.new }
-    {
-        if system.open_op(core).is_some() {
-            return Choice::Tries(core);
-        }
-        self.stage = RoundStage::Stepping(core + 1);
-        Choice::Goes
+// An open operation is attempted, and once more after a copy was to go.
+#[inline(always)]
+fn try_core<P: Program>(
+    system: &mut System,
+    programs: &mut [P],
+    log: &mut Log,
+    core: u32,
+) -> Result<(), End>
+    requires { is_some (open_op system.old core) ≡ true }
+    ensures { (cores : ℕ) → LedInRound P.acts cores (Attempting core) (Stepping (core + 1))
+        system.old programs.old log.old result system.new programs.new log.new }
+{
+    if attempt::<P, Rounds>(system, programs, log, core)? {
+        return make::<P, Rounds>(system, programs, log, &Event::Attempt(core));
     }
+    Ok(())
+}
+
+// A core's turn.
+#[inline(always)]
+fn core_turn<P: Program>(
+    system: &mut System,
+    programs: &mut [P],
+    log: &mut Log,
+    core: u32,
+) -> Result<(), End>
+    ensures { (cores : ℕ) → core < cores → LedInRound P.acts cores (Stepping core)
+        (Stepping (core + 1)) system.old programs.old log.old result system.new programs.new log.new }
+{
+    if begin_core(system, programs, log, core)? {
+        return try_core(system, programs, log, core);
+    }
+    Ok(())
+}
+
+// The cores' turns.
+#[inline(always)]
+fn core_turns<P: Program>(
+    system: &mut System,
+    programs: &mut [P],
+    log: &mut Log,
+    cores: u32,
+) -> Result<(), End>
+    ensures { LedInRound P.acts cores (Stepping 0) (Stepping cores) system.old programs.old log.old
+        result system.new programs.new log.new }
+{
+    for core in 0..cores {
+        core_turn(system, programs, log, core)?;
+    }
+    Ok(())
+}
+
+// The messages with these numbers are delivered.
+#[inline(always)]
+fn deliveries<P: Program>(system: &mut System, log: &mut Log, numbers: &[MsgNo]) -> Result<(), End>
+    ensures { (programs : List P) (cores : ℕ) → LedInRound P.acts cores (Delivering numbers.now)
+        (Delivering []) system.old programs log.old result system.new programs log.new }
+{
+    for number in numbers {
+        deliver::<P, Rounds>(system, log, *number)?;
+    }
+    Ok(())
 }
 
 impl<P: Program> Schedule<P> for Rounds {
@@ -108,44 +135,12 @@ impl<P: Program> Schedule<P> for Rounds {
 
     ghost rule = { rounds P.acts };
 
-    ghost left = { steps_left };
-
-    ghost ready = { IsUnderWay };
-
-    fn begin(&mut self) {
-        self.stage = RoundStage::Stepping(0);
-    }
-
-    fn choose(&mut self, system: &mut System, programs: &mut [P]) -> Result<Choice, AllocError> {
-        match self.stage {
-            RoundStage::Stepping(core) => {
-                if core < self.cores {
-                    Ok(self.begin_core(core, system, programs))
-                } else {
-                    system.list_in_flight(&mut self.numbers)?;
-                    self.delivered = 0;
-                    self.stage = RoundStage::Delivering;
-                    Ok(Choice::Goes)
-                }
-            }
-            RoundStage::Attempting(core) => Ok(self.try_core(core, system)),
-            RoundStage::AttemptingAgain(core) => Ok(Choice::Does(Event::Attempt(core))),
-            RoundStage::Delivering => match self.numbers.get(self.delivered) {
-                Some(number) => Ok(Choice::Delivers(*number)),
-                None => Ok(Choice::Over),
-            },
+    fn turn(&mut self, system: &mut System, programs: &mut [P], log: &mut Log) -> Result<(), End> {
+        core_turns(system, programs, log, self.cores)?;
+        if system.list_in_flight(&mut self.numbers).is_err() {
+            return Err(End::NoMemory);
         }
-    }
-
-    fn pass(&mut self, full: bool) {
-        match self.stage {
-            RoundStage::Stepping(core) => self.stage = RoundStage::Attempting(core),
-            RoundStage::Attempting(core) if full => self.stage = RoundStage::AttemptingAgain(core),
-            RoundStage::Attempting(core) | RoundStage::AttemptingAgain(core) => {
-                self.stage = RoundStage::Stepping(core + 1)
-            }
-            RoundStage::Delivering => self.delivered += 1,
-        }
+        deliveries::<P>(system, log, self.numbers.as_slice())
     }
 
     fn stalls(&self) -> bool {

@@ -7,7 +7,6 @@ ghost use Rattle.schedules.specs.Runs.{plan_of};
 use crate::log::Log;
 use crate::look_ups::are_over;
 use crate::schedule::Schedule;
-use crate::turn::turn;
 use interleaving_core::System;
 use programs::End;
 use programs::program::Program;
@@ -40,8 +39,7 @@ pub(crate) fn run<P: Program, S: Schedule<P>>(
             return End::AllDone;
         }
         log.begin_turn();
-        schedule.begin();
-        if let Err(end) = turn(schedule, system, programs, log) {
+        if let Err(end) = schedule.turn(system, programs, log) {
             return end;
         }
         if is_last::<P, S>(schedule, log) {

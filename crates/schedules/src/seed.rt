@@ -1,7 +1,8 @@
 //! The seeded schedule: each turn draws two words, the first for a list of events, the second for the entry of it that
 //! is made. No list of events is built: the schedule knows the cores that do something, counts the other entries, and
 //! looks the drawn one up.
-ghost use Rattle.std.specs.Prelude.{◌≡◌, ◌∷◌, [], ◌<◌, ◌≤◌, ◌+◌, ◌%◌, ◌*◌, ◌^◌, ◌&&◌, ℕ, List, length, IfOk, Some};
+ghost use Rattle.std.specs.Prelude.{◌≡◌, ◌∷◌, [], ◌<◌, ◌≤◌, ◌+◌, ◌%◌, ◌*◌, ◌^◌, ◌&&◌, ℕ, List, length, IfOk, IsTrue};
+ghost use Rattle.std.specs.Prelude.{Some};
 ghost use Rattle.std.specs.Prelude.{count_ones, is_some, slice_get};
 ghost use Rattle.std.specs.Int.{bit_at};
 ghost use Rattle.interleaving_core.specs.CoreMasks.{IsMask, is_idle};
@@ -9,15 +10,19 @@ ghost use Rattle.interleaving_core.specs.LookUps.{entries, free_copies};
 ghost use Rattle.machine_table.specs.Machine.{open_op};
 ghost use Rattle.ranked_lines.specs.Rising.{sorted};
 ghost use Rattle.programs.specs.Acts.{next_in};
-ghost use Rattle.schedules.specs.SeedSchedule.{advances, core_step, core_steps, choice_at, line_events, of_seed, steps};
-ghost use Rattle.schedules.specs.SeedViews.{Picks, PicksAny, PicksOne};
+ghost use Rattle.schedules.specs.SeedSchedule.{Seeded, advances, core_step, core_steps, choice_at, draws_eviction};
+ghost use Rattle.schedules.specs.SeedSchedule.{line_events, of_seed, seeded_next, steps};
+ghost use Rattle.schedules.specs.Runs.{Within};
+ghost use Rattle.schedules.specs.Notes.{at};
+ghost use Rattle.schedules.specs.SeedViews.{IsDrawn, IsLine, IsTurn, was_made};
 
+use crate::log::Log;
 use crate::look_ups::next_in;
-use crate::schedule::{Choice, Schedule};
+use crate::schedule::Schedule;
+use crate::turn::{attempt, deliver, do_step, make};
 use interleaving_core::{Event, System, with_bit};
 use network::LineNo;
-use physiological_order::Op;
-use programs::Step;
+use programs::End;
 use programs::program::Program;
 use rand_core::SeedableRng;
 use rand_core::utils::NextWord;
@@ -25,7 +30,7 @@ use rand_pcg::Pcg32;
 use std::alloc::AllocError;
 use std::marker::Model;
 
-// The generator, and the words that were drawn for the turn, until its event is answered.
+// The generator, and the words that the last turn drew if there was nothing to make.
 #[derive(Drop)]
 pub(crate) struct Seeds {
     generator: Pcg32,
@@ -141,17 +146,6 @@ impl Holder for Entries {
     }
 }
 
-// An advance of a core.
-fn advance(system: &System, b: u32) -> Choice
-    ensures { Picks (choice_at (advances system.now) b) result }
-{
-    let cores = system.cores();
-    if cores == 0 {
-        return Choice::Over;
-    }
-    Choice::Does(Event::Advance(b % cores))
-}
-
 // The place that a word draws among so many entries. The division is one of 32 bits, which is cheap.
 #[inline(always)]
 fn place_in(b: u32, total: u128) -> u32
@@ -162,6 +156,36 @@ fn place_in(b: u32, total: u128) -> u32
         return b;
     }
     b % total as u32
+}
+
+// What a turn's functions say: there was something to make, and it was made, or the run ends.
+#[inline(always)]
+fn made(outcome: Result<(), End>) -> Result<bool, End>
+    ensures { result ≡ was_made outcome }
+{
+    match outcome {
+        Ok(()) => Ok(true),
+        Err(end) => Err(end),
+    }
+}
+
+// An advance of a core.
+fn advance<P: Program>(
+    system: &mut System,
+    programs: &mut [P],
+    log: &mut Log,
+    b: u32,
+) -> Result<bool, End>
+    ensures { (own : Seeded) → seeded_next P.acts system.old programs.old own.drawn ≡
+        choice_at (advances system.old) b → IsTurn P.acts
+        (at system.old programs.old log.old own Within) result
+        (at system.new programs.new log.new own Within) }
+{
+    let cores = system.cores();
+    if cores == 0 {
+        return Ok(false);
+    }
+    made(make::<P, Seeds>(system, programs, log, &Event::Advance(b % cores)))
 }
 
 // How many lines each holder has, and all together.
@@ -181,18 +205,18 @@ fn line_count<H: Holder>(system: &System, counts: &mut [usize]) -> u128
     total
 }
 
-// The eviction of a line. Each holder is asked once how many it has; there are at most 64 cores and eight banks. From
-// the first one on the machine keeps lines in rising order, so that a line is found without a list of them.
-fn evict<H: Holder>(system: &mut System, b: u32) -> Result<Choice, AllocError>
+// A line that is drawn, with its holder. Each holder is asked once how many it has; there are at most 64 cores and eight
+// banks. From the first time on the machine keeps lines in rising order, so that a line is found without a list of them.
+fn drawn_line<H: Holder>(system: &mut System, b: u32) -> Result<Option<(u32, LineNo)>, AllocError>
     ensures machine { system.new ≡ system.old }
-    ensures picked { PicksOne (choice_at
+    ensures found { IsLine H.eviction (choice_at
         (line_events H.eviction (H.lines system.old) (H.holders system.old)) b) result }
 {
     let holders = H::holders(system);
     let mut counts = [0; 64];
     let total = line_count::<H>(system, &mut counts);
     if total == 0 {
-        return Ok(Choice::Over);
+        return Ok(None);
     }
     if let Err(error) = system.keep_order() {
         return Err(error);
@@ -202,34 +226,35 @@ fn evict<H: Holder>(system: &mut System, b: u32) -> Result<Choice, AllocError>
         let count = counts[holder as usize];
         if at < count {
             return match H::line(system, holder, at) {
-                Ok(line) => Ok(Choice::Does(H::eviction(holder, line))),
+                Ok(line) => Ok(Some((holder, line))),
                 Err(error) => Err(error),
             };
         }
         at -= count;
     }
-    Ok(Choice::Over)
+    Ok(None)
 }
 
-// What a core does next, if it does something.
-#[inline(always)]
-fn core_step<P: Program>(system: &System, programs: &mut [P], core: u32) -> Option<Choice>
-    ensures step { PicksAny (core_step core (open_op system.now core)
-        (next_in P.acts programs.old core)) result }
-    ensures same { programs.new ≡ programs.old }
+// The eviction of a line.
+fn evict<P: Program, H: Holder>(
+    system: &mut System,
+    programs: &mut [P],
+    log: &mut Log,
+    b: u32,
+) -> Result<bool, End>
+    ensures { (own : Seeded) → IsTrue (draws_eviction own.drawn) →
+        seeded_next P.acts system.old programs.old own.drawn ≡ choice_at
+        (line_events H.eviction (H.lines system.old) (H.holders system.old)) b →
+        IsTurn P.acts (at system.old programs.old log.old own Within) result
+        (at system.new programs.new log.new own Within) }
 {
-    let _inside: Option<Op> = None;
-    if let Some((_op, is_out)) = system.open_op(core) {
-        if is_out {
-            return None;
-        }
-        return Some(Choice::Tries(core));
-    }
-    match next_in(programs, core) {
-        Some(Step::Op(op)) => Some(Choice::Does(Event::Issue(core, op))),
-        Some(Step::Advance) => Some(Choice::Advances(core)),
-        None => None,
-    }
+    let Ok(drawn) = drawn_line::<H>(system, b) else {
+        return Err(End::NoMemory);
+    };
+    let Some((holder, line)) = drawn else {
+        return Ok(false);
+    };
+    made(make::<P, Seeds>(system, programs, log, &H::eviction(holder, line)))
 }
 
 // The cores that have no open operation and whose programs have a step: core c is one exactly if bit c is set.
@@ -261,92 +286,114 @@ fn ready_cores<P: Program>(system: &System, programs: &mut [P]) -> u64
     system.trying_cores() | issuing(system, programs)
 }
 
-// What a core does next that does something.
-#[inline(always)]
-fn sure_step<P: Program>(system: &System, programs: &mut [P], core: u32) -> Choice
-    requires some { 0 < length (core_step core (open_op system.now core)
-        (next_in P.acts programs.old core)) }
-    ensures step { (next : _) × (core_step core (open_op system.now core)
-        (next_in P.acts programs.old core) ≡ next ∷ []) × Picks next result }
-    ensures same { programs.new ≡ programs.old }
-{
-    match core_step(system, programs, core) {
-        Some(choice) => choice,
-        None => unreachable!(),
-    }
-}
-
-// What the core does next that comes after so many others of those that do something.
-fn step_at<P: Program>(system: &System, programs: &mut [P], ready: u64, place: u32) -> Choice
-    requires inside { place < length (core_steps P.acts system.now programs.old
+// The core that does something after so many others that do.
+fn core_at<P: Program>(system: &System, _programs: &[P], ready: u64, place: u32) -> u32
+    requires inside { place < length (core_steps P.acts system.now _programs.now
         system.now.config.cores) }
     requires each { (core : ℕ) → core < system.now.config.cores → bit_at ready core ≡ length
-        (core_step core (open_op system.now core) (next_in P.acts programs.old core)) }
-    ensures step { (next : _) × (slice_get (core_steps P.acts system.now programs.old
-        system.now.config.cores) place ≡ Some next) × Picks next result }
-    ensures same { programs.new ≡ programs.old }
+        (core_step core (open_op system.now core) (next_in P.acts _programs.now core)) }
+    ensures { (next : _) × (core_step result (open_op system.now result)
+        (next_in P.acts _programs.now result) ≡ next ∷ []) × (slice_get
+        (core_steps P.acts system.now _programs.now system.now.config.cores) place ≡ Some next) }
 {
     let mut count = 0;
     for core in 0..system.cores() {
         count += (ready >> core & 1) as u32;
         if count > place {
-            return sure_step(system, programs, core);
+            return core;
         }
     }
     unreachable!()
 }
 
+// A core does what it does next, which is something.
+#[inline(always)]
+fn step_core<P: Program>(
+    system: &mut System,
+    programs: &mut [P],
+    log: &mut Log,
+    core: u32,
+) -> Result<(), End>
+    requires { 0 < length (core_step core (open_op system.old core)
+        (next_in P.acts programs.old core)) }
+    ensures { (next : _) → core_step core (open_op system.old core)
+        (next_in P.acts programs.old core) ≡ next ∷ [] → IsDrawn P.acts next
+        system.old programs.old log.old result system.new programs.new log.new }
+{
+    if system.open_op(core).is_some() {
+        attempt::<P, Seeds>(system, programs, log, core)?;
+        return Ok(());
+    }
+    match next_in(programs, core) {
+        Some(next) => do_step::<P, Seeds>(system, programs, log, core, &next),
+        None => unreachable!(),
+    }
+}
+
 // A step of a core, or the delivery of a message.
-fn step<P: Program>(system: &System, programs: &mut [P], b: u32) -> Choice
-    ensures step { Picks (choice_at (steps P.acts system.now programs.old) b) result }
-    ensures same { programs.new ≡ programs.old }
+fn step<P: Program>(
+    system: &mut System,
+    programs: &mut [P],
+    log: &mut Log,
+    b: u32,
+) -> Result<bool, End>
+    ensures { (own : Seeded) → seeded_next P.acts system.old programs.old own.drawn ≡
+        choice_at (steps P.acts system.old programs.old) b → IsTurn P.acts
+        (at system.old programs.old log.old own Within) result
+        (at system.new programs.new log.new own Within) }
 {
     let ready = ready_cores(system, programs);
     let count = ready.count_ones();
     let total = u128::from(count) + u128::from(system.messages());
     if total == 0 {
-        return Choice::Over;
+        return Ok(false);
     }
     let at = place_in(b, total);
     if at < count {
-        return step_at(system, programs, ready, at);
+        let core = core_at(system, programs, ready, at);
+        return made(step_core(system, programs, log, core));
     }
     match system.message(at - count) {
-        Some(number) => Choice::Delivers(number),
+        Some(number) => made(deliver::<P, Seeds>(system, log, number)),
         None => unreachable!(),
+    }
+}
+
+// What two words draw: the first the list, and the second its entry.
+#[inline(always)]
+fn make_drawn<P: Program>(
+    system: &mut System,
+    programs: &mut [P],
+    log: &mut Log,
+    a: u32,
+    b: u32,
+) -> Result<bool, End>
+    ensures { (own : Seeded) → own.drawn ≡ Some (a, b) → IsTurn P.acts
+        (at system.old programs.old log.old own Within) result
+        (at system.new programs.new log.new own Within) }
+{
+    match a % 16 {
+        0 => advance(system, programs, log, b),
+        1 => evict::<P, Copies>(system, programs, log, b),
+        2 => evict::<P, Entries>(system, programs, log, b),
+        _ => step(system, programs, log, b),
     }
 }
 
 impl<P: Program> Schedule<P> for Seeds {
     ghost use Rattle.schedules.specs.SeedSchedule.{seeded};
-    ghost use Rattle.schedules.specs.SeedViews.{draws_left, IsDrawn};
 
     ghost rule = { seeded P.acts };
 
-    ghost left = { draws_left };
-
-    ghost ready = { IsDrawn };
-
-    fn begin(&mut self) {
+    fn turn(&mut self, system: &mut System, programs: &mut [P], log: &mut Log) -> Result<(), End> {
         let a = self.generator.next_word();
         let b = self.generator.next_word();
-        self.drawn = Some((a, b));
-    }
-
-    fn choose(&mut self, system: &mut System, programs: &mut [P]) -> Result<Choice, AllocError> {
-        let Some((a, b)) = self.drawn else {
-            return Ok(Choice::Over);
-        };
-        match a % 16 {
-            0 => Ok(advance(system, b)),
-            1 => evict::<Copies>(system, b),
-            2 => evict::<Entries>(system, b),
-            _ => Ok(step(system, programs, b)),
+        if make_drawn(system, programs, log, a, b)? {
+            self.drawn = None;
+            return Ok(());
         }
-    }
-
-    fn pass(&mut self, full: bool) {
-        self.drawn = None;
+        self.drawn = Some((a, b));
+        Ok(())
     }
 
     fn stalls(&self) -> bool {

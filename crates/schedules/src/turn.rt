@@ -1,71 +1,57 @@
-//! One turn of a schedule: notes each event, gives the program what it completed, and makes the eviction that follows.
-ghost use Rattle.std.specs.Prelude.{◌≡◌, Bool, false, List, OnOk};
-ghost use Rattle.schedules.specs.Schedules.{Does, Tries, Delivers, Advances, Over};
+//! What a schedule has next is made: each event is noted, the program receives what it completed, and the eviction
+//! follows that makes a place.
+ghost use Rattle.std.specs.Prelude.{◌≡◌, false, List};
+ghost use Rattle.schedules.specs.Schedules.{Schedule, Does, Tries, Delivers, Advances};
 ghost use Rattle.schedules.specs.Runs.{Within, Evicting, MakingRoom};
-ghost use Rattle.schedules.specs.Notes.{Led, at};
-ghost use Rattle.schedules.specs.Turns.{WentOn};
+ghost use Rattle.schedules.specs.Notes.{IsMade, Led, at, is_full, step_choice};
 
 use crate::log::{Log, is_held, is_no_room, step};
 use crate::look_ups::{tell, tell_advance, victim_for};
-use crate::schedule::{Choice, Schedule};
 use interleaving_core::{Event, System};
 use network::MsgNo;
-use programs::End;
 use programs::program::Program;
+use programs::{End, Step};
 
 // An event that nothing follows.
-fn make<P: Program, S: Schedule<P>>(
-    schedule: &mut S,
+#[inline(always)]
+pub(crate) fn make<P: Program, S>(
     system: &mut System,
     programs: &mut [P],
     log: &mut Log,
     event: &Event,
 ) -> Result<(), End>
-    requires next { S.rule.next system.old programs.old schedule.old ≡ Does event.now }
-    requires ready { S.ready schedule.old }
-    ensures led { Led P.acts S.rule (at system.old programs.old log.old schedule.old Within) result
-        (at system.new programs.new log.new schedule.new Within) }
-    ensures passed { OnOk result (schedule.new ≡ S.rule.behind false schedule.old) }
+    ensures { IsMade {S = S} P.acts (Does event.now) false system.old programs.old log.old result
+        system.new programs.new log.new }
 {
     let answer = step(log, system, event)?;
     tell(programs, &answer);
-    schedule.pass(false);
     Ok(())
 }
 
-// An attempt; if there is no place for the line, a copy goes.
-fn attempt<P: Program, S: Schedule<P>>(
-    schedule: &mut S,
+// An attempt; if there is no place for the line, a copy goes. The result says whether there was none.
+#[inline(always)]
+pub(crate) fn attempt<P: Program, S>(
     system: &mut System,
     programs: &mut [P],
     log: &mut Log,
     core: u32,
-) -> Result<(), End>
-    requires next { S.rule.next system.old programs.old schedule.old ≡ Tries core }
-    requires ready { S.ready schedule.old }
-    ensures led { Led P.acts S.rule (at system.old programs.old log.old schedule.old Within) result
-        (at system.new programs.new log.new schedule.new Within) }
-    ensures passed { OnOk result
-        ((full : Bool) × (schedule.new ≡ S.rule.behind full schedule.old)) }
+) -> Result<bool, End>
+    ensures { IsMade {S = S} P.acts (Tries core) (is_full result) system.old programs.old log.old
+        result system.new programs.new log.new }
 {
     let answer = step(log, system, &Event::Attempt(core))?;
     if is_no_room(&answer) {
-        schedule.pass(true);
-        return evict::<P, S>(system, log, core);
+        evict::<P, S>(system, log, core)?;
+        return Ok(true);
     }
     tell(programs, &answer);
-    schedule.pass(false);
-    Ok(())
+    Ok(false)
 }
 
 // A copy goes so that there is a place for the line of a core's open operation.
-fn evict<P: Program, S: Schedule<P>>(
-    system: &mut System,
-    log: &mut Log,
-    core: u32,
-) -> Result<(), End>
-    ensures { (programs : List P) (own : S) →
-        Led P.acts S.rule (at system.old programs log.old own (Evicting core)) result
+fn evict<P: Program, S>(system: &mut System, log: &mut Log, core: u32) -> Result<(), End>
+    ensures { (rule : Schedule P S) (programs : List P) (own : S) →
+        Led P.acts rule (at system.old programs log.old own (Evicting core)) result
         (at system.new programs log.new own Within) }
 {
     let Some(line) = victim_for(system, core) else {
@@ -76,21 +62,16 @@ fn evict<P: Program, S: Schedule<P>>(
 }
 
 // A message is delivered; if it is held, a line leaves its bank if that makes a place.
-fn deliver<P: Program, S: Schedule<P>>(
-    schedule: &mut S,
+#[inline(always)]
+pub(crate) fn deliver<P: Program, S>(
     system: &mut System,
     log: &mut Log,
     number: MsgNo,
 ) -> Result<(), End>
-    requires { S.ready schedule.old }
-    ensures led { (programs : List P) →
-        S.rule.next system.old programs schedule.old ≡ Delivers number →
-        Led P.acts S.rule (at system.old programs log.old schedule.old Within) result
-        (at system.new programs log.new schedule.new Within) }
-    ensures passed { OnOk result (schedule.new ≡ S.rule.behind false schedule.old) }
+    ensures { (programs : List P) → IsMade {S = S} P.acts (Delivers number) false
+        system.old programs log.old result system.new programs log.new }
 {
     let answer = step(log, system, &Event::Deliver(number))?;
-    schedule.pass(false);
     if is_held(&answer) {
         return evict_bank::<P, S>(system, log, number);
     }
@@ -98,13 +79,9 @@ fn deliver<P: Program, S: Schedule<P>>(
 }
 
 // A line leaves the bank of a held message, if that makes a place for it.
-fn evict_bank<P: Program, S: Schedule<P>>(
-    system: &mut System,
-    log: &mut Log,
-    number: MsgNo,
-) -> Result<(), End>
-    ensures { (programs : List P) (own : S) →
-        Led P.acts S.rule (at system.old programs log.old own (MakingRoom number)) result
+fn evict_bank<P: Program, S>(system: &mut System, log: &mut Log, number: MsgNo) -> Result<(), End>
+    ensures { (rule : Schedule P S) (programs : List P) (own : S) →
+        Led P.acts rule (at system.old programs log.old own (MakingRoom number)) result
         (at system.new programs log.new own Within) }
 {
     let Some(victim) = system.make_room(number) else {
@@ -115,64 +92,34 @@ fn evict_bank<P: Program, S: Schedule<P>>(
 }
 
 // A core advances, and its program is told.
-fn advance<P: Program, S: Schedule<P>>(
-    schedule: &mut S,
+fn advance<P: Program, S>(
     system: &mut System,
     programs: &mut [P],
     log: &mut Log,
     core: u32,
 ) -> Result<(), End>
-    requires next { S.rule.next system.old programs.old schedule.old ≡ Advances core }
-    requires ready { S.ready schedule.old }
-    ensures led { Led P.acts S.rule (at system.old programs.old log.old schedule.old Within) result
-        (at system.new programs.new log.new schedule.new Within) }
-    ensures passed { OnOk result (schedule.new ≡ S.rule.behind false schedule.old) }
+    ensures { IsMade {S = S} P.acts (Advances core) false system.old programs.old log.old result
+        system.new programs.new log.new }
 {
     let answer = step(log, system, &Event::Advance(core))?;
     tell_advance(programs, core, &answer);
-    schedule.pass(false);
     Ok(())
 }
 
-// A step of a turn; false where the turn is over.
-fn go_on<P: Program, S: Schedule<P>>(
-    schedule: &mut S,
+// A core does this step of its program.
+#[inline(always)]
+pub(crate) fn do_step<P: Program, S>(
     system: &mut System,
     programs: &mut [P],
     log: &mut Log,
-) -> Result<bool, End>
-    ensures { WentOn P.acts S.rule S.left
-        (at system.old programs.old log.old schedule.old Within) result
-        (at system.new programs.new log.new schedule.new Within) }
-{
-    let Ok(choice) = schedule.choose(system, programs) else {
-        return Err(End::NoMemory);
-    };
-    match choice {
-        Choice::Over => return Ok(false),
-        Choice::Goes => {}
-        Choice::Does(event) => make(schedule, system, programs, log, &event)?,
-        Choice::Tries(core) => attempt(schedule, system, programs, log, core)?,
-        Choice::Delivers(number) => deliver::<P, S>(schedule, system, log, number)?,
-        Choice::Advances(core) => advance(schedule, system, programs, log, core)?,
-    }
-    Ok(true)
-}
-
-// A turn.
-pub(crate) fn turn<P: Program, S: Schedule<P>>(
-    schedule: &mut S,
-    system: &mut System,
-    programs: &mut [P],
-    log: &mut Log,
+    core: u32,
+    next: &Step,
 ) -> Result<(), End>
-    ensures led { Led P.acts S.rule (at system.old programs.old log.old schedule.old Within) result
-        (at system.new programs.new log.new schedule.new Within) }
-    ensures over { OnOk result (S.rule.next system.new programs.new schedule.new ≡ Over) }
+    ensures { IsMade {S = S} P.acts (step_choice core next.now) false system.old programs.old
+        log.old result system.new programs.new log.new }
 {
-    loop {
-        if !go_on(schedule, system, programs, log)? {
-            return Ok(());
-        }
+    match *next {
+        Step::Op(op) => make::<P, S>(system, programs, log, &Event::Issue(core, op)),
+        Step::Advance => advance::<P, S>(system, programs, log, core),
     }
 }

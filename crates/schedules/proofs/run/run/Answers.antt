@@ -32,10 +32,9 @@ returns-in-Err g c =
     let plan = plan_of g.P.Program.acts g.S.Schedule.rule a.limit in
     let start = initial_position a.system.now a.programs.now a.schedule.now in
     let began = turn_begun plan start l.system l.programs l.log l.schedule l._made c.are_over.new.programs
-    c.begin_turn.new.self c.begin.new.self l.invariant.arrived c.are_over.ensures.same c.begin_turn.ensures
-    c.begin.ensures (rw c.cores.ensures.cores at (sym c.if-are_over.ensures.over)) c.loop-made-test.true in record {
-      ended = c.in-Err.ensures.led.1 a.limit start l._made began;
-      kept = c.in-Err.ensures.led.0 ∙ ap (λ (log : Log). is_some log.events) c.begin_turn.ensures ∙ l.invariant.kept;
+    c.begin_turn.new.self l.invariant.arrived c.are_over.ensures.same c.begin_turn.ensures (rw c.cores.ensures.cores at (sym c.if-are_over.ensures.over)) c.loop-made-test.true in record {
+      ended = c.in-Err.ensures.led.finishes a.limit start l._made began;
+      kept = c.in-Err.ensures.led.kept ∙ ap (λ (log : Log). is_some log.events) c.begin_turn.ensures ∙ l.invariant.kept;
     }
 
 pub returns-then-is_last : goal.returns-then-is_last
@@ -45,13 +44,12 @@ returns-then-is_last g c =
     let plan = plan_of g.P.Program.acts g.S.Schedule.rule a.limit in
     let start = initial_position a.system.now a.programs.now a.schedule.now in
     let began = turn_begun plan start l.system l.programs l.log l.schedule l._made c.are_over.new.programs
-    c.begin_turn.new.self c.begin.new.self l.invariant.arrived c.are_over.ensures.same c.begin_turn.ensures
-    c.begin.ensures (rw c.cores.ensures.cores at (sym c.if-are_over.ensures.over)) c.loop-made-test.true in
+    c.begin_turn.new.self l.invariant.arrived c.are_over.ensures.same c.begin_turn.ensures (rw c.cores.ensures.cores at (sym c.if-are_over.ensures.over)) c.loop-made-test.true in
     let n = c.turn.new in record {
-      ended = stalled plan start n.system n.programs n.log n.schedule l._made
-          (c.in_default.ensures.led.1 a.limit start l._made began) c.in_default.ensures.over
+      ended = stalled plan start n.system n.programs n.log n.self l._made
+          (c.in_default.ensures.led.arrives a.limit start l._made began) c.in_default.ensures.over
           (sym c.if-is_last.ensures);
-      kept = c.in_default.ensures.led.0 ∙ ap (λ (log : Log). is_some log.events) c.begin_turn.ensures
+      kept = c.in_default.ensures.led.kept ∙ ap (λ (log : Log). is_some log.events) c.begin_turn.ensures
           ∙ l.invariant.kept;
     }
 
@@ -62,13 +60,12 @@ loop-made-preserved g c =
     let plan = plan_of g.P.Program.acts g.S.Schedule.rule a.limit in
     let start = initial_position a.system.now a.programs.now a.schedule.now in
     let began = turn_begun plan start l.system l.programs l.log l.schedule l._made c.are_over.new.programs
-    c.begin_turn.new.self c.begin.new.self l.invariant.arrived c.are_over.ensures.same c.begin_turn.ensures
-    c.begin.ensures (rw c.cores.ensures.cores at (sym c.if-are_over.ensures.over)) c.loop-made-test.true in
+    c.begin_turn.new.self l.invariant.arrived c.are_over.ensures.same c.begin_turn.ensures (rw c.cores.ensures.cores at (sym c.if-are_over.ensures.over)) c.loop-made-test.true in
     let n = c.turn.new in record {
-      arrived = turn_over plan start n.system n.programs n.log n.schedule l._made
-          (c.in_default.ensures.led.1 a.limit start l._made began) c.in_default.ensures.over
+      arrived = turn_over plan start n.system n.programs n.log n.self l._made
+          (c.in_default.ensures.led.arrives a.limit start l._made began) c.in_default.ensures.over
           (sym c.if-is_last.ensures);
-      kept = c.in_default.ensures.led.0 ∙ ap (λ (log : Log). is_some log.events) c.begin_turn.ensures
+      kept = c.in_default.ensures.led.kept ∙ ap (λ (log : Log). is_some log.events) c.begin_turn.ensures
           ∙ l.invariant.kept;
     }
 

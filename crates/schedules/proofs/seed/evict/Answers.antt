@@ -1,49 +1,18 @@
-use Rattle.std.proofs.Common.{◌<◌, ◌%◌, ◌∙◌, ap, sym, arith}
-use Rattle.std.proofs.lemmas.Option.{get_or_from_slice_get}
+use Rattle.std.proofs.Common.{◌∙◌, ap, sym, rules}
 use Rattle.schedules.specs.Schedules.{Does}
-use Rattle.schedules.proofs.SeedEntries.{line_at, line_is_there, one_holder_more}
+use Rattle.schedules.specs.SeedSchedule.{seeded}
+use Rattle.schedules.proofs.SeedEntries.{is_turn}
+use Rattle.schedules.proofs.TurnSteps.{refused}
 use Rattle.schedules.proofs.seed.evict.Goals as goal
 
-pub line_count-total-requires : goal.line_count-total-requires
-line_count-total-requires g c = omega (arith, c.holders-holders.ensures.value, c.holders-holders.ensures.bound)
-
-pub returns-in-Err-clause-picked : goal.returns-in-Err-clause-picked
-returns-in-Err-clause-picked g c =
-    line_is_there g.H.Holder.eviction (g.H.Holder.lines c.args.system.now) (g.H.Holder.holders c.args.system.now)
-    c.args.b (omega (arith, c.if-total-eq0.false, c.line_count-total.ensures.total))
-
-pub line-requires : goal.line-requires
-line-requires g c =
-    let l = c.loop-holder in
-    let below : l.holder < g.H.Holder.holders c.args.system.now =
-    omega (arith, c.loop-holder-test.true, c.holders-holders.ensures.value) in
-    let is = get_or_from_slice_get c.line_count-total.new.counts l.holder _ 0
-    (c.line_count-total.ensures.each l.holder below) in
-    rw c.keep_order.ensures (omega (arith, is, c.if-at-count.true))
-
-pub returns-in-Ok-clause-picked : goal.returns-in-Ok-clause-picked
-returns-in-Ok-clause-picked g c =
+pub returns-in_default : goal.returns-in_default
+returns-in_default g c own draws is =
     let a = c.args in
-    let l = c.loop-holder in
-    let below : l.holder < g.H.Holder.holders c.args.system.now =
-    omega (arith, c.loop-holder-test.true, c.holders-holders.ensures.value) in
-    let is = get_or_from_slice_get c.line_count-total.new.counts l.holder _ 0
-    (c.line_count-total.ensures.each l.holder below) in
-    line_at g.H.Holder.eviction (g.H.Holder.lines a.system.now) (g.H.Holder.holders a.system.now) a.b l.holder l.at
-    c.in-Ok.line below (omega (arith, is, c.if-at-count.true)) (rw c.keep_order.ensures at c.in-Ok.ensures)
-    (l.invariant ∙ ap (λ n. a.b % n) c.line_count-total.ensures.total) ∙ ap Does (sym c.eviction.ensures)
+    rw c.drawn_line.ensures.machine (refused g.P.Program.acts (seeded g.P.Program.acts) a.system.now a.programs.now
+    a.log.now own (λ over. c.in_default.ensures.found (sym is ∙ over)) draws)
 
-pub returns-in-Err-line-clause-picked : goal.returns-in-Err-line-clause-picked
-returns-in-Err-line-clause-picked g c =
-    line_is_there g.H.Holder.eviction (g.H.Holder.lines c.args.system.now) (g.H.Holder.holders c.args.system.now)
-    c.args.b (omega (arith, c.if-total-eq0.false, c.line_count-total.ensures.total))
-
-pub loop-holder-preserved : goal.loop-holder-preserved
-loop-holder-preserved g c =
-    let l = c.loop-holder in
-    let below : l.holder < g.H.Holder.holders c.args.system.now =
-    omega (arith, c.loop-holder-test.true, c.holders-holders.ensures.value) in
-    let is = get_or_from_slice_get c.line_count-total.new.counts l.holder _ 0
-    (c.line_count-total.ensures.each l.holder below) in
-    let more = one_holder_more g.H.Holder.eviction (g.H.Holder.lines c.args.system.now) l.holder in
-    omega (arith, is, more, l.invariant, c.if-at-count.false)
+pub returns : goal.returns
+returns g c own draws is =
+    rw (c.made.ensures, ← c.drawn_line.ensures.machine) (is_turn g.P.Program.acts _ _ c.make.result
+    (c.make.ensures (seeded g.P.Program.acts) own
+    (rw c.drawn_line.ensures.machine (is ∙ search rules ∙ ap Does (sym c.eviction.ensures)))))

@@ -2,16 +2,15 @@ use Rattle.std.proofs.lemmas.Result.{err_from_is_err_and}
 use Rattle.schedules.proofs.TurnSteps.{advanced, advanced_not}
 use Rattle.schedules.proofs.turn.advance.Goals as goal
 
-pub returns-in_err-answer-clause-led : goal.returns-in_err-answer-clause-led
-returns-in_err-answer-clause-led g c =
+pub returns-in_err-answer : goal.returns-in_err-answer
+returns-in_err-answer g c rule own is =
     let a = c.args in
     let e = err_from_is_err_and c.from_residual.result c.from_residual.ensures.1 in
-    rw (e.1, e.2) (advanced_not g.P.Program.acts g.S.Schedule.rule a.system.now a.programs.now a.log.now a.schedule.now
-    c.step.new.system c.step.new.log a.core c.requires.next c.in_err-answer.field-0.0 c.in_err-answer.ensures)
+    rw (e.1, e.2) (advanced_not g.P.Program.acts rule a.system.now a.programs.now a.log.now own
+    c.step.new.system c.step.new.log a.core is c.in_err-answer.field-0.0 c.in_err-answer.ensures)
 
-pub returns-clause-led : goal.returns-clause-led
-returns-clause-led g c =
+pub returns : goal.returns
+returns g c rule own is =
     let a = c.args in
-    rw (c.tell_advance.ensures, c.pass.ensures) (advanced g.P.Program.acts g.S.Schedule.rule a.system.now a.programs.now
-    a.log.now a.schedule.now c.step.new.system c.step.new.log a.core c.requires.next c.in_ok-answer.answer
-    c.in_ok-answer.ensures)
+    rw c.tell_advance.ensures (advanced g.P.Program.acts rule a.system.now a.programs.now a.log.now own
+    c.step.new.system c.step.new.log a.core is c.in_ok-answer.answer c.in_ok-answer.ensures)

@@ -4,21 +4,21 @@ use Rattle.schedules.proofs.TurnSteps.{no_victim, evicted}
 use Rattle.schedules.proofs.turn.evict.Goals as goal
 
 pub returns-in_default : goal.returns-in_default
-returns-in_default g c programs own =
+returns-in_default g c rule programs own =
     let a = c.args in
-    no_victim g.P.Program.acts g.S.Schedule.rule a.system.now programs a.log.now own a.core (search rules)
+    no_victim g.P.Program.acts rule a.system.now programs a.log.now own a.core (search rules)
 
 pub returns-in_err-step : goal.returns-in_err-step
-returns-in_err-step g c programs own =
+returns-in_err-step g c rule programs own =
     let a = c.args in
     let e = err_from_is_err_and c.from_residual.result c.from_residual.ensures.1 in
-    rw (e.1, e.2) (evicted g.P.Program.acts g.S.Schedule.rule a.system.now programs a.log.now own c.step.new.system
+    rw (e.1, e.2) (evicted g.P.Program.acts rule a.system.now programs a.log.now own c.step.new.system
     c.step.new.log a.core c.in-Some.line (search rules)
     (Err c.in_err-step.field-0.0) c.in_err-step.ensures)
 
 pub returns : goal.returns
-returns g c programs own =
+returns g c rule programs own =
     let a = c.args in
-    evicted g.P.Program.acts g.S.Schedule.rule a.system.now programs a.log.now own c.step.new.system
+    evicted g.P.Program.acts rule a.system.now programs a.log.now own c.step.new.system
     c.step.new.log a.core c.in-Some.line (search rules)
     (Ok c.in_ok-step.field-0) c.in_ok-step.ensures

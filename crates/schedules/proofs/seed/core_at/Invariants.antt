@@ -1,11 +1,10 @@
 use Rattle.std.proofs.Common.{◌≡◌, ◌≤◌, length}
 use Rattle.schedules.specs.SeedSchedule.{core_steps}
-use Rattle.schedules.proofs.seed.step_at.Given as goal
+use Rattle.schedules.proofs.seed.core_at.Given as goal
 
 abbrev pub invariant-loop-core : goal.invariant-loop-core
 invariant-loop-core g l = record {
-  counted : l.count ≡ length (core_steps g.P.Program.acts l.system l.fn.programs l.core);
+  counted : l.count ≡ length (core_steps g.P.Program.acts l.system l._programs l.core);
   few : l.count ≤ l.place;
   small : l.count ≤ l.core;
-  same : l.programs ≡ l.fn.programs;
 }

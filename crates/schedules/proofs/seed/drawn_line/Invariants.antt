@@ -1,6 +1,6 @@
 use Rattle.std.proofs.Common.{◌≡◌, ◌+◌, ◌%◌, length}
 use Rattle.schedules.specs.SeedSchedule.{line_events}
-use Rattle.schedules.proofs.seed.evict.Given as goal
+use Rattle.schedules.proofs.seed.drawn_line.Given as goal
 
 abbrev pub invariant-loop-holder : goal.invariant-loop-holder
 invariant-loop-holder g l =

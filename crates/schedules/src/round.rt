@@ -95,10 +95,11 @@ fn core_turn<P: Program>(
     ensures { (cores : ℕ) → core < cores → LedInRound P.acts cores (Stepping core)
         (Stepping (core + 1)) system.old programs.old log.old result system.new programs.new log.new }
 {
-    if begin_core(system, programs, log, core)? {
-        return try_core(system, programs, log, core);
+    match begin_core(system, programs, log, core) {
+        Ok(true) => try_core(system, programs, log, core),
+        Ok(false) => Ok(()),
+        Err(end) => Err(end),
     }
-    Ok(())
 }
 
 // The cores' turns.
@@ -113,7 +114,9 @@ fn core_turns<P: Program>(
         result system.new programs.new log.new }
 {
     for core in 0..cores {
-        core_turn(system, programs, log, core)?;
+        if let Err(end) = core_turn(system, programs, log, core) {
+            return Err(end);
+        }
     }
     Ok(())
 }

@@ -140,6 +140,7 @@ impl<P: Program> Schedule<P> for Rounds {
 
     fn turn(&mut self, system: &mut System, programs: &mut [P], log: &mut Log) -> Result<(), End> {
         core_turns(system, programs, log, self.cores)?;
+        let _first = system.seek_message(0);
         if system.list_in_flight(&mut self.numbers).is_err() {
             return Err(End::NoMemory);
         }

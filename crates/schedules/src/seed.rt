@@ -353,7 +353,7 @@ fn step<P: Program>(
         let core = core_at(system, programs, ready, at);
         return made(step_core(system, programs, log, core));
     }
-    match system.message(at - count) {
+    match system.seek_message(at - count) {
         Some(number) => made(deliver::<P, Seeds>(system, log, number)),
         None => unreachable!(),
     }

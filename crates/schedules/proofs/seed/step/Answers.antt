@@ -24,16 +24,16 @@ unreachable-requires g c =
     is_in_flight g.P.Program.acts a.system.now a.programs.now a.b c.place_in-at.result
     (count_ones c.ready_cores-ready.result) c.ready_cores-ready.ensures.count
     (c.place_in-at.ensures ∙ ap (λ n. a.b % n) all) (omega (arith, all, c.if-total-eq0.false)) c.if-at-count.false
-    (sym c.message.ensures ∙ c.in-None.is)
+    (sym c.seek_message.ensures.number ∙ c.in-None.is)
 
 pub returns : goal.returns
 returns g c own is =
     let a = c.args in
     let all : c.from.result + c.from-2.result ≡ count_ones c.ready_cores-ready.result
     + length a.system.now.mail.messages = omega (arith, c.from.ensures, c.from-2.ensures, c.messages.ensures) in
-    rw (c.made-in-Some.ensures, ← c.ready_cores-ready.ensures.same) (is_turn g.P.Program.acts _ _ c.deliver.result
+    rw (c.made-in-Some.ensures, ← c.ready_cores-ready.ensures.same, ← c.seek_message.ensures.same) (is_turn g.P.Program.acts _ _ c.deliver.result
     (c.deliver.ensures c.ready_cores-ready.new.programs (seeded g.P.Program.acts) own
-    (rw c.ready_cores-ready.ensures.same (is ∙ delivery_drawn g.P.Program.acts a.system.now a.programs.now a.b
+    (rw (c.ready_cores-ready.ensures.same, c.seek_message.ensures.same) (is ∙ delivery_drawn g.P.Program.acts a.system.now a.programs.now a.b
     c.place_in-at.result (count_ones c.ready_cores-ready.result) c.ready_cores-ready.ensures.count
     (c.place_in-at.ensures ∙ ap (λ n. a.b % n) all) c.in-Some.number c.if-at-count.false
-    (sym c.message.ensures ∙ c.in-Some.is)))))
+    (sym c.seek_message.ensures.number ∙ c.in-Some.is)))))

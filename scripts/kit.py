@@ -10,6 +10,10 @@ kit that doesn't have the calls meant as it is.
 does so from nothing, as `rt ci` does, if the crates below are built. Of a library it keeps what the crates above can
 cite, and its code. These prove faster over that than over what `rt lib` keeps. Nothing is kept for the next check of
 the same crate. A kit that doesn't have the calls meant can't do this.
+
+    scripts/kit.py link TREE           takes the libraries that another clone has built, by `rt ci`, of the same files
+
+so that a check here begins with the first crate that differs. Run it in the folder of any crate.
 """
 import functools
 import os
@@ -71,6 +75,21 @@ def prove(kit, jobs):
     return status
 
 
+def link(kit, tree):
+    """Takes the libraries of another clone whose crates have the same files here, as all crates below them have."""
+    crate, here = kit["rtlib"].Crate, kit["rtlib"].root_above(os.getcwd())
+    for name in sorted(os.listdir(f"{here}/crates")):
+        theirs, mine = f"{tree}/crates/{name}", f"{here}/crates/{name}"
+        if not os.path.isdir(f"{theirs}/out/rlib/{name}.rlib"):
+            continue
+        stamp = crate(mine, here, {}).stamp()
+        if stamp == crate(theirs, tree, {}).stamp():
+            shutil.rmtree(f"{mine}/out/rlib", ignore_errors=True)
+            shutil.copytree(f"{theirs}/out/rlib", f"{mine}/out/rlib", copy_function=os.link)
+            Path(mine, "out/rlib/stamp").unlink(missing_ok=True)
+            Path(mine, "out/rlib/stamp").write_text(stamp)
+
+
 def main(words):
     if words[:1] == ["prove"]:
         if words[1:] and (len(words) != 3 or words[1] != "--jobs" or not words[2].isdigit()):
@@ -78,6 +97,10 @@ def main(words):
         kit = loaded(PROVES) or sys.exit("kit.py: this kit lacks calls that prove takes: use 'rt lib' and 'rt run'")
         sys.exit(prove(kit, words[2] if words[1:] else "1"))
     kit = loaded()
+    if words[:1] == ["link"]:
+        if len(words) != 2 or kit is None:
+            sys.exit("kit.py: link takes a folder, and a kit with the calls meant")
+        return link(kit, os.path.abspath(words[1]))
     if kit is None:
         os.execv(command(), ["rt", *words])
     sys.argv = [str(command()), *words]

@@ -6,7 +6,7 @@ of the program itself. Instructions and mispredicted branches are cachegrind's: 
 a smaller one, divided by the units between. The speed is the yardstick's time divided by the program's, each the least
 of five runs in turn: processor time, but the clock's for several threads. Both must make the same number of events. The
 script prints the table; with --write it puts the table and the date into the page. Standard error has the load of the
-machine before and after: on a busy one, only the instructions can be relied on.
+machine before and after: on a busy one, only the instructions can be relied on, and several threads aren't timed.
 """
 import argparse
 import os
@@ -25,6 +25,7 @@ PAGE = TOP / "docs/BENCHMARKS.md"
 HEADING = "## Against yardsticks\n"
 HEAD = "| Load | Unit | Instructions, mispredictions | Yardstick | Its own | Speed |", "|---|---|---|---|---|---|"
 RUNS = 5
+BUSY = 1.5  # with a greater load of the machine, threads aren't timed
 ENDS = 0, 1  # with 1 the program ends whose condition doesn't hold
 TRACES = 16000, 48000, 800000  # operations
 CRATES = ("bench", "bench_schedules", "bench_seats", "tardis")
@@ -170,7 +171,8 @@ def measured(folder):
     for each, (own, without, other) in zip(every, came):
         if without:
             own = [a - b for a, b in zip(own, without)]
-        ratio = f"{speed(each):.2f}" if each.beside else "-"
+        is_busy = each.is_clocked and os.getloadavg()[0] > BUSY
+        ratio = "busy" if is_busy else f"{speed(each):.2f}" if each.beside else "-"
         yield f"| {each.load} | {each.unit} | {told(own or None)} | {each.by} | {told(other or None)} | {ratio} |"
 
 

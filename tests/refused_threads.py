@@ -31,6 +31,7 @@ STATES = {"0:x7=0 1:x7=1", "0:x7=1 1:x7=0", "0:x7=1 1:x7=1"}
 OPERATIONS = 4
 WORKERS = 2
 LIMITS = (100_000, 5_000_000, 200_000_000)
+MOST_TURNS = 4_294_967_295
 PASSES = 200  # after so many of one worker alone nothing in these runs goes on any more
 SCHEDULE = ["--schedule", "threads", "--workers", WORKERS]
 
@@ -207,6 +208,10 @@ def sweep(tester, name, what, how):
         if not ran.refused:
             break
         kinds[kind] += 1
+        if not how and ran.is_at_work and kinds[kind] == 1:
+            # The other worker finds the end: it doesn't go on for as many turns as there may be.
+            ran = tester.run([*what.words, "--limit", MOST_TURNS], growth=f"{number}")
+            tester.expect(kind_of(what, ran, False) in KINDS, f"{name}, growth {number}, most turns: {ran.answer()}")
     if not how:
         for kind in KINDS[:3]:
             tester.expect(kinds[kind] > 0, f"{name}: none was told as {kind}")

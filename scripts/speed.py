@@ -25,7 +25,7 @@ PAGE = TOP / "docs/BENCHMARKS.md"
 HEADING = "## Against yardsticks\n"
 HEAD = "| Load | Unit | Instructions, mispredictions | Yardstick | Its own | Speed |", "|---|---|---|---|---|---|"
 RUNS = 5
-BUSY = 1.5  # with a greater load of the machine, threads aren't timed
+BUSY = 1.5  # with a greater load before, threads aren't timed
 ENDS = 0, 1  # with 1 the program ends whose condition doesn't hold
 TRACES = 16000, 48000, 800000  # operations
 CRATES = ("bench", "bench_schedules", "bench_seats", "tardis")
@@ -156,7 +156,7 @@ def told(count):
     return "-" if count is None else f"{count[0]:,.0f}, {count[1]:.1f}"
 
 
-def measured(folder):
+def measured(folder, is_busy):
     """The rows' lines: first all counts, side by side, then the times, one after the other."""
     plain = f"{folder}/plain"
     subprocess.run([*PLAIN, "-o", plain, f"{TOP}/bench/plain/main.rs"], check=True)
@@ -171,8 +171,7 @@ def measured(folder):
     for each, (own, without, other) in zip(every, came):
         if without:
             own = [a - b for a, b in zip(own, without)]
-        is_busy = each.is_clocked and os.getloadavg()[0] > BUSY
-        ratio = "busy" if is_busy else f"{speed(each):.2f}" if each.beside else "-"
+        ratio = "busy" if is_busy and each.is_clocked else f"{speed(each):.2f}" if each.beside else "-"
         yield f"| {each.load} | {each.unit} | {told(own or None)} | {each.by} | {told(other or None)} | {ratio} |"
 
 
@@ -193,9 +192,10 @@ def main():
     missing = [name for name in CRATES if not os.access(built(name), os.X_OK)]
     if missing and subprocess.run([f"{TOP}/scripts/build.py", *missing]).returncode:
         sys.exit("speed.py: not all that is measured could be built")
-    print(f"load before: {os.getloadavg()[0]:.1f}", file=sys.stderr)
+    load = os.getloadavg()[0]
+    print(f"load before: {load:.1f}", file=sys.stderr)
     with tempfile.TemporaryDirectory() as folder:
-        lines = [*HEAD, *measured(folder)]
+        lines = [*HEAD, *measured(folder, load > BUSY)]
     print(f"load after: {os.getloadavg()[0]:.1f}", file=sys.stderr)
     write(lines) if given.write else print("\n".join(lines))
 

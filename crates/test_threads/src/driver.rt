@@ -26,8 +26,8 @@ pub(crate) const ONE: Config = Config {
     private_write: false,
 };
 
-/// A machine with a memory of zeros, a program for each core, by its word and its places, and how many turns each seat
-/// may have.
+/// A machine with a memory of zeros, programs of its first cores, by their words and their places, and how many turns
+/// each seat may have. The other cores have nothing to do.
 #[derive(Clone, Copy)]
 pub(crate) struct Case {
     pub(crate) config: Config,
@@ -35,14 +35,15 @@ pub(crate) struct Case {
     pub(crate) turn_limit: u32,
 }
 
-fn scripts(alloc: Global, programs: &[(u32, u32, u32)]) -> Result<Vec<Script>, AllocError> {
+fn scripts(alloc: Global, case: &Case) -> Result<Vec<Script>, AllocError> {
     let mut scripts = Vec::new(alloc);
-    for (word, at, end) in programs {
-        scripts.push(Script {
-            word: *word,
-            at: *at,
-            end: *end,
-        })?;
+    for core in 0..case.config.cores {
+        let (word, at, end) = case
+            .programs
+            .get(core as usize)
+            .copied()
+            .unwrap_or((0, 0, 0));
+        scripts.push(Script { word, at, end })?;
     }
     Ok(scripts)
 }
@@ -58,7 +59,7 @@ pub(crate) fn end_of<R: Threads + Sync>(
     requires { (0 < workers) × (workers ≤ 16) }
 {
     let _inside: Option<Run> = None;
-    let scripts = scripts(alloc, case.programs).ok()?;
+    let scripts = scripts(alloc, case).ok()?;
     let config = case.config;
     if !config.is_good() || scripts.len() != config.cores as usize {
         return None;

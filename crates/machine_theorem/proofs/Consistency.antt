@@ -12,4 +12,5 @@ consistent m invariant = record {
   one_owner = one_owner m invariant;
   coherent = value_left m invariant;
   cases = messages_find_cases m invariant;
+  zeros = invariant.reached.zeros;
 }

@@ -27,11 +27,13 @@ use Rattle.core_pts.specs.OnCopy.{is_exclusive, serves, time_of, received_at, co
 use Rattle.machine_table.specs.Machine.{Machine}
 use Rattle.network.specs.Mail.{has_capacity}
 use Rattle.machine_table.specs.Transition.{issued, issue_at, attempt_at, evict_copy, advance_at}
+use Rattle.machine_theorem.specs.PastWords.{IsReached}
+use Rattle.machine_theorem.proofs.PastWords.{goes_on}
 use Rattle.machine_theorem.proofs.PartChanges.{requested, attempted_op, attempt_open, copy_evicted, advanced, tested}
 use Rattle.protocol.specs.Machine as by_line
 use Rattle.protocol.specs.Machine.{Config, Copy, Line, Core, ShReq, ExReq, FlushRep, version_of, line_of, with_at}
 use Rattle.protocol.specs.Machine.{IsPinned, CannotUse, Asks, to_read, to_write, Uses, Transition, issue, advance}
-use Rattle.protocol.specs.Machine.{ask, complete, evict_shared, evict_exclusive, Reachable, goes_on}
+use Rattle.protocol.specs.Machine.{ask, complete, evict_shared, evict_exclusive}
 use Rattle.protocol.proofs.Lemmas.{with_at_same, with_at_other, with_at_cases, with_at_id, Opened, reachable_ok}
 use Rattle.protocol.proofs.Lemmas.{reachable_blocked, Some_injective}
 use Rattle.machine_theorem.specs.View.{copy_seen, copy_or_none, body_seen, messages_of, copy_in, core_seen, set_up}
@@ -52,8 +54,8 @@ use Rattle.machine_theorem.proofs.OnCopies.{serves_uses, serves_not, serves_clas
 complete_at : (f : Config) (n : by_line.Machine) (c l place : ℕ) (op : Op) (copy new : Copy) (received : Option ℕ)
     (ts : ℕ) → line_of f (address op) ≡ l → length (of_core c n.records) ≡ place → (n.cores c).open_op ≡ Some op →
     (n.cores c).out ≡ false →
-    (n.lines l).copies c ≡ Some copy → Uses f (n.cores c).pts copy op received ts new → Reachable f n →
-    Reachable f (record n {
+    (n.lines l).copies c ≡ Some copy → Uses f (n.cores c).pts copy op received ts new → IsReached f n →
+    IsReached f (record n {
       cores = with_at n.cores c (record { pts = ts; open_op = None; out = false });
       lines = with_at n.lines l (record (n.lines l) { copies = with_at ((n.lines l).copies) c (Some new) });
       records = n.records ++ record {
@@ -67,7 +69,7 @@ complete_at : (f : Config) (n : by_line.Machine) (c l place : ℕ) (op : Op) (co
       } ∷ [];
     })
 complete_at f n c l place op copy new received ts on count opens quiet is u r =
-    subst (λ (k : ℕ). Reachable f
+    subst (λ (k : ℕ). IsReached f
     (record n {
       cores = with_at n.cores c (record { pts = ts; open_op = None; out = false });
       lines =
@@ -83,7 +85,7 @@ complete_at f n c l place op copy new received ts on count opens quiet is u r =
                 length n.records;
           } ∷ [];
     })) on
-    (subst (λ (p : ℕ). Reachable f
+    (subst (λ (p : ℕ). IsReached f
     (record n {
       cores = with_at n.cores c (record { pts = ts; open_op = None; out = false });
       lines =
@@ -100,14 +102,14 @@ complete_at f n c l place op copy new received ts on count opens quiet is u r =
 
 ask_at : (f : Config) (n : by_line.Machine) (c l : ℕ) (op : Op) (y : Line) → line_of f (address op) ≡ l →
     (n.cores c).open_op ≡ Some op → (n.cores c).out ≡ false → Asks c (n.cores c).pts op (n.lines l)
-    y → Reachable f n →
-    Reachable f (record n {
+    y → IsReached f n →
+    IsReached f (record n {
       cores = with_at n.cores c (record (n.cores c) { out = true });
       lines =
           with_at n.lines l y;
     })
 ask_at f n c l op y on opens quiet a r =
-    subst (λ (k : ℕ). Reachable f (record n {
+    subst (λ (k : ℕ). IsReached f (record n {
       cores = with_at n.cores c (record (n.cores c) { out = true });
       lines =
           with_at n.lines k y;
@@ -179,7 +181,7 @@ module _ (m : Machine) (s : Invariant m) (core : CoreState) (at : slice_get m.co
 
   -- no request is out where no operation is open
   idle : core.open_op ≡ None → core.is_out ≡ false
-  idle none = sym (ap (λ (y : Core). y.out) seen) ∙ (reachable_blocked (set_up m) (view m) s.reached).idle c
+  idle none = sym (ap (λ (y : Core). y.out) seen) ∙ (reachable_blocked (set_up m) (view m) s.reached.reachable).idle c
       (ap (λ (y : Core). y.open_op) seen ∙ none)
 
   pub off_line : (l : ℕ) → is_pinned (pinned_line core) l ≡ false → (op : Op) → core.open_op ≡ Some op →
@@ -243,7 +245,7 @@ module _ (m : Machine) (s : Invariant m) (core : CoreState) (at : slice_get m.co
           each_bank = s.whole.each_bank;
           each_message = s.whole.each_message;
         };
-        reached = subst (Reachable (set_up m))
+        reached = subst (IsReached (set_up m))
             (machine_same n (view after) (λ l. line_same (v.lines l) ((view after).lines l) refl
             (λ e. copies_kept m c core new at l e refl) refl refl)
             (λ e. ap (λ (y : Core). with_at v.cores c (record y { open_op = Some op }) e) seen
@@ -282,7 +284,7 @@ module _ (m : Machine) (s : Invariant m) (core : CoreState) (at : slice_get m.co
               is.count;
           room = is.room;
         }) s.whole.each_message;
-        reached = subst (Reachable (set_up m))
+        reached = subst (IsReached (set_up m))
             (machine_same n (view after) (λ l. line_same (v.lines l) ((view after).lines l) refl
             (λ e. copies_kept m c core new at l e refl) refl refl)
             (λ e. ap (λ (y : Core). with_at v.cores c (record y { pts = y.pts + 1 }) e) seen ∙ cores_view m c core new
@@ -305,7 +307,7 @@ module _ (m : Machine) (s : Invariant m) (core : CoreState) (at : slice_get m.co
     count : length (of_core c m.records) ≡ core.issued - 1
     count =
         let k = subst (Opened ops (length (of_core c m.records))) opens'
-        ((reachable_ok (set_up m) s.whole.some_words (view m) s.reached).cores c).opened in
+        ((reachable_ok (set_up m) s.whole.some_words (view m) s.reached.reachable).cores c).opened in
         let n = k.0 in let i = is.count in omega arith
 
     -- a copy that serves is used with no request out
@@ -316,7 +318,7 @@ module _ (m : Machine) (s : Invariant m) (core : CoreState) (at : slice_get m.co
         (subst (CannotUse op core.pts) (copies_at l ∙ ap copy_or_none there)
         (subst (λ (k : ℕ). CannotUse op core.pts ((line_in m k).copies c)) on
         (subst (λ (y : Core). CannotUse op y.pts ((line_in m (line_of (set_up m) (address op))).copies c)) seen
-        ((reachable_blocked (set_up m) (view m) s.reached).blocked c op opens'
+        ((reachable_blocked (set_up m) (view m) s.reached.reachable).blocked c op opens'
         (ap (λ (y : Core). y.out) seen ∙ o)))))))
         (λ (o : core.is_out ≡ false). o) (cases_Bool core.is_out)
 

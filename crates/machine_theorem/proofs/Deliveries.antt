@@ -25,10 +25,12 @@ use Rattle.machine_table.specs.Machine.{Machine, with_core}
 use Rattle.network.specs.Mail.{has_number}
 use Rattle.machine_table.specs.declared.event.Refusal.TheVariants.{NoSuch}
 use Rattle.machine_table.specs.Transition.{refused, deliver_core}
+use Rattle.machine_theorem.specs.PastWords.{IsReached}
+use Rattle.machine_theorem.proofs.PastWords.{goes_on}
 use Rattle.machine_theorem.proofs.PartChanges.{reacted, tested}
 use Rattle.llc_bank.specs.BankTable.{core_of}
 use Rattle.protocol.specs.Machine as by_line
-use Rattle.protocol.specs.Machine.{Copy, Line, Core, with_at, IsPinned, Answers, answer, Reachable, goes_on}
+use Rattle.protocol.specs.Machine.{Copy, Line, Core, with_at, IsPinned, Answers, answer}
 use Rattle.protocol.proofs.Lemmas.{with_at_same, with_at_other}
 use Rattle.machine_theorem.specs.View.{copy_seen, copy_or_none, body_seen, messages_of, copy_in, core_seen, set_up}
 use Rattle.machine_theorem.specs.View.{line_in, view}
@@ -93,7 +95,7 @@ module _ (m : Machine) (s : Invariant m) (core : CoreState) (at : slice_get m.co
         copies = with_at (line_in m l).copies c (Some (copy_seen copy));
         messages = messages_of rest l;
       }) →
-      Reachable (set_up m) (view (record m { cores = set m.cores c new; mail = record (m.mail) { messages = rest } }))
+      IsReached (set_up m) (view (record m { cores = set m.cores c new; mail = record (m.mail) { messages = rest } }))
   answered new copy same here there a =
       let v = view m in
       let y : Line = record (v.lines l) {

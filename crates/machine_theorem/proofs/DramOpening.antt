@@ -43,6 +43,35 @@ module _ (c : Config) (bank : ℕ) where
       go long true = word_long (dram_of c bank es) (e.0 / c.line_words) (e.0 % c.line_words) e.1 l long
       go long false = long l
 
+  -- no word is set behind those that lines have
+  pub dram_zeros : 0 < c.line_words → (es : List (ℕ × ℕ)) (l k : ℕ) → c.line_words ≤ k →
+      get_or (words_of (dram_of c bank es) l) k 0 ≡ 0
+  dram_zeros some [] l k le = ap (λ ws. get_or ws k 0) (empty_words l) ∙ get_replicate 8 k 0
+  dram_zeros some (e ∷ es) l k le =
+      go (λ j. dram_zeros some es j k le) (eqb ((e.0 / c.line_words) % c.banks) bank)
+    where
+      lines : FinMap nat_cmp (List ℕ)
+      lines = dram_of c bank es
+
+      line : ℕ
+      line = e.0 / c.line_words
+
+      apart : k ≢ e.0 % c.line_words
+      apart same = let lt = mod-lt e.0 some in omega (arith, le, same, lt)
+
+      go : ((j : ℕ) → get_or (words_of lines j) k 0 ≡ 0) → (b : Bool) →
+          get_or (words_of (cond b (with_word lines line (e.0 % c.line_words) e.1) lines) l) k 0 ≡ 0
+      go zeros true =
+          ⊎_elim
+          (λ (q : l ≡ line). subst (λ (j : ℕ). get_or (words_of (with_word lines line (e.0 % c.line_words) e.1) j) k
+          0 ≡ 0) (sym q)
+          (ap (λ ws. get_or ws k 0) (words-insert_same lines line (set (words_of lines line) (e.0 % c.line_words) e.1))
+          ∙ get_or-set_other (words_of lines line) (e.0 % c.line_words) k e.1 0 apart ∙ zeros line))
+          (λ (ne : l ≡ line → ⊥). ap (λ ws. get_or ws k 0) (words-insert_other lines line l
+          (set (words_of lines line) (e.0 % c.line_words) e.1) ne) ∙ zeros l)
+          (cases_eq l line)
+      go zeros false = zeros l
+
   module _ (some : 0 < c.line_words) (most : c.line_words ≤ 8) where
     abbrev word : FinMap nat_cmp (List ℕ) → ℕ → ℕ
     word lines a = get_or (words_of lines (a / c.line_words)) (a % c.line_words) 0

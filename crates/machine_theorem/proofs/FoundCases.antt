@@ -226,4 +226,4 @@ each_has_case m s (x ∷ xs) goes waits = (
 
 pub messages_find_cases : (m : Machine) → Invariant m → Each (λ x. has_case m x.1 ≡ true) m.mail.messages
 messages_find_cases m s = each_has_case m s m.mail.messages s.whole.each_message
-    (λ line. messages_have_cases (set_up m) s.whole.some_words (view m) s.reached line)
+    (λ line. messages_have_cases (set_up m) s.whole.some_words (view m) s.reached.reachable line)

@@ -30,7 +30,7 @@ pub issued_now : (m : Machine) → Invariant m → (core : ℕ) → IsIssued (ge
     (of_core core m.records) (operation_of (slice_get m.cores core))
 issued_now m s core =
     subst (IsIssued (get_or m.issued core []) (of_core core m.records)) (seen (slice_get m.cores core))
-    (what_is_issued (set_up m) s.whole.some_words (view m) s.reached core)
+    (what_is_issued (set_up m) s.whole.some_words (view m) s.reached.reachable core)
   where
     seen : (o : Option CoreState) → (core_seen o).open_op ≡ operation_of o
     seen None = refl
@@ -38,21 +38,21 @@ issued_now m s core =
 
 pub one_owner : (m : Machine) → Invariant m → (line : ℕ) → owners m line ≤ 1
 one_owner m s line = subst (λ (n : ℕ). n ≤ 1) (owners_of m line) (at_most_one (set_up m) s.whole.some_words (view m)
-    s.reached (length m.cores) line)
+    s.reached.reachable (length m.cores) line)
 
 pub value_left : (m : Machine) → Invariant m → (arranged : List Record) → Arrangement m.records arranged →
     (word : ℕ) → coherent m word ≡ replay_end (flat m.opening) (map (λ r. r.op) arranged) word
 value_left m s arranged is word =
     ap (λ ws. get_or ws (word % m.config.line_words) 0)
     (sym (coherent_words_are m (word / m.config.line_words) (one_owner m s (word / m.config.line_words))))
-    ∙ coherent_is (set_up m) s.whole.some_words (view m) s.reached (length m.cores)
+    ∙ coherent_is (set_up m) s.whole.some_words (view m) s.reached.reachable (length m.cores)
     (λ core line past. no_copies m core line past) word
     ∙ ap (λ rs. replay_end (flat m.opening) (map (λ (r : Record). r.op) rs) word)
     (one_arrangement m.records _ arranged (arrangement_of (flat m.opening) (view m).issued m.records
-    (reachable_ok (set_up m) s.whole.some_words (view m) s.reached).kept) is)
+    (reachable_ok (set_up m) s.whole.some_words (view m) s.reached.reachable).kept) is)
 
 pub legal_now : (m : Machine) → Invariant m → Legal (flat m.opening) (λ core. get_or m.issued core []) m.records
-legal_now m s = legal_by_line (set_up m) s.whole.some_words (view m) s.reached
+legal_now m s = legal_by_line (set_up m) s.whole.some_words (view m) s.reached.reachable
 
 module _ (config : Config) (opening : FinMap nat_cmp ℕ) (events : List Event) (good : is_good config ≡ true) where
   abbrev after : Machine

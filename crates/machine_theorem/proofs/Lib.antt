@@ -1,4 +1,5 @@
 mod PartChanges
+mod PastWords
 mod Lookups
 mod Transitions
 mod OnCopies

@@ -20,15 +20,16 @@ use Rattle.machine_table.specs.Machine.{Machine}
 use Rattle.machine_table.specs.Opening.{core_config, geometry, bank_config, cores_from, banks_from, dram_of}
 use Rattle.machine_table.specs.Opening.{drams_from, at_start}
 use Rattle.protocol.specs.Machine as by_line
-use Rattle.protocol.specs.Machine.{Absent, OpensWith, Reachable, at_first}
+use Rattle.protocol.specs.Machine.{Absent, OpensWith, at_first}
 use Rattle.protocol.proofs.Lemmas.{Some_injective}
+use Rattle.machine_theorem.specs.PastWords.{IsReached}
 use Rattle.machine_theorem.specs.View.{entry_seen, copy_or_none, copy_in, core_seen, entry_in, time_in, set_up, view}
 use Rattle.machine_theorem.specs.Coherence.{words_in}
 use Rattle.machine_theorem.specs.Shape.{IsCore, IsBank}
 use Rattle.machine_theorem.specs.Kept.{Invariant}
 use Rattle.machine_theorem.proofs.Routes.{left_of, ownership_of}
 use Rattle.machine_theorem.proofs.Transitions.{machine_same, line_same}
-use Rattle.machine_theorem.proofs.DramOpening.{get_replicate, dram_long, dram_word}
+use Rattle.machine_theorem.proofs.DramOpening.{get_replicate, dram_long, dram_word, dram_zeros}
 
 -- what is taken of a good set-up
 pub record Fair (c : Config) : Type 0 where
@@ -155,11 +156,11 @@ module _ (c : Config) where
           ∙ sym (ap (λ (o : Option ℕ). unwrap_or o 0) (get-entries opening a));
     }
 
-    reached : Reachable (set_up m) (view m)
+    reached : IsReached (set_up m) (view m)
     reached =
         let pts : ℕ → ℕ = λ k. (core_seen (slice_get m.cores k)).pts in
         let mts : ℕ → ℕ = λ b. time_in (slice_get m.banks b) in
-        subst (Reachable (set_up m))
+        subst (IsReached (set_up m))
         (machine_same (by_line.opened pts mts drams) (view m)
         (λ l. line_same ((by_line.opened pts mts drams).lines l) ((view m).lines l)
         (sym (any_bank (λ o. entry_in o l ≡ Absent) refl (λ i. ap entry_seen (no_entry i l)) 0 c.banks (l % c.banks)))
@@ -167,7 +168,18 @@ module _ (c : Config) where
         (λ k. any_core (λ o. ◌≡◌ {A = by_line.Core} (record { pts = (core_seen o).pts; open_op = None; out = false })
         (core_seen o)) refl (λ i. refl) 0 c.cores k)
         (λ b. refl) (λ k. sym (get_replicate c.cores k [])) refl)
-        (at_first pts mts drams (λ l. bank_there 0 c.banks (l % c.banks) (mod-lt l f.some_banks)) opens)
+        (record {
+          some_words = f.some_words;
+          reachable =
+              at_first pts mts drams (λ l. bank_there 0 c.banks (l % c.banks) (mod-lt l f.some_banks)) opens;
+          zeros = λ l. record {
+            copies = λ core copy e. absurd (let z : ◌≡◌ {A = Option by_line.Copy} None (Some copy) = e in cc);
+            entry = tt;
+            messages = tt;
+            dram = λ k le. ap (λ ws. get_or ws k 0) (dram_is l)
+                ∙ dram_zeros c (l % c.banks) f.some_words (entries opening) l k le;
+          };
+        })
 
     pub at_start_invariant : Invariant m
     at_start_invariant = record {

@@ -11,10 +11,10 @@ use Rattle.network.specs.declared.message.Message.{Message}
 use Rattle.core_pts.specs.CoreTable.{CoreState}
 use Rattle.llc_bank.specs.BankTable.{BankState}
 use Rattle.protocol.specs.Machine as by_line
-use Rattle.protocol.specs.Machine.{Reachable}
 use Rattle.machine_table.specs.declared.config.Config.{Config}
 use Rattle.network.specs.Mail.{Mail}
 use Rattle.machine_table.specs.Machine.{Machine}
+use Rattle.machine_theorem.specs.PastWords.{IsReached}
 use Rattle.machine_theorem.specs.View.{message_seen, messages_of, set_up, view}
 use Rattle.machine_theorem.specs.Shape.{IsCore, IsBank, GoesHome, HasShape}
 use Rattle.machine_theorem.specs.Kept.{Invariant}
@@ -68,12 +68,12 @@ abbrev with_bag : by_line.Machine → List Message → by_line.Machine
 with_bag v bag = record v { lines = λ l. record (v.lines l) { messages = lines_of bag l } }
 
 reached_reordered : (f : by_line.Config) (v : by_line.Machine) {xs ys : List Message} → Reordered xs ys →
-    (before : List Message) → Reachable f (with_bag v (before ++ xs)) → Reachable f (with_bag v (before ++ ys))
+    (before : List Message) → IsReached f (with_bag v (before ++ xs)) → IsReached f (with_bag v (before ++ ys))
 reached_reordered f v none before r = r
 reached_reordered f v (behind {xs} {ys} x same) before r =
-    subst (λ (bag : List Message). Reachable f (with_bag v bag)) (append_assoc before (x ∷ []) ys)
+    subst (λ (bag : List Message). IsReached f (with_bag v bag)) (append_assoc before (x ∷ []) ys)
     (reached_reordered f v same (before ++ x ∷ [])
-    (subst (λ (bag : List Message). Reachable f (with_bag v bag)) (sym (append_assoc before (x ∷ []) xs)) r))
+    (subst (λ (bag : List Message). IsReached f (with_bag v bag)) (sym (append_assoc before (x ∷ []) xs)) r))
 reached_reordered f v (swapped x y xs) before r =
     let m = with_bag v (before ++ x ∷ y ∷ xs) in
     let n = with_bag v (before ++ y ∷ x ∷ xs) in
@@ -163,7 +163,7 @@ module _ (m : Machine) (s : Invariant m) (capacity : ℕ) (mail : Mail) (stop : 
       (λ c. refl) refl in
       record {
         whole = shape;
-        reached = subst (Reachable (set_up m)) (bagged ms)
+        reached = subst (IsReached (set_up m)) (bagged ms)
             (reached_reordered (set_up m) v order []
-            (subst (Reachable (set_up m)) (sym (bagged m.mail.messages)) s.reached));
+            (subst (IsReached (set_up m)) (sym (bagged m.mail.messages)) s.reached));
       }

@@ -15,8 +15,9 @@ use Rattle.dram_mts.specs.Lines.{words_of}
 use Rattle.machine_table.specs.Machine.{Machine}
 use Rattle.protocol.specs.Machine as by_line
 use Rattle.protocol.specs.Machine.{Config, Copy, Line, Core, with_at, IsPinned, LineTransition, shuffled, line_changes}
-use Rattle.protocol.specs.Machine.{Reachable, goes_on}
 use Rattle.protocol.proofs.Lemmas.{with_at_same, with_at_other, with_at_cases, with_at_id}
+use Rattle.machine_theorem.specs.PastWords.{IsReached}
+use Rattle.machine_theorem.proofs.PastWords.{goes_on}
 use Rattle.machine_theorem.specs.View.{copy_in, core_seen, entry_seen, entry_in, time_in, messages_of, set_up}
 use Rattle.machine_theorem.specs.View.{line_in, view}
 use Rattle.machine_theorem.specs.Coherence.{words_in}
@@ -46,21 +47,21 @@ pub moved_to : (f : Config) (m n : by_line.Machine) (l t : ℕ) (y : Line) → L
     record y { messages = (n.lines l).messages } ≡ n.lines l → ((j : ℕ) → j ≢ l → m.lines j ≡ n.lines j) →
     t ≡ n.mts (l % f.banks) → ((b : ℕ) → b ≢ l % f.banks → m.mts b ≡ n.mts b) →
     ((c : ℕ) → m.cores c ≡ n.cores c) → ((c : ℕ) → m.issued c ≡ n.issued c) → m.records ≡ n.records →
-    Reachable f m → Reachable f n
+    IsReached f m → IsReached f n
 moved_to f m n l t y mv p here there time times cores issued records r =
     let b = l % f.banks in
     let ms = (n.lines l).messages in
     let z : Line = record y { messages = ms } in
     let m' : by_line.Machine = record m { mts = with_at m.mts b t; lines = with_at m.lines l y } in
     let m'' : by_line.Machine = record m' { mts = with_at m'.mts b t; lines = with_at m'.lines l z } in
-    let one : Reachable f m' = goes_on r (line_changes l t y mv) in
+    let one : IsReached f m' = goes_on r (line_changes l t y mv) in
     let mv' : LineTransition f.lease (IsPinned f m'.cores l) (m'.mts b) (m'.lines l) t z =
     subst (λ (u : ℕ). LineTransition f.lease (IsPinned f m'.cores l) u (m'.lines l) t z)
     (sym (with_at_same m.mts b t))
     (subst (λ (x : Line). LineTransition f.lease (IsPinned f m'.cores l) t x t z) (sym (with_at_same m.lines l y))
     (shuffled ms p)) in
-    let two : Reachable f m'' = goes_on one (line_changes l t z mv') in
-    subst (Reachable f)
+    let two : IsReached f m'' = goes_on one (line_changes l t z mv') in
+    subst (IsReached f)
     (machine_same m'' n
     (with_at_cases (λ j x. x ≡ n.lines j) m'.lines l z here (λ j ne. with_at_other m.lines l y j ne ∙ there j ne))
     cores
@@ -72,7 +73,7 @@ moved_to f m n l t y mv p here there time times cores issued records r =
 pub settled : (f : Config) (m n : by_line.Machine) (l : ℕ) (y : Line) → m.lines l ≡ y → IsPermutation y.messages
     (n.lines l).messages → record y { messages = (n.lines l).messages } ≡ n.lines l →
     ((j : ℕ) → j ≢ l → m.lines j ≡ n.lines j) → ((b : ℕ) → m.mts b ≡ n.mts b) → ((c : ℕ) → m.cores c ≡ n.cores c) →
-    ((c : ℕ) → m.issued c ≡ n.issued c) → m.records ≡ n.records → Reachable f m → Reachable f n
+    ((c : ℕ) → m.issued c ≡ n.issued c) → m.records ≡ n.records → IsReached f m → IsReached f n
 settled f m n l y is p here there mts cores issued records r =
     let ms = (n.lines l).messages in
     moved_to f m n l (m.mts (l % f.banks)) (record (m.lines l) { messages = ms })
@@ -120,8 +121,8 @@ module _ (m : Machine) (c : ℕ) (core new : CoreState) (at : slice_get m.cores 
       IsPermutation y.messages (messages_of ms l) →
       ((k : ℕ) → k ≢ l → copy_in (Some new) k ≡ copy_in (Some core) k) →
       ((k : ℕ) → k ≢ l → messages_of m.mail.messages k ≡ messages_of ms k) →
-      Reachable (set_up m) n →
-      Reachable (set_up m)
+      IsReached (set_up m) n →
+      IsReached (set_up m)
       (view (record m { cores = changed; mail = record (m.mail) { messages = ms }; records = rs }))
   core_transition n l y ms rs here there mts cores issued records entry dram copies bags others bags_there r =
       let after : Machine = record m { cores = changed; mail = record (m.mail) { messages = ms }; records = rs } in
@@ -141,8 +142,8 @@ module _ (m : Machine) (c : ℕ) (core new : CoreState) (at : slice_get m.cores 
       LineTransition m.config.lease (IsPinned (set_up m) (view m).cores l) ((view m).mts (l % m.config.banks))
       (line_in m l) ((view m).mts (l % m.config.banks))
       (record (line_in m l) { copies = with_at (line_in m l).copies c y; messages = front }) →
-      Reachable (set_up m) (view m) →
-      Reachable (set_up m) (view (record m { cores = changed; mail = record (m.mail) { messages = ms } }))
+      IsReached (set_up m) (view m) →
+      IsReached (set_up m) (view (record m { cores = changed; mail = record (m.mail) { messages = ms } }))
   core_move l y front ms same here there bags bags_there mv r =
       let v = view m in
       let b = l % m.config.banks in
@@ -163,8 +164,8 @@ pub bank_transition : (m : Machine) (bank new : BankState) (l : ℕ) (y : Line) 
     ((k : ℕ) → k ≢ l → entry_of new k ≡ entry_of bank k) →
     ((k : ℕ) → k ≢ l → messages_of m.mail.messages k ≡ messages_of ms k) →
     LineTransition m.config.lease (IsPinned (set_up m) (view m).cores l) bank.mts (line_in m l) new.mts y →
-    Reachable (set_up m) (view m) →
-    Reachable (set_up m) (view (record m {
+    IsReached (set_up m) (view m) →
+    IsReached (set_up m) (view (record m {
       banks = set m.banks (l % m.config.banks) new;
       mail =
           record (m.mail) { messages = ms };
@@ -200,8 +201,8 @@ pub dram_transition : (m : Machine) (lines new : FinMap nat_cmp (List ℕ)) (l :
     ((k : ℕ) → k ≢ l → messages_of m.mail.messages k ≡ messages_of ms k) →
     LineTransition m.config.lease (IsPinned (set_up m) (view m).cores l) ((view m).mts (l % m.config.banks))
     (line_in m l) ((view m).mts (l % m.config.banks)) y →
-    Reachable (set_up m) (view m) →
-    Reachable (set_up m) (view (record m {
+    IsReached (set_up m) (view m) →
+    IsReached (set_up m) (view (record m {
       drams = set m.drams (l % m.config.banks) new;
       mail =
           record (m.mail) { messages = ms };
@@ -230,8 +231,8 @@ pub messages_transition : (m : Machine) (l : ℕ) (front : List by_line.Message)
     IsPermutation front (messages_of ms l) → ((k : ℕ) → k ≢ l → messages_of m.mail.messages k ≡ messages_of ms k) →
     LineTransition m.config.lease (IsPinned (set_up m) (view m).cores l) ((view m).mts (l % m.config.banks))
     (line_in m l) ((view m).mts (l % m.config.banks)) (record (line_in m l) { messages = front }) →
-    Reachable (set_up m) (view m) →
-    Reachable (set_up m) (view (record m { mail = record (m.mail) { messages = ms } }))
+    IsReached (set_up m) (view m) →
+    IsReached (set_up m) (view (record m { mail = record (m.mail) { messages = ms } }))
 messages_transition m l front ms bags bags_there mv r =
     let after : Machine = record m { mail = record (m.mail) { messages = ms } } in
     moved_to (set_up m) (view m) (view after) l ((view m).mts (l % m.config.banks)) (record (line_in m l) {

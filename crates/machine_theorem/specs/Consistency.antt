@@ -7,6 +7,8 @@ use Rattle.protocol.specs.Issued.{IsIssued}
 use Rattle.machine_table.specs.Machine.{Machine, operation_of}
 use Rattle.machine_theorem.specs.Cases.{has_case}
 use Rattle.machine_theorem.specs.Coherence.{owners, coherent}
+use Rattle.machine_theorem.specs.PastWords.{HasZeros}
+use Rattle.machine_theorem.specs.View.{line_in}
 
 pub record IsConsistent (m : Machine) : Type 0 where
   -- its records are a legal history of its opening memory and of what its cores were issued
@@ -22,3 +24,5 @@ pub record IsConsistent (m : Machine) : Type 0 where
       coherent m word ≡ replay_end (flat m.opening) (map (λ r. r.op) arranged) word
   -- the part that a message in flight goes to has a case for it, with a place for the line that it brings
   pub cases : AllByRecursion (λ message. has_case m message.1 ≡ true) m.mail.messages
+  -- where lines have one word, the others are 0, in every copy, entry, message and DRAM
+  pub zeros : (line : ℕ) → HasZeros m.config.line_words (line_in m line)

@@ -8,3 +8,4 @@ pub mod Coherence
 pub mod Consistency
 pub mod Kept
 pub mod View
+pub mod PastWords

@@ -23,7 +23,8 @@ ghost use Rattle.machine_theorem.specs.Consistency.{IsConsistent};
 ghost use Rattle.machine_theorem.specs.Kept.{Invariant};
 
 /// A machine has the invariant if its parts have their shape and it is, seen line by line, one that the protocol
-/// reaches. What any event makes of such a machine has it as well, and no event changes how it was set up.
+/// reaches, with 0 for each word that lines don't have. What any event makes of such a machine has it as well, and no
+/// event changes how it was set up.
 pub fn events_keep_the_invariant()
     ensures invariant { (m : Machine) (event : Event) → Invariant m →
         Invariant (transition m event).1 }
@@ -48,8 +49,8 @@ pub fn renumberings_keep_the_invariant()
         }) }
 {}
 
-/// Every machine with the invariant is consistent: its records are legal, a line has at most one owner, and a word's
-/// coherent value is the one that the records leave.
+/// Every machine with the invariant is consistent: its records are legal, a line has at most one owner, a word's
+/// coherent value is the one that the records leave, and each word that lines don't have is 0.
 pub fn machines_with_the_invariant_are_consistent()
     ensures { (m : Machine) → Invariant m → IsConsistent m }
 {}
@@ -57,8 +58,9 @@ pub fn machines_with_the_invariant_are_consistent()
 /// After any list of events, refused ones included, of a machine that opened with a good set-up: the records are a
 /// legal history of the opening memory and the lists that the cores were issued; a line has at most one owner, and
 /// grants and returns in flight count; and a word's coherent value is the one that the records leave, one after the
-/// other in the order of their times, on the opening memory. And the part that a message in flight goes to has a case
-/// for it, with a place for the line that it brings: its delivery is never answered NoSuch.
+/// other in the order of their times, on the opening memory. Where lines have one word, the other seven are 0, in every
+/// copy, entry, message and DRAM. And the part that a message in flight goes to has a case for it, with a place for the
+/// line that it brings: its delivery is never answered NoSuch.
 pub fn every_history_is_legal()
     ensures consistent { (config : Config) (opening : FinMap nat_cmp ℕ) (events : List Event) →
         is_good config ≡ true → IsConsistent (after_all (at_start config opening) events) }

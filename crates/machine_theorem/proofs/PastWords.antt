@@ -1,0 +1,202 @@
+-- No turn of the protocol writes a word that lines don't have.
+use Rattle.std.proofs.Common.{◌≡◌, ◌≢◌, ℕ, ◌%◌, ◌<◌, Bool, true, List, set, Option, Some, None, ◌∙◌}
+use Rattle.std.proofs.Common.{subst, arith, get_or-set_other}
+use Rattle.std.specs.List.{AllByRecursion as Each}
+use Rattle.std.specs.List.Sorted.{IsPermutation}
+use Rattle.std.proofs.Math.Nat.{mod-lt}
+use Rattle.std.proofs.lemmas.List.Sorted.{All-permutation}
+use Rattle.std.proofs.lemmas.List.Elements.{All-from_recursion, recursion_from_All}
+use Rattle.physiological_order.specs.declared.operation.Op.{Op}
+use Rattle.physiological_order.specs.Order.{address}
+use Rattle.protocol.specs.Machine.{Config, Timed, Copy, Entry, Shared, Message, Line, Machine, with_at, line_of}
+use Rattle.protocol.specs.Machine.{LineTransition, evict_shared, evict_exclusive, dropped, wb_dropped, flushed}
+use Rattle.protocol.specs.Machine.{written_back, load_starts, renewed, leased, upgraded, granted, wb_starts}
+use Rattle.protocol.specs.Machine.{flush_starts, flush_returns, wb_returns, loaded, stored, evict_clean, evict_dirty}
+use Rattle.protocol.specs.Machine.{shuffled, dram_loads, dram_stores, Answers, shared, exclusive, renews, upgrades}
+use Rattle.protocol.specs.Machine.{Asks, to_read, to_write, Uses, load_hit, load_own, store_own, swap_own}
+use Rattle.protocol.specs.Machine.{Transition, issue, advance, ask, answer, complete, line_changes}
+use Rattle.protocol.specs.Machine as by_line
+use Rattle.protocol.proofs.Lemmas.{with_at_cases, Some_injective}
+use Rattle.machine_theorem.specs.PastWords.{ZerosFrom, EntryEnds, MessageEnds, HasZeros, IsReached}
+
+module _ (n : ℕ) where
+  -- a core's copies after one changed
+  copied : (x : Line) (c : ℕ) (new : Copy) → ZerosFrom n new.line.words → HasZeros n x → (d : ℕ) (copy : Copy) →
+      with_at x.copies c (Some new) d ≡ Some copy → ZerosFrom n copy.line.words
+  copied x c new zeros k = with_at_cases (λ d (y : Option Copy). (copy : Copy) → y ≡ Some copy →
+      ZerosFrom n copy.line.words) x.copies c (Some new)
+      (λ copy e. subst (λ (y : Copy). ZerosFrom n y.line.words) (Some_injective new copy e) zeros)
+      (λ d ne. k.copies d)
+
+  left : (x : Line) (c : ℕ) → HasZeros n x → (d : ℕ) (copy : Copy) → with_at x.copies c None d ≡ Some copy →
+      ZerosFrom n copy.line.words
+  left x c k = with_at_cases (λ d (y : Option Copy). (copy : Copy) → y ≡ Some copy → ZerosFrom n copy.line.words)
+      x.copies c None (λ copy e. absurd (let z : ◌≡◌ {A = Option Copy} None (Some copy) = e in cc)) (λ d ne. k.copies d)
+
+  -- messages in another order
+  taken : (xs ys : List Message) → IsPermutation xs ys → Each (MessageEnds n) xs → Each (MessageEnds n) ys
+  taken xs ys p each = recursion_from_All (MessageEnds n) ys (All-permutation (MessageEnds n) xs ys p
+      (All-from_recursion (MessageEnds n) xs each))
+
+  -- the words of a Shared entry
+  entered : (x : Line) (dirty : Bool) (line : Timed) → x.entry ≡ Shared dirty line → HasZeros n x →
+      ZerosFrom n line.words
+  entered x dirty line is k = subst (EntryEnds n) is k.entry
+
+  moved : (lease : ℕ) (pinned : ℕ → Type 0) (t u : ℕ) (x y : Line) → LineTransition lease pinned t x u y →
+      HasZeros n x → HasZeros n y
+  moved lease pinned t u x y (evict_shared c copy un is sh) k =
+      record { copies = left x c k; entry = k.entry; messages = k.messages; dram = k.dram }
+  moved lease pinned t u x y (evict_exclusive c copy un is ex) k =
+      record { copies = left x c k; entry = k.entry; messages = (k.copies c copy is, k.messages); dram = k.dram }
+  moved lease pinned t u x y (dropped c rest p) k =
+      record { copies = k.copies; entry = k.entry; messages = (taken _ _ p k.messages).1; dram = k.dram }
+  moved lease pinned t u x y (wb_dropped c until rest p) k =
+      record { copies = k.copies; entry = k.entry; messages = (taken _ _ p k.messages).1; dram = k.dram }
+  moved lease pinned t u x y (flushed c rest copy p un is ex) k =
+      record {
+        copies = left x c k;
+        entry = k.entry;
+        messages = (k.copies c copy is, (taken _ _ p k.messages).1);
+        dram = k.dram;
+      }
+  moved lease pinned t u x y (written_back c until rest copy p un is ex) k =
+      record {
+        copies = copied x c _ (k.copies c copy is) k;
+        entry = k.entry;
+        messages = (k.copies c copy is, (taken _ _ p k.messages).1);
+        dram = k.dram;
+      }
+  moved lease pinned t u x y (load_starts is) k =
+      record { copies = k.copies; entry = tt; messages = (tt, k.messages); dram = k.dram }
+  moved lease pinned t u x y (renewed c pts dirty line rest is p) k =
+      record {
+        copies = k.copies;
+        entry = entered x dirty line is k;
+        messages = (tt, (taken _ _ p k.messages).1);
+        dram = k.dram;
+      }
+  moved lease pinned t u x y (leased c pts version dirty line rest is p) k =
+      record {
+        copies = k.copies;
+        entry = entered x dirty line is k;
+        messages = (entered x dirty line is k, (taken _ _ p k.messages).1);
+        dram = k.dram;
+      }
+  moved lease pinned t u x y (upgraded c dirty line rest is p) k =
+      record { copies = k.copies; entry = tt; messages = (tt, (taken _ _ p k.messages).1); dram = k.dram }
+  moved lease pinned t u x y (granted c version dirty line rest is p) k =
+      record {
+        copies = k.copies;
+        entry = tt;
+        messages = (entered x dirty line is k, (taken _ _ p k.messages).1);
+        dram = k.dram;
+      }
+  moved lease pinned t u x y (wb_starts owner until is) k =
+      record { copies = k.copies; entry = tt; messages = (tt, k.messages); dram = k.dram }
+  moved lease pinned t u x y (flush_starts owner is) k =
+      record { copies = k.copies; entry = tt; messages = (tt, k.messages); dram = k.dram }
+  moved lease pinned t u x y (flush_returns c line rest p) k =
+      let each = taken _ _ p k.messages in
+      record { copies = k.copies; entry = each.0; messages = each.1; dram = k.dram }
+  moved lease pinned t u x y (wb_returns c line rest p) k =
+      let each = taken _ _ p k.messages in
+      record { copies = k.copies; entry = each.0; messages = each.1; dram = k.dram }
+  moved lease pinned t u x y (loaded words rest p) k =
+      let each = taken _ _ p k.messages in
+      record { copies = k.copies; entry = each.0; messages = each.1; dram = k.dram }
+  moved lease pinned t u x y (stored rest p) k =
+      record { copies = k.copies; entry = tt; messages = (taken _ _ p k.messages).1; dram = k.dram }
+  moved lease pinned t u x y (evict_clean line is) k =
+      record { copies = k.copies; entry = tt; messages = k.messages; dram = k.dram }
+  moved lease pinned t u x y (evict_dirty line is) k =
+      record { copies = k.copies; entry = tt; messages = (entered x true line is k, k.messages); dram = k.dram }
+  moved lease pinned t u x y (shuffled messages p) k =
+      record { copies = k.copies; entry = k.entry; messages = taken _ _ p k.messages; dram = k.dram }
+  moved lease pinned t u x y (dram_loads rest p) k =
+      record {
+        copies = k.copies;
+        entry = k.entry;
+        messages = (k.dram, (taken _ _ p k.messages).1);
+        dram = k.dram;
+      }
+  moved lease pinned t u x y (dram_stores words rest p) k =
+      let each = taken _ _ p k.messages in
+      record { copies = k.copies; entry = k.entry; messages = (tt, each.1); dram = each.0 }
+
+  answered : (c : ℕ) (x y : Line) → Answers c x y → HasZeros n x → HasZeros n y
+  answered c x y (shared line rest p) k =
+      let each = taken _ _ p k.messages in
+      record { copies = copied x c _ each.0 k; entry = k.entry; messages = each.1; dram = k.dram }
+  answered c x y (exclusive line rest p) k =
+      let each = taken _ _ p k.messages in
+      record { copies = copied x c _ each.0 k; entry = k.entry; messages = each.1; dram = k.dram }
+  answered c x y (renews rts copy rest p is) k =
+      record {
+        copies = copied x c _ (k.copies c copy is) k;
+        entry = k.entry;
+        messages = (taken _ _ p k.messages).1;
+        dram = k.dram;
+      }
+  answered c x y (upgrades rts copy rest p is) k =
+      record {
+        copies = copied x c _ (k.copies c copy is) k;
+        entry = k.entry;
+        messages = (taken _ _ p k.messages).1;
+        dram = k.dram;
+      }
+
+  asked : (c pts : ℕ) (op : Op) (x y : Line) → Asks c pts op x y → HasZeros n x → HasZeros n y
+  asked c pts op x y (to_read a cannot) k =
+      record { copies = k.copies; entry = k.entry; messages = (tt, k.messages); dram = k.dram }
+  asked c pts op x y (to_write cannot) k =
+      record { copies = k.copies; entry = k.entry; messages = (tt, k.messages); dram = k.dram }
+
+module _ (f : Config) (some : 0 < f.line_words) where
+  -- a write of a word that the line has
+  written : (words : List ℕ) (a v : ℕ) → ZerosFrom f.line_words words →
+      ZerosFrom f.line_words (set words (a % f.line_words) v)
+  written words a v zeros k le =
+      let apart : k ≢ a % f.line_words = λ e. let lt = mod-lt a some in omega (arith, le, e, lt) in
+      get_or-set_other words (a % f.line_words) k v 0 apart ∙ zeros k le
+
+  used : (pts : ℕ) (copy : Copy) (op : Op) (received : Option ℕ) (ts : ℕ) (new : Copy) →
+      Uses f pts copy op received ts new → ZerosFrom f.line_words copy.line.words →
+      ZerosFrom f.line_words new.line.words
+  used pts copy op received ts new (load_hit a sh le) zeros = zeros
+  used pts copy op received ts new (load_own a ex) zeros = zeros
+  used pts copy op received ts new (store_own a v ex) zeros = written copy.line.words a v zeros
+  used pts copy op received ts new (swap_own a v ex) zeros = written copy.line.words a v zeros
+
+  -- each line of a machine
+  abbrev All : by_line.Machine → Type 0
+  All m = (l : ℕ) → HasZeros f.line_words (m.lines l)
+
+  changed : (m : by_line.Machine) (l : ℕ) (y : Line) → HasZeros f.line_words y → All m → (j : ℕ) →
+      HasZeros f.line_words (with_at m.lines l y j)
+  changed m l y zeros k = with_at_cases (λ j (x : Line). HasZeros f.line_words x) m.lines l y zeros (λ j ne. k j)
+
+  kept : (m n : by_line.Machine) → Transition f m n → All m → All n
+  kept m n (issue c op none) k = k
+  kept m n (advance c) k = k
+  kept m n (ask c op y opens quiet a) k =
+      changed m (line_of f (address op)) y (asked f.line_words c _ op _ y a (k (line_of f (address op)))) k
+  kept m n (answer c l y a) k = changed m l y (answered f.line_words c _ y a (k l)) k
+  kept m n (complete c op copy new received ts opens quiet is u) k =
+      let l = line_of f (address op) in
+      let x = k l in
+      changed m l _ (record {
+        copies = copied f.line_words (m.lines l) c new (used _ copy op received ts new u (x.copies c copy is)) x;
+        entry = x.entry;
+        messages = x.messages;
+        dram = x.dram;
+      }) k
+  kept m n (line_changes l t y move) k = changed m l y (moved f.line_words _ _ _ t _ y move (k l)) k
+
+-- one more turn of the protocol
+pub goes_on : {f : Config} {m n : by_line.Machine} → IsReached f m → Transition f m n → IsReached f n
+goes_on {f} {m} {n} r turn = record {
+  some_words = r.some_words;
+  reachable = by_line.goes_on r.reachable turn;
+  zeros = kept f r.some_words m n turn r.zeros;
+}

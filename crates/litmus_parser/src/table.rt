@@ -1,6 +1,6 @@
 //! The table: the header row and the rows.
 
-ghost use Rattle.std.specs.Prelude.{◌≡◌, ◌≤◌, ◌+◌, [], IfOk};
+ghost use Rattle.std.specs.Prelude.{◌≡◌, ◌<◌, ◌≤◌, ◌+◌, [], IfOk, OnOk};
 ghost use Rattle.litmus_lexer.specs.Views.{view_read, view_as};
 ghost use Rattle.litmus_lexer.specs.Reading.{Gives};
 ghost use Rattle.litmus_lexer.specs.Spelling.{thread_named};
@@ -46,8 +46,9 @@ fn separator<'a>(cursor: Cursor<'a>) -> Result<(bool, Cursor<'a>), ReadError>
 /// The heading of a thread and the sign after it, and whether a further heading follows.
 #[tactic(auto, unfolding(crate::specs::ReadingTable::heading_at))]
 fn heading<'a>(thread: u8, cursor: Cursor<'a>) -> Result<(bool, Cursor<'a>), ReadError>
-    ensures { Gives (λ r. (r.0, (thread + 1, r.1.line, r.1.pieces))) result
+    ensures read { Gives (λ r. (r.0, (thread + 1, r.1.line, r.1.pieces))) result
         (heading_at (thread, cursor.entry.line, cursor.entry.pieces)) }
+    ensures few { OnOk result (thread < MOST_THREADS) }
 {
     let (word, after) = word_here(cursor, Kind::BadTable)?;
     if thread_named(word) != Some(thread) {
@@ -63,7 +64,7 @@ fn heading<'a>(thread: u8, cursor: Cursor<'a>) -> Result<(bool, Cursor<'a>), Rea
 /// The headings `P0 | P1 | .. ;`: how many threads there are.
 fn headings<'a>(cursor: Cursor<'a>) -> Result<(u8, Cursor<'a>), ReadError>
     ensures read { Gives view_read result (headings_at cursor.entry.line cursor.entry.pieces) }
-    ensures few { IfOk result (λ r. r.0 ≤ 17) }
+    ensures few { IfOk result (λ r. (0 < r.0) × (r.0 ≤ MOST_THREADS)) }
 {
     let mut at = cursor;
     for thread in 0..MOST_THREADS + 1 {
@@ -79,7 +80,9 @@ fn headings<'a>(cursor: Cursor<'a>) -> Result<(u8, Cursor<'a>), ReadError>
 /// The header row, after blank lines.
 #[tactic(auto, unfolding(crate::specs::ReadingTable::header_row_at))]
 pub fn header_row<'a>(cursor: Cursor<'a>) -> Result<(u8, Cursor<'a>), ReadError>
-    ensures { Gives view_read result (header_row_at cursor.entry.line cursor.entry.pieces) }
+    ensures read { Gives view_read result (header_row_at cursor.entry.line cursor.entry.pieces) }
+    // There are 1 to 16 threads.
+    ensures few { IfOk result (λ r. (0 < r.0) × (r.0 ≤ MOST_THREADS)) }
 {
     let after = start(cursor)?;
     let (threads, after) = headings(after)?;

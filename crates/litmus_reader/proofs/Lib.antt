@@ -1,6 +1,5 @@
 mod Found
 mod SeenNames
-mod Sizes
 mod Only
 mod FaultParts
 mod NoMemoryFault

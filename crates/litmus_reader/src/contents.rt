@@ -1,15 +1,15 @@
 //! What the text of a litmus test says.
 
-ghost use Rattle.std.specs.Prelude.{◌≡◌, ◌≤◌, ◌<◌, length, replicate, slice_get, option_map};
-ghost use Rattle.litmus_reader.specs.TestViews.{test_of};
-ghost use Rattle.litmus_reader.specs.ThreadSteps.{settled_thread, with_items};
+ghost use Rattle.std.specs.Prelude.{◌≡◌, ◌≤◌, ◌<◌, [], length, replicate, slice_get, option_map};
+ghost use Rattle.litmus_parser.specs.TreeViews.{tree_of};
+ghost use Rattle.litmus_reader.specs.Seen.{seen_in};
 
 use crate::threads::ThreadState;
 use litmus_lexer::Locations;
 use litmus_parser::{Cell, Expr, Item, Name, Quantifier};
 use std::alloc::Global;
 
-/// A litmus test.
+/// A litmus test, with the names of its condition's expression, each once.
 #[derive(Drop)]
 pub struct Test {
     pub(crate) name: Vec<u8>,
@@ -21,9 +21,14 @@ pub struct Test {
     pub(crate) expr: Expr,
     pub(crate) seen: Vec<Name>,
     pub(crate) alloc: Global,
+    ghost few: { (0 < threads) × (threads ≤ 16) },
+    ghost all_seen: { seen.items ≡ seen_in (tree_of expr) [] },
 }
 
 impl Test {
+    ghost use Rattle.litmus_reader.specs.TestViews.{test_of};
+    ghost use Rattle.litmus_reader.specs.ThreadSteps.{settled_thread, with_items};
+
     /// The name of the test: 1 to 128 letters, digits and `_ + . - [ ]`.
     pub fn name(&self) -> &[u8]
         ensures { result.now ≡ (test_of self.now).name }
@@ -48,7 +53,7 @@ impl Test {
     /// How many threads there are, 1 to 16; they are numbered from 0.
     pub fn threads(&self) -> usize
         ensures count { result ≡ (test_of self.now).threads }
-        ensures few { result < 256 }
+        ensures few { (0 < result) × (result ≤ 16) }
     {
         usize::from(self.threads)
     }

@@ -3,7 +3,6 @@
 ghost use Rattle.std.specs.Prelude.{◌≡◌, ◌++◌, ◌∷◌, [], IfOk, OnOk, map};
 ghost use Rattle.litmus_parser.specs.TreeViews.{tree_of};
 ghost use Rattle.litmus_reader.specs.TestViews.{test_of};
-ghost use Rattle.litmus_reader.specs.Seen.{seen_in};
 ghost use Rattle.litmus_reader.specs.Truth.{end_value, value_of, holds};
 
 use crate::contents::Test;
@@ -112,8 +111,7 @@ impl Test {
         ensures values { IfOk result (λ state.
             state ≡ map (end_value threads.now memory.now) (test_of self.now).seen) }
         // The expression holds in it exactly when it holds of the registers and the memory.
-        ensures truth { (test_of self.now).seen ≡ seen_in (test_of self.now).tree [] →
-            IfOk result (λ state.
+        ensures truth { IfOk result (λ state.
             holds (value_of (test_of self.now).seen state) (test_of self.now).tree
             ≡ holds (end_value threads.now memory.now) (test_of self.now).tree) }
     {

@@ -31,8 +31,9 @@ fn table<'a>(
     items: &[Item],
     cursor: Cursor<'a>,
 ) -> Result<(u8, Vec<Cell>, Cursor<'a>), ReadError>
-    ensures { Gives (λ r. (r.0, r.1.items, r.2.line, r.2.pieces)) result
+    ensures read { Gives (λ r. (r.0, r.1.items, r.2.line, r.2.pieces)) result
         (whole_table_at items.now cursor.entry.line cursor.entry.pieces) }
+    ensures few { IfOk result (λ r. (0 < r.0) × (r.0 ≤ MOST_THREADS)) }
 {
     let (threads, after) = header_row(cursor)?;
     if let Some(line) = absent_line(items, threads) {

@@ -1,6 +1,7 @@
 //! Looks at the next piece. Line ends count as blanks.
 
-ghost use Rattle.std.specs.Prelude.{◌≡◌, ◌+◌, option_map, Ok};
+ghost use Rattle.std.specs.Prelude.{◌≡◌, ◌≢◌, ◌+◌, option_map, Ok, IfErr};
+ghost use Rattle.litmus_lexer.specs.declared.errors.ReadError.TheVariants.{Memory};
 ghost use Rattle.litmus_lexer.specs.TokenPieces.{piece_of};
 ghost use Rattle.litmus_lexer.specs.Reading.{Gives};
 ghost use Rattle.piece_forms.specs.Places.{next_piece, behind_next, ends_ahead};
@@ -41,8 +42,10 @@ pub fn ahead<'a>(cursor: &Cursor<'a>) -> (Option<Token<'a>>, Cursor<'a>)
 
 /// The position after this sign; anything else is a fault of this kind, and the end is `CutShort`.
 pub fn expect_sign<'a>(cursor: Cursor<'a>, kind: Kind, wanted: u8) -> Result<Cursor<'a>, ReadError>
-    ensures { Gives (λ at. (tt, at.line, at.pieces)) result
+    ensures read { Gives (λ at. (tt, at.line, at.pieces)) result
         (reads (one (sign kind wanted)) cursor.entry.line cursor.entry.pieces) }
+    // It takes no memory.
+    ensures sure { IfErr result (λ e. e ≢ Memory) }
 {
     match ahead(&cursor) {
         (Some(Token::Sign(found)), after) if found == wanted => Ok(after),
@@ -64,8 +67,10 @@ pub fn over_word<'a>(cursor: &Cursor<'a>, wanted: &[u8]) -> Option<Cursor<'a>>
 
 /// The end of the text; a further piece is a fault of this kind.
 pub fn expect_end<'a>(cursor: Cursor<'a>, kind: Kind) -> Result<Cursor<'a>, ReadError>
-    ensures { Gives (λ at. (tt, at.line, at.pieces)) result
+    ensures read { Gives (λ at. (tt, at.line, at.pieces)) result
         (reads (no_more kind) cursor.entry.line cursor.entry.pieces) }
+    // It takes no memory.
+    ensures sure { IfErr result (λ e. e ≢ Memory) }
 {
     match ahead(&cursor) {
         (Some(_), after) => Err(after.fault(kind)),

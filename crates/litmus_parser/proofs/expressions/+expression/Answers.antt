@@ -27,4 +27,4 @@ factor-returns-in_err-after-in-Parenthesis t c =
     c.from_residual-in_err-after-in-Parenthesis.ensures.1 in
     rw (p.1, p.2) (paren-fails (addresses c.args.items.now) c.args.threads c.args.depth
     (c.args.locations.now, c.args.atoms) _ _ _ c.args.cursor.line _ _ c.args.cursor.pieces _ _ _ (search rules)
-    (search rules) c.in_ok-inner-in-Parenthesis.ensures c.in_err-after-in-Parenthesis.ensures)
+    (search rules) c.in_ok-inner-in-Parenthesis.ensures c.in_err-after-in-Parenthesis.ensures.read)

@@ -12,7 +12,7 @@ pub returns-in_err-more-clause-read : goal.returns-in_err-more-clause-read
 returns-in_err-more-clause-read c =
     let p = err_from_is_err_and c.from_residual.result c.from_residual.ensures.1 in
     rw (p.1, p.2) (fails-there _ heading_at too_many 17 c.loop-thread.thread _ _ c.loop-thread-test.true
-    c.in_err-more.ensures c.loop-thread.invariant)
+    c.in_err-more.ensures.read c.loop-thread.invariant)
 
 pub returns-then-not-more-clause-read : goal.returns-then-not-more-clause-read
 returns-then-not-more-clause-read c = is-done heading_at too_many 17 c.loop-thread.thread _ _ _

@@ -1,14 +1,10 @@
 use Rattle.litmus_reader.proofs.Found.{found-told}
 use Rattle.litmus_reader.proofs.Only.{only-told}
 use Rattle.litmus_reader.proofs.Fault.{fault-told, early-told}
-use Rattle.litmus_reader.proofs.Sizes.{threads-few}
 use Rattle.litmus_reader.proofs.reading.read.Goals as goal
 
 pub returns-clause-found : goal.returns-clause-found
 returns-clause-found c = found-told _ _ c.read_whole.ensures.told
-
-pub returns-clause-few : goal.returns-clause-few
-returns-clause-few c = threads-few _ _ (found-told _ _ c.read_whole.ensures.told)
 
 pub returns-clause-only : goal.returns-clause-only
 returns-clause-only c = only-told _ _ c.read_whole.ensures.told

@@ -316,12 +316,16 @@ turn_by_turn() {
     a_million_turns
 }
 
-# One advance a turn: after 1,000,001 of them the core loads at that time.
+# One advance a turn: after 1,000,001 of them the core loads at that time. Then it loads 1,000,001 times.
 a_million_turns() {
     { echo 'trace 2'; yes '0 A' | head -n 1000001; echo '0 R 0x0'; } >"$work/steps"
     echo '0 0 R 0x0 0 1000001 0' >"$work/wanted"
     told "1,000,001 turns" 0 "$work/wanted" /dev/null trace --schedule threads --records --limit 4294967295 \
         "$work/steps"
+    yes '0 R 0x0' | head -n 1000001 >"$work/steps"
+    seq 0 1000000 | sed 's/.*/0 & R 0x0 0 0 &/' >"$work/wanted"
+    told "1,000,001 operations by threads" 0 "$work/wanted" /dev/null trace --schedule threads --records \
+        --limit 4294967295 "$work/steps"
 }
 
 # is_at NUMBER: whether the file that is looked at is one of each NUMBER, counted by `at`.
@@ -524,18 +528,18 @@ lines_of_256_bytes() {
     told "a record, and a comment up to byte 256" 1 "$work/wanted" /dev/null check "$work/steps" "$work/records"
 }
 
-# 70,000 loads of one core, on one line that it asks for once, and a store; lines stand across the ends of blocks.
+# 700,000 loads of one core, on one line that it asks for once, and a store; lines stand across the ends of blocks.
 many_lines() {
-    { yes '0 R 0xabc0' | head -n 70000; printf '0 W 0x8 1'; } >"$work/steps"
-    { loads_of 1 70000 | sed -e 's/^\(issued\|completed\) .*/\1 70001/' -e 's/^stores 0/stores 1/'; } >"$work/wanted"
+    { yes '0 R 0xabc0' | head -n 700000; printf '0 W 0x8 1'; } >"$work/steps"
+    { loads_of 1 700000 | sed -e 's/^\(issued\|completed\) .*/\1 700001/' -e 's/^stores 0/stores 1/'; } >"$work/wanted"
     printf '%s\n' 'word 0x8 1' 'word 0xabc0 0' >>"$work/wanted"
-    told "70,001 lines" 0 "$work/wanted" /dev/null trace --limit 4294967295 "$work/steps"
-    { seq 0 69999 | sed 's/.*/0 & R 0xabc0 0 0 &/'; echo '0 70000 W 0x8 1 1 70000'; } >"$work/records"
-    told "70,001 records" 0 "$work/records" /dev/null trace --records --limit 4294967295 "$work/steps"
+    told "700,001 lines" 0 "$work/wanted" /dev/null trace --limit 4294967295 "$work/steps"
+    { seq 0 699999 | sed 's/.*/0 & R 0xabc0 0 0 &/'; echo '0 700000 W 0x8 1 1 700000'; } >"$work/records"
+    told "700,001 records" 0 "$work/records" /dev/null trace --records --limit 4294967295 "$work/steps"
     echo legal >"$work/wanted"
-    told "70,001 records, checked" 0 "$work/wanted" /dev/null check "$work/steps" "$work/records"
+    told "700,001 records, checked" 0 "$work/wanted" /dev/null check "$work/steps" "$work/records"
     printf '\n0 W 0x8' >>"$work/steps"
-    refused "a fault behind 70,001 lines" 2 'tardis: line 70002: 7 BadValue' trace "$work/steps"
+    refused "a fault behind 700,001 lines" 2 'tardis: line 700002: 7 BadValue' trace "$work/steps"
 }
 
 # Sixteen cores load 4,000 words, each word once.

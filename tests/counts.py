@@ -1,7 +1,7 @@
 #!/usr/bin/env python3
 """Tries scripts/counts.py: tests/counts.py PLAYER, the built crate play_events.
 
-Sixteen runs were counted by hand from docs/COUNTS.md, PROTOCOL.md and SCHEDULES.md. Then the player and the second
+Seventeen runs were counted by hand from docs/COUNTS.md, PROTOCOL.md and SCHEDULES.md. Then the player and the second
 program's, which counts by the same pages, count random traces on random machines, and litmus tests by seeds. The last
 line is `N tried, M wrong`.
 """
@@ -28,6 +28,8 @@ BY_HAND = {
     "a load": ("0 R 0x0\n", "", "all-done 6 14", f"loads 1 1; misses 1 1; ShReq 1 1 1; ShRep 1 1 1; {LOAD}"),
     "a load that hits": ("0 R 0x0\n0 R 0x0\n", "", "all-done 7 16",
                          f"loads 2 2; hits 1 1; misses 1 1; ShReq 1 1 1; ShRep 1 1 1; {LOAD}"),
+    "70,000 loads": ("0 R 0x0\n" * 70000, "--limit 4294967295", "all-done 70005 140012",
+                     f"loads 70000 70000; hits 69999 69999; misses 1 1; ShReq 1 1 1; ShRep 1 1 1; {LOAD}"),
     "a swap, and a load of the owner": (
         "0 S 0x0 5\n0 R 0x0\n", "", "all-done 7 16",
         f"loads 1 1; swaps 1 1; hits 1 1; misses 1 1; last-time 1 1; ExReq 1 1 1; ExRep 1 1 1; {LOAD}"),

@@ -16,10 +16,15 @@ sys.path.insert(0, str(TOP / "examples"))
 from reference.traces import Fault, Trace  # noqa: E402
 
 RECORD = TOP / "examples/traces/record"
-# A program of which one part is in C++ and one in C; the number comes from the compiler's options.
+# A program of which one part is in C++ and one in C, the number coming from the compiler's options; one of more lines
+# than the program reads at once; and one that loads from more pages than 16 bits count.
 MIXED = {"main.cc": 'extern "C" { extern long kept; void keep(long); }\n'
                     "#include <cstdio>\nint main() { keep(NUMBER); std::printf(\"%ld\\n\", kept); }\n",
-         "keep.c": "long kept;\nvoid keep(long number) { kept = number + 1; }\n"}
+         "keep.c": "long kept;\nvoid keep(long number) { kept = number + 1; }\n",
+         "stores.c": "static volatile long word;\n"
+                     "int main(void) { for (long at = 0; at < 1100000; at++) word = at; }\n",
+         "pages.c": "static volatile char area[70000L * 4096];\n"
+                    "int main(void) { for (long at = 0; at < 70000; at++) (void)area[at * 4096]; }\n"}
 
 
 def recorded(tester, folder, *words):
@@ -55,6 +60,12 @@ def tries(tester, program, folder):
     tester.expect(error == "total 32640\n" and trace.cores == 5, f"sum.c: {error}")
     error, trace = recorded(tester, folder, f"{folder}/main.cc", f"{folder}/keep.c", "-DNUMBER=41")
     tester.expect(error == "42\n" and len(stored(trace, 42)) == 1, f"C and C++: {error}")
+    error, trace = recorded(tester, folder, f"{folder}/stores.c")
+    steps = trace.steps[0] if trace else []
+    tester.expect(len(steps) == 1100000 and steps[-1][0] == "store" and steps[-1][2] == 1099999, "1,100,000 stores")
+    error, trace = recorded(tester, folder, f"{folder}/pages.c")
+    words = {step[:2] for step in trace.steps[0]} if trace else set()
+    tester.expect(len(words) == 70000, f"loads on 70,000 pages: {len(words)} of other words")
 
 
 def main(program):

@@ -13,11 +13,13 @@ import subprocess
 import sys
 import tempfile
 from pathlib import Path
+from types import SimpleNamespace
 
 from texts import TOP, Tester
 
-sys.path.insert(0, str(TOP / "examples"))
+sys.path[:0] = [str(TOP / "examples"), str(TOP / "scripts")]
 import merge  # noqa: E402
+import seeds  # noqa: E402
 
 LAST = 2 ** 64 - 1
 TEST = "examples/litmus/SB.litmus"
@@ -43,6 +45,12 @@ def wholes(tester, program):
     wanted = Tester(program).run("litmus", "--schedule", "seed", "--runs", "2000", TEST)
     got = tester.run("0", "2000", TEST)
     tester.expect(got == wanted, f"as many parts as processors: {got}")
+
+
+def parts_of_many(tester):
+    """A part has at most 1,000,000 seeds, however few processors there are."""
+    count = seeds.Parts(SimpleNamespace(FIRST=0, RUNS=5_000_001, TEST=TEST, parts=None, jobs=2)).count
+    tester.expect(count == 6, f"5,000,001 seeds in {count} parts")
 
 
 def put_parts(tester, folder, parts=PARTS, runs=RUNS, first=0, test=TEST, options=(), only=None):
@@ -281,6 +289,7 @@ def main(program):
     tester = Tester(str(TOP / "scripts/seeds.py"))
     wholes(tester, program)
     bad_reports(tester)
+    parts_of_many(tester)
     for part in (lambda folder: made(tester, program, folder), lambda folder: refusals(tester, folder),
                  lambda folder: joins_and_refusals(tester, folder, program),
                  lambda folder: with_parallel(tester, folder, program),

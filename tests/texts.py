@@ -249,7 +249,7 @@ def line_sizes(tester):
                 tester.refuses("line 1: 3 TooLong", sign * 65536, *words)
                 tester.refuses("line 3: 3 TooLong", b"\n" + good + b"\n" + sign * 257, *words)
             tester.refuses(None, b"\n" * 65536, *words, accepted=accepted)
-            tester.refuses(None, (b"#" * 256 + b"\n") * 256, *words, accepted=accepted)
+            tester.refuses(None, (b"#" * 256 + b"\n") * 140000, *words, accepted=accepted)  # 36 MB
         tester.refuses("line 16777217: 3 TooLong", b"\n" * 16777216 + b"0", "check", some.name, "/dev/stdin")
         tester.refuses(None, b"\n" * 16777216, "check", some.name, "/dev/stdin", accepted="legal\n")
 
@@ -262,6 +262,7 @@ def at_limits():
     """Texts that have as much of something as there may be, and what that is."""
     yield "65,536 bytes, most in a line", 'RISCV A\n"' + "a" * (65536 - 11 - len(REST)) + '"\n' + REST
     yield "65,536 bytes, most line feeds", "RISCV A\n" + "\n" * (65536 - 8 - len(REST)) + REST
+    yield "a header key of 60,000 letters", "RISCV A\n" + "k" * 60000 + "=\n" + REST
     yield "a name of 128 letters", "RISCV " + "n" * 128 + "\n" + REST
     opening = "".join(f" {number}:x5={number + 1}; {number}:x6=l{number};" for number in range(16))
     stored = " /\\ ".join(f"l{number}={number + 1}" for number in range(16))
@@ -325,6 +326,10 @@ def limits(tester):
     _, longest = next(at_limits())
     got = tester.run("litmus", "--lease", "0", "/dev/stdin", text=longest.encode())
     tester.expect(len(longest) == 65536 and got == (3, "", "tardis: bad configuration\n"), f"the longest text: {got}")
+    path = "/." * 1900 + str(TOP / "examples/litmus/SB.litmus")  # the host takes 4,095 bytes
+    got = tester.run("litmus", path)
+    wanted = (0, (TOP / "examples/litmus/SB.report").read_text(), "")
+    tester.expect(got == wanted, f"a long path: {got}")
 
 
 def words_of_the_line(tester):

@@ -47,6 +47,24 @@ static int has(const char *text) {
     return is;
 }
 
+/* The calls take numbers of these widths: a narrower one in the header is another type, which the compiler refuses. */
+typedef int runs_text(const char *, size_t, const struct tardis_options *, char *, size_t, size_t *);
+typedef uint32_t runs_bytes(const uint8_t *, size_t, const struct tardis_options *, uint8_t *, size_t, size_t *);
+
+static void types(void) {
+    runs_text *run_litmus = tardis_run_litmus, *run_trace = tardis_run_trace;
+    runs_bytes *c_litmus = tardis_c_litmus, *c_trace = tardis_c_trace;
+    int (*checks_texts)(const char *, size_t, const char *, size_t, char *, size_t, size_t *) = tardis_check;
+    uint32_t (*checks_bytes)(const uint8_t *, size_t, const uint8_t *, size_t, uint8_t *, size_t, size_t *) =
+        tardis_c_check;
+    int (*checks_records)(const struct tardis_operation *, size_t, const struct tardis_record *, size_t,
+                          struct tardis_told *) = tardis_check_records;
+    uint32_t (*checks_arrays)(const struct tardis_operation *, size_t, const struct tardis_record *, size_t,
+                              struct tardis_told *) = tardis_c_check_arrays;
+    (void)run_litmus, (void)run_trace, (void)c_litmus, (void)c_trace, (void)checks_texts, (void)checks_bytes;
+    (void)checks_records, (void)checks_arrays;
+}
+
 static const char TRACE[] = "0 W 0x0 1\n1 R 0x0\n";
 static const char RECORDS[] = "0 0 W 0x0 1 1 0\n1 0 R 0x0 1 1 1\n";
 static const char TEST[] = "RISCV ONE\n{ 0:x5=1; 0:x6=x; }\n P0 ;\n sw x5,0(x6) ;\nexists (x=1)\n";
@@ -108,6 +126,10 @@ static void runs(void) {
     MUST(litmus(TEST, &options, 1000) == TARDIS_BAD_MACHINE && has("tardis: bad configuration\n"));
     MUST(trace(TRACE, &options, 1000) == TARDIS_BAD_MACHINE && has("tardis: bad configuration\n"));
     MUST(trace("0 R\n", &options, 1000) == TARDIS_BAD_LINE && has("tardis: line 1: 6 BadAddress\n"));
+    tardis_defaults(&options);
+    options.records = 1;
+    options.lease = options.limit = 4294967296; /* the greatest lease, and one turn more than a run has */
+    MUST(trace("0 R 0x0\n", &options, 1000) == TARDIS_DONE && has("0 0 R 0x0 0 0 0\n"));
 }
 
 static void nulls(void) {
@@ -177,6 +199,24 @@ static void arrays(void) {
     done[0].received = 2;
 }
 
+/* More operations than 16 bits count, and two words that are alike in their low 32 bits. */
+enum { MANY = 70000 };
+static struct tardis_operation loads[MANY];
+static struct tardis_record loaded[MANY];
+static struct tardis_operation far_issued[2] = {{0, TARDIS_STORE, 0x100000000, 1}, {0, TARDIS_LOAD, 0, 0}};
+static struct tardis_record far_done[2] = {
+    {{0, TARDIS_STORE, 0x100000000, 1}, 0, 0, 1, 0},
+    {{0, TARDIS_LOAD, 0, 0}, 1, 0, 1, 1}};
+
+static void many(void) {
+    size_t at;
+    for (at = 0; at < MANY; at++) loaded[at].place = loaded[at].number = at;
+    MUST(answers(loads, MANY, loaded, MANY, TARDIS_DONE, TARDIS_LEGAL, 0));
+    loaded[MANY - 1].received = 1;
+    MUST(answers(loads, MANY, loaded, MANY, TARDIS_NOT_DONE, TARDIS_WRONG_VALUE, MANY - 1));
+    MUST(answers(far_issued, 2, far_done, 2, TARDIS_DONE, TARDIS_LEGAL, 0));
+}
+
 /* Each growth of memory is refused in turn, until a call asks for no more. */
 static void refusals(void) {
     struct tardis_options options;
@@ -206,10 +246,12 @@ static void refusals(void) {
 
 int main(void) {
     memset(buffer, '~', sizeof buffer);
+    types();
     checks();
     runs();
     nulls();
     arrays();
+    many();
     refusals();
     return 0;
 }

@@ -8,7 +8,7 @@ use run_options::MachineOptions;
 use std::alloc::Global;
 use std::test::Fail;
 use std::thread::Threads;
-use worker_driver::{End, Free, Gate, RunEnd, batch, config_of};
+use worker_driver::{End, Free, Gate, RunEnd, batch, config_of, threaded_runs};
 
 const STORE_BUFFERING: &[u8] =
     b"RISCV SB\n{ 0:x5=1; 0:x6=x; 0:x8=y; 1:x5=1; 1:x6=y; 1:x8=x; }\n P0 | P1 ;\n sw x5,0(x6) | sw x5,0(x6) ;\n\
@@ -82,5 +82,34 @@ fn one_worker_makes_one_run_after_the_other(rt: HostRuntime) -> Result<(), Fail>
     let gate = TurnCounts::new(rt.alloc(), 2, 100)?;
     assert_eq!(rt; runs_by(&rt, rt.alloc(), 2, 1, &gate)?.len(), 2);
     assert!(rt; gate.are(&[1, 1], 1));
+    Ok(())
+}
+
+// Runs by threads of a machine that options leave as it is, with one turn for each seat.
+fn runs_by_threads<R: Threads + Sync, G: Gate + Sync>(
+    rt: &R,
+    alloc: Global,
+    gate: &G,
+) -> Result<Vec<RunEnd>, &'static str> {
+    let Ok(test) = read(alloc, STORE_BUFFERING) else {
+        return Err("the text is no test");
+    };
+    let Some(config) = config_of(&MachineOptions::DEFAULT, test.threads() as u32) else {
+        return Err("there is no such machine");
+    };
+    match threaded_runs(rt, alloc, &test, config, 1, 1, 2, gate) {
+        Ok(runs) => Ok(runs),
+        Err(_) => Err("memory is refused"),
+    }
+}
+
+// Two cores and a bank have one turn each, and the run isn't made again.
+#[test]
+fn a_run_by_threads_passes_the_gate(rt: HostRuntime) -> Result<(), Fail> {
+    let gate = TurnCounts::new(rt.alloc(), 3, 0)?;
+    let runs = runs_by_threads(&rt, rt.alloc(), &gate)?;
+    assert_eq!(rt; runs.len(), 1);
+    assert_eq!(rt; runs[0].end, End::TurnsUsed);
+    assert!(rt; gate.are(&[1, 1, 1], 0));
     Ok(())
 }

@@ -3,7 +3,7 @@
 ghost use Rattle.std.specs.Prelude.{ℕ, ◌<◌, ◌≤◌};
 
 use crate::turn_counts::TurnCounts;
-use shared_jobs::{Free, Jobs, run_jobs};
+use shared_jobs::{Free, Gate, Jobs, run_jobs};
 use std::alloc::{AllocError, Global};
 use std::sync::atomic::{AtomicU64, Ordering};
 use std::test::Fail;
@@ -85,19 +85,19 @@ fn one_worker_does_one_job_after_the_other(rt: HostRuntime) -> Result<(), Fail> 
     Ok(())
 }
 
-// Whether a list is 0, 1, 2, and so on, up to 199.
+// Whether a list is 0, 1, 2, and so on, up to 69,999.
 fn counts_up(list: &[u64]) -> bool {
     for at in 0..list.len() {
         if list[at] != at as u64 {
             return false;
         }
     }
-    list.len() == 200
+    list.len() == 70_000
 }
 
 #[test]
 fn a_worker_keeps_its_state_from_job_to_job(rt: HostRuntime) -> Result<(), Fail> {
-    let results = results_of(&rt, rt.alloc(), 200, [1, 0, 0, 0])?;
+    let results = results_of(&rt, rt.alloc(), 70_000, [1, 0, 0, 0])?;
     assert!(rt; counts_up(results.as_slice()));
     Ok(())
 }
@@ -105,15 +105,23 @@ fn a_worker_keeps_its_state_from_job_to_job(rt: HostRuntime) -> Result<(), Fail>
 // The worker is refused a state, so the calling thread does what is left.
 #[test]
 fn the_calling_thread_keeps_its_state_too(rt: HostRuntime) -> Result<(), Fail> {
-    let results = results_of(&rt, rt.alloc(), 200, [1, 1, 0, 0])?;
+    let results = results_of(&rt, rt.alloc(), 70_000, [1, 1, 0, 0])?;
     assert!(rt; counts_up(results.as_slice()));
     Ok(())
 }
 
-// Job 0 waits for nine others, and gives whether they were done meanwhile. Each of them gives 1.
+// The gate counts each job once, whichever of many workers did it.
+#[test]
+fn no_job_of_many_workers_is_done_twice(rt: HostRuntime) -> Result<(), Fail> {
+    assert_eq!(rt; results_of(&rt, rt.alloc(), 200_000, [16, 0, 0, 0])?.len(), 200_000);
+    Ok(())
+}
+
+// Job 0 waits for all others, and gives whether they were done meanwhile. Each of them gives 1.
 #[derive(Drop)]
 struct OneWaits {
     done: AtomicU64,
+    others: u64,
 }
 
 impl Jobs<u64, u64> for OneWaits {
@@ -131,7 +139,7 @@ impl Jobs<u64, u64> for OneWaits {
             return Ok((1, state));
         }
         for _ in 0..10_000_000u32 {
-            if self.done.load(Ordering::SeqCst) >= 9 {
+            if self.done.load(Ordering::SeqCst) == self.others {
                 return Ok((1, state));
             }
             thread::yield_now();
@@ -142,9 +150,10 @@ impl Jobs<u64, u64> for OneWaits {
 
 #[test]
 fn a_worker_does_all_jobs_that_are_left_while_another_waits(rt: HostRuntime) -> Result<(), Fail> {
-    for count in [10, 200_000] {
+    for count in [10u64, 200_000] {
         let jobs = OneWaits {
             done: AtomicU64::new(0),
+            others: count - 1,
         };
         let results = run_jobs(&rt, rt.alloc(), &jobs, count, 2, &Free)?;
         assert_eq!(rt; results.len() as u64, count);
@@ -152,5 +161,96 @@ fn a_worker_does_all_jobs_that_are_left_while_another_waits(rt: HostRuntime) -> 
             assert_eq!(rt; results[at], 1, "job {at} of {count}");
         }
     }
+    Ok(())
+}
+
+// One state can be opened, and no other. Each job gives 1.
+#[derive(Drop)]
+struct OneState {
+    opened: AtomicU64,
+}
+
+impl Jobs<u64, u64> for OneState {
+    ghost gives = { λ jobs number result. Unit {0} };
+
+    ghost ready = { λ jobs state. Unit {0} };
+
+    fn open(&self) -> Result<u64, AllocError> {
+        if self.opened.fetch_add(1, Ordering::SeqCst) > 0 {
+            return Err(AllocError);
+        }
+        Ok(0)
+    }
+
+    fn run(&self, state: u64, _number: u64) -> Result<(u64, u64), AllocError> {
+        Ok((1, state))
+    }
+}
+
+// The calling thread opens no state if no job is left, and a worker leaves none.
+#[test]
+fn one_worker_does_all_jobs_by_one_state(rt: HostRuntime) -> Result<(), Fail> {
+    let jobs = OneState {
+        opened: AtomicU64::new(0),
+    };
+    let results = run_jobs(&rt, rt.alloc(), &jobs, 200_000, 1, &Free)?;
+    assert_eq!(rt; results.len(), 200_000);
+    Ok(())
+}
+
+// How many calls of the gate came before a job, and how many after one.
+#[derive(Drop)]
+struct Calls {
+    before: AtomicU64,
+    after: AtomicU64,
+}
+
+impl Gate for Calls {
+    fn before(&self, _seat: u64, _turn: u64) {
+        self.before.fetch_add(1, Ordering::SeqCst);
+    }
+
+    fn after(&self, _seat: u64, _turn: u64) {
+        self.after.fetch_add(1, Ordering::SeqCst);
+    }
+}
+
+// Job 1 is refused when it is run for the first time. Each job gives 1.
+#[derive(Drop)]
+struct OneRefused {
+    tries: AtomicU64,
+}
+
+impl Jobs<u64, u64> for OneRefused {
+    ghost gives = { λ jobs number result. Unit {0} };
+
+    ghost ready = { λ jobs state. Unit {0} };
+
+    fn open(&self) -> Result<u64, AllocError> {
+        Ok(0)
+    }
+
+    fn run(&self, state: u64, number: u64) -> Result<(u64, u64), AllocError> {
+        if number == 1 && self.tries.fetch_add(1, Ordering::SeqCst) == 0 {
+            return Err(AllocError);
+        }
+        Ok((1, state))
+    }
+}
+
+// The worker does job 0 and is refused job 1. The calling thread does jobs 1 and 2. So four runs begin and end.
+#[test]
+fn a_refused_job_ends_at_the_gate_too(rt: HostRuntime) -> Result<(), Fail> {
+    let jobs = OneRefused {
+        tries: AtomicU64::new(0),
+    };
+    let gate = Calls {
+        before: AtomicU64::new(0),
+        after: AtomicU64::new(0),
+    };
+    let results = run_jobs(&rt, rt.alloc(), &jobs, 3, 1, &gate)?;
+    assert_eq!(rt; results.as_slice(), [1, 1, 1].as_slice());
+    assert_eq!(rt; gate.before.load(Ordering::SeqCst), 4);
+    assert_eq!(rt; gate.after.load(Ordering::SeqCst), 4);
     Ok(())
 }

@@ -88,8 +88,8 @@ impl TurnCounts {
         }
     }
 
-    // Counts a wrong turn, if this one is.
-    fn tell(&self, is_right: bool) {
+    /// Counts a wrong turn, if this one is.
+    pub(crate) fn tell(&self, is_right: bool) {
         if !is_right {
             self.wrong.fetch_add(1, Ordering::SeqCst);
         }

@@ -19,6 +19,13 @@ const STORE: Case = Case {
     turn_limit: 1_000,
 };
 
+/// Core 0 stores, and then uses the line that it owns, once a turn.
+const OWN_LINE: Case = Case {
+    programs: &[(0, 0, 1_000)],
+    turn_limit: 10_000,
+    ..STORE
+};
+
 const STORE_ONCE: Case = Case {
     turn_limit: 1,
     ..STORE
@@ -71,6 +78,7 @@ const GIVEN: &[(Case, u32, u32, End, [u64; 3], u64)] = &[
     (NO_TURN, 2, 0, End::TurnsUsed, [0, 0, 0], 0),
     (NOTHING, 1, 0, End::AllDone, [0, 0, 0], 0),
     (STORE, 1, 0, End::AllDone, [7, 7, 0], 0),
+    (OWN_LINE, 1, 0, End::AllDone, [1_006, 1_006, 0], 0),
     (LAST_TIME, 1, 0, End::Exhausted, [13, 12, 12], 0),
     (NO_LEASE, 1, 0, End::Exhausted, [4, 4, 3], 0),
     (STORE_ONCE, 1, 100, End::TurnsUsed, [1, 1, 0], 1),

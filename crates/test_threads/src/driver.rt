@@ -45,6 +45,8 @@ struct Watched<'a> {
 }
 
 impl Program for Watched<'_> {
+    ghost use Rattle.test_threads.specs.Scripts.{script_next, script_done};
+
     ghost acts = { record {
       next = λ w. script_next w.script;
       done = λ w received. record w { script = script_done w.script received };

@@ -113,7 +113,10 @@ fn the_calling_thread_keeps_its_state_too(rt: HostRuntime) -> Result<(), Fail> {
 // The gate counts each job once, whichever of many workers did it.
 #[test]
 fn no_job_of_many_workers_is_done_twice(rt: HostRuntime) -> Result<(), Fail> {
-    assert_eq!(rt; results_of(&rt, rt.alloc(), 200_000, [16, 0, 0, 0])?.len(), 200_000);
+    assert_eq!(rt;
+        results_of(&rt, rt.alloc(), 200_000, [16, 0, 0, 0])?.len(),
+        200_000
+    );
     Ok(())
 }
 

@@ -1,5 +1,5 @@
 //! The names of errors, and their numbers, where the program reports neither.
-use litmus_reader::LitmusError;
+use litmus_reader::{Kind as LitmusKind, LitmusError};
 use report::RunError;
 use std::alloc::Global;
 use std::test::Fail;
@@ -33,12 +33,68 @@ fn kinds_of_faults(rt: HostRuntime) -> Result<(), Fail> {
     Ok(())
 }
 
-// Errors of a run without a text, and what is said of them.
+// Every kind of fault of a litmus test, and what is said of it.
+const LITMUS_KINDS: &[(LitmusKind, &str)] = &[
+    (LitmusKind::NoMemory, "allocation failed"),
+    (LitmusKind::TooLarge, "a limit is passed"),
+    (LitmusKind::BadByte, "a byte that is not allowed"),
+    (LitmusKind::BadHeader, "a bad header line"),
+    (LitmusKind::BadInitial, "a bad item of the initial block"),
+    (LitmusKind::DoubleInitial, "a name that is set twice"),
+    (
+        LitmusKind::BadTable,
+        "a bad header row or a row of another shape",
+    ),
+    (LitmusKind::BadInstruction, "a cell that is no instruction"),
+    (LitmusKind::ValueRange, "a number that is too large"),
+    (LitmusKind::MixedWidth, "an instruction of a second width"),
+    (
+        LitmusKind::AddressAsValue,
+        "an address register that is used as a value",
+    ),
+    (
+        LitmusKind::ValueAsAddress,
+        "a register in parentheses that is no address register",
+    ),
+    (LitmusKind::BadCondition, "a bad condition"),
+    (LitmusKind::CutShort, "the text ends too early"),
+];
+
+fn is_litmus_fault(alloc: Global, kind: LitmusKind, told: &str) -> Result<bool, Fail> {
+    let error = LitmusError { line: 3, kind };
+    let text = format!(in alloc; "{error}")?;
+    let wanted = format!(in alloc; "line 3: {told}")?;
+    Ok(text == wanted)
+}
+
+#[test]
+fn kinds_of_faults_of_litmus_tests(rt: HostRuntime) -> Result<(), Fail> {
+    for (kind, told) in LITMUS_KINDS {
+        assert!(rt; is_litmus_fault(rt.alloc(), *kind, told)?, "{told}");
+    }
+    Ok(())
+}
+
+// Errors of a run, and what is said of them.
 const ERRORS: &[(RunError, &str)] = &[
     (RunError::Read, "reading failed"),
     (RunError::Write, "writing failed"),
     (RunError::NoMemory, "no memory"),
     (RunError::BadConfig, "bad configuration"),
+    (
+        RunError::Litmus(LitmusError {
+            line: 3,
+            kind: LitmusKind::BadHeader,
+        }),
+        "line 3: BadHeader",
+    ),
+    (
+        RunError::Trace(TraceError {
+            line: 3,
+            kind: Kind::BadCore,
+        }),
+        "line 3: BadCore",
+    ),
 ];
 
 fn is_said(alloc: Global, error: &RunError, told: &str) -> Result<bool, Fail> {
@@ -62,7 +118,7 @@ fn errors_have_these_numbers(rt: HostRuntime) {
     };
     let cut = LitmusError {
         line: 1,
-        kind: litmus_reader::Kind::BadHeader,
+        kind: LitmusKind::BadHeader,
     };
     let numbers = [
         RunError::Read.number(),
@@ -73,4 +129,22 @@ fn errors_have_these_numbers(rt: HostRuntime) {
         RunError::BadConfig.number(),
     ];
     assert_eq!(rt; numbers, [1, 2, 3, 4, 5, 6]);
+}
+
+// No report names these kinds.
+#[test]
+fn kinds_without_a_line_have_these_numbers(rt: HostRuntime) {
+    let litmus = LitmusKind::NoMemory;
+    assert_eq!(rt;
+        [
+            Kind::Read.number(),
+            Kind::NoMemory.number(),
+            litmus.number()
+        ],
+        [1, 2, 1]
+    );
+    assert_eq!(rt;
+        [Kind::Read.name(), Kind::NoMemory.name(), litmus.name()],
+        ["Read", "NoMemory", "NoMemory"]
+    );
 }

@@ -17,7 +17,7 @@ from pathlib import Path
 TOP = Path(__file__).resolve().parent.parent
 TABLE = TOP / "tests/memory.table"
 NOT_PRODUCTION = ("test_", "bench", "play_", "event_text", "guide_uses")
-WANT = r"(?:\bAllocError\b|\b(?:ReadError::Memory|[A-Z]\w*::NoMemory)\b|\bErr\(NoMemory\)|= NoMemory;)"
+WANT = r"(?:\bAllocError\b|\b(?:ReadError::Memory|Stop::Refused|[A-Z]\w*::NoMemory)\b|\bErr\(NoMemory\)|= NoMemory;)"
 PASSED_ON = re.compile(r"\s*(?:Err\()?(?:AllocError|(?:\w+::)+(?:NoMemory|Memory))\)?\s*")
 SKIPPED = re.compile(r"\s*(ghost |ensures\b|requires\b|impl\b|\) ->|[^=]*[≡≢])")
 AMOUNT = re.compile(r"\b(?:reserve|with_capacity|from_elem)\w*\(.*(?:\bMAX\b|\bif\b|<<)")

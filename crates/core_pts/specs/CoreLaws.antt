@@ -11,7 +11,7 @@ use Rattle.private_cache.specs.declared.line_copy.CopyState.TheVariants.{Shared,
 use Rattle.private_cache.specs.CopyTable.{copy_of}
 use Rattle.core_pts.specs.declared.attempt.Attempt.{Attempt}
 use Rattle.core_pts.specs.declared.attempt.Attempt.TheVariants.{Completed, NeedShared, NeedExclusive}
-use Rattle.core_pts.specs.declared.attempt.IssueError.TheVariants.{TooMany}
+use Rattle.core_pts.specs.declared.attempt.IssueError.TheVariants.{Busy, TooMany}
 use Rattle.core_pts.specs.CoreTable.{CoreState, line_of, pinned_line, attempt, core_table, issue}
 
 -- an attempt completes this operation on this copy: what it receives, its time, and the core afterwards
@@ -119,6 +119,10 @@ pub record IssuesUpToLast (core : CoreState) (op : Op) : Type 0 where
 
 abbrev pub IdleCoreIssues : Type 0
 IdleCoreIssues = (core : CoreState) (op : Op) → core.open_op ≡ None → IssuesUpToLast core op
+
+-- a core with an open operation is busy, however many it was issued
+abbrev pub OpenCoreIsBusy : Type 0
+OpenCoreIsBusy = (core : CoreState) (op other : Op) → core.open_op ≡ Some other → issue core op ≡ (Err Busy, core)
 
 -- the version of the core's copy of an operation's line, if it has one
 abbrev pub version_of_copy : CoreState → Op → Option ℕ

@@ -1,6 +1,7 @@
 //! Laws of a core's table. The functions do nothing: their contracts are the laws.
 ghost use Rattle.core_pts.specs.CoreLaws.{CompletesOnCopy, FlushOfOpenLineHeld, IdleCoreIssues, LoadReceivesWord};
-ghost use Rattle.core_pts.specs.CoreLaws.{NothingCompletedKeeps, PrivateWriteNotBefore, ReadsNameVersion};
+ghost use Rattle.core_pts.specs.CoreLaws.{NothingCompletedKeeps, OpenCoreIsBusy, PrivateWriteNotBefore};
+ghost use Rattle.core_pts.specs.CoreLaws.{ReadsNameVersion};
 ghost use Rattle.core_pts.specs.CoreLaws.{SharedReadInLease, SwapReceivesWord, TimeNeverFalls, WriteAfterReaders};
 ghost use Rattle.core_pts.specs.CoreLaws.{WriteBackOfOpenLineHeld, WritesNameVersion, WritesOwnedCopy};
 
@@ -33,9 +34,10 @@ pub fn open_line_stays()
     ensures write_backs { WriteBackOfOpenLineHeld }
 {}
 
-/// A core without an open operation takes one, unless it was issued 4,294,967,295.
+/// A core without an open operation takes one, unless it was issued 4,294,967,295. A core with one is busy.
 pub fn idle_core_issues()
-    ensures { IdleCoreIssues }
+    ensures idle { IdleCoreIssues }
+    ensures busy { OpenCoreIsBusy }
 {}
 
 /// A request names the version of the core's copy of the line, or none without a copy; one to read also names the

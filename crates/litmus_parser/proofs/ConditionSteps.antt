@@ -16,8 +16,7 @@ use Rattle.piece_forms.specs.Forms.{Takes, Refuses, one, sign}
 use Rattle.piece_forms.specs.Reading.{decided, judged, reads}
 use Rattle.litmus_parser.specs.Names.{Names}
 use Rattle.litmus_parser.specs.ReadingItems.{location_at}
-use Rattle.litmus_parser.specs.GrammarCondition.{Sight}
-use Rattle.litmus_parser.specs.Condition.{Addresses, location, name, counted, start, chain, part_of, inner, factor}
+use Rattle.litmus_parser.specs.Condition.{Sight, Addresses, location, name, counted, start, chain, part_of, inner, factor}
 use Rattle.litmus_parser.specs.declared.atoms.Start.{Start}
 use Rattle.litmus_parser.specs.declared.atoms.Start.TheVariants.{OfLocation, Parenthesis}
 use Rattle.litmus_parser.specs.declared.expressions.Connective.TheVariants.{Or}

@@ -4,8 +4,6 @@
 pub use Rattle.litmus_parser.proofs.BlockOnly.{AreAlike, alike-address, alike-all, block_again}
 -- What is read as the initial block is in the grammar, and a fault has its cause.
 pub use Rattle.litmus_parser.proofs.BlockFault.{block_takes, block_explains, block_place}
--- What is read as the condition is in the grammar, what is in it is read, and a fault has its cause.
-pub use Rattle.litmus_parser.proofs.ConditionLaws.{condition_takes, condition_again, condition_explains}
 -- A reading leads on, or its fault has its cause.
 pub use Rattle.litmus_parser.proofs.Causes.{Explains, Onto, bind_explains, found_explains, repeat_counted}
 pub use Rattle.litmus_parser.proofs.Causes.{test_explains, told}

@@ -18,8 +18,4 @@ mod VerdictFault
 mod RowFault
 mod TableFault
 mod ConditionSteps
-mod ConditionLooks
-mod ConditionMeaning
-mod ConditionFault
-mod ConditionLaws
 pub mod Lemmas

@@ -1,4 +1,4 @@
--- The condition, as a form of which the readings are made. GrammarCondition says what it means.
+-- The grammar of the condition, as a form. Line ends count as blanks.
 use Rattle.std.specs.Prelude.{ℕ, zero, suc, ◌+◌, ◌==◌, nat_lt, nat_le, not, Bool, if◌then◌else◌, List, [], ◌∷◌}
 use Rattle.std.specs.Prelude.{◌++◌, length, Option, Some, None, Result, Ok, Err}
 use Rattle.std.specs.Str.{bytes_eq}
@@ -10,11 +10,12 @@ use Rattle.litmus_lexer.specs.Naming.{place_of}
 use Rattle.litmus_lexer.specs.Spelling.{is_number, value_of_digits, small_of, register_of, is_location}
 use Rattle.litmus_lexer.specs.declared.errors.Kind.{Kind}
 use Rattle.litmus_lexer.specs.declared.errors.Kind.TheVariants.{TooLarge, ValueRange, AddressAsValue, BadCondition}
+use Rattle.litmus_lexer.specs.declared.errors.Kind.TheVariants.{BadTable}
 use Rattle.piece_forms.specs.Forms.{Verdict, Takes, Refuses, Form, ◌>>=◌, one, word, sign, perhaps, no_more, Gives}
 use Rattle.piece_forms.specs.Forms.{many}
 use Rattle.litmus_parser.specs.Names.{Names, address_of, is_present}
 use Rattle.litmus_parser.specs.Trees.{Tree, Is, Both, Either}
-use Rattle.litmus_parser.specs.GrammarCondition.{Sight}
+use Rattle.litmus_parser.specs.Keywords.{quantifier_of}
 use Rattle.litmus_parser.specs.declared.expressions.Connective.{Connective}
 use Rattle.litmus_parser.specs.declared.expressions.Connective.TheVariants.{And, Or}
 use Rattle.litmus_parser.specs.declared.atoms.Start.{Start}
@@ -22,6 +23,11 @@ use Rattle.litmus_parser.specs.declared.atoms.Start.TheVariants.{OfThread, OfLoc
 use Rattle.litmus_parser.specs.declared.syntax.Item.{Item}
 use Rattle.litmus_parser.specs.declared.syntax.Name.{Name}
 use Rattle.litmus_parser.specs.declared.syntax.Name.TheVariants.{Register, Location}
+use Rattle.litmus_parser.specs.declared.syntax.Quantifier.{Quantifier}
+
+-- the locations so far, and how many atoms there are so far
+abbrev pub Sight : Type 0
+Sight = Names × ℕ
 
 -- the form of a part of an expression, after what was seen so far
 abbrev pub PartForm : Type 1
@@ -86,7 +92,7 @@ rest_of_atom name = do
 
 -- ---- expressions
 
--- factor := T : xR = N | L = N | ( expr )
+-- factor := T : xR = N | L = N | "(" expr ")"
 abbrev pub rest_of_factor : Addresses → PartForm → Start × Sight → Form (Tree × Sight)
 rest_of_factor holds inner (OfThread t, sight) = do
   _ ← one (sign BadCondition COLON)
@@ -120,9 +126,13 @@ abbrev pub chain : Connective → PartForm → PartForm
 chain connective part sight = part sight >>=
     many (further connective) (joined connective part) MOST_ATOMS
 
--- expr := term { \/ term }, term := factor { /\ factor }, with parentheses at most that deep
+-- term := factor { /\ factor }
+abbrev pub term : PartForm → PartForm
+term factor = chain And factor
+
+-- expr := term { \/ term }
 abbrev pub expression : PartForm → PartForm
-expression factor = chain Or (chain And factor)
+expression factor = chain Or (term factor)
 
 abbrev pub too_deep : PartForm
 too_deep sight = one (λ piece. Refuses TooLarge)
@@ -142,9 +152,18 @@ abbrev pub part_of : Connective → Addresses → ℕ → ℕ → PartForm
 part_of And holds threads depth = factor holds threads depth
 part_of Or holds threads depth = chain And (factor holds threads depth)
 
--- an expression, and nothing after it
-abbrev pub whole : Addresses → ℕ → Names → Form (Tree × Names)
-whole holds threads names = do
+abbrev pub or_fault : {A : Type 0} → Kind → Option A → Result A Kind
+or_fault kind None = Err kind
+or_fault kind (Some x) = Ok x
+
+abbrev pub keyword : Form Quantifier
+keyword = one (word BadTable (λ w. or_fault BadTable (quantifier_of w)))
+
+-- condition := ( exists | ~exists | forall ) expr
+-- and nothing after it
+unfoldable pub condition : Addresses → ℕ → Names → Form (Quantifier × Tree × Names)
+condition holds threads names = do
+  quantifier ← keyword
   e ← expression (factor holds threads MOST_DEPTH) (names, 0)
   _ ← no_more BadCondition
-  Gives (e.0, e.1.0)
+  Gives (quantifier, e.0, e.1.0)

@@ -14,14 +14,10 @@ pub mod TreeViews
 pub mod ReadingHeader
 pub mod Extents
 pub mod Condition
-pub mod ReadingEnd
 pub mod GrammarWords
 pub mod GrammarBlock
 pub mod GrammarForms
 pub mod GrammarTable
-pub mod GrammarCondition
 pub mod BlockParts
-pub mod ConditionParts
 pub mod BlockFaults
-pub mod ConditionFaults
 pub mod TableFaults

@@ -19,17 +19,18 @@ use Rattle.litmus_parser.specs.ReadingHeader.{Lines, first_line_at, header_line_
 use Rattle.litmus_parser.specs.ReadingHeader as heads
 use Rattle.litmus_parser.specs.ReadingBlock.{Block, initial_block_at}
 use Rattle.litmus_parser.specs.ReadingTable.{Headings, is_absent, absent_line, header_row_at, rows_at}
-use Rattle.litmus_parser.specs.ReadingEnd.{condition_at}
+use Rattle.litmus_parser.specs.Condition.{addresses, condition as whole_condition}
+use Rattle.piece_forms.specs.Reading.{reads}
+use Rattle.piece_forms.proofs.Lemmas.{explains}
 use Rattle.litmus_parser.specs.declared.syntax.Name.{Name}
 use Rattle.litmus_parser.specs.declared.syntax.Name.TheVariants.{Register, Location}
 use Rattle.litmus_parser.specs.declared.syntax.Item.{Item}
 use Rattle.litmus_parser.specs.declared.syntax.Cell.{Cell}
 use Rattle.litmus_parser.specs.declared.syntax.Quantifier.{Quantifier}
 use Rattle.litmus_parser.proofs.Lemmas.{Explains, Onto, bind_explains, test_explains, found_explains, repeat_counted}
-use Rattle.litmus_parser.proofs.Lemmas.{answered, block_takes, block_again, block_explains, block_place, header_takes}
+use Rattle.litmus_parser.proofs.Lemmas.{answered, told, block_takes, block_again, block_explains, block_place, header_takes}
 use Rattle.litmus_parser.proofs.Lemmas.{rows_take, header_again, rows_again, header_explains, header_place}
-use Rattle.litmus_parser.proofs.Lemmas.{header_threads, begins-next, rows_explain, rows_place, condition_again}
-use Rattle.litmus_parser.proofs.Lemmas.{condition_explains}
+use Rattle.litmus_parser.proofs.Lemmas.{header_threads, begins-next, rows_explain, rows_place}
 use Rattle.litmus_reader.specs.Litmus.{Litmus, settings_of}
 use Rattle.litmus_reader.specs.Seen.{seen_in}
 use Rattle.litmus_reader.specs.ReadingTest.{unless_absent, whole_table_at, parts_at}
@@ -165,12 +166,12 @@ not_opened text kind k n body opens (header_ends headed) =
 
 -- a text with such a fault is refused before its initial block
 pub above_refused : (text : List ℕ) (kind : Kind) (n : ℕ) → length text ≤ 65536 → FaultBefore text kind n →
-    (e : LitmusError) × (preamble_at text ≡ Err e)
+    (e : LitmusError) × (preamble_at text ≡ Err e) × FaultBefore text e.kind e.line
 above_refused text kind n le fault = on (preamble_at text) refl
   where
     on : (r : Result (List ℕ × Lines) LitmusError) → preamble_at text ≡ r → (e : LitmusError) ×
-        (preamble_at text ≡ Err e)
-    on (Err e) is = (e, is)
+        (preamble_at text ≡ Err e) × FaultBefore text e.kind e.line
+    on (Err e) is = (e, is, told (FaultBefore text) (Opened text) (preamble_at text) e (opening_explains text le) is)
     on (Ok o) is =
         absurd (not_opened text kind n o.1.0 o.1.1 (answered (FaultBefore text) (Opened text) (preamble_at text) o
         (opening_explains text le) is).0 fault)
@@ -319,13 +320,12 @@ table_part text b has =
 -- ---- the condition, and the whole
 
 condition_part : (text : List ℕ) (b : Block) (t : ℕ × List Cell × ℕ × List Piece) → Rowed text b t →
-    Explains (FaultIn text) (λ (c : Quantifier × Tree × Names). Unit {0}) (condition_at b.0 t.0 b.1 t.2 t.3)
+    Explains (FaultIn text) (λ (c : (Quantifier × Tree × Names) × ℕ × List Piece). Unit {0})
+    (reads (whole_condition (addresses b.0) t.0 b.1) t.2 t.3)
 condition_part text b t has =
-    let read : Result (Quantifier × Tree × Names) LitmusError = condition_at b.0 t.0 b.1 t.2 t.3 in
-    explained (FaultIn text) (λ (c : Quantifier × Tree × Names). Unit {0}) read (λ e fault.
-    condition has (λ quantifier tree after is. not_both read e _ fault (condition_again b.0 b.0 t.0 t.2 t.3 b.1
-    quantifier tree after (λ t r. refl) is))
-    (condition_explains b.0 t.0 t.2 b.1 t.3 e has.keyword fault)) (λ c answer. tt)
+    let form = whole_condition (addresses b.0) t.0 b.1 in
+    explained (FaultIn text) (λ (c : (Quantifier × Tree × Names) × ℕ × List Piece). Unit {0}) (reads form t.2 t.3)
+    (λ e fault. condition has (explains form t.2 t.3 e fault)) (λ c answer. tt)
 
 pub parts_explain : (text : List ℕ) → length text ≤ 65536 → Explains (FaultIn text)
     (λ (test : Litmus). Unit {0}) (parts_at text)
@@ -338,15 +338,16 @@ parts_explain text le =
     (block_part text o.1 h) (λ b is_b has.
     bind_explains (FaultIn text) (Rowed text b) Any (whole_table_at b.0 b.2 b.3) _
     (table_part text b has) (λ t is_t rowed.
-    bind_explains (FaultIn text) (λ (c : Quantifier × Tree × Names). Unit {0}) Any (condition_at b.0 t.0 b.1 t.2 t.3)
+    bind_explains (FaultIn text) (λ (c : (Quantifier × Tree × Names) × ℕ × List Piece). Unit {0}) Any
+    (reads (whole_condition (addresses b.0) t.0 b.1) t.2 t.3)
     (λ c. Ok (record {
       name = o.0;
-      locations = c.2;
+      locations = c.0.2;
       items = settings_of b.0;
       threads = t.0;
       cells = t.1;
       quantifier =
-          c.0;
-      tree = c.1;
-      seen = seen_in c.1 [];
+          c.0.0;
+      tree = c.0.1;
+      seen = seen_in c.0.1 [];
     })) (condition_part text b t rowed) (λ c is_c u. tt))))

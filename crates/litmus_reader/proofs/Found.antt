@@ -16,7 +16,9 @@ use Rattle.litmus_parser.specs.ReadingHeader.{Lines, first_line_at, header_line_
 use Rattle.litmus_parser.specs.ReadingHeader as heads
 use Rattle.litmus_parser.specs.ReadingBlock.{initial_block_at}
 use Rattle.litmus_parser.specs.ReadingTable.{is_absent, absent_line, header_row_at, rows_at}
-use Rattle.litmus_parser.specs.ReadingEnd.{condition_at}
+use Rattle.litmus_parser.specs.Condition.{addresses, condition}
+use Rattle.piece_forms.specs.Reading.{reads}
+use Rattle.piece_forms.proofs.Lemmas.{takes}
 use Rattle.litmus_parser.specs.Extents.{is_allowed, good, whole_lines, inner_line_feeds, line_feeds, reach}
 use Rattle.litmus_parser.specs.GrammarTable.{IsHeaderRow, AreRows}
 use Rattle.litmus_parser.specs.declared.syntax.Name.{Name}
@@ -24,7 +26,7 @@ use Rattle.litmus_parser.specs.declared.syntax.Name.TheVariants.{Register, Locat
 use Rattle.litmus_parser.specs.declared.syntax.Item.{Item}
 use Rattle.litmus_parser.specs.declared.syntax.Cell.{Cell}
 use Rattle.litmus_parser.proofs.Lemmas.{bind_ok, found_ok, ok_is, never, then_ok, else_ok, either_ok, block_takes}
-use Rattle.litmus_parser.proofs.Lemmas.{header_takes, header_threads, rows_take, condition_takes}
+use Rattle.litmus_parser.proofs.Lemmas.{header_takes, header_threads, rows_take}
 use Rattle.litmus_reader.specs.Litmus.{Litmus, settings_of}
 use Rattle.litmus_reader.specs.Seen.{seen_in}
 use Rattle.litmus_reader.specs.TestViews.{test_of}
@@ -136,30 +138,30 @@ parts_take text test le allowed e =
     let o = bind_ok (preamble_at text) _ test e in
     let b = bind_ok (initial_block_at [] o.0.1.0 (pieces_of o.0.1.1)) _ test o.2 in
     let t = bind_ok (whole_table_at b.0.0 b.0.2 b.0.3) _ test b.2 in
-    let c = bind_ok (condition_at b.0.0 t.0.0 b.0.1 t.0.2 t.0.3)
+    let c = bind_ok (reads (condition (addresses b.0.0) t.0.0 b.0.1) t.0.2 t.0.3)
     (λ c. Ok (record {
       name = o.0.0;
-      locations = c.2;
+      locations = c.0.2;
       items = settings_of b.0.0;
       threads = t.0.0;
       cells =
           t.0.1;
-      quantifier = c.0;
-      tree = c.1;
-      seen = seen_in c.1 [];
+      quantifier = c.0.0;
+      tree = c.0.1;
+      seen = seen_in c.0.1 [];
     })) test t.2 in
     let heads = opening_takes text o.0 o.1 in
     let table = table_takes b.0.0 b.0.2 b.0.3 t.0 t.1 in
     subst (IsTest text) (ok_is (record {
       name = o.0.0;
-      locations = c.0.2;
+      locations = c.0.0.2;
       items = settings_of b.0.0;
       threads =
           t.0.0;
       cells = t.0.1;
-      quantifier = c.0.0;
-      tree = c.0.1;
-      seen = seen_in c.0.1 [];
+      quantifier = c.0.0.0;
+      tree = c.0.0.1;
+      seen = seen_in c.0.0.1 [];
     }) test c.2)
     (record {
       length_is = le;
@@ -177,7 +179,8 @@ parts_take text test le allowed e =
       header_row = table.1;
       threads_there = table.2;
       rows = table.3;
-      condition = condition_takes b.0.0 t.0.0 b.0.1 t.0.2 t.0.3 c.0 c.1;
+      end = c.0.2;
+      condition = takes (condition (addresses b.0.0) t.0.0 b.0.1) t.0.2 t.0.3 c.0 c.1;
       seen = refl;
     })
 

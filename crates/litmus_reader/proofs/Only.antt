@@ -1,6 +1,7 @@
 -- Every text of the grammar is read, as the test that it stands for.
+use Rattle.std.proofs.Common.{Option}
 use Rattle.std.proofs.Common.{◌≡◌, ℕ, zero, suc, ◌+◌, ◌<◌, ◌≤◌, true, false, eqb, ltb, List, [], ◌∷◌, length, Some}
-use Rattle.std.proofs.Common.{None, Result, Ok, refl, subst, arith}
+use Rattle.std.proofs.Common.{None, Result, Ok, refl, ap, ◌∙◌, subst, arith}
 use Rattle.std.specs.List.{prefix_len, AllByRecursion}
 use Rattle.std.proofs.lemmas.Bool.{ne_eqb, eq-eqb, le-ltb, lt-leb}
 use Rattle.litmus_lexer.specs.Pieces.{Piece, Word, pieces_of}
@@ -21,14 +22,25 @@ use Rattle.litmus_parser.specs.declared.syntax.Name.TheVariants.{Register, Locat
 use Rattle.litmus_parser.specs.declared.syntax.Item.{Item}
 use Rattle.litmus_parser.specs.declared.syntax.Cell.{Cell}
 use Rattle.litmus_parser.specs.declared.syntax.Quantifier.{Quantifier}
+use Rattle.litmus_parser.specs.declared.syntax.Width.{Width}
+use Rattle.litmus_parser.specs.Trees.{Tree}
 use Rattle.litmus_parser.proofs.Lemmas.{AreAlike, alike-address, alike-all, block_again, header_again, rows_again}
-use Rattle.litmus_parser.proofs.Lemmas.{condition_again}
 use Rattle.litmus_reader.specs.Litmus.{Litmus}
 use Rattle.litmus_reader.specs.TestViews.{test_of}
 use Rattle.litmus_reader.specs.ReadingTest.{whole_table_at, parts_at, test_at, IsReadOrNoMemory}
 use Rattle.litmus_reader.specs.Grammar.{IsHeader, ends, more, IsThere, IsTest}
 use Rattle.litmus_reader.specs.declared.contents.Test.{Test}
+use Rattle.litmus_parser.specs.Names.{Names, is_present}
 use Rattle.litmus_parser.specs.Keywords.{quantifier_of}
+use Rattle.litmus_parser.specs.Condition.{Addresses, addresses, or_fault, keyword, condition}
+use Rattle.litmus_lexer.specs.Pieces.{Sign, LineEnd}
+use Rattle.litmus_lexer.specs.declared.errors.Kind.TheVariants.{BadTable}
+use Rattle.piece_forms.specs.Places.{next_piece}
+use Rattle.piece_forms.specs.Forms.{taken, Passes, Stands}
+use Rattle.piece_forms.specs.Reading.{reads}
+use Rattle.piece_forms.proofs.Lemmas.{again}
+use Rattle.std.proofs.Math.Path.{fun_ext}
+use Rattle.litmus_parser.specs.GrammarTable.{none, row, Begins}
 
 -- ---- the first lines
 
@@ -92,10 +104,39 @@ unfolding absent_line
 there-none threads [] h = refl
 there-none threads (item ∷ items) h = rw (there-no_absent threads item.name h.0, there-none threads items h.1) refl
 
-quantifier-ahead : (pieces after : List Piece) (w : List ℕ) (q : Quantifier) → pieces ≡ Word w ∷ after →
-    quantifier_of w ≡ Some q → quantifier_next pieces ≡ true
-unfolding quantifier_next
-quantifier-ahead pieces after w q e f = rw (e, f) refl
+no-end : (pieces rest : List Piece) → Begins pieces (LineEnd ∷ rest) → ⊥
+no-end [] rest b = b
+no-end (LineEnd ∷ pieces) rest b = no-end pieces rest b
+no-end (Word w ∷ pieces) rest b = absurd cc
+no-end (Sign s ∷ pieces) rest b = absurd cc
+
+begun : {items : List Item} {threads n : ℕ} {pieces rest : List Piece} {w : Option Width} {cells : List Cell} →
+    AreRows items threads n pieces w cells rest → (qs : List Piece) × Begins qs rest
+begun {pieces = pieces} (none b) = (pieces, b)
+begun (row cells others qs rs v few b is are) = begun are
+
+asks : (o : Option Quantifier) (pieces : List Piece) (q : Quantifier) (rest : List Piece) →
+    Passes (taken (or_fault BadTable o)) pieces q rest → is_present o ≡ true
+asks None pieces q rest h = absurd h
+asks (Some x) pieces q rest h = refl
+
+quantifier-ahead : (front pieces : List Piece) (q : Quantifier) (rest : List Piece) → Begins front pieces →
+    Stands keyword pieces q rest → quantifier_next pieces ≡ true
+unfolding quantifier_next next_piece
+quantifier-ahead front [] q rest b s = absurd s
+quantifier-ahead front (LineEnd ∷ pieces) q rest b s = absurd (no-end front pieces b)
+quantifier-ahead front (Sign x ∷ pieces) q rest b s = absurd s
+quantifier-ahead front (Word w ∷ pieces) q rest b s = asks (quantifier_of w) (Word w ∷ pieces) q rest s
+
+condition_again : (items items' : List Item) (threads line : ℕ) (names : Names) (pieces : List Piece)
+    (x : Quantifier × Tree × Names) (rest : List Piece) → AreAlike items' items
+    → Stands (condition (addresses items) threads names) pieces x rest
+    → (n : ℕ) × (reads (condition (addresses items') threads names) line pieces ≡ Ok (x, n, rest))
+condition_again items items' threads line names pieces x rest alike s =
+    let same : addresses items' ≡ addresses items =
+    fun_ext (λ t. fun_ext (λ r. ap is_present (alike-address items' items alike t r))) in
+    let e = again (condition (addresses items) threads names) pieces x rest s line in
+    (e.0, ap (λ (holds : Addresses). reads (condition holds threads names) line pieces) same ∙ e.1)
 
 table_again : (items items' : List Item) (line : ℕ) (pieces : List Piece) (threads : ℕ) (body_rows : List Piece)
     (cells : List Cell) (rest : List Piece)
@@ -112,18 +153,18 @@ table_again items items' line pieces threads body_rows cells rest alike header t
 -- ---- the whole
 
 parts_again : (text : List ℕ) (test : Litmus) → IsTest text test → parts_at text ≡ Ok test
-unfolding parts_at
+unfolding parts_at condition
 parts_again text test h =
     let o = opening_again text test.name h.body h.length_is h.title h.header in
     let few : length (pieces_of h.body) ≤ 65536 =
     omega (arith, h.length_is, length-pieces h.body, header-within h.header, length-behind_line_feed text) in
     let b = block_again o.0 (pieces_of h.body) h.items h.named h.table few h.block in
     let t = table_again h.items b.0 b.1 h.table test.threads h.body_rows test.cells h.rest b.3 h.header_row
-    h.threads_there h.rows (quantifier-ahead h.rest h.condition.1 h.condition.0 test.quantifier
-    h.condition.4 h.condition.5) in
-    let c = condition_again h.items b.0 test.threads t.0 h.rest h.named test.quantifier test.tree test.locations
-    (alike-address b.0 h.items b.3) h.condition in
-    rw (o.1, b.2, t.1, c, b.3, ← h.items_are, ← h.seen) refl
+    h.threads_there h.rows (let front = begun h.rows in
+    quantifier-ahead front.0 h.rest h.condition.0 h.condition.1 front.1 h.condition.2) in
+    let c = condition_again h.items b.0 test.threads t.0 h.named h.rest (test.quantifier, test.tree, test.locations)
+    h.end b.3 h.condition in
+    rw (o.1, b.2, t.1, c.1, b.3, ← h.items_are, ← h.seen) refl
 
 pub read_again : (text : List ℕ) (test : Litmus) → IsTest text test → test_at text ≡ Ok test
 unfolding test_at

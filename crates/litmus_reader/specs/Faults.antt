@@ -9,20 +9,18 @@ use Rattle.litmus_lexer.specs.declared.errors.Kind.{Kind}
 use Rattle.litmus_lexer.specs.declared.errors.Kind.TheVariants.{TooLarge, BadByte, BadHeader, BadInitial, CutShort}
 use Rattle.litmus_parser.specs.Names.{Names}
 use Rattle.litmus_parser.specs.RestLines.{RestAt}
-use Rattle.litmus_parser.specs.Trees.{Tree}
 use Rattle.litmus_parser.specs.Extents.{is_allowed, line_feeds, inner_line_feeds, good, reach}
 use Rattle.litmus_parser.specs.Keywords.{BeginsCondition}
 use Rattle.litmus_parser.specs.GrammarBlock.{IsBlock}
 use Rattle.litmus_parser.specs.GrammarTable.{IsHeaderRow, AreRows}
-use Rattle.litmus_parser.specs.GrammarCondition.{IsCondition}
+use Rattle.litmus_parser.specs.Condition.{addresses, condition as whole_condition}
 use Rattle.litmus_parser.specs.BlockParts.{InLines}
 use Rattle.litmus_parser.specs.BlockFaults.{BlockCause}
 use Rattle.litmus_parser.specs.TableFaults.{HeaderCause, RowsCause}
-use Rattle.litmus_parser.specs.ConditionFaults.{ConditionCause}
+use Rattle.piece_forms.specs.Faults.{Cause}
 use Rattle.litmus_parser.specs.declared.syntax.Name.TheVariants.{Register}
 use Rattle.litmus_parser.specs.declared.syntax.Item.{Item}
 use Rattle.litmus_parser.specs.declared.syntax.Cell.{Cell}
-use Rattle.litmus_parser.specs.declared.syntax.Quantifier.{Quantifier}
 use Rattle.litmus_reader.specs.Litmus.{Litmus}
 use Rattle.litmus_reader.specs.Grammar.{IsThere, IsTest}
 
@@ -117,9 +115,8 @@ pub data FaultIn (text : List ℕ) : Kind → ℕ → Type 0 where
       → ((cells : List Cell) (rest : List Piece) → AreRows items threads 0 pieces None cells rest →
       BeginsCondition rest → ⊥) → RowsCause items threads first pieces kind n → FaultIn text kind n
   condition : {kind : Kind} {items : List Item} {names : Names} {threads first n : ℕ} {pieces : List Piece} →
-      HasRows text items names threads first pieces
-      → ((quantifier : Quantifier) (tree : Tree) (after : Names) → IsCondition items threads pieces names quantifier
-      tree after → ⊥) → ConditionCause items threads names first pieces kind n → FaultIn text kind n
+      HasRows text items names threads first pieces → Cause (whole_condition (addresses items) threads names) first
+      pieces kind n → FaultIn text kind n
 
 -- the lines before the one with the first byte that isn't allowed, or the whole text if there is none
 abbrev pub good_lines : List ℕ → List ℕ

@@ -7,9 +7,10 @@ use Rattle.text_lines.specs.Lines.{before_line_feed, behind_line_feed}
 use Rattle.litmus_lexer.specs.FirstLines.{IsTitle, is_header_line, begins_block}
 use Rattle.litmus_parser.specs.Names.{Names}
 use Rattle.litmus_parser.specs.Extents.{is_allowed}
+use Rattle.piece_forms.specs.Forms.{Stands}
 use Rattle.litmus_parser.specs.GrammarBlock.{IsBlock}
 use Rattle.litmus_parser.specs.GrammarTable.{IsHeaderRow, AreRows}
-use Rattle.litmus_parser.specs.GrammarCondition.{IsCondition}
+use Rattle.litmus_parser.specs.Condition.{addresses, condition as whole_condition}
 use Rattle.litmus_parser.specs.declared.syntax.Name.{Name}
 use Rattle.litmus_parser.specs.declared.syntax.Name.TheVariants.{Register, Location}
 use Rattle.litmus_parser.specs.declared.syntax.Item.{Item}
@@ -47,5 +48,10 @@ pub record IsTest (text : List ℕ) (test : Litmus) : Type 0 where
   pub header_row : IsHeaderRow table test.threads body_rows
   pub threads_there : AllByRecursion (λ item. IsThere test.threads item.name) items
   pub rows : AreRows items test.threads 0 body_rows None test.cells rest
-  pub condition : IsCondition items test.threads rest named test.quantifier test.tree test.locations
+  pub end : List Piece
+  pub condition : Stands (whole_condition (addresses items) test.threads named) rest (
+    test.quantifier,
+    test.tree,
+    test.locations,
+  ) end
   pub seen : test.seen ≡ seen_in test.tree []

@@ -11,7 +11,8 @@ use Rattle.litmus_lexer.specs.Reading.{fails}
 use Rattle.litmus_parser.specs.ReadingHeader.{preamble_at}
 use Rattle.litmus_parser.specs.ReadingBlock.{initial_block_at}
 use Rattle.litmus_parser.specs.ReadingTable.{header_row_at, absent_line, rows_at}
-use Rattle.litmus_parser.specs.ReadingEnd.{condition_at}
+use Rattle.litmus_parser.specs.Condition.{addresses, condition}
+use Rattle.piece_forms.specs.Reading.{reads}
 use Rattle.litmus_parser.specs.Extents.{reach}
 use Rattle.litmus_parser.specs.declared.syntax.Item.{Item}
 use Rattle.litmus_parser.specs.declared.syntax.Cell.{Cell}
@@ -33,17 +34,17 @@ parts_at text = do
   o ← preamble_at text
   b ← initial_block_at [] o.1.0 (pieces_of o.1.1)
   t ← whole_table_at b.0 b.2 b.3
-  c ← condition_at b.0 t.0 b.1 t.2 t.3
+  c ← reads (condition (addresses b.0) t.0 b.1) t.2 t.3
   Ok (record {
     name = o.0;
-    locations = c.2;
+    locations = c.0.2;
     items = settings_of b.0;
     threads = t.0;
     cells = t.1;
     quantifier =
-        c.0;
-    tree = c.1;
-    seen = seen_in c.1 [];
+        c.0.0;
+    tree = c.0.1;
+    seen = seen_in c.0.1 [];
   })
 
 abbrev pub is_cut_short : Kind → Bool

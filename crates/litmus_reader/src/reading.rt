@@ -84,7 +84,7 @@ fn parts(alloc: Global, text: &[u8]) -> Result<Test, ReadError>
     let mut locations = Locations::new(alloc);
     let (items, after) = block(alloc, &mut locations, Cursor::new(body))?;
     let (threads, cells, after) = table(alloc, &items, after)?;
-    let (quantifier, expr) = condition(alloc, &items, threads, &mut locations, after)?;
+    let (quantifier, expr, _) = condition(alloc, &items, threads, &mut locations, after)?;
     let name = Vec::from_slice(alloc, name)?;
     let mut seen = Vec::new(alloc);
     see(&mut seen, &expr)?;

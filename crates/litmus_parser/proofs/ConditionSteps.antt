@@ -11,7 +11,7 @@ use Rattle.litmus_lexer.specs.declared.errors.ReadError.{ReadError}
 use Rattle.litmus_lexer.specs.declared.errors.ReadError.TheVariants.{Memory, Fault}
 use Rattle.text_lines.specs.Reading.{◌>>=◌}
 use Rattle.litmus_lexer.specs.Reading.{Fails, fails}
-use Rattle.piece_forms.specs.Places.{next_piece, behind_next, ends_ahead}
+use Rattle.piece_forms.specs.Places.{Beyond, next_piece, behind_next, ends_ahead}
 use Rattle.piece_forms.specs.Forms.{Takes, Refuses, one, sign}
 use Rattle.piece_forms.specs.Reading.{decided, judged, reads}
 use Rattle.litmus_parser.specs.Names.{Names}
@@ -67,13 +67,13 @@ counted-as : ℕ → Start × Names → ℕ → List Piece → Result ((Start ×
 counted-as atoms x at rest = cond (leb 256 atoms) (fails TooLarge at) (Ok ((x.0, (x.1, atoms + 1)), at, rest))
 
 counted-cases : (full : Bool) (x : Start × Sight) (line : ℕ) (pieces : List Piece) →
-    decided (cond full (Refuses TooLarge) (Takes x)) line pieces ≡
+    decided Beyond (cond full (Refuses TooLarge) (Takes x)) line pieces ≡
     cond full (fails TooLarge (line + ends_ahead pieces)) (Ok (x, line + ends_ahead pieces, behind_next pieces))
 counted-cases true x line pieces = refl
 counted-cases false x line pieces = refl
 
 counted-read : (r : Result (Start × Names) Kind) (atoms line : ℕ) (pieces : List Piece) →
-    decided (counted atoms r) line pieces ≡ (judged r (line + ends_ahead pieces) >>= λ x.
+    decided Beyond (counted atoms r) line pieces ≡ (judged r (line + ends_ahead pieces) >>= λ x.
     counted-as atoms x (line + ends_ahead pieces) (behind_next pieces))
 unfolding counted-as
 counted-read (Ok x) atoms line pieces = counted-cases (leb 256 atoms) (x.0, (x.1, atoms + 1)) line pieces

@@ -15,6 +15,7 @@ use Rattle.piece_forms.specs.Forms.{Verdict, Takes, Refuses, Form, ◌>>=◌, on
 use Rattle.piece_forms.specs.Forms.{many}
 use Rattle.litmus_parser.specs.Names.{Names, address_of, is_present}
 use Rattle.litmus_parser.specs.Trees.{Tree, Is, Both, Either}
+use Rattle.litmus_parser.specs.Words.{or_fault}
 use Rattle.litmus_parser.specs.Keywords.{quantifier_of}
 use Rattle.litmus_parser.specs.declared.expressions.Connective.{Connective}
 use Rattle.litmus_parser.specs.declared.expressions.Connective.TheVariants.{And, Or}
@@ -114,8 +115,8 @@ join_of And = Both
 join_of Or = Either
 
 -- whether the connective's sign comes next
-abbrev pub further : Connective → Form Bool
-further connective = perhaps (λ w. bytes_eq w (sign_of connective))
+abbrev pub further : Connective → Tree × Sight → Form Bool
+further connective left = perhaps (λ w. bytes_eq w (sign_of connective))
 
 -- a further part, joined to what stands before it
 abbrev pub joined : Connective → PartForm → Tree × Sight → Form (Tree × Sight)
@@ -151,10 +152,6 @@ factor holds threads depth = factor_with holds threads depth (inner holds thread
 abbrev pub part_of : Connective → Addresses → ℕ → ℕ → PartForm
 part_of And holds threads depth = factor holds threads depth
 part_of Or holds threads depth = chain And (factor holds threads depth)
-
-abbrev pub or_fault : {A : Type 0} → Kind → Option A → Result A Kind
-or_fault kind None = Err kind
-or_fault kind (Some x) = Ok x
 
 abbrev pub keyword : Form Quantifier
 keyword = one (word BadTable (λ w. or_fault BadTable (quantifier_of w)))

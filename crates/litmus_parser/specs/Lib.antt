@@ -5,10 +5,10 @@ pub mod ReadingItems
 pub mod ReadingBlock
 pub mod Mnemonics
 pub mod Keywords
-pub mod ReadingForms
+pub mod Words
 pub mod Verdicts
-pub mod ReadingRows
-pub mod ReadingTable
+pub mod Instructions
+pub mod Table
 pub mod Trees
 pub mod TreeViews
 pub mod ReadingHeader
@@ -16,8 +16,5 @@ pub mod Extents
 pub mod Condition
 pub mod GrammarWords
 pub mod GrammarBlock
-pub mod GrammarForms
-pub mod GrammarTable
 pub mod BlockParts
 pub mod BlockFaults
-pub mod TableFaults

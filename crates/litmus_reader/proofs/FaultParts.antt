@@ -18,19 +18,20 @@ use Rattle.litmus_parser.specs.Trees.{Tree}
 use Rattle.litmus_parser.specs.ReadingHeader.{Lines, first_line_at, header_line_at, cut_short, preamble_at}
 use Rattle.litmus_parser.specs.ReadingHeader as heads
 use Rattle.litmus_parser.specs.ReadingBlock.{Block, initial_block_at}
-use Rattle.litmus_parser.specs.ReadingTable.{Headings, is_absent, absent_line, header_row_at, rows_at}
+use Rattle.litmus_parser.specs.RestLines.{RestAt}
+use Rattle.litmus_parser.specs.Verdicts.{bases_of}
+use Rattle.litmus_parser.specs.Table.{is_absent, absent_line, header, rows as all_rows}
+use Rattle.piece_forms.specs.Forms.{Form}
 use Rattle.litmus_parser.specs.Condition.{addresses, condition as whole_condition}
 use Rattle.piece_forms.specs.Reading.{reads}
-use Rattle.piece_forms.proofs.Lemmas.{explains}
+use Rattle.piece_forms.proofs.Lemmas.{takes, counts, explains}
 use Rattle.litmus_parser.specs.declared.syntax.Name.{Name}
 use Rattle.litmus_parser.specs.declared.syntax.Name.TheVariants.{Register, Location}
 use Rattle.litmus_parser.specs.declared.syntax.Item.{Item}
 use Rattle.litmus_parser.specs.declared.syntax.Cell.{Cell}
 use Rattle.litmus_parser.specs.declared.syntax.Quantifier.{Quantifier}
 use Rattle.litmus_parser.proofs.Lemmas.{Explains, Onto, bind_explains, test_explains, found_explains, repeat_counted}
-use Rattle.litmus_parser.proofs.Lemmas.{answered, told, block_takes, block_again, block_explains, block_place, header_takes}
-use Rattle.litmus_parser.proofs.Lemmas.{rows_take, header_again, rows_again, header_explains, header_place}
-use Rattle.litmus_parser.proofs.Lemmas.{header_threads, begins-next, rows_explain, rows_place}
+use Rattle.litmus_parser.proofs.Lemmas.{answered, told, block_takes, block_again, block_explains, block_place}
 use Rattle.litmus_reader.specs.Litmus.{Litmus, settings_of}
 use Rattle.litmus_reader.specs.Seen.{seen_in}
 use Rattle.litmus_reader.specs.ReadingTest.{unless_absent, whole_table_at, parts_at}
@@ -202,22 +203,25 @@ block_part text s h =
 
 -- ---- the table
 
-abbrev HeadedRow : List ℕ → Block → Headings → Type 0
+abbrev HeadedRow : List ℕ → Block → ℕ × ℕ × List Piece → Type 0
 HeadedRow text b h = HasHeaderRow text b.0 b.1 h.0 h.1 h.2
 
+-- what is read leads to its line
+led : {A : Type 0} (f : Form A) (line : ℕ) (pieces : List Piece) (x : A × ℕ × List Piece) →
+    reads f line pieces ≡ Ok x → RestAt line pieces x.1 x.2
+led f line pieces x e = let c = counts f line pieces x e in record { front = c.0; split = c.1; line_is = c.2 }
+
 header_part : (text : List ℕ) (b : Block) → HasBlock text b.0 b.1 b.2 b.3 → Explains (FaultIn text) (HeadedRow text b)
-    (header_row_at b.2 b.3)
+    (reads header b.2 b.3)
 header_part text b has =
-    explained (FaultIn text) (HeadedRow text b) (header_row_at b.2 b.3) (λ e fault.
-    header_row has (λ threads rest is. not_both (header_row_at b.2 b.3) e _ fault (header_again b.2 b.3 threads rest
-    is).1) (header_explains b.2 b.3 e fault)) (λ h answer.
+    explained (FaultIn text) (HeadedRow text b) (reads header b.2 b.3) (λ e fault.
+    header_row has (explains header b.2 b.3 e fault)) (λ h answer.
     record {
       first = b.2;
       pieces = b.3;
       block = has;
-      row = header_takes b.2 b.3 h answer;
-      rest_at =
-          header_place b.2 b.3 h answer;
+      row = takes header b.2 b.3 h answer;
+      rest_at = led header b.2 b.3 h answer;
     })
 
 absent-name : (threads : ℕ) (name : Name) → is_absent threads name ≡ true → (t r : ℕ) ×
@@ -284,37 +288,32 @@ Rowed text b t = HasRows text b.0 b.1 t.0 t.2 t.3
 abbrev RowedBy : List ℕ → Block → ℕ → List Cell × ℕ × List Piece → Type 0
 RowedBy text b threads r = HasRows text b.0 b.1 threads r.1 r.2
 
-rows_part : (text : List ℕ) (b : Block) (h : Headings) → HeadedRow text b h →
+rows_part : (text : List ℕ) (b : Block) (h : ℕ × ℕ × List Piece) → HeadedRow text b h →
     AllByRecursion (λ item. IsThere h.0 item.name) b.0 → Explains (FaultIn text) (RowedBy text b h.0)
-    (rows_at b.0 h.0 [] h.1 h.2)
+    (reads (all_rows (bases_of b.0) h.0) h.1 h.2)
 rows_part text b h has there =
-    let some = header_threads has.pieces h.0 h.2 has.row in
-    let read : Result (List Cell × ℕ × List Piece) LitmusError = rows_at b.0 h.0 [] h.1 h.2 in
-    explained (FaultIn text) (RowedBy text b h.0) read (λ e fault.
-    rows has there (λ cells rest are keyword. not_both read e _ fault (rows_again b.0 b.0 h.0 h.1 h.2 cells rest
-    (λ t r. refl) are (begins-next rest keyword)).1) (rows_explain b.0 h.0 h.1 h.2 e some fault)) (λ r answer.
-    let p = rows_place b.0 h.0 h.1 h.2 r some answer in
+    let form = all_rows (bases_of b.0) h.0 in
+    explained (FaultIn text) (RowedBy text b h.0) (reads form h.1 h.2) (λ e fault.
+    rows has there (explains form h.1 h.2 e fault)) (λ r answer.
     record {
       first = h.1;
       pieces = h.2;
       cells = r.0;
       header = has;
       there = there;
-      rows =
-          rows_take b.0 h.0 h.1 h.2 r some answer;
-      keyword = p.1;
-      rest_at = p.0;
+      rows = takes form h.1 h.2 r answer;
+      rest_at = led form h.1 h.2 r answer;
     })
 
 table_part : (text : List ℕ) (b : Block) → HasBlock text b.0 b.1 b.2 b.3 → Explains (FaultIn text) (Rowed text b)
     (whole_table_at b.0 b.2 b.3)
 unfolding whole_table_at
 table_part text b has =
-    bind_explains (FaultIn text) (HeadedRow text b) (Rowed text b) (header_row_at b.2 b.3) _
+    bind_explains (FaultIn text) (HeadedRow text b) (Rowed text b) (reads header b.2 b.3) _
     (header_part text b has) (λ h is headed.
     unless_explains (FaultIn text) (Rowed text b) (absent_line h.0 b.0) _
     (λ n e. absent_thread headed (absent-first h.0 b.0 n e)) (λ e.
-    bind_explains (FaultIn text) (RowedBy text b h.0) (Rowed text b) (rows_at b.0 h.0 [] h.1 h.2)
+    bind_explains (FaultIn text) (RowedBy text b h.0) (Rowed text b) (reads (all_rows (bases_of b.0) h.0) h.1 h.2)
     (λ r. Ok (h.0, r.0, r.1, r.2)) (rows_part text b h headed (all-there h.0 b.0 e)) (λ r is' r'. r')))
 
 -- ---- the condition, and the whole

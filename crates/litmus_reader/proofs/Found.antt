@@ -15,18 +15,18 @@ use Rattle.litmus_lexer.proofs.Lemmas.{repeat-takes, title-takes, whole-front}
 use Rattle.litmus_parser.specs.ReadingHeader.{Lines, first_line_at, header_line_at, cut_short, preamble_at}
 use Rattle.litmus_parser.specs.ReadingHeader as heads
 use Rattle.litmus_parser.specs.ReadingBlock.{initial_block_at}
-use Rattle.litmus_parser.specs.ReadingTable.{is_absent, absent_line, header_row_at, rows_at}
+use Rattle.litmus_parser.specs.Verdicts.{bases_of}
+use Rattle.litmus_parser.specs.Table.{is_absent, absent_line, header, rows}
+use Rattle.piece_forms.specs.Forms.{Stands}
 use Rattle.litmus_parser.specs.Condition.{addresses, condition}
 use Rattle.piece_forms.specs.Reading.{reads}
 use Rattle.piece_forms.proofs.Lemmas.{takes}
 use Rattle.litmus_parser.specs.Extents.{is_allowed, good, whole_lines, inner_line_feeds, line_feeds, reach}
-use Rattle.litmus_parser.specs.GrammarTable.{IsHeaderRow, AreRows}
 use Rattle.litmus_parser.specs.declared.syntax.Name.{Name}
 use Rattle.litmus_parser.specs.declared.syntax.Name.TheVariants.{Register, Location}
 use Rattle.litmus_parser.specs.declared.syntax.Item.{Item}
 use Rattle.litmus_parser.specs.declared.syntax.Cell.{Cell}
 use Rattle.litmus_parser.proofs.Lemmas.{bind_ok, found_ok, ok_is, never, then_ok, else_ok, either_ok, block_takes}
-use Rattle.litmus_parser.proofs.Lemmas.{header_takes, header_threads, rows_take}
 use Rattle.litmus_reader.specs.Litmus.{Litmus, settings_of}
 use Rattle.litmus_reader.specs.Seen.{seen_in}
 use Rattle.litmus_reader.specs.TestViews.{test_of}
@@ -113,21 +113,19 @@ none_absent None read x e = (refl, e)
 none_absent (Some l) read x e = absurd cc
 
 abbrev TakesTable : List Item → List Piece → ℕ × List Cell × ℕ × List Piece → Type 0
-TakesTable items pieces x = (rows : List Piece) × IsHeaderRow pieces x.0 rows ×
-    AllByRecursion (λ item. IsThere x.0 item.name) items × AreRows items x.0 0 rows None x.1 x.3
+TakesTable items pieces x = (body : List Piece) × Stands header pieces x.0 body ×
+    AllByRecursion (λ item. IsThere x.0 item.name) items × Stands (rows (bases_of items) x.0) body x.1 x.3
 
 table_takes : (items : List Item) (line : ℕ) (pieces : List Piece) (x : ℕ × List Cell × ℕ × List Piece) →
     whole_table_at items line pieces ≡ Ok x → TakesTable items pieces x
 unfolding whole_table_at
 table_takes items line pieces x e =
-    let h = bind_ok (header_row_at line pieces) _ x e in
-    let a = none_absent (absent_line h.0.0 items) (rows_at items h.0.0 [] h.0.1 h.0.2 >>= λ r.
-    Ok (h.0.0, r.0, r.1, r.2)) x h.2 in
-    let r = bind_ok (rows_at items h.0.0 [] h.0.1 h.0.2) (λ r. Ok (h.0.0, r.0, r.1, r.2)) x a.1 in
-    let row = header_takes line pieces h.0 h.1 in
-    let some = header_threads pieces h.0.0 h.0.2 row in
+    let h = bind_ok (reads header line pieces) _ x e in
+    let body = rows (bases_of items) h.0.0 in
+    let a = none_absent (absent_line h.0.0 items) (reads body h.0.1 h.0.2 >>= λ r. Ok (h.0.0, r.0, r.1, r.2)) x h.2 in
+    let r = bind_ok (reads body h.0.1 h.0.2) (λ r. Ok (h.0.0, r.0, r.1, r.2)) x a.1 in
     subst (TakesTable items pieces) (ok_is (h.0.0, r.0.0, r.0.1, r.0.2) x r.2)
-    (h.0.2, row, all-there h.0.0 items a.0, rows_take items h.0.0 h.0.1 h.0.2 r.0 some r.1)
+    (h.0.2, takes header line pieces h.0 h.1, all-there h.0.0 items a.0, takes body h.0.1 h.0.2 r.0 r.1)
 
 -- ---- the whole
 

@@ -1,10 +1,9 @@
 -- Every text of the grammar is read, as the test that it stands for.
-use Rattle.std.proofs.Common.{Option}
 use Rattle.std.proofs.Common.{◌≡◌, ℕ, zero, suc, ◌+◌, ◌<◌, ◌≤◌, true, false, eqb, ltb, List, [], ◌∷◌, length, Some}
 use Rattle.std.proofs.Common.{None, Result, Ok, refl, ap, ◌∙◌, subst, arith}
 use Rattle.std.specs.List.{prefix_len, AllByRecursion}
 use Rattle.std.proofs.lemmas.Bool.{ne_eqb, eq-eqb, le-ltb, lt-leb}
-use Rattle.litmus_lexer.specs.Pieces.{Piece, Word, pieces_of}
+use Rattle.litmus_lexer.specs.Pieces.{Piece, pieces_of}
 use Rattle.text_lines.specs.Lines.{before_line_feed, behind_line_feed}
 use Rattle.litmus_lexer.specs.FirstLines.{IsTitle, title_of, is_header_line, begins_block}
 use Rattle.litmus_lexer.specs.declared.errors.LitmusError.{LitmusError}
@@ -14,33 +13,27 @@ use Rattle.text_lines.proofs.Lemmas.{length-behind_line_feed}
 use Rattle.litmus_lexer.proofs.Lemmas.{length-pieces, repeat-more, repeat-last}
 use Rattle.litmus_parser.specs.ReadingHeader.{Lines, first_line_at, header_line_at, cut_short, preamble_at}
 use Rattle.litmus_parser.specs.ReadingHeader as heads
-use Rattle.litmus_parser.specs.ReadingTable.{is_absent, absent_line, quantifier_next}
+use Rattle.litmus_parser.specs.Verdicts.{Bases, bases_of}
+use Rattle.litmus_parser.specs.Table.{is_absent, absent_line, header, rows}
 use Rattle.litmus_parser.specs.Extents.{is_allowed}
-use Rattle.litmus_parser.specs.GrammarTable.{IsHeaderRow, AreRows}
 use Rattle.litmus_parser.specs.declared.syntax.Name.{Name}
 use Rattle.litmus_parser.specs.declared.syntax.Name.TheVariants.{Register, Location}
 use Rattle.litmus_parser.specs.declared.syntax.Item.{Item}
 use Rattle.litmus_parser.specs.declared.syntax.Cell.{Cell}
 use Rattle.litmus_parser.specs.declared.syntax.Quantifier.{Quantifier}
-use Rattle.litmus_parser.specs.declared.syntax.Width.{Width}
 use Rattle.litmus_parser.specs.Trees.{Tree}
-use Rattle.litmus_parser.proofs.Lemmas.{AreAlike, alike-address, alike-all, block_again, header_again, rows_again}
+use Rattle.litmus_parser.proofs.Lemmas.{AreAlike, alike-address, alike-all, block_again}
 use Rattle.litmus_reader.specs.Litmus.{Litmus}
 use Rattle.litmus_reader.specs.TestViews.{test_of}
 use Rattle.litmus_reader.specs.ReadingTest.{whole_table_at, parts_at, test_at, IsReadOrNoMemory}
 use Rattle.litmus_reader.specs.Grammar.{IsHeader, ends, more, IsThere, IsTest}
 use Rattle.litmus_reader.specs.declared.contents.Test.{Test}
 use Rattle.litmus_parser.specs.Names.{Names, is_present}
-use Rattle.litmus_parser.specs.Keywords.{quantifier_of}
-use Rattle.litmus_parser.specs.Condition.{Addresses, addresses, or_fault, keyword, condition}
-use Rattle.litmus_lexer.specs.Pieces.{Sign, LineEnd}
-use Rattle.litmus_lexer.specs.declared.errors.Kind.TheVariants.{BadTable}
-use Rattle.piece_forms.specs.Places.{next_piece}
-use Rattle.piece_forms.specs.Forms.{taken, Passes, Stands}
+use Rattle.litmus_parser.specs.Condition.{Addresses, addresses, condition}
+use Rattle.piece_forms.specs.Forms.{Stands}
 use Rattle.piece_forms.specs.Reading.{reads}
 use Rattle.piece_forms.proofs.Lemmas.{again}
 use Rattle.std.proofs.Math.Path.{fun_ext}
-use Rattle.litmus_parser.specs.GrammarTable.{none, row, Begins}
 
 -- ---- the first lines
 
@@ -104,30 +97,6 @@ unfolding absent_line
 there-none threads [] h = refl
 there-none threads (item ∷ items) h = rw (there-no_absent threads item.name h.0, there-none threads items h.1) refl
 
-no-end : (pieces rest : List Piece) → Begins pieces (LineEnd ∷ rest) → ⊥
-no-end [] rest b = b
-no-end (LineEnd ∷ pieces) rest b = no-end pieces rest b
-no-end (Word w ∷ pieces) rest b = absurd cc
-no-end (Sign s ∷ pieces) rest b = absurd cc
-
-begun : {items : List Item} {threads n : ℕ} {pieces rest : List Piece} {w : Option Width} {cells : List Cell} →
-    AreRows items threads n pieces w cells rest → (qs : List Piece) × Begins qs rest
-begun {pieces = pieces} (none b) = (pieces, b)
-begun (row cells others qs rs v few b is are) = begun are
-
-asks : (o : Option Quantifier) (pieces : List Piece) (q : Quantifier) (rest : List Piece) →
-    Passes (taken (or_fault BadTable o)) pieces q rest → is_present o ≡ true
-asks None pieces q rest h = absurd h
-asks (Some x) pieces q rest h = refl
-
-quantifier-ahead : (front pieces : List Piece) (q : Quantifier) (rest : List Piece) → Begins front pieces →
-    Stands keyword pieces q rest → quantifier_next pieces ≡ true
-unfolding quantifier_next next_piece
-quantifier-ahead front [] q rest b s = absurd s
-quantifier-ahead front (LineEnd ∷ pieces) q rest b s = absurd (no-end front pieces b)
-quantifier-ahead front (Sign x ∷ pieces) q rest b s = absurd s
-quantifier-ahead front (Word w ∷ pieces) q rest b s = asks (quantifier_of w) (Word w ∷ pieces) q rest s
-
 condition_again : (items items' : List Item) (threads line : ℕ) (names : Names) (pieces : List Piece)
     (x : Quantifier × Tree × Names) (rest : List Piece) → AreAlike items' items
     → Stands (condition (addresses items) threads names) pieces x rest
@@ -139,29 +108,29 @@ condition_again items items' threads line names pieces x rest alike s =
     (e.0, ap (λ (holds : Addresses). reads (condition holds threads names) line pieces) same ∙ e.1)
 
 table_again : (items items' : List Item) (line : ℕ) (pieces : List Piece) (threads : ℕ) (body_rows : List Piece)
-    (cells : List Cell) (rest : List Piece)
-    → AreAlike items' items → IsHeaderRow pieces threads body_rows →
-    AllByRecursion (λ item. IsThere threads item.name) items → AreRows items threads 0 body_rows None cells rest →
-    quantifier_next rest ≡ true
-    → (line' : ℕ) × (whole_table_at items' line pieces ≡ Ok (threads, cells, line', rest))
+    (cells : List Cell) (rest : List Piece) → AreAlike items' items → Stands header pieces threads body_rows →
+    AllByRecursion (λ item. IsThere threads item.name) items → Stands (rows (bases_of items) threads) body_rows
+    cells rest → (line' : ℕ) × (whole_table_at items' line pieces ≡ Ok (threads, cells, line', rest))
 unfolding whole_table_at
-table_again items items' line pieces threads body_rows cells rest alike header there rows ahead =
-    let h = header_again line pieces threads body_rows header in
-    let r = rows_again items items' threads h.0 body_rows cells rest (alike-address items' items alike) rows ahead in
-    (r.0, rw (h.1, there-none threads items' (alike-all (IsThere threads) items' items alike there), r.1) refl)
+table_again items items' line pieces threads body_rows cells rest alike head there body =
+    let h = again header pieces threads body_rows head line in
+    let same : bases_of items' ≡ bases_of items = fun_ext (λ t. fun_ext (λ r. alike-address items' items alike t r)) in
+    let r = again (rows (bases_of items) threads) body_rows cells rest body h.0 in
+    let read : reads (rows (bases_of items') threads) h.0 body_rows ≡ Ok (cells, r.0, rest) =
+    ap (λ (bases : Bases). reads (rows bases threads) h.0 body_rows) same ∙ r.1 in
+    (r.0, rw (h.1, there-none threads items' (alike-all (IsThere threads) items' items alike there), read) refl)
 
 -- ---- the whole
 
 parts_again : (text : List ℕ) (test : Litmus) → IsTest text test → parts_at text ≡ Ok test
-unfolding parts_at condition
+unfolding parts_at
 parts_again text test h =
     let o = opening_again text test.name h.body h.length_is h.title h.header in
     let few : length (pieces_of h.body) ≤ 65536 =
     omega (arith, h.length_is, length-pieces h.body, header-within h.header, length-behind_line_feed text) in
     let b = block_again o.0 (pieces_of h.body) h.items h.named h.table few h.block in
     let t = table_again h.items b.0 b.1 h.table test.threads h.body_rows test.cells h.rest b.3 h.header_row
-    h.threads_there h.rows (let front = begun h.rows in
-    quantifier-ahead front.0 h.rest h.condition.0 h.condition.1 front.1 h.condition.2) in
+    h.threads_there h.rows in
     let c = condition_again h.items b.0 test.threads t.0 h.named h.rest (test.quantifier, test.tree, test.locations)
     h.end b.3 h.condition in
     rw (o.1, b.2, t.1, c.1, b.3, ← h.items_are, ← h.seen) refl

@@ -1,5 +1,5 @@
 -- Why a text is refused: in which part it can't go on, what is wrong there, and in which line.
-use Rattle.std.specs.Prelude.{◌≡◌, ◌≢◌, ℕ, ◌+◌, ◌<◌, ◌≤◌, ◌⊎◌, true, false, List, [], ◌∷◌, ◌++◌, length, None}
+use Rattle.std.specs.Prelude.{◌≡◌, ◌≢◌, ℕ, ◌+◌, ◌<◌, ◌≤◌, ◌⊎◌, true, false, List, [], ◌∷◌, ◌++◌, length}
 use Rattle.std.specs.List.{list_all, AllByRecursion}
 use Rattle.litmus_lexer.specs.declared.limits.TheConstants.{MOST_BYTES}
 use Rattle.litmus_lexer.specs.Pieces.{Piece, pieces_of}
@@ -10,13 +10,13 @@ use Rattle.litmus_lexer.specs.declared.errors.Kind.TheVariants.{TooLarge, BadByt
 use Rattle.litmus_parser.specs.Names.{Names}
 use Rattle.litmus_parser.specs.RestLines.{RestAt}
 use Rattle.litmus_parser.specs.Extents.{is_allowed, line_feeds, inner_line_feeds, good, reach}
-use Rattle.litmus_parser.specs.Keywords.{BeginsCondition}
 use Rattle.litmus_parser.specs.GrammarBlock.{IsBlock}
-use Rattle.litmus_parser.specs.GrammarTable.{IsHeaderRow, AreRows}
+use Rattle.litmus_parser.specs.Verdicts.{bases_of}
+use Rattle.litmus_parser.specs.Table.{header, rows as all_rows}
 use Rattle.litmus_parser.specs.Condition.{addresses, condition as whole_condition}
 use Rattle.litmus_parser.specs.BlockParts.{InLines}
 use Rattle.litmus_parser.specs.BlockFaults.{BlockCause}
-use Rattle.litmus_parser.specs.TableFaults.{HeaderCause, RowsCause}
+use Rattle.piece_forms.specs.Forms.{Stands}
 use Rattle.piece_forms.specs.Faults.{Cause}
 use Rattle.litmus_parser.specs.declared.syntax.Name.TheVariants.{Register}
 use Rattle.litmus_parser.specs.declared.syntax.Item.{Item}
@@ -55,10 +55,10 @@ pub record HasHeaderRow (text : List ℕ) (items : List Item) (names : Names) (t
   pub first : ℕ
   pub pieces : List Piece
   pub block : HasBlock text items names first pieces
-  pub row : IsHeaderRow pieces threads rest
+  pub row : Stands header pieces threads rest
   pub rest_at : RestAt first pieces n rest
 
--- every item is of a thread that the header row names; then rows lead to line n, where a keyword stands
+-- every item is of a thread that the header row names; then rows lead to line n
 pub record HasRows (text : List ℕ) (items : List Item) (names : Names) (threads n : ℕ)
     (rest : List Piece) : Type 0 where
   pub first : ℕ
@@ -66,8 +66,7 @@ pub record HasRows (text : List ℕ) (items : List Item) (names : Names) (thread
   pub cells : List Cell
   pub header : HasHeaderRow text items names threads first pieces
   pub there : AllByRecursion (λ item. IsThere threads item.name) items
-  pub rows : AreRows items threads 0 pieces None cells rest
-  pub keyword : BeginsCondition rest
+  pub rows : Stands (all_rows (bases_of items) threads) pieces cells rest
   pub rest_at : RestAt first pieces n rest
 
 -- the first item for a thread that isn't there stands in line n
@@ -105,15 +104,12 @@ pub data FaultIn (text : List ℕ) : Kind → ℕ → Type 0 where
       → ((items : List Item) (names : Names) (rest : List Piece) → IsBlock (pieces_of body) items names rest → ⊥) →
       BlockCause first (pieces_of body) kind n → FaultIn text kind n
   header_row : {kind : Kind} {items : List Item} {names : Names} {first n : ℕ} {pieces : List Piece} →
-      HasBlock text items names first pieces
-      → ((threads : ℕ) (rest : List Piece) → IsHeaderRow pieces threads rest → ⊥) → HeaderCause first pieces kind n →
-      FaultIn text kind n
+      HasBlock text items names first pieces → Cause header first pieces kind n → FaultIn text kind n
   absent_thread : {items : List Item} {names : Names} {threads first n : ℕ} {pieces : List Piece} →
       HasHeaderRow text items names threads first pieces → HasAbsentThread items threads n → FaultIn text BadInitial n
   rows : {kind : Kind} {items : List Item} {names : Names} {threads first n : ℕ} {pieces : List Piece} →
       HasHeaderRow text items names threads first pieces → AllByRecursion (λ item. IsThere threads item.name) items
-      → ((cells : List Cell) (rest : List Piece) → AreRows items threads 0 pieces None cells rest →
-      BeginsCondition rest → ⊥) → RowsCause items threads first pieces kind n → FaultIn text kind n
+      → Cause (all_rows (bases_of items) threads) first pieces kind n → FaultIn text kind n
   condition : {kind : Kind} {items : List Item} {names : Names} {threads first n : ℕ} {pieces : List Piece} →
       HasRows text items names threads first pieces → Cause (whole_condition (addresses items) threads names) first
       pieces kind n → FaultIn text kind n

@@ -1,5 +1,5 @@
 -- The grammar of litmus texts.
-use Rattle.std.specs.Prelude.{◌≡◌, ℕ, ◌<◌, ◌≤◌, true, List, [], length, None}
+use Rattle.std.specs.Prelude.{◌≡◌, ℕ, ◌<◌, ◌≤◌, true, List, [], length}
 use Rattle.std.specs.List.{list_all, AllByRecursion}
 use Rattle.litmus_lexer.specs.declared.limits.TheConstants.{MOST_BYTES}
 use Rattle.litmus_lexer.specs.Pieces.{Piece, pieces_of}
@@ -9,7 +9,8 @@ use Rattle.litmus_parser.specs.Names.{Names}
 use Rattle.litmus_parser.specs.Extents.{is_allowed}
 use Rattle.piece_forms.specs.Forms.{Stands}
 use Rattle.litmus_parser.specs.GrammarBlock.{IsBlock}
-use Rattle.litmus_parser.specs.GrammarTable.{IsHeaderRow, AreRows}
+use Rattle.litmus_parser.specs.Verdicts.{bases_of}
+use Rattle.litmus_parser.specs.Table.{header as row_of_headings, rows as all_rows}
 use Rattle.litmus_parser.specs.Condition.{addresses, condition as whole_condition}
 use Rattle.litmus_parser.specs.declared.syntax.Name.{Name}
 use Rattle.litmus_parser.specs.declared.syntax.Name.TheVariants.{Register, Location}
@@ -45,9 +46,9 @@ pub record IsTest (text : List ℕ) (test : Litmus) : Type 0 where
   -- the pieces after the header row, and after the rows
   pub body_rows : List Piece
   pub rest : List Piece
-  pub header_row : IsHeaderRow table test.threads body_rows
+  pub header_row : Stands row_of_headings table test.threads body_rows
   pub threads_there : AllByRecursion (λ item. IsThere test.threads item.name) items
-  pub rows : AreRows items test.threads 0 body_rows None test.cells rest
+  pub rows : Stands (all_rows (bases_of items) test.threads) body_rows test.cells rest
   pub end : List Piece
   pub condition : Stands (whole_condition (addresses items) test.threads named) rest (
     test.quantifier,

@@ -10,7 +10,8 @@ use Rattle.text_lines.specs.Reading.{◌>>=◌}
 use Rattle.litmus_lexer.specs.Reading.{fails}
 use Rattle.litmus_parser.specs.ReadingHeader.{preamble_at}
 use Rattle.litmus_parser.specs.ReadingBlock.{initial_block_at}
-use Rattle.litmus_parser.specs.ReadingTable.{header_row_at, absent_line, rows_at}
+use Rattle.litmus_parser.specs.Verdicts.{bases_of}
+use Rattle.litmus_parser.specs.Table.{header, absent_line, rows}
 use Rattle.litmus_parser.specs.Condition.{addresses, condition}
 use Rattle.piece_forms.specs.Reading.{reads}
 use Rattle.litmus_parser.specs.Extents.{reach}
@@ -26,8 +27,8 @@ unless_absent (Some line) read = fails BadInitial line
 -- items for threads that are not there are tested once the header row is read
 unfoldable pub whole_table_at : List Item → ℕ → List Piece → Result (ℕ × List Cell × ℕ × List Piece) LitmusError
 whole_table_at items line pieces = do
-  h ← header_row_at line pieces
-  unless_absent (absent_line h.0 items) (rows_at items h.0 [] h.1 h.2 >>= λ r. Ok (h.0, r.0, r.1, r.2))
+  h ← reads header line pieces
+  unless_absent (absent_line h.0 items) (reads (rows (bases_of items) h.0) h.1 h.2 >>= λ r. Ok (h.0, r.0, r.1, r.2))
 
 unfoldable pub parts_at : List ℕ → Result Litmus LitmusError
 parts_at text = do

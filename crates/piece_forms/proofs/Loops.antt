@@ -8,7 +8,7 @@ use Rattle.litmus_lexer.specs.Reading.{Read, Fails}
 use Rattle.piece_forms.specs.Forms.{Form, turn, many}
 use Rattle.piece_forms.specs.Reading.{reads}
 
-module _ {A : Type 0} (one_more : Form Bool) (step : A → Form A) (n i : ℕ) (x : A) (line : ℕ) (pieces : List Piece)
+module _ {A : Type 0} (one_more : A → Form Bool) (step : A → Form A) (n i : ℕ) (x : A) (line : ℕ) (pieces : List Piece)
     (total : Read A) where
   pub many-goes : (y : A) (line' : ℕ) (pieces' : List Piece) → i < n →
       reads (turn one_more step x) line pieces ≡ Ok ((true, y), line', pieces')

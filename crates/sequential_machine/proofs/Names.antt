@@ -8,7 +8,7 @@ use Rattle.litmus_lexer.specs.Naming.{place_of}
 use Rattle.litmus_lexer.specs.Spelling.{small_of, is_location}
 use Rattle.litmus_lexer.specs.declared.errors.Kind.{Kind}
 use Rattle.litmus_lexer.specs.declared.errors.Kind.TheVariants.{TooLarge, CutShort}
-use Rattle.piece_forms.specs.Places.{next_piece}
+use Rattle.piece_forms.specs.Places.{Beyond, next_piece}
 use Rattle.piece_forms.specs.Forms.{Verdict, Refuses, Form, ◌>>=◌, Gives, said, one, either, turn}
 use Rattle.piece_forms.proofs.Lemmas.{Leads, leads-given, leads-then, Tells, leads-at, Onto, leads-many}
 use Rattle.litmus_parser.specs.Names.{Names, same_name}
@@ -50,15 +50,12 @@ more_are_there threads a b le (Either x y) h =
 
 -- ---- what stands in the form of the condition
 
-abbrev Any : Kind → List Piece → Type 0
-Any kind there = Unit {0}
-
-all-lead : {A : Type 0} (f : Form A) (ps : List Piece) → Leads f ps (λ x rest. Unit {0}) Any
-all-lead f ps = record { stands = λ x rest s. tt; refused = λ kind there r. tt }
+all-lead : {A : Type 0} (f : Form A) (ps : List Piece) → Leads f ps (λ x rest. Unit {0})
+all-lead f ps = record { stands = λ x rest s. tt }
 
 wider : {A : Type 0} {f : Form A} {ps : List Piece} {P Q : A → List Piece → Type 0} →
-    ((x : A) (rest : List Piece) → P x rest → Q x rest) → Leads f ps P Any → Leads f ps Q Any
-wider more h = record { stands = λ x rest s. more x rest (h.stands x rest s); refused = λ kind there r. tt }
+    ((x : A) (rest : List Piece) → P x rest → Q x rest) → Leads f ps P → Leads f ps Q
+wider more h = record { stands = λ x rest s. more x rest (h.stands x rest s) }
 
 -- no number is taken back, and the names in the tree are there
 abbrev Adds : ℕ → Sight → Tree × Sight → List Piece → Type 0
@@ -93,14 +90,14 @@ module _ (threads : ℕ) where
 
   module _ (depth : ℕ) (s : Sight) (ps : List Piece) where
     abbrev Looks : Verdict (Start × Sight) → Type 0
-    Looks = Tells (λ x rest. Begins threads s.0 (x.0, x.1.0)) Any ps
+    Looks = Tells (λ x rest. Begins threads s.0 (x.0, x.1.0)) Beyond ps
 
     counted_there : (r : Result (Start × Names) Kind) → Named threads s.0 r → Looks (counted s.1 r)
     counted_there (Ok x) h = cond_both (leb 256 s.1) _ _ Looks (λ _. tt) (λ _. h)
     counted_there (Err kind) h = tt
 
-    start_there : Leads (one (start threads depth s)) ps (λ x rest. Begins threads s.0 (x.0, x.1.0)) Any
-    start_there = leads-at _ _ ps (start threads depth s) (Err CutShort) on
+    start_there : Leads (one (start threads depth s)) ps (λ x rest. Begins threads s.0 (x.0, x.1.0))
+    start_there = leads-at _ Beyond ps (start threads depth s) (Err CutShort) on
       where
         on : (o : Option Piece) → next_piece ps ≡ o → Looks (said (start threads depth s) (Err CutShort) o)
         on None e = tt
@@ -111,7 +108,7 @@ module _ (threads : ℕ) where
 
   atom_there : (n : Name) (sight : Sight) (ps : List Piece) →
       Leads {A = Tree × Sight} (rest_of_atom n >>= λ tree. Gives (tree, sight)) ps
-      (λ x rest. (v : ℕ) × (x ≡ (let y : Tree × Sight = (Is n v, sight) in y))) Any
+      (λ x rest. (v : ℕ) × (x ≡ (let y : Tree × Sight = (Is n v, sight) in y)))
   atom_there n sight ps =
       leads-then (leads-then (all-lead _ ps) (λ u a _.
       leads-then {P = λ v rest. Unit {0}} (all-lead _ a) (λ v rest _.
@@ -120,11 +117,11 @@ module _ (threads : ℕ) where
 
   -- a part of an expression
   abbrev Part : PartForm → Type 0
-  Part part = (s : Sight) (ps : List Piece) → Leads (part s) ps (Adds threads s) Any
+  Part part = (s : Sight) (ps : List Piece) → Leads (part s) ps (Adds threads s)
 
   module _ (holds : Addresses) (inside : PartForm) (within : Part inside) where
     rest_there : (s : Sight) (x : Start × Sight) (ps : List Piece) → Begins threads s.0 (x.0, x.1.0) →
-        Leads (rest_of_factor holds inside x) ps (Adds threads s) Any
+        Leads (rest_of_factor holds inside x) ps (Adds threads s)
     rest_there s (OfThread t, sight) ps h =
         leads-then (all-lead _ ps) (λ u a _. leads-then {P = λ v rest. Unit {0}} (all-lead _ a) (λ r b _.
         wider (λ y rest e. subst (λ z. Adds threads s z rest) (sym e.1) h)
@@ -146,16 +143,16 @@ module _ (threads : ℕ) where
   chain_there : (c : Connective) (part : PartForm) → Part part → Part (chain c part)
   chain_there c part there s ps =
       leads-then (there s ps) (λ x a h.
-      leads-many (further c) (joined c part) (λ k. Adds threads s) (Adds threads s) Any turn_there (λ y b k. k) 256 x a
+      leads-many (further c) (joined c part) (λ k. Adds threads s) (Adds threads s) turn_there (λ y b k. k) 256 x a
       h)
     where
       turn_there : (k : ℕ) (x : Tree × Sight) (ps : List Piece) → Adds threads s x ps →
-          Leads (turn (further c) (joined c part) x) ps (Onto (Adds threads s) (Adds threads s)) Any
+          Leads (turn (further c) (joined c part) x) ps (Onto (Adds threads s) (Adds threads s))
       turn_there k x ps h = leads-then {P = λ v rest. Unit {0}} (all-lead _ ps) (λ more a _. on more a)
         where
           on : (more : Bool) (a : List Piece) →
               Leads (either (joined c part x >>= λ y. Gives (true, y)) (Gives (false, x)) more) a
-              (Onto (Adds threads s) (Adds threads s)) Any
+              (Onto (Adds threads s) (Adds threads s))
           on false a = leads-given (false, x) a h
           on true a =
               leads-then {P = Adds threads s} (leads-then (there x.1 a) (λ right b g.
@@ -170,10 +167,11 @@ module _ (threads : ℕ) where
   expression_there holds zero =
       chain_there Or _ (chain_there And _ (factor_there holds too_deep (λ s ps. no_way s ps) 0))
     where
-      no_way : (s : Sight) (ps : List Piece) → Leads (too_deep s) ps (Adds threads s) Any
-      no_way s ps = leads-at _ _ ps (λ piece. Refuses TooLarge) (Err CutShort) (λ o e. refuses o)
+      no_way : (s : Sight) (ps : List Piece) → Leads (too_deep s) ps (Adds threads s)
+      no_way s ps = leads-at _ Beyond ps (λ piece. Refuses TooLarge) (Err CutShort) (λ o e. refuses o)
         where
-          refuses : (o : Option Piece) → Tells (Adds threads s) Any ps (said (λ piece. Refuses TooLarge) (Err CutShort) o)
+          refuses : (o : Option Piece) →
+              Tells (Adds threads s) Beyond ps (said (λ piece. Refuses TooLarge) (Err CutShort) o)
           refuses None = tt
           refuses (Some p) = tt
   expression_there holds (suc depth) =
@@ -182,7 +180,7 @@ module _ (threads : ℕ) where
 
 condition_there : (holds : Addresses) (threads : ℕ) (ps : List Piece) (before : Names) →
     Leads (condition holds threads before) ps
-    (λ (x : Quantifier × Tree × Names) rest. AreThere threads (length x.2) x.1) Any
+    (λ (x : Quantifier × Tree × Names) rest. AreThere threads (length x.2) x.1)
 unfolding condition
 condition_there holds threads ps before =
     leads-then {P = λ q rest. Unit {0}} (all-lead keyword ps) (λ q a _.

@@ -9,7 +9,7 @@ A table stands between the lines `<!-- table NAME -->` and `<!-- end -->`. A quo
 `<!-- source FILE ITEM .. -->` and `<!-- end -->`: a file of crates/ and the functions or types of it that are quoted,
 each with the comment above it. The script also tests that each path of a file that a document names or links to is
 there, that of a crate's proofs only proofs/Lemmas.antt is open to the crates above, and that the rules of the grammar
-in docs/TEXTS.md are those above the forms of litmus_parser.
+in docs/TEXTS.md are those above the forms of litmus tests.
 """
 import re
 import sys
@@ -295,12 +295,12 @@ def open_proofs():
 
 
 def other_rules():
-    """The rules of docs/TEXTS.md that no form of litmus_parser has above it, and those of forms that the page lacks."""
+    """The rules of docs/TEXTS.md that no form of a litmus test has above it, and those of forms that the page lacks."""
     shown = re.findall(r"^(\w+ := .+)$", (TOP / "docs/TEXTS.md").read_text(encoding="utf-8"), re.M)
-    had = [rule for file in sorted((CRATES / "litmus_parser/specs").glob("*.antt")) for rule in re.findall(
+    had = [rule for file in sorted(CRATES.glob("litmus_*/specs/*.antt")) for rule in re.findall(
         r"^-- (\w+ := .+)\n(?:-- .+\n)*(?:abbrev|unfoldable) pub", file.read_text(encoding="utf-8"), re.M)]
     for rule in sorted(set(shown) ^ set(had)):
-        yield "%s has the rule %s" % ("TEXTS.md alone" if rule in shown else "litmus_parser/specs alone", rule)
+        yield "%s has the rule %s" % ("TEXTS.md alone" if rule in shown else "a form alone", rule)
 
 
 def pages():

@@ -1,9 +1,5 @@
 -- What the proofs of this crate give to the crates above: they import this file and no other of this folder.
 
--- The initial block of the grammar is read, item by item.
-pub use Rattle.litmus_parser.proofs.BlockOnly.{AreAlike, alike-address, alike-all, block_again}
--- What is read as the initial block is in the grammar, and a fault has its cause.
-pub use Rattle.litmus_parser.proofs.BlockFault.{block_takes, block_explains, block_place}
 -- A reading leads on, or its fault has its cause.
 pub use Rattle.litmus_parser.proofs.Causes.{Explains, Onto, bind_explains, found_explains, repeat_counted}
 pub use Rattle.litmus_parser.proofs.Causes.{test_explains, told}

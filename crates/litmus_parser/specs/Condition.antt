@@ -1,21 +1,19 @@
 -- The grammar of the condition, as a form. Line ends count as blanks.
-use Rattle.std.specs.Prelude.{ℕ, zero, suc, ◌+◌, ◌==◌, nat_lt, nat_le, not, Bool, if◌then◌else◌, List, [], ◌∷◌}
-use Rattle.std.specs.Prelude.{◌++◌, length, Option, Some, None, Result, Ok, Err}
+use Rattle.std.specs.Prelude.{ℕ, zero, suc, ◌+◌, ◌==◌, nat_le, Bool, if◌then◌else◌, List, [], ◌∷◌, Option, Some}
+use Rattle.std.specs.Prelude.{None, Result, Ok, Err}
 use Rattle.std.specs.Str.{bytes_eq}
-use Rattle.litmus_lexer.specs.declared.limits.TheConstants.{LAST_THREAD, MOST_ATOMS, MOST_DEPTH, MOST_LOCATIONS}
-use Rattle.litmus_lexer.specs.declared.limits.TheConstants.{VALUE_BOUND}
+use Rattle.litmus_lexer.specs.declared.limits.TheConstants.{LAST_THREAD, MOST_ATOMS, MOST_DEPTH}
 use Rattle.litmus_lexer.specs.declared.signs.TheConstants.{CLOSING_PARENTHESIS, COLON, EQUALS, OPENING_PARENTHESIS}
 use Rattle.litmus_lexer.specs.Pieces.{Piece, Word, Sign, LineEnd}
-use Rattle.litmus_lexer.specs.Naming.{place_of}
-use Rattle.litmus_lexer.specs.Spelling.{is_number, value_of_digits, small_of, register_of, is_location}
+use Rattle.litmus_lexer.specs.Spelling.{small_of, register_of}
 use Rattle.litmus_lexer.specs.declared.errors.Kind.{Kind}
-use Rattle.litmus_lexer.specs.declared.errors.Kind.TheVariants.{TooLarge, ValueRange, AddressAsValue, BadCondition}
+use Rattle.litmus_lexer.specs.declared.errors.Kind.TheVariants.{TooLarge, AddressAsValue, BadCondition}
 use Rattle.litmus_lexer.specs.declared.errors.Kind.TheVariants.{BadTable}
 use Rattle.piece_forms.specs.Forms.{Verdict, Takes, Refuses, Form, ◌>>=◌, one, word, sign, perhaps, no_more, Gives}
 use Rattle.piece_forms.specs.Forms.{many}
 use Rattle.litmus_parser.specs.Names.{Names, address_of, is_present}
 use Rattle.litmus_parser.specs.Trees.{Tree, Is, Both, Either}
-use Rattle.litmus_parser.specs.Words.{or_fault}
+use Rattle.litmus_parser.specs.Words.{or_fault, value, location}
 use Rattle.litmus_parser.specs.Keywords.{quantifier_of}
 use Rattle.litmus_parser.specs.declared.expressions.Connective.{Connective}
 use Rattle.litmus_parser.specs.declared.expressions.Connective.TheVariants.{And, Or}
@@ -43,19 +41,15 @@ addresses items thread register = is_present (address_of thread register items)
 
 -- ---- atoms
 
--- a location: one that was named before, or a new one, if fewer than 64 were
-abbrev pub location : List ℕ → Names → Result (Start × Names) Kind
-location w names =
-    if not (is_location w) then Err BadCondition
-    else if nat_lt (place_of w names) (length names) then Ok (OfLocation (place_of w names), names)
-    else if nat_le MOST_LOCATIONS (length names) then Err TooLarge
-    else Ok (OfLocation (length names), names ++ w ∷ [])
+abbrev pub located : Result (ℕ × Names) Kind → Result (Start × Names) Kind
+located (Ok l) = Ok (OfLocation l.0, l.1)
+located (Err kind) = Err kind
 
 -- a thread that is there, or a location
 abbrev pub name : ℕ → Option ℕ → List ℕ → Names → Result (Start × Names) Kind
 name threads (Some thread) w names =
     if nat_le threads thread then Err BadCondition else Ok (OfThread thread, names)
-name threads None w names = location w names
+name threads None w names = located (location BadCondition w names)
 
 -- with it there is an atom more, of 256 at most
 abbrev pub counted : ℕ → Result (Start × Names) Kind → Verdict (Start × Sight)
@@ -75,12 +69,6 @@ abbrev pub value_register : (ℕ → Bool) → Option ℕ → Result ℕ Kind
 value_register holds None = Err BadCondition
 value_register holds (Some r) = if r == 0 then Err BadCondition else if holds r then Err AddressAsValue else Ok r
 
--- a number that fits
-abbrev pub value : List ℕ → Result ℕ Kind
-value w =
-    if not (is_number w) then Err BadCondition
-    else if nat_lt (value_of_digits w) VALUE_BOUND then Ok (value_of_digits w) else Err ValueRange
-
 abbrev pub register : (ℕ → Bool) → Form ℕ
 register holds = one (word BadCondition (λ w. value_register holds (register_of w)))
 
@@ -88,7 +76,7 @@ register holds = one (word BadCondition (λ w. value_register holds (register_of
 abbrev pub rest_of_atom : Name → Form Tree
 rest_of_atom name = do
   _ ← one (sign BadCondition EQUALS)
-  n ← one (word BadCondition value)
+  n ← one (word BadCondition (value BadCondition))
   Gives (Is name n)
 
 -- ---- expressions

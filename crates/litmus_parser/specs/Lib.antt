@@ -1,11 +1,8 @@
-pub mod RestLines
-pub mod LocationFaults
 pub mod Names
-pub mod ReadingItems
-pub mod ReadingBlock
 pub mod Mnemonics
 pub mod Keywords
 pub mod Words
+pub mod Block
 pub mod Verdicts
 pub mod Instructions
 pub mod Table
@@ -14,7 +11,3 @@ pub mod TreeViews
 pub mod ReadingHeader
 pub mod Extents
 pub mod Condition
-pub mod GrammarWords
-pub mod GrammarBlock
-pub mod BlockParts
-pub mod BlockFaults

@@ -6,14 +6,16 @@ use Rattle.litmus_lexer.specs.declared.signs.TheConstants.{BAR, SEMICOLON}
 use Rattle.litmus_lexer.specs.Pieces.{Piece, Word, Sign, LineEnd}
 use Rattle.litmus_lexer.specs.Spelling.{thread_named}
 use Rattle.litmus_lexer.specs.declared.errors.Kind.{Kind}
-use Rattle.litmus_lexer.specs.declared.errors.Kind.TheVariants.{TooLarge, BadTable, BadInstruction}
+use Rattle.litmus_lexer.specs.declared.errors.Kind.TheVariants.{TooLarge, BadInitial, BadTable, BadInstruction}
+use Rattle.litmus_lexer.specs.declared.errors.LitmusError.{LitmusError}
+use Rattle.litmus_lexer.specs.Reading.{fails}
 use Rattle.piece_forms.specs.Places.{InLine}
-use Rattle.piece_forms.specs.Forms.{Verdict, Takes, Leaves, Refuses, Form, Gives, At, Test, ◌>>=◌}
-use Rattle.piece_forms.specs.Forms.{taken, word, one, here, line_end, either, many}
+use Rattle.piece_forms.specs.Forms.{Verdict, Takes, Leaves, Refuses, Form, Gives, At, Test, Known}
+use Rattle.piece_forms.specs.Forms.{◌>>=◌, taken, word, one, here, line_end, either, many}
 use Rattle.litmus_parser.specs.Names.{is_present}
 use Rattle.litmus_parser.specs.Keywords.{quantifier_of}
 use Rattle.litmus_parser.specs.Instructions.{instruction}
-use Rattle.litmus_parser.specs.Verdicts.{Bases, meaning}
+use Rattle.litmus_parser.specs.Verdicts.{Bases, bases_of, meaning}
 use Rattle.litmus_parser.specs.declared.syntax.Width.{Width}
 use Rattle.litmus_parser.specs.declared.syntax.Item.{Item}
 use Rattle.litmus_parser.specs.declared.syntax.Name.{Name}
@@ -59,6 +61,10 @@ is_absent threads (Location l) = false
 unfoldable pub absent_line : ℕ → List Item → Option ℕ
 absent_line threads [] = None
 absent_line threads (item ∷ items) = if is_absent threads item.name then Some item.line else absent_line threads items
+
+abbrev pub unless_absent : Option ℕ → Result (Unit {0}) LitmusError
+unless_absent None = Ok tt
+unless_absent (Some line) = fails BadInitial line
 
 -- ---- rows
 
@@ -144,3 +150,12 @@ counted_row bases threads t = row bases threads t.1 >>= λ rows. Gives (t.0 + 1,
 unfoldable pub rows : Bases → ℕ → Form (List Cell)
 rows bases threads =
     many next_row (counted_row bases threads) (MOST_ROWS + 1) (0, ([], None)) >>= λ t. Gives t.1.0
+
+-- table := header rows
+-- the items are of threads that the header row names
+unfoldable pub table : List Item → Form (ℕ × List Cell)
+table items = do
+  threads ← header
+  _ ← Known (unless_absent (absent_line threads items))
+  cells ← rows (bases_of items) threads
+  Gives (threads, cells)

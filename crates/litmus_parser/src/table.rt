@@ -10,7 +10,7 @@ ghost use Rattle.piece_forms.specs.Reading.{reads};
 ghost use Rattle.litmus_parser.specs.Keywords.{quantifier_of};
 ghost use Rattle.litmus_parser.specs.Verdicts.{bases_of};
 ghost use Rattle.litmus_parser.specs.Table.{heading, another, further_heading, header, is_absent, absent_line, next_row};
-ghost use Rattle.litmus_parser.specs.Table.{row_or_condition, counted_row, rows};
+ghost use Rattle.litmus_parser.specs.Table.{row_or_condition, counted_row, rows, table};
 
 use crate::cells::row;
 use crate::forms::is;
@@ -115,7 +115,7 @@ fn later_headings<'a>(cursor: Cursor<'a>) -> Result<(u8, Cursor<'a>), ReadError>
 
 /// The header row, after blank lines.
 #[tactic(auto, unfolding(crate::specs::Table::header))]
-pub fn header_row<'a>(cursor: Cursor<'a>) -> Result<(u8, Cursor<'a>), ReadError>
+fn header_row<'a>(cursor: Cursor<'a>) -> Result<(u8, Cursor<'a>), ReadError>
     ensures read { Gives view_read result (reads header cursor.entry.line cursor.entry.pieces) }
     // There are 1 to 16 threads.
     ensures few { IfOk result (λ r. (0 < r.0) × (r.0 ≤ MOST_THREADS)) }
@@ -137,7 +137,7 @@ fn is_absent(name: Name, threads: u8) -> bool
 
 /// The line of the first item for a thread that the table does not have.
 #[tactic(auto, unfolding(crate::specs::Table::absent_line))]
-pub fn absent_line(items: &[Item], threads: u8) -> Option<usize>
+fn absent_line(items: &[Item], threads: u8) -> Option<usize>
     ensures { result ≡ absent_line threads items.now }
 {
     let mut left = items;
@@ -242,7 +242,7 @@ fn rows_into<'a>(
 
 /// The instructions of all rows in reading order, and the position at which the condition begins.
 #[tactic(auto, unfolding(crate::specs::Table::rows))]
-pub fn rows<'a>(
+fn rows<'a>(
     alloc: Global,
     items: &[Item],
     threads: u8,
@@ -254,4 +254,24 @@ pub fn rows<'a>(
     let mut cells = Vec::new(alloc);
     let (_, _, after) = rows_into(items, &mut cells, threads, cursor)?;
     Ok((cells, after))
+}
+
+/// How many threads there are, their instructions, and the position at which the condition begins.
+#[tactic(auto, unfolding(crate::specs::Table::table))]
+pub fn whole_table<'a>(
+    alloc: Global,
+    items: &[Item],
+    cursor: Cursor<'a>,
+) -> Result<(u8, Vec<Cell>, Cursor<'a>), ReadError>
+    ensures read { Gives (λ r. ((r.0, r.1.items), r.2.line, r.2.pieces)) result
+        (reads (table items.now) cursor.entry.line cursor.entry.pieces) }
+    // There are 1 to 16 threads.
+    ensures few { IfOk result (λ r. (0 < r.0) × (r.0 ≤ MOST_THREADS)) }
+{
+    let (threads, after) = header_row(cursor)?;
+    if let Some(line) = absent_line(items, threads) {
+        return Err(ReadError::at(line, Kind::BadInitial));
+    }
+    let (cells, after) = rows(alloc, items, threads, after)?;
+    Ok((threads, cells, after))
 }

@@ -77,12 +77,3 @@ from InLine pieces = pieces
 abbrev pub line_of : Where → ℕ → List Piece → ℕ
 line_of Beyond line pieces = line + ends_ahead pieces
 line_of InLine line pieces = line
-
--- ---- fronts
-
--- how many lines end in these pieces
-unfoldable pub line_ends : List Piece → ℕ
-line_ends [] = 0
-line_ends (LineEnd ∷ pieces) = 1 + line_ends pieces
-line_ends (Word w ∷ pieces) = line_ends pieces
-line_ends (Sign b ∷ pieces) = line_ends pieces

@@ -6,4 +6,4 @@ pub use Rattle.litmus_parser.proofs.Causes.{test_explains, told}
 -- What is said of a reading, said of its answer.
 pub use Rattle.litmus_parser.proofs.ReadAnswers.{answered}
 -- What an answer shows of the steps of a reading.
-pub use Rattle.litmus_parser.proofs.Steps.{bind_ok, either_ok, else_ok, found_ok, never, ok_is, then_ok}
+pub use Rattle.litmus_parser.proofs.Steps.{bind_ok, either_ok, else_ok, never, ok_is, then_ok}

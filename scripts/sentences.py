@@ -23,7 +23,7 @@ MOST_WORDS = 30
 # Sources whose doc comments are still to be written anew.
 LATER = [TOP / "crates" / name for name in (
     "guide_uses/src/names.rt", "interleaving_core/src/core_masks.rt", "line_sets/src/entries.rt", "line_sets/src/sets.rt",
-    "litmus_lexer/src/pulls.rt", "litmus_parser/src/cells.rt", "ranked_lines/src/blocks.rt", "ranked_lines/src/lib.rt",
+    "litmus_parser/src/cells.rt", "ranked_lines/src/blocks.rt", "ranked_lines/src/lib.rt",
     "ranked_lines/src/lines.rt", "ranked_lines/src/rising_list.rt", "ranked_lines/src/selection.rt",
     "report/src/one_run.rt", "report/src/reports.rt", "trace_texts/src/reports.rt")]
 ABBREVIATIONS = {"e.g.", "i.e.", "cf.", "vs."}

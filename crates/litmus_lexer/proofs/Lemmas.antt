@@ -2,12 +2,10 @@
 
 -- The longest front of one kind of bytes.
 pub use Rattle.litmus_lexer.proofs.Fronts.{front-all, front-whole, whole-front}
--- What the lines in front of the initial block and the pieces of a text are, as far as reading them anew needs it.
-pub use Rattle.litmus_lexer.proofs.LinesOnly.{block-some, header_line-no_block, length-pieces}
--- The name of a location is no number of a thread.
-pub use Rattle.litmus_lexer.proofs.LocationWords.{location-no_thread}
+-- What the lines in front of the initial block are, as far as reading them anew needs it.
+pub use Rattle.litmus_lexer.proofs.LinesOnly.{block-some, header_line-no_block}
 -- Steps one after another, until one says that it is the last.
-pub use Rattle.litmus_lexer.proofs.Repeats.{fails-there, goes-on, is-done, repeat-takes, runs-out}
+pub use Rattle.litmus_lexer.proofs.Repeats.{fails-there, goes-on, is-done, runs-out}
 -- Steps of which each gives what is known, until one says that it is the last.
 pub use Rattle.litmus_lexer.proofs.RepeatsOnly.{repeat-last, repeat-more}
 -- The first line, both ways.

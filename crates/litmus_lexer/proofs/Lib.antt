@@ -1,5 +1,4 @@
 mod Pieces
-mod LineEnds
 mod Lines
 mod Fronts
 mod Titles
@@ -7,5 +6,4 @@ mod NameIndex
 mod Repeats
 mod LinesOnly
 mod RepeatsOnly
-mod LocationWords
 pub mod Lemmas

@@ -1,8 +1,8 @@
 -- What the lines in front of the initial block and the pieces of a text are, as far as reading them anew needs it.
-use Rattle.std.proofs.Common.{◌≡◌, ℕ, ◌<◌, ◌≤◌, Bool, true, false, cond, eqb, ◌||◌, List, [], ◌∷◌, length}
+use Rattle.std.proofs.Common.{◌≡◌, ℕ, ◌<◌, true, false, eqb, ◌||◌, List, [], ◌∷◌, length}
 use Rattle.std.proofs.Common.{refl, arith}
 use Rattle.std.proofs.lemmas.Bool.{eqb-true, ne_eqb, false_from_ne_true, both_ways}
-use Rattle.litmus_lexer.specs.Pieces.{Piece, Word, Sign, LineEnd, is_blank, is_joined, grown, lone_piece, pieces_of}
+use Rattle.litmus_lexer.specs.Pieces.{is_blank}
 use Rattle.litmus_lexer.specs.FirstLines.{begins_with, is_quoted, is_setting, is_header_line, begins_block, text_behind}
 use Rattle.text_lines.specs.Lines.{before_line_feed}
 
@@ -27,28 +27,3 @@ header_line-no_block line h =
 pub block-some : (text : List ℕ) → begins_block (before_line_feed text) ≡ true → 0 < length text
 block-some [] e = absurd cc
 block-some (b ∷ text) e = omega arith
-
--- ---- lengths
-
-length-grown : (b : ℕ) (pieces : List Piece) → length (grown b pieces) ≡ length pieces
-length-grown b [] = refl
-length-grown b (Word w ∷ pieces) = refl
-length-grown b (Sign c ∷ pieces) = refl
-length-grown b (LineEnd ∷ pieces) = refl
-
-within-if : (t : Bool) (x y : List Piece) (n : ℕ) → length x ≤ n → length y ≤ n → length (cond t x y) ≤ n
-within-if true x y n h k = h
-within-if false x y n h k = k
-
--- a text has no more pieces than bytes
-pub length-pieces : (text : List ℕ) → length (pieces_of text) ≤ length text
-unfolding pieces_of
-length-pieces [] = omega arith
-length-pieces (b ∷ text) =
-    let i = length-pieces text in
-    let g = length-grown b (pieces_of text) in
-    let n : ℕ = length (b ∷ text) in
-    within-if (is_blank b) (pieces_of text) (cond (is_joined b text) (grown b (pieces_of text))
-    (lone_piece b ∷ pieces_of text)) n (omega (arith, i))
-    (within-if (is_joined b text) (grown b (pieces_of text)) (lone_piece b ∷ pieces_of text) n (omega (arith, i, g))
-    (omega (arith, i)))

@@ -1,11 +1,10 @@
 -- Steps one after another, until one says that it is the last.
-use Rattle.std.proofs.Common.{◌≡◌, ℕ, zero, suc, ◌+◌, ◌-◌, ◌<◌, ◌≤◌, Bool, true, false, cond, Result, Ok, Err, refl}
-use Rattle.std.proofs.Common.{sym, ap, ◌∙◌, arith}
+use Rattle.std.proofs.Common.{◌≡◌, ℕ, suc, ◌+◌, ◌-◌, ◌<◌, ◌≤◌, Bool, true, false, Result, Ok, Err, refl}
+use Rattle.std.proofs.Common.{sym, ◌∙◌, arith}
 use Rattle.litmus_lexer.specs.declared.errors.LitmusError.{LitmusError}
 use Rattle.litmus_lexer.specs.declared.errors.ReadError.{ReadError}
 use Rattle.litmus_lexer.specs.declared.errors.ReadError.TheVariants.{Memory, Fault}
 use Rattle.litmus_lexer.specs.Reading.{Fails, repeat_at}
-use Rattle.text_lines.specs.Reading.{◌>>=◌}
 
 pub goes-on : {S : Type 0} (step : S → Result (Bool × S) LitmusError) (out : S → Result S LitmusError) (n i : ℕ)
     (s s' : S) (total : Result S LitmusError)
@@ -44,24 +43,3 @@ runs-out step out n i s total le so_far =
     let k : n - i ≡ 0 = omega arith in
     let one : repeat_at (n - i) step out s ≡ out s = rw k refl in
     sym so_far ∙ one
-
-after-step : {S : Type 0} (step : S → Result (Bool × S) LitmusError) (out : S → Result S LitmusError)
-    (P : S → S → Type 0)
-    → ((s s' t : S) → step s ≡ Ok (true, s') → P s' t → P s t) → ((s t : S) → step s ≡ Ok (false, t) → P s t)
-    → (k : ℕ) → ((s t : S) → repeat_at k step out s ≡ Ok t → P s t)
-    → (s t : S) (r : Result (Bool × S) LitmusError) → step s ≡ r →
-    (r >>= λ x. cond x.0 (repeat_at k step out x.1) (Ok x.1)) ≡ Ok t → P s t
-after-step step out P more last k rest s t (Err e) h g = absurd cc
-after-step step out P more last k rest s t (Ok (true, s')) h g = more s s' t h (rest s' t g)
-after-step step out P more last k rest s t (Ok (false, s')) h g = last s t (h ∙ ap (λ r. r >>= λ x. Ok (false, x)) g)
-
--- what holds from the end backwards holds of the whole
-pub repeat-takes : {S : Type 0} (step : S → Result (Bool × S) LitmusError) (out : S → Result S LitmusError)
-    (P : S → S → Type 0)
-    → ((s s' t : S) → step s ≡ Ok (true, s') → P s' t → P s t) → ((s t : S) → step s ≡ Ok (false, t) → P s t) →
-    ((s t : S) → out s ≡ Ok t → P s t)
-    → (k : ℕ) (s t : S) → repeat_at k step out s ≡ Ok t → P s t
-unfolding repeat_at
-repeat-takes step out P more last end zero s t h = end s t h
-repeat-takes step out P more last end (suc k) s t h =
-    after-step step out P more last k (repeat-takes step out P more last end k) s t (step s) refl h

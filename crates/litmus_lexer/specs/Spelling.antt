@@ -47,13 +47,3 @@ is_location (first ∷ rest) = not (is_digit first) && list_all is_name_byte (fi
 abbrev pub thread_named : List ℕ → Option ℕ
 thread_named [] = None
 thread_named (first ∷ number) = if first == 80 then small_of MOST_THREADS number else None
-
--- the sign /\
-abbrev pub is_and : List ℕ → Bool
-is_and (a ∷ b ∷ []) = a == 47 && b == 92
-is_and word = false
-
--- the sign \/
-abbrev pub is_or : List ℕ → Bool
-is_or (a ∷ b ∷ []) = a == 92 && b == 47
-is_or word = false

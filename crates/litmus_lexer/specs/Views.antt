@@ -2,12 +2,6 @@
 use Rattle.std.specs.Prelude.{ℕ, List}
 use Rattle.litmus_lexer.specs.Pieces.{Piece}
 use Rattle.litmus_lexer.specs.Positions.{TextPosition}
-use Rattle.litmus_lexer.specs.TokenPieces.{piece_of}
-use Rattle.litmus_lexer.specs.declared.tokens.Token.{Token}
-use denote.Bor.{Bor}
-
-abbrev pub view_position : TextPosition → ℕ × List Piece
-view_position at = (at.line, at.pieces)
 
 -- what is read, and the position after it
 abbrev pub view_read : {X : Type 0} → X × TextPosition → X × ℕ × List Piece
@@ -16,9 +10,3 @@ view_read read = (read.0, read.1.line, read.1.pieces)
 -- the same, with a view of what is read
 abbrev pub view_as : {X Y : Type 0} → (X → Y) → X × TextPosition → Y × ℕ × List Piece
 view_as view read = (view read.0, read.1.line, read.1.pieces)
-
-abbrev pub view_piece : Token × TextPosition → Piece × ℕ × List Piece
-view_piece = view_as piece_of
-
-abbrev pub view_word : Bor (List ℕ) × TextPosition → List ℕ × ℕ × List Piece
-view_word = view_as (λ word. word.now)

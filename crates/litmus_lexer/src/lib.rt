@@ -8,7 +8,6 @@ mod first_lines;
 pub mod laws;
 mod limits;
 mod locations;
-mod pulls;
 mod signs;
 mod tokens;
 mod words;
@@ -21,7 +20,6 @@ pub use limits::{
     MOST_DEPTH, MOST_LOCATIONS, MOST_ORI, MOST_ROWS, MOST_THREADS, VALUE_BOUND,
 };
 pub use locations::Locations;
-pub use pulls::{end_line, expect, expect_here, here, next, passed, sign, start, word, word_here};
 pub use signs::{
     BAR, CLOSING_BRACE, CLOSING_PARENTHESIS, COLON, COMMA, EQUALS, OPENING_BRACE,
     OPENING_PARENTHESIS, SEMICOLON,

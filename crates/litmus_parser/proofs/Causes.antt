@@ -1,48 +1,10 @@
 -- A reading leads on, or its fault has its cause.
-use Rattle.std.proofs.Common.{◌≡◌, ℕ, zero, suc, ◌+◌, Bool, true, false, cond, List, [], ◌∷◌, ◌++◌, Option, Some}
-use Rattle.std.proofs.Common.{None, Result, Ok, Err, refl, sym, ap, subst, ◌∙◌, append_assoc, arith}
-use Rattle.litmus_lexer.specs.Pieces.{Piece, Word, Sign, LineEnd}
+use Rattle.std.proofs.Common.{◌≡◌, ℕ, zero, suc, Bool, true, false, cond, Option, Some, None, Result, Ok, Err, refl}
+use Rattle.std.proofs.Common.{subst}
 use Rattle.litmus_lexer.specs.declared.errors.Kind.{Kind}
-use Rattle.litmus_lexer.specs.declared.errors.Kind.TheVariants.{CutShort}
 use Rattle.litmus_lexer.specs.declared.errors.LitmusError.{LitmusError}
 use Rattle.text_lines.specs.Reading.{◌>>=◌, found}
 use Rattle.litmus_lexer.specs.Reading.{repeat_at, fault_at}
-use Rattle.piece_forms.specs.Places.{line_ends}
-use Rattle.piece_forms.proofs.Lemmas.{line-ends-append}
-use Rattle.litmus_parser.specs.RestLines.{RestAt}
-
--- ---- places
-
-unfoldable pub start : (line : ℕ) (pieces : List Piece) → RestAt line pieces line pieces
-unfolding line_ends
-start line pieces = record { front = []; split = refl; line_is = omega arith }
-
--- a place behind a place is a place of the whole
-unfoldable pub beyond : {line : ℕ} {pieces : List Piece} {n : ℕ} {middle : List Piece} {m : ℕ} {rest : List Piece} →
-    RestAt line pieces n middle → RestAt n middle m rest → RestAt line pieces m rest
-beyond {rest = rest} p q =
-    let e = line-ends-append p.front q.front in
-    record {
-      front = p.front ++ q.front;
-      split = p.split ∙ ap (λ r. p.front ++ r) q.split
-          ∙ sym (append_assoc p.front q.front rest);
-      line_is = omega (arith, p.line_is, q.line_is);
-    }
-
-unfoldable pub over_word : {line : ℕ} {pieces : List Piece} {n : ℕ} {w : List ℕ} {rest : List Piece} →
-    RestAt line pieces n (Word w ∷ rest) → RestAt line pieces n rest
-unfolding line_ends
-over_word {w = w} p = beyond p (record { front = Word w ∷ []; split = refl; line_is = omega arith })
-
-unfoldable pub over_sign : {line : ℕ} {pieces : List Piece} {n b : ℕ} {rest : List Piece} →
-    RestAt line pieces n (Sign b ∷ rest) → RestAt line pieces n rest
-unfolding line_ends
-over_sign {b = b} p = beyond p (record { front = Sign b ∷ []; split = refl; line_is = omega arith })
-
-unfoldable pub over_end : {line : ℕ} {pieces : List Piece} {n : ℕ} {rest : List Piece} →
-    RestAt line pieces n (LineEnd ∷ rest) → RestAt line pieces (n + 1) rest
-unfolding line_ends
-over_end p = beyond p (record { front = LineEnd ∷ []; split = refl; line_is = omega arith })
 
 -- ---- C is the cause of a kind in a line; P is what an answer must meet
 
@@ -66,12 +28,6 @@ pub found_explains : (C : Kind → ℕ → Type 0) {A Y : Type 0} (P : Y → Typ
     → (o ≡ None → C kind n) → ((x : A) → o ≡ Some x → Explains C P (f x)) → Explains C P (found (fault_at kind n) o f)
 found_explains C P kind None n f none some = none refl
 found_explains C P kind (Some x) n f none some = some x refl
-
--- an answer that meets more meets less
-pub weaker : (C : Kind → ℕ → Type 0) {Y : Type 0} (P Q : Y → Type 0) (r : Result Y LitmusError) →
-    ((y : Y) → P y → Q y) → Explains C P r → Explains C Q r
-weaker C P Q (Ok y) go h = go y h
-weaker C P Q (Err e) go h = h
 
 -- what is said of a reading, said of its fault
 pub told : (C : Kind → ℕ → Type 0) {Y : Type 0} (P : Y → Type 0) (r : Result Y LitmusError) (e : LitmusError) →
@@ -103,8 +59,3 @@ unfolding repeat_at
 repeat_counted C P Q step out more end zero s h = end s h
 repeat_counted C P Q step out more end (suc k) s h =
     next-turn C (P k) Q (repeat_at k step out) (repeat_counted C P Q step out more end k) (step s) (more k s h)
-
--- ---- pieces of a part that begins in a line; where they are all taken, the text is cut short
-
-abbrev pub EndsShort : (Kind → ℕ → Type 0) → ℕ → List Piece → Type 0
-EndsShort C line pieces = (n : ℕ) → RestAt line pieces n [] → C CutShort n

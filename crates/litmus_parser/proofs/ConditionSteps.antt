@@ -1,80 +1,57 @@
 -- What the steps of reading a condition give, by their tests.
-use Rattle.std.proofs.Common.{◌≡◌, ℕ, zero, suc, ◌+◌, ◌-◌, ◌<◌, Bool, true, false, cond, not, ◌++◌, ltb, leb, List, []}
-use Rattle.std.proofs.Common.{◌∷◌, length, Option, Some, None, Result, Ok, Err, refl, ap, subst, ◌∙◌, arith}
+use Rattle.std.proofs.Common.{◌≡◌, ℕ, zero, suc, ◌+◌, ◌-◌, ◌<◌, Bool, true, false, cond, leb, List}
+use Rattle.std.proofs.Common.{Some, Result, Ok, Err, refl, ap, subst, ◌∙◌, arith}
 use Rattle.litmus_lexer.specs.Pieces.{Piece, Word}
-use Rattle.litmus_lexer.specs.Naming.{place_of}
-use Rattle.litmus_lexer.specs.Spelling.{is_location, small_of}
+use Rattle.litmus_lexer.specs.Spelling.{small_of}
 use Rattle.litmus_lexer.specs.declared.errors.Kind.{Kind}
 use Rattle.litmus_lexer.specs.declared.errors.Kind.TheVariants.{TooLarge, BadCondition}
 use Rattle.litmus_lexer.specs.declared.errors.LitmusError.{LitmusError}
 use Rattle.litmus_lexer.specs.declared.errors.ReadError.{ReadError}
 use Rattle.litmus_lexer.specs.declared.errors.ReadError.TheVariants.{Memory, Fault}
 use Rattle.text_lines.specs.Reading.{◌>>=◌}
-use Rattle.litmus_lexer.specs.Reading.{Fails, fails}
-use Rattle.piece_forms.specs.Places.{next_piece, behind_next, ends_ahead}
-use Rattle.piece_forms.specs.Forms.{Takes, Refuses, one, sign}
+use Rattle.litmus_lexer.specs.Reading.{Fails, fails, fault_at}
+use Rattle.piece_forms.specs.Places.{Beyond, next_piece, behind_next, ends_ahead}
+use Rattle.piece_forms.specs.Forms.{Takes, Refuses, taken, word, one, sign}
 use Rattle.piece_forms.specs.Reading.{decided, judged, reads}
 use Rattle.litmus_parser.specs.Names.{Names}
-use Rattle.litmus_parser.specs.ReadingItems.{location_at}
-use Rattle.litmus_parser.specs.GrammarCondition.{Sight}
-use Rattle.litmus_parser.specs.Condition.{Addresses, location, name, counted, start, chain, part_of, inner, factor}
+use Rattle.litmus_parser.specs.Condition.{Sight, Addresses, name, counted, start, chain, part_of, inner}
+use Rattle.litmus_parser.specs.Condition.{factor}
 use Rattle.litmus_parser.specs.declared.atoms.Start.{Start}
-use Rattle.litmus_parser.specs.declared.atoms.Start.TheVariants.{OfLocation, Parenthesis}
+use Rattle.litmus_parser.specs.declared.atoms.Start.TheVariants.{Parenthesis}
 use Rattle.litmus_parser.specs.declared.expressions.Connective.TheVariants.{Or}
 use Rattle.litmus_parser.specs.Trees.{Tree}
-
-location-cases : (is known full : Bool) (line place new : ℕ) (old more : Names) →
-    judged {A = Start × Names} (cond (not is) (Err BadCondition) (cond known (Ok (OfLocation place, old))
-    (cond full (Err TooLarge) (Ok (OfLocation new, more))))) line
-    ≡ ((let r : Result (ℕ × Names) LitmusError = cond is (cond known (Ok (place, old)) (cond full (fails TooLarge line)
-    (Ok (new, more)))) (fails BadCondition line) in r) >>= λ l. Ok (OfLocation l.0, l.1))
-location-cases true true full line place new old more = refl
-location-cases true false true line place new old more = refl
-location-cases true false false line place new old more = refl
-location-cases false known full line place new old more = refl
-
-pub location-judged : (w : List ℕ) (names : Names) (line : ℕ) → judged (location w names) line ≡
-    (location_at BadCondition w line names >>= λ l. Ok (OfLocation l.0, l.1))
-unfolding location_at
-location-judged w names line =
-    location-cases (is_location w) (ltb (place_of w names) (length names)) (leb 64 (length names)) line
-    (place_of w names) (length names) names (names ++ w ∷ [])
 
 fails-on : {A B : Type 0} (e : ReadError) (r : Result A LitmusError) (g : A → Result B LitmusError)
     (total : Result B LitmusError) → Fails e r → total ≡ (r >>= g) → Fails e total
 fails-on Memory r g total h a = tt
 fails-on (Fault f) r g total h a = a ∙ ap (λ x. x >>= g) h
 
-module _ (threads : ℕ) (w : List ℕ) (names : Names) (line : ℕ) where
-  named : Option ℕ → Result (Start × Names) LitmusError
-  named o = judged (name threads o w names) line
+taken-fails : {A : Type 0} (r : Result A Kind) (line : ℕ) (pieces : List Piece) (e : ReadError) →
+    Fails e (judged r (line + ends_ahead pieces)) → Fails e (decided Beyond (taken r) line pieces)
+taken-fails r line pieces Memory h = tt
+taken-fails (Ok x) line pieces (Fault f) h = absurd cc
+taken-fails (Err kind) line pieces (Fault f) h =
+    let same : fault_at kind (line + ends_ahead pieces) ≡ f = cc in ap Err same
 
-  pub location-read : (o : Option ℕ) (x : ℕ × Names) → o ≡ None → location_at BadCondition w line names ≡ Ok x →
-      judged (name threads o w names) line ≡ Ok (OfLocation x.0, x.1)
-  unfolding named
-  location-read o x none h =
-      ap named none ∙ location-judged w names line
-      ∙ ap (λ (r : Result (ℕ × Names) LitmusError). r >>= λ l. Ok (OfLocation l.0, l.1)) h
-
-  pub location-fails : (o : Option ℕ) (e : ReadError) → o ≡ None → Fails e (location_at BadCondition w line names) →
-      Fails e (judged (name threads o w names) line)
-  unfolding named
-  location-fails o e none h =
-      fails-on e (location_at BadCondition w line names) (λ l. Ok (OfLocation l.0, l.1)) (named o) h
-      (ap named none ∙ location-judged w names line)
+-- the test of the next word fails
+pub word-fails : {A : Type 0} (kind : Kind) (test : List ℕ → Result A Kind) (line : ℕ) (pieces : List Piece)
+    (w : List ℕ) (at : ℕ) → next_piece pieces ≡ Some (Word w) → at ≡ line + ends_ahead pieces → (e : ReadError) →
+    Fails e (judged (test w) at) → Fails e (reads (one (word kind test)) line pieces)
+word-fails kind test line pieces w at next at_is e h =
+    rw next (taken-fails (test w) line pieces e (subst (λ n. Fails e (judged (test w) n)) at_is h))
 
 -- one atom more, or one too many
 counted-as : ℕ → Start × Names → ℕ → List Piece → Result ((Start × Sight) × ℕ × List Piece) LitmusError
 counted-as atoms x at rest = cond (leb 256 atoms) (fails TooLarge at) (Ok ((x.0, (x.1, atoms + 1)), at, rest))
 
 counted-cases : (full : Bool) (x : Start × Sight) (line : ℕ) (pieces : List Piece) →
-    decided (cond full (Refuses TooLarge) (Takes x)) line pieces ≡
+    decided Beyond (cond full (Refuses TooLarge) (Takes x)) line pieces ≡
     cond full (fails TooLarge (line + ends_ahead pieces)) (Ok (x, line + ends_ahead pieces, behind_next pieces))
 counted-cases true x line pieces = refl
 counted-cases false x line pieces = refl
 
 counted-read : (r : Result (Start × Names) Kind) (atoms line : ℕ) (pieces : List Piece) →
-    decided (counted atoms r) line pieces ≡ (judged r (line + ends_ahead pieces) >>= λ x.
+    decided Beyond (counted atoms r) line pieces ≡ (judged r (line + ends_ahead pieces) >>= λ x.
     counted-as atoms x (line + ends_ahead pieces) (behind_next pieces))
 unfolding counted-as
 counted-read (Ok x) atoms line pieces = counted-cases (leb 256 atoms) (x.0, (x.1, atoms + 1)) line pieces

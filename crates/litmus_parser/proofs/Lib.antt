@@ -1,25 +1,6 @@
 mod Steps
-mod Onward
-mod OnwardHere
-mod FormOnly
-mod TableOnly
-mod WordsOnly
-mod BlockOnly
 mod Causes
-mod CausesHere
 mod ReadAnswers
-mod LocationFault
-mod WantedFault
-mod BlockFault
-mod FormFault
-mod ShapeFault
-mod HeaderFault
-mod VerdictFault
-mod RowFault
-mod TableFault
 mod ConditionSteps
-mod ConditionLooks
-mod ConditionMeaning
-mod ConditionFault
-mod ConditionLaws
+mod TableSteps
 pub mod Lemmas

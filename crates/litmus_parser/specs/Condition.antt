@@ -1,20 +1,20 @@
--- The condition, as a form of which the readings are made. GrammarCondition says what it means.
-use Rattle.std.specs.Prelude.{ℕ, zero, suc, ◌+◌, ◌==◌, nat_lt, nat_le, not, Bool, if◌then◌else◌, List, [], ◌∷◌}
-use Rattle.std.specs.Prelude.{◌++◌, length, Option, Some, None, Result, Ok, Err}
+-- The grammar of the condition, as a form. Line ends count as blanks.
+use Rattle.std.specs.Prelude.{ℕ, zero, suc, ◌+◌, ◌==◌, nat_le, Bool, if◌then◌else◌, List, [], ◌∷◌, Option, Some}
+use Rattle.std.specs.Prelude.{None, Result, Ok, Err}
 use Rattle.std.specs.Str.{bytes_eq}
-use Rattle.litmus_lexer.specs.declared.limits.TheConstants.{LAST_THREAD, MOST_ATOMS, MOST_DEPTH, MOST_LOCATIONS}
-use Rattle.litmus_lexer.specs.declared.limits.TheConstants.{VALUE_BOUND}
+use Rattle.litmus_lexer.specs.declared.limits.TheConstants.{LAST_THREAD, MOST_ATOMS, MOST_DEPTH}
 use Rattle.litmus_lexer.specs.declared.signs.TheConstants.{CLOSING_PARENTHESIS, COLON, EQUALS, OPENING_PARENTHESIS}
 use Rattle.litmus_lexer.specs.Pieces.{Piece, Word, Sign, LineEnd}
-use Rattle.litmus_lexer.specs.Naming.{place_of}
-use Rattle.litmus_lexer.specs.Spelling.{is_number, value_of_digits, small_of, register_of, is_location}
+use Rattle.litmus_lexer.specs.Spelling.{small_of, register_of}
 use Rattle.litmus_lexer.specs.declared.errors.Kind.{Kind}
-use Rattle.litmus_lexer.specs.declared.errors.Kind.TheVariants.{TooLarge, ValueRange, AddressAsValue, BadCondition}
+use Rattle.litmus_lexer.specs.declared.errors.Kind.TheVariants.{TooLarge, AddressAsValue, BadCondition}
+use Rattle.litmus_lexer.specs.declared.errors.Kind.TheVariants.{BadTable}
 use Rattle.piece_forms.specs.Forms.{Verdict, Takes, Refuses, Form, ◌>>=◌, one, word, sign, perhaps, no_more, Gives}
 use Rattle.piece_forms.specs.Forms.{many}
 use Rattle.litmus_parser.specs.Names.{Names, address_of, is_present}
 use Rattle.litmus_parser.specs.Trees.{Tree, Is, Both, Either}
-use Rattle.litmus_parser.specs.GrammarCondition.{Sight}
+use Rattle.litmus_parser.specs.Words.{or_fault, value, location}
+use Rattle.litmus_parser.specs.Keywords.{quantifier_of}
 use Rattle.litmus_parser.specs.declared.expressions.Connective.{Connective}
 use Rattle.litmus_parser.specs.declared.expressions.Connective.TheVariants.{And, Or}
 use Rattle.litmus_parser.specs.declared.atoms.Start.{Start}
@@ -22,6 +22,11 @@ use Rattle.litmus_parser.specs.declared.atoms.Start.TheVariants.{OfThread, OfLoc
 use Rattle.litmus_parser.specs.declared.syntax.Item.{Item}
 use Rattle.litmus_parser.specs.declared.syntax.Name.{Name}
 use Rattle.litmus_parser.specs.declared.syntax.Name.TheVariants.{Register, Location}
+use Rattle.litmus_parser.specs.declared.syntax.Quantifier.{Quantifier}
+
+-- the locations so far, and how many atoms there are so far
+abbrev pub Sight : Type 0
+Sight = Names × ℕ
 
 -- the form of a part of an expression, after what was seen so far
 abbrev pub PartForm : Type 1
@@ -36,19 +41,15 @@ addresses items thread register = is_present (address_of thread register items)
 
 -- ---- atoms
 
--- a location: one that was named before, or a new one, if fewer than 64 were
-abbrev pub location : List ℕ → Names → Result (Start × Names) Kind
-location w names =
-    if not (is_location w) then Err BadCondition
-    else if nat_lt (place_of w names) (length names) then Ok (OfLocation (place_of w names), names)
-    else if nat_le MOST_LOCATIONS (length names) then Err TooLarge
-    else Ok (OfLocation (length names), names ++ w ∷ [])
+abbrev pub located : Result (ℕ × Names) Kind → Result (Start × Names) Kind
+located (Ok l) = Ok (OfLocation l.0, l.1)
+located (Err kind) = Err kind
 
 -- a thread that is there, or a location
 abbrev pub name : ℕ → Option ℕ → List ℕ → Names → Result (Start × Names) Kind
 name threads (Some thread) w names =
     if nat_le threads thread then Err BadCondition else Ok (OfThread thread, names)
-name threads None w names = location w names
+name threads None w names = located (location BadCondition w names)
 
 -- with it there is an atom more, of 256 at most
 abbrev pub counted : ℕ → Result (Start × Names) Kind → Verdict (Start × Sight)
@@ -68,12 +69,6 @@ abbrev pub value_register : (ℕ → Bool) → Option ℕ → Result ℕ Kind
 value_register holds None = Err BadCondition
 value_register holds (Some r) = if r == 0 then Err BadCondition else if holds r then Err AddressAsValue else Ok r
 
--- a number that fits
-abbrev pub value : List ℕ → Result ℕ Kind
-value w =
-    if not (is_number w) then Err BadCondition
-    else if nat_lt (value_of_digits w) VALUE_BOUND then Ok (value_of_digits w) else Err ValueRange
-
 abbrev pub register : (ℕ → Bool) → Form ℕ
 register holds = one (word BadCondition (λ w. value_register holds (register_of w)))
 
@@ -81,12 +76,12 @@ register holds = one (word BadCondition (λ w. value_register holds (register_of
 abbrev pub rest_of_atom : Name → Form Tree
 rest_of_atom name = do
   _ ← one (sign BadCondition EQUALS)
-  n ← one (word BadCondition value)
+  n ← one (word BadCondition (value BadCondition))
   Gives (Is name n)
 
 -- ---- expressions
 
--- factor := T : xR = N | L = N | ( expr )
+-- factor := T : xR = N | L = N | "(" expr ")"
 abbrev pub rest_of_factor : Addresses → PartForm → Start × Sight → Form (Tree × Sight)
 rest_of_factor holds inner (OfThread t, sight) = do
   _ ← one (sign BadCondition COLON)
@@ -108,8 +103,8 @@ join_of And = Both
 join_of Or = Either
 
 -- whether the connective's sign comes next
-abbrev pub further : Connective → Form Bool
-further connective = perhaps (λ w. bytes_eq w (sign_of connective))
+abbrev pub further : Connective → Tree × Sight → Form Bool
+further connective left = perhaps (λ w. bytes_eq w (sign_of connective))
 
 -- a further part, joined to what stands before it
 abbrev pub joined : Connective → PartForm → Tree × Sight → Form (Tree × Sight)
@@ -120,9 +115,13 @@ abbrev pub chain : Connective → PartForm → PartForm
 chain connective part sight = part sight >>=
     many (further connective) (joined connective part) MOST_ATOMS
 
--- expr := term { \/ term }, term := factor { /\ factor }, with parentheses at most that deep
+-- term := factor { /\ factor }
+abbrev pub term : PartForm → PartForm
+term factor = chain And factor
+
+-- expr := term { \/ term }
 abbrev pub expression : PartForm → PartForm
-expression factor = chain Or (chain And factor)
+expression factor = chain Or (term factor)
 
 abbrev pub too_deep : PartForm
 too_deep sight = one (λ piece. Refuses TooLarge)
@@ -142,9 +141,14 @@ abbrev pub part_of : Connective → Addresses → ℕ → ℕ → PartForm
 part_of And holds threads depth = factor holds threads depth
 part_of Or holds threads depth = chain And (factor holds threads depth)
 
--- an expression, and nothing after it
-abbrev pub whole : Addresses → ℕ → Names → Form (Tree × Names)
-whole holds threads names = do
+abbrev pub keyword : Form Quantifier
+keyword = one (word BadTable (λ w. or_fault BadTable (quantifier_of w)))
+
+-- condition := ( exists | ~exists | forall ) expr
+-- and nothing after it
+unfoldable pub condition : Addresses → ℕ → Names → Form (Quantifier × Tree × Names)
+condition holds threads names = do
+  quantifier ← keyword
   e ← expression (factor holds threads MOST_DEPTH) (names, 0)
   _ ← no_more BadCondition
-  Gives (e.0, e.1.0)
+  Gives (quantifier, e.0, e.1.0)

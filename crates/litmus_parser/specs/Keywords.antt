@@ -1,7 +1,6 @@
 -- The words with which a condition begins.
-use Rattle.std.specs.Prelude.{◌≡◌, ℕ, if◌then◌else◌, List, ◌∷◌, Option, Some, None, codes}
+use Rattle.std.specs.Prelude.{ℕ, if◌then◌else◌, List, Option, Some, None, codes}
 use Rattle.std.specs.Str.{bytes_eq}
-use Rattle.litmus_lexer.specs.Pieces.{Piece, Word}
 use Rattle.litmus_parser.specs.declared.syntax.Quantifier.{Quantifier}
 use Rattle.litmus_parser.specs.declared.syntax.Quantifier.TheVariants.{Exists, NotExists, Forall}
 
@@ -12,8 +11,3 @@ quantifier_of w =
     else if bytes_eq w (codes "~exists") then Some NotExists
     else if bytes_eq w (codes "forall") then Some Forall
     else None
-
--- a line that begins with such a word
-abbrev pub BeginsCondition : List Piece → Type 0
-BeginsCondition pieces = (w : List ℕ) × (rest : List Piece) × (quantifier : Quantifier) × (pieces ≡ Word w ∷ rest) ×
-    (quantifier_of w ≡ Some quantifier)

@@ -1,12 +1,12 @@
 -- What an instruction may say: its numbers, its width, its registers.
-use Rattle.std.specs.Prelude.{ℕ, nat_lt, Bool, true, false, if◌then◌else◌, List, Option, Some, None, Result, Ok}
+use Rattle.std.specs.Prelude.{ℕ, nat_lt, Bool, true, false, if◌then◌else◌, List, Option, Some, None, Result, Ok, Err}
 use Rattle.litmus_lexer.specs.declared.limits.TheConstants.{MOST_ORI, VALUE_BOUND}
+use Rattle.litmus_lexer.specs.declared.errors.Kind.{Kind}
 use Rattle.litmus_lexer.specs.declared.errors.Kind.TheVariants.{MixedWidth, ValueRange, AddressAsValue}
 use Rattle.litmus_lexer.specs.declared.errors.Kind.TheVariants.{ValueAsAddress}
-use Rattle.litmus_lexer.specs.declared.errors.LitmusError.{LitmusError}
 use Rattle.text_lines.specs.Reading.{◌>>=◌}
-use Rattle.litmus_lexer.specs.Reading.{fails}
 use Rattle.litmus_parser.specs.Names.{address_of, is_present}
+use Rattle.litmus_parser.specs.Words.{or_fault}
 use Rattle.litmus_parser.specs.declared.syntax.Width.{Width}
 use Rattle.litmus_parser.specs.declared.syntax.Width.TheVariants.{Single, Double}
 use Rattle.litmus_parser.specs.declared.syntax.Item.{Item}
@@ -15,6 +15,13 @@ use Rattle.litmus_parser.specs.declared.syntax.Instruction.TheVariants.{Load, St
 use Rattle.litmus_parser.specs.declared.forms.Form.{Form}
 use Rattle.litmus_parser.specs.declared.forms.Form.TheVariants as form
 
+-- the location to which the initial block sets a thread's register, if it sets it to one
+abbrev pub Bases : Type 0
+Bases = ℕ → ℕ → Option ℕ
+
+abbrev pub bases_of : List Item → Bases
+bases_of items thread register = address_of thread register items
+
 abbrev pub same_width : Width → Width → Bool
 same_width Single Single = true
 same_width Single Double = false
@@ -22,45 +29,38 @@ same_width Double Single = false
 same_width Double Double = true
 
 -- the first width stays
-unfoldable pub kept_at : Option Width → Width → ℕ → Result (Option Width) LitmusError
-kept_at None own line = Ok (Some own)
-kept_at (Some first) own line = if same_width first own then Ok (Some first) else fails MixedWidth line
+unfoldable pub kept : Option Width → Width → Result (Option Width) Kind
+kept None own = Ok (Some own)
+kept (Some first) own = if same_width first own then Ok (Some first) else Err MixedWidth
 
 -- an address register holds no value
-unfoldable pub value_register_at : List Item → ℕ → ℕ → ℕ → Result ℕ LitmusError
-value_register_at items thread register line =
-    if is_present (address_of thread register items) then fails AddressAsValue line else Ok register
-
-abbrev pub or_no_address : Option ℕ → ℕ → Result ℕ LitmusError
-or_no_address (Some location) line = Ok location
-or_no_address None line = fails ValueAsAddress line
+unfoldable pub value_in : Bases → ℕ → ℕ → Result ℕ Kind
+value_in bases thread register = if is_present (bases thread register) then Err AddressAsValue else Ok register
 
 -- the location that an address register holds
-unfoldable pub base_at : List Item → ℕ → ℕ → ℕ → Result ℕ LitmusError
-base_at items thread register line = or_no_address (address_of thread register items) line
+unfoldable pub base_in : Bases → ℕ → ℕ → Result ℕ Kind
+base_in bases thread register = or_fault ValueAsAddress (bases thread register)
 
 -- first the number, then the width, then the registers from the left
-unfoldable pub judged_at : List Item → ℕ → Option Width → Form → ℕ → Result (Instruction × Option Width) LitmusError
-judged_at items thread width (form.Load own target base) line = do
-  w ← kept_at width own line
-  d ← value_register_at items thread target line
-  b ← base_at items thread base line
+unfoldable pub meaning : Bases → ℕ → Option Width → Form → Result (Instruction × Option Width) Kind
+meaning bases thread width (form.Load own target base) = do
+  w ← kept width own
+  d ← value_in bases thread target
+  b ← base_in bases thread base
   Ok (Load d b, w)
-judged_at items thread width (form.Store own source base) line = do
-  w ← kept_at width own line
-  s ← value_register_at items thread source line
-  b ← base_at items thread base line
+meaning bases thread width (form.Store own source base) = do
+  w ← kept width own
+  s ← value_in bases thread source
+  b ← base_in bases thread base
   Ok (Store s b, w)
-judged_at items thread width (form.Swap own target source base) line = do
-  w ← kept_at width own line
-  d ← value_register_at items thread target line
-  s ← value_register_at items thread source line
-  b ← base_at items thread base line
+meaning bases thread width (form.Swap own target source base) = do
+  w ← kept width own
+  d ← value_in bases thread target
+  s ← value_in bases thread source
+  b ← base_in bases thread base
   Ok (Swap d s b, w)
-judged_at items thread width (form.Li target value) line =
-    if nat_lt value VALUE_BOUND then (value_register_at items thread target line >>= λ d. Ok (Set d value, width))
-    else fails ValueRange line
-judged_at items thread width (form.Ori target value) line =
-    if nat_lt MOST_ORI value then fails ValueRange line else (value_register_at items thread target line >>= λ d.
-    Ok (Set d value, width))
-judged_at items thread width form.Fence line = Ok (Fence, width)
+meaning bases thread width (form.Li target value) =
+    if nat_lt value VALUE_BOUND then (value_in bases thread target >>= λ d. Ok (Set d value, width)) else Err ValueRange
+meaning bases thread width (form.Ori target value) =
+    if nat_lt MOST_ORI value then Err ValueRange else (value_in bases thread target >>= λ d. Ok (Set d value, width))
+meaning bases thread width form.Fence = Ok (Fence, width)

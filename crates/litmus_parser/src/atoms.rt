@@ -4,18 +4,17 @@ ghost use Rattle.std.specs.Prelude.{◌≡◌, ◌≢◌, ◌<◌, IfOk};
 ghost use Rattle.litmus_lexer.specs.Spelling.{small_of};
 ghost use Rattle.litmus_lexer.specs.Views.{view_read};
 ghost use Rattle.litmus_lexer.specs.Reading.{Gives};
-ghost use Rattle.piece_forms.specs.Forms.{one, word};
+ghost use Rattle.piece_forms.specs.Forms.{one};
 ghost use Rattle.piece_forms.specs.Reading.{reads, judged};
 ghost use Rattle.litmus_parser.specs.TreeViews.{tree_of};
-ghost use Rattle.litmus_parser.specs.Condition.{addresses, name, start, register, value, rest_of_atom};
+ghost use Rattle.litmus_parser.specs.Condition.{addresses, name, start, register, rest_of_atom};
 ghost use Rattle.litmus_parser.specs.declared.atoms.Start.TheVariants.{Parenthesis};
-ghost use Rattle.litmus_lexer.specs.declared.errors.Kind.TheVariants.{BadCondition};
 
-use crate::items::{is_address, location};
+use crate::items::{is_address, location, value};
 use crate::syntax::{Expr, Item, Name};
 use litmus_lexer::{
     Cursor, EQUALS, Kind, LAST_THREAD, Locations, MOST_ATOMS, OPENING_PARENTHESIS, ReadError,
-    Token, VALUE_BOUND, is_number, number, register, small,
+    Token, register, small,
 };
 use piece_forms::{ahead, expect_sign};
 
@@ -41,7 +40,10 @@ fn name_start(
     match small(word, LAST_THREAD) {
         Some(thread) if thread < threads => Ok(Start::OfThread(thread)),
         Some(_) => Err(at.fault(Kind::BadCondition)),
-        None => Ok(Start::OfLocation(location(locations, word, at, Kind::BadCondition)?)),
+        None => {
+            let number = location(locations, word, at, Kind::BadCondition)?;
+            Ok(Start::OfLocation(number))
+        }
     }
 }
 
@@ -101,33 +103,12 @@ pub fn value_register<'a>(
     }
 }
 
-/// A number that is a value.
-fn atom_value<'a>(cursor: Cursor<'a>) -> Result<(u32, Cursor<'a>), ReadError>
-    ensures { Gives view_read result
-        (reads (one (word BadCondition value)) cursor.entry.line cursor.entry.pieces) }
-{
-    match ahead(&cursor) {
-        (Some(Token::Word(word)), after) => {
-            if !is_number(word) {
-                return Err(after.fault(Kind::BadCondition));
-            }
-            let value = number(word);
-            if value == VALUE_BOUND {
-                return Err(after.fault(Kind::ValueRange));
-            }
-            Ok((value, after))
-        }
-        (Some(_), after) => Err(after.fault(Kind::BadCondition)),
-        (None, end) => Err(end.fault(Kind::CutShort)),
-    }
-}
-
 /// The rest of an atom after its name.
 pub fn atom<'a>(name: Name, cursor: Cursor<'a>) -> Result<(Expr, Cursor<'a>), ReadError>
     ensures { Gives (λ r. (tree_of r.0, r.1.line, r.1.pieces)) result
         (reads (rest_of_atom name) cursor.entry.line cursor.entry.pieces) }
 {
     let after = expect_sign(cursor, Kind::BadCondition, EQUALS)?;
-    let (value, after) = atom_value(after)?;
+    let (value, after) = value(after, Kind::BadCondition)?;
     Ok((Expr::Is(name, value), after))
 }

@@ -1,34 +1,36 @@
 //! The initial block.
 
-ghost use Rattle.std.specs.Prelude.{◌≡◌};
+ghost use Rattle.std.specs.Prelude.{◌≡◌, [], None, IfOk};
 ghost use Rattle.litmus_lexer.specs.Views.{view_read};
 ghost use Rattle.litmus_lexer.specs.Reading.{Gives};
-ghost use Rattle.litmus_parser.specs.ReadingBlock.{entry_at, initial_block_at, items_separated, added, whole_item_at};
-ghost use Rattle.litmus_parser.specs.ReadingBlock.{items_at};
+ghost use Rattle.piece_forms.specs.Forms.{one, until};
+ghost use Rattle.piece_forms.specs.Reading.{reads};
+ghost use Rattle.litmus_parser.specs.Block.{added, separator, with_names, item_or_brace};
+ghost use Rattle.litmus_parser.specs.Block.{whole_item, entry, block};
 
-use crate::items::{is_set, item};
+use crate::items::{Opening, is_set, item, item_opening};
 use crate::syntax::Item;
 use litmus_lexer::{
     CLOSING_BRACE, Cursor, Kind, Locations, MOST_BYTES, OPENING_BRACE, ReadError, SEMICOLON, Token,
-    end_line, expect, next, sign,
 };
+use piece_forms::{ahead, end_line, expect_sign};
 use std::alloc::Global;
 
 /// Whether an item may follow: the position after a `;` or a `}`.
-#[tactic(auto, unfolding(crate::specs::ReadingBlock::items_separated))]
 fn separator<'a>(cursor: Cursor<'a>) -> Result<(bool, Cursor<'a>), ReadError>
-    ensures { Gives view_read result (items_separated cursor.entry.line cursor.entry.pieces) }
+    ensures { Gives view_read result
+        (reads (one separator) cursor.entry.line cursor.entry.pieces) }
 {
-    let (found, after) = sign(cursor, Kind::BadInitial)?;
-    match found {
-        SEMICOLON => Ok((true, after)),
-        CLOSING_BRACE => Ok((false, after)),
-        _ => Err(after.fault(Kind::BadInitial)),
+    match ahead(&cursor) {
+        (Some(Token::Sign(SEMICOLON)), after) => Ok((true, after)),
+        (Some(Token::Sign(CLOSING_BRACE)), after) => Ok((false, after)),
+        (Some(_), after) => Err(after.fault(Kind::BadInitial)),
+        (None, end) => Err(end.fault(Kind::CutShort)),
     }
 }
 
 /// Adds an item, unless an earlier one sets the same name.
-#[tactic(auto, unfolding(crate::specs::ReadingBlock::added))]
+#[tactic(auto, unfolding(crate::specs::Block::added))]
 fn add(items: &mut Vec<Item>, item: Item) -> Result<(), ReadError>
     ensures { Gives (λ _. items.new.items) result (added items.old.items item) }
 {
@@ -39,39 +41,58 @@ fn add(items: &mut Vec<Item>, item: Item) -> Result<(), ReadError>
     Ok(())
 }
 
-/// The rest of an item that begins with this word, and whether an item may follow.
-#[tactic(auto, unfolding(crate::specs::ReadingBlock::whole_item_at))]
+/// The rest of an item that begins with this, and whether an item may follow.
+#[tactic(auto, unfolding(crate::specs::Block::whole_item))]
 fn whole_item<'a>(
     items: &mut Vec<Item>,
     locations: &mut Locations,
-    first: &[u8],
+    opening: Opening,
     cursor: Cursor<'a>,
 ) -> Result<(bool, Cursor<'a>), ReadError>
-    ensures { Gives (λ r. (r.0, (items.new.items, locations.new, r.1.line, r.1.pieces))) result
-        (whole_item_at first.now
-        (items.old.items, locations.old, cursor.entry.line, cursor.entry.pieces)) }
+    ensures { Gives (λ r. ((r.0, (items.new.items, locations.new)), r.1.line, r.1.pieces)) result
+        (reads (whole_item items.old.items (opening, locations.old))
+        cursor.entry.line cursor.entry.pieces) }
 {
-    let (item, after) = item(locations, first, cursor)?;
+    let (item, after) = item(locations, opening, cursor)?;
     add(items, item)?;
     let (more, after) = separator(after)?;
     Ok((more, after))
 }
 
+/// What an item begins with, or nothing after the closing brace.
+fn item_or_brace<'a>(
+    locations: &mut Locations,
+    cursor: Cursor<'a>,
+) -> Result<(Option<Opening>, Cursor<'a>), ReadError>
+    ensures read { Gives (λ r. (with_names r.0 locations.new, r.1.line, r.1.pieces)) result
+        (reads (one (item_or_brace locations.old)) cursor.entry.line cursor.entry.pieces) }
+    ensures same { IfOk result (λ r. r.0 ≡ None → locations.new ≡ locations.old) }
+{
+    match ahead(&cursor) {
+        (Some(Token::Word(first)), after) => {
+            let opening = item_opening(locations, first, &after)?;
+            Ok((Some(opening), after))
+        }
+        (Some(Token::Sign(CLOSING_BRACE)), after) => Ok((None, after)),
+        (Some(_), after) => Err(after.fault(Kind::BadInitial)),
+        (None, end) => Err(end.fault(Kind::CutShort)),
+    }
+}
+
 /// One item and the separator after it, or the closing brace; and whether an item may follow.
-#[tactic(auto, unfolding(crate::specs::ReadingBlock::entry_at))]
+#[tactic(auto, unfolding(crate::specs::Block::entry))]
 fn entry<'a>(
     items: &mut Vec<Item>,
     locations: &mut Locations,
     cursor: Cursor<'a>,
 ) -> Result<(bool, Cursor<'a>), ReadError>
-    ensures { Gives (λ r. (r.0, (items.new.items, locations.new, r.1.line, r.1.pieces))) result
-        (entry_at (items.old.items, locations.old, cursor.entry.line, cursor.entry.pieces)) }
+    ensures { Gives (λ r. ((r.0, (items.new.items, locations.new)), r.1.line, r.1.pieces)) result
+        (reads (entry (items.old.items, locations.old)) cursor.entry.line cursor.entry.pieces) }
 {
-    let (token, after) = next(cursor)?;
-    match token {
-        Token::Word(first) => whole_item(items, locations, first, after),
-        Token::Sign(CLOSING_BRACE) => Ok((false, after)),
-        _ => Err(after.fault(Kind::BadInitial)),
+    let (opening, after) = item_or_brace(locations, cursor)?;
+    match opening {
+        Some(opening) => whole_item(items, locations, opening, after),
+        None => Ok((false, after)),
     }
 }
 
@@ -81,8 +102,9 @@ fn items<'a>(
     locations: &mut Locations,
     cursor: Cursor<'a>,
 ) -> Result<(Vec<Item>, Cursor<'a>), ReadError>
-    ensures { Gives (λ r. (r.0.items, locations.new, r.1.line, r.1.pieces)) result
-        (items_at locations.old cursor.entry.line cursor.entry.pieces) }
+    ensures { Gives (λ r. ((r.0.items, locations.new), r.1.line, r.1.pieces)) result
+        (reads (until entry MOST_BYTES ([], locations.old))
+        cursor.entry.line cursor.entry.pieces) }
 {
     let mut items = Vec::new(alloc);
     let mut at = cursor;
@@ -93,20 +115,20 @@ fn items<'a>(
             return Ok((items, at));
         }
     }
-    Err(at.fault(Kind::CutShort))
+    Ok((items, at))
 }
 
 /// The items of the initial block, and the line after it.
-#[tactic(auto, unfolding(crate::specs::ReadingBlock::initial_block_at))]
+#[tactic(auto, unfolding(crate::specs::Block::block))]
 pub fn block<'a>(
     alloc: Global,
     locations: &mut Locations,
     cursor: Cursor<'a>,
 ) -> Result<(Vec<Item>, Cursor<'a>), ReadError>
-    ensures { Gives (λ r. (r.0.items, locations.new, r.1.line, r.1.pieces)) result
-        (initial_block_at locations.old cursor.entry.line cursor.entry.pieces) }
+    ensures { Gives (λ r. ((r.0.items, locations.new), r.1.line, r.1.pieces)) result
+        (reads (block locations.old) cursor.entry.line cursor.entry.pieces) }
 {
-    let after = expect(cursor, OPENING_BRACE, Kind::BadInitial)?;
+    let after = expect_sign(cursor, Kind::BadInitial, OPENING_BRACE)?;
     let (items, after) = items(alloc, locations, after)?;
     let after = end_line(after, Kind::BadInitial)?;
     Ok((items, after))

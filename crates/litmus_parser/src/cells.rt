@@ -1,26 +1,29 @@
 //! The rows of the table, cell by cell.
 
-ghost use Rattle.std.specs.Prelude.{◌≡◌, ◌<◌, ◌+◌, ◌++◌, [], ◌∷◌, Ok, true};
+ghost use Rattle.std.specs.Prelude.{◌≡◌, ◌<◌, ◌+◌, ◌++◌, [], ◌∷◌, Ok, true, false};
 ghost use Rattle.litmus_lexer.specs.Reading.{Gives};
 ghost use Rattle.litmus_lexer.specs.Pieces.{pieces_of};
-ghost use Rattle.litmus_parser.specs.ReadingRows.{ends_line, has_shape, instruction_at, cell_at, column_at};
-ghost use Rattle.litmus_parser.specs.ReadingRows.{columns_at, table_row_at};
+ghost use Rattle.piece_forms.specs.Places.{InLine};
+ghost use Rattle.piece_forms.specs.Forms.{At, here, many};
+ghost use Rattle.piece_forms.specs.Reading.{reads};
+ghost use Rattle.litmus_lexer.specs.declared.errors.Kind.TheVariants.{BadInstruction};
+ghost use Rattle.litmus_parser.specs.Verdicts.{bases_of, meaning};
+ghost use Rattle.litmus_parser.specs.Table.{ends_here, has_shape, ends_cell, closes, filled, cell, column, always, row};
 
-use crate::forms::read_form;
+use crate::forms::{Form, read_form};
 use crate::instructions::judge;
-use crate::syntax::{Cell, Item, Width};
-use litmus_lexer::{
-    BAR, Cursor, Kind, ReadError, SEMICOLON, Token, end_line, expect_here, next_token, passed,
-};
+use crate::syntax::{Cell, Instruction, Item, Width};
+use litmus_lexer::{BAR, Cursor, Kind, ReadError, SEMICOLON, Token, next_token};
+use piece_forms::{end_line, first};
 
 fn ends_line(text: &[u8]) -> bool
-    ensures { result ≡ ends_line (pieces_of text.now) }
+    ensures { result ≡ ends_here (pieces_of text.now) }
 {
     matches!(next_token(text), None | Some((Token::LineEnd, _)))
 }
 
 /// Whether a line has so many `|`, then a `;`, and nothing after it.
-#[tactic(auto, unfolding(crate::specs::ReadingRows::has_shape))]
+#[tactic(auto, unfolding(crate::specs::Table::has_shape))]
 fn has_shape(bars: u8, text: &[u8]) -> bool
     ensures { result ≡ has_shape bars (pieces_of text.now) }
 {
@@ -50,8 +53,42 @@ fn push_cell(cells: &mut Vec<Cell>, cell: Cell) -> Result<(), ReadError>
     Ok(())
 }
 
+/// Whether the cell ends with its sign here; and the position after it.
+fn blank<'a>(closing: u8, cursor: Cursor<'a>) -> (bool, Cursor<'a>)
+    ensures { reads (At InLine (ends_cell closing) (Ok false)) cursor.entry.line cursor.entry.pieces
+        ≡ Ok (result.0, result.1.line, result.1.pieces) }
+{
+    match first(&cursor) {
+        (Some(Token::Sign(sign)), after) if sign == closing => (true, after),
+        _ => (false, cursor),
+    }
+}
+
+/// What a form means, and the position after the sign that ends its cell.
+fn close<'a>(
+    items: &[Item],
+    thread: u8,
+    width: Option<Width>,
+    form: Form,
+    closing: u8,
+    cursor: Cursor<'a>,
+) -> Result<((Instruction, Option<Width>), Cursor<'a>), ReadError>
+    ensures { Gives (λ r. (r.0, r.1.line, r.1.pieces)) result
+        (reads (here BadInstruction
+        (closes closing (meaning (bases_of items.now) thread width form)))
+        cursor.entry.line cursor.entry.pieces) }
+{
+    match first(&cursor) {
+        (Some(Token::Sign(sign)), after) if sign == closing => {
+            let meant = judge(items, thread, width, form, &cursor)?;
+            Ok((meant, after))
+        }
+        _ => Err(cursor.fault(Kind::BadInstruction)),
+    }
+}
+
 /// An instruction and the sign that ends its cell.
-#[tactic(auto, unfolding(crate::specs::ReadingRows::instruction_at))]
+#[tactic(auto, unfolding(crate::specs::Table::filled))]
 fn instruction<'a>(
     items: &[Item],
     cells: &mut Vec<Cell>,
@@ -60,13 +97,12 @@ fn instruction<'a>(
     closing: u8,
     cursor: Cursor<'a>,
 ) -> Result<(Option<Width>, Cursor<'a>), ReadError>
-    ensures { Gives (λ r. (cells.new.items, r.0, r.1.line, r.1.pieces)) result
-        (instruction_at items.now thread closing
-        (cells.old.items, width, cursor.entry.line, cursor.entry.pieces)) }
+    ensures { Gives (λ r. ((cells.new.items, r.0), r.1.line, r.1.pieces)) result
+        (reads (filled (bases_of items.now) thread closing (cells.old.items, width))
+        cursor.entry.line cursor.entry.pieces) }
 {
     let (form, after) = read_form(cursor)?;
-    let after = expect_here(after, closing, Kind::BadInstruction)?;
-    let (instruction, width) = judge(items, thread, width, form, &after)?;
+    let ((instruction, width), after) = close(items, thread, width, form, closing, after)?;
     push_cell(
         cells,
         Cell {
@@ -78,7 +114,7 @@ fn instruction<'a>(
 }
 
 /// A blank cell or an instruction, and the sign that ends it.
-#[tactic(auto, unfolding(crate::specs::ReadingRows::cell_at))]
+#[tactic(auto, unfolding(crate::specs::Table::cell))]
 fn cell<'a>(
     items: &[Item],
     cells: &mut Vec<Cell>,
@@ -87,18 +123,19 @@ fn cell<'a>(
     closing: u8,
     cursor: Cursor<'a>,
 ) -> Result<(Option<Width>, Cursor<'a>), ReadError>
-    ensures { Gives (λ r. (cells.new.items, r.0, r.1.line, r.1.pieces)) result
-        (cell_at items.now thread closing
-        (cells.old.items, width, cursor.entry.line, cursor.entry.pieces)) }
+    ensures { Gives (λ r. ((cells.new.items, r.0), r.1.line, r.1.pieces)) result
+        (reads (cell (bases_of items.now) thread closing (cells.old.items, width))
+        cursor.entry.line cursor.entry.pieces) }
 {
-    match passed(&cursor, closing) {
-        Some(after) => Ok((width, after)),
-        None => instruction(items, cells, thread, width, closing, cursor),
+    let (ended, after) = blank(closing, cursor);
+    if ended {
+        return Ok((width, after));
     }
+    instruction(items, cells, thread, width, closing, after)
 }
 
 /// The cell of a thread, with `|` after it, or `;` for the last one.
-#[tactic(auto, unfolding(crate::specs::ReadingRows::column_at))]
+#[tactic(auto, unfolding(crate::specs::Table::column))]
 fn column<'a>(
     items: &[Item],
     cells: &mut Vec<Cell>,
@@ -108,9 +145,9 @@ fn column<'a>(
     cursor: Cursor<'a>,
 ) -> Result<(Option<Width>, Cursor<'a>), ReadError>
     requires { thread < threads }
-    ensures { Gives (λ r. (true, (thread + 1, cells.new.items, r.0, r.1.line, r.1.pieces))) result
-        (column_at items.now threads
-        (thread, cells.old.items, width, cursor.entry.line, cursor.entry.pieces)) }
+    ensures { Gives (λ r. ((thread + 1, (cells.new.items, r.0)), r.1.line, r.1.pieces)) result
+        (reads (column (bases_of items.now) threads (thread, (cells.old.items, width)))
+        cursor.entry.line cursor.entry.pieces) }
 {
     let closing = if thread + 1 == threads {
         SEMICOLON
@@ -129,9 +166,9 @@ fn columns<'a>(
     width: Option<Width>,
     cursor: Cursor<'a>,
 ) -> Result<(Option<Width>, Cursor<'a>), ReadError>
-    ensures { Gives (λ r. (threads, cells.new.items, r.0, r.1.line, r.1.pieces)) result
-        (columns_at items.now threads
-        (0, cells.old.items, width, cursor.entry.line, cursor.entry.pieces)) }
+    ensures { Gives (λ r. ((threads, (cells.new.items, r.0)), r.1.line, r.1.pieces)) result
+        (reads (many always (column (bases_of items.now) threads) threads
+        (0, (cells.old.items, width))) cursor.entry.line cursor.entry.pieces) }
 {
     let mut width = width;
     let mut at = cursor;
@@ -144,7 +181,7 @@ fn columns<'a>(
 }
 
 /// A row: its shape is tested before its cells.
-#[tactic(auto, unfolding(crate::specs::ReadingRows::table_row_at))]
+#[tactic(auto, unfolding(crate::specs::Table::row))]
 pub fn row<'a>(
     items: &[Item],
     cells: &mut Vec<Cell>,
@@ -152,9 +189,9 @@ pub fn row<'a>(
     width: Option<Width>,
     cursor: Cursor<'a>,
 ) -> Result<(Option<Width>, Cursor<'a>), ReadError>
-    ensures { Gives (λ r. (cells.new.items, r.0, r.1.line, r.1.pieces)) result
-        (table_row_at items.now threads
-        (cells.old.items, width, cursor.entry.line, cursor.entry.pieces)) }
+    ensures { Gives (λ r. ((cells.new.items, r.0), r.1.line, r.1.pieces)) result
+        (reads (row (bases_of items.now) threads (cells.old.items, width))
+        cursor.entry.line cursor.entry.pieces) }
 {
     if !has_shape(threads.saturating_sub(1), cursor.rest()) {
         return Err(cursor.fault(Kind::BadTable));

@@ -94,16 +94,15 @@ fn next_part<'a>(
         (joined connective (part_of connective (addresses items.now) threads depth))
         (tree_of left, (locations.old, atoms))) at.entry.line at.entry.pieces) }
 {
-    match over_word(&at, sign(connective)) {
-        None => Ok((false, left, atoms, at)),
-        Some(after) => {
-            let (right, atoms, after) = part(
-                alloc, items, threads, locations, atoms, depth, connective, after,
-            )?;
-            let joined = join(alloc, connective, left, right)?;
-            Ok((true, joined, atoms, after))
-        }
+    let (more, after) = over_word(&at, sign(connective));
+    if !more {
+        return Ok((false, left, atoms, after));
     }
+    let (right, atoms, after) = part(
+        alloc, items, threads, locations, atoms, depth, connective, after,
+    )?;
+    let joined = join(alloc, connective, left, right)?;
+    Ok((true, joined, atoms, after))
 }
 
 /// A part that the connective joins.

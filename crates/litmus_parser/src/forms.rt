@@ -1,18 +1,23 @@
 //! Instructions as they are written.
 
-ghost use Rattle.std.specs.Prelude.{◌≡◌};
+ghost use Rattle.std.specs.Prelude.{◌≡◌, if◌then◌else◌, Ok, Err, min};
 ghost use Rattle.std.specs.Str.{bytes_eq};
-ghost use Rattle.litmus_lexer.specs.Views.{view_read, view_position};
+ghost use Rattle.litmus_lexer.specs.Views.{view_read};
 ghost use Rattle.litmus_lexer.specs.Reading.{Gives};
+ghost use Rattle.litmus_lexer.specs.Spelling.{register_of};
+ghost use Rattle.piece_forms.specs.Reading.{reads};
 ghost use Rattle.litmus_parser.specs.Mnemonics.{mnemonic_of, swap_width, is_zero, is_fence_set};
-ghost use Rattle.litmus_parser.specs.ReadingForms.{register_at, based_at, offset_at, swapped_at, number_word_at};
-ghost use Rattle.litmus_parser.specs.ReadingForms.{fence_set_at, fence_at, li_at, ori_at, operands_at, form_at};
+ghost use Rattle.litmus_parser.specs.Instructions.{passes, operand, register, is_x0, number, base, offset, swapped};
+ghost use Rattle.litmus_parser.specs.Instructions.{numbered, or_numbered, sets, operands, instruction};
+ghost use Rattle.litmus_parser.specs.Words.{or_fault};
+ghost use Rattle.litmus_lexer.specs.declared.errors.Kind.TheVariants.{BadInstruction};
 
 use crate::syntax::Width;
 use litmus_lexer::{
-    CLOSING_PARENTHESIS, COMMA, Cursor, Kind, OPENING_PARENTHESIS, ReadError, expect_here,
-    is_number, number, register, word_here,
+    CLOSING_PARENTHESIS, COMMA, Cursor, Kind, OPENING_PARENTHESIS, ReadError, Token, is_number,
+    number, register,
 };
+use piece_forms::{expect_here, first};
 
 /// What the first word of an instruction names.
 #[derive(Clone, Copy)]
@@ -99,123 +104,174 @@ fn is_fence_set(word: &[u8]) -> bool
     matches!(word, b"r" | b"w" | b"rw")
 }
 
-#[tactic(auto, unfolding(crate::specs::ReadingForms::register_at))]
+/// A register.
 fn read_register<'a>(cursor: Cursor<'a>) -> Result<(u8, Cursor<'a>), ReadError>
-    ensures { Gives view_read result (register_at cursor.entry.line cursor.entry.pieces) }
+    ensures { Gives view_read result (reads register cursor.entry.line cursor.entry.pieces) }
 {
-    let (name, after) = word_here(cursor, Kind::BadInstruction)?;
-    match register(name) {
-        Some(number) => Ok((number, after)),
-        None => Err(after.fault(Kind::BadInstruction)),
+    match first(&cursor) {
+        (Some(Token::Word(word)), after) => match register(word) {
+            Some(number) => Ok((number, after)),
+            None => Err(cursor.fault(Kind::BadInstruction)),
+        },
+        _ => Err(cursor.fault(Kind::BadInstruction)),
+    }
+}
+
+/// A number of any size.
+fn read_number<'a>(cursor: Cursor<'a>) -> Result<(u32, Cursor<'a>), ReadError>
+    ensures { Gives view_read result (reads number cursor.entry.line cursor.entry.pieces) }
+{
+    match first(&cursor) {
+        (Some(Token::Word(word)), after) => {
+            if !is_number(word) {
+                return Err(cursor.fault(Kind::BadInstruction));
+            }
+            Ok((number(word), after))
+        }
+        _ => Err(cursor.fault(Kind::BadInstruction)),
+    }
+}
+
+/// `0`.
+fn zero<'a>(cursor: Cursor<'a>) -> Result<Cursor<'a>, ReadError>
+    ensures { Gives (λ at. (tt, at.line, at.pieces)) result
+        (reads (operand (λ w. passes (is_zero w))) cursor.entry.line cursor.entry.pieces) }
+{
+    match first(&cursor) {
+        (Some(Token::Word(word)), after) => {
+            if is_zero(word) {
+                Ok(after)
+            } else {
+                Err(cursor.fault(Kind::BadInstruction))
+            }
+        }
+        _ => Err(cursor.fault(Kind::BadInstruction)),
+    }
+}
+
+/// `x0`.
+fn no_register<'a>(cursor: Cursor<'a>) -> Result<Cursor<'a>, ReadError>
+    ensures { Gives (λ at. (tt, at.line, at.pieces)) result
+        (reads (operand (λ w. passes (is_x0 (register_of w))))
+        cursor.entry.line cursor.entry.pieces) }
+{
+    match first(&cursor) {
+        (Some(Token::Word(word)), after) => match register(word) {
+            Some(0) => Ok(after),
+            _ => Err(cursor.fault(Kind::BadInstruction)),
+        },
+        _ => Err(cursor.fault(Kind::BadInstruction)),
+    }
+}
+
+/// `r`, `w` or `rw`.
+fn fence_set<'a>(cursor: Cursor<'a>) -> Result<Cursor<'a>, ReadError>
+    ensures { Gives (λ at. (tt, at.line, at.pieces)) result
+        (reads (operand (λ w. passes (is_fence_set w))) cursor.entry.line cursor.entry.pieces) }
+{
+    match first(&cursor) {
+        (Some(Token::Word(word)), after) => {
+            if is_fence_set(word) {
+                Ok(after)
+            } else {
+                Err(cursor.fault(Kind::BadInstruction))
+            }
+        }
+        _ => Err(cursor.fault(Kind::BadInstruction)),
+    }
+}
+
+/// What a mnemonic names, and the position after it.
+fn read_mnemonic<'a>(cursor: Cursor<'a>) -> Result<(Mnemonic, Cursor<'a>), ReadError>
+    ensures { Gives view_read result
+        (reads (operand (λ w. or_fault BadInstruction (mnemonic_of w)))
+        cursor.entry.line cursor.entry.pieces) }
+{
+    match first(&cursor) {
+        (Some(Token::Word(word)), after) => match mnemonic_named(word) {
+            Some(mnemonic) => Ok((mnemonic, after)),
+            None => Err(cursor.fault(Kind::BadInstruction)),
+        },
+        _ => Err(cursor.fault(Kind::BadInstruction)),
     }
 }
 
 /// `xB` in parentheses.
-#[tactic(auto, unfolding(crate::specs::ReadingForms::based_at))]
+#[tactic(auto, unfolding(crate::specs::Instructions::base))]
 fn based<'a>(cursor: Cursor<'a>) -> Result<(u8, Cursor<'a>), ReadError>
-    ensures { Gives view_read result (based_at cursor.entry.line cursor.entry.pieces) }
+    ensures { Gives view_read result (reads base cursor.entry.line cursor.entry.pieces) }
 {
-    let after = expect_here(cursor, OPENING_PARENTHESIS, Kind::BadInstruction)?;
+    let after = expect_here(cursor, Kind::BadInstruction, OPENING_PARENTHESIS)?;
     let (base, after) = read_register(after)?;
-    let after = expect_here(after, CLOSING_PARENTHESIS, Kind::BadInstruction)?;
+    let after = expect_here(after, Kind::BadInstruction, CLOSING_PARENTHESIS)?;
     Ok((base, after))
 }
 
 /// `xR,0(xB)`.
-#[tactic(auto, unfolding(crate::specs::ReadingForms::offset_at))]
+#[tactic(auto, unfolding(crate::specs::Instructions::offset))]
 fn offset<'a>(cursor: Cursor<'a>) -> Result<((u8, u8), Cursor<'a>), ReadError>
-    ensures { Gives view_read result (offset_at cursor.entry.line cursor.entry.pieces) }
+    ensures { Gives view_read result (reads offset cursor.entry.line cursor.entry.pieces) }
 {
     let (first, after) = read_register(cursor)?;
-    let after = expect_here(after, COMMA, Kind::BadInstruction)?;
-    let (zero, after) = word_here(after, Kind::BadInstruction)?;
-    if !is_zero(zero) {
-        return Err(after.fault(Kind::BadInstruction));
-    }
+    let after = expect_here(after, Kind::BadInstruction, COMMA)?;
+    let after = zero(after)?;
     let (base, after) = based(after)?;
     Ok(((first, base), after))
 }
 
 /// `xD,xS,(xB)`.
-#[tactic(auto, unfolding(crate::specs::ReadingForms::swapped_at))]
+#[tactic(auto, unfolding(crate::specs::Instructions::swapped))]
 fn swapped<'a>(cursor: Cursor<'a>) -> Result<((u8, u8, u8), Cursor<'a>), ReadError>
-    ensures { Gives view_read result (swapped_at cursor.entry.line cursor.entry.pieces) }
+    ensures { Gives view_read result (reads swapped cursor.entry.line cursor.entry.pieces) }
 {
     let (target, after) = read_register(cursor)?;
-    let after = expect_here(after, COMMA, Kind::BadInstruction)?;
+    let after = expect_here(after, Kind::BadInstruction, COMMA)?;
     let (source, after) = read_register(after)?;
-    let after = expect_here(after, COMMA, Kind::BadInstruction)?;
+    let after = expect_here(after, Kind::BadInstruction, COMMA)?;
     let (base, after) = based(after)?;
     Ok(((target, source, base), after))
 }
 
-/// A number of any size.
-#[tactic(auto, unfolding(crate::specs::ReadingForms::number_word_at))]
-fn read_number<'a>(cursor: Cursor<'a>) -> Result<(u32, Cursor<'a>), ReadError>
-    ensures { Gives view_read result (number_word_at cursor.entry.line cursor.entry.pieces) }
-{
-    let (digits, after) = word_here(cursor, Kind::BadInstruction)?;
-    if !is_number(digits) {
-        return Err(after.fault(Kind::BadInstruction));
-    }
-    Ok((number(digits), after))
-}
-
 /// `xD,N`.
-#[tactic(auto, unfolding(crate::specs::ReadingForms::li_at))]
+#[tactic(auto, unfolding(crate::specs::Instructions::numbered))]
 fn li<'a>(cursor: Cursor<'a>) -> Result<((u8, u32), Cursor<'a>), ReadError>
-    ensures { Gives view_read result (li_at cursor.entry.line cursor.entry.pieces) }
+    ensures { Gives view_read result (reads numbered cursor.entry.line cursor.entry.pieces) }
 {
     let (target, after) = read_register(cursor)?;
-    let after = expect_here(after, COMMA, Kind::BadInstruction)?;
+    let after = expect_here(after, Kind::BadInstruction, COMMA)?;
     let (value, after) = read_number(after)?;
     Ok(((target, value), after))
 }
 
 /// `xD,x0,N`.
-#[tactic(auto, unfolding(crate::specs::ReadingForms::ori_at))]
+#[tactic(auto, unfolding(crate::specs::Instructions::or_numbered))]
 fn ori<'a>(cursor: Cursor<'a>) -> Result<((u8, u32), Cursor<'a>), ReadError>
-    ensures { Gives view_read result (ori_at cursor.entry.line cursor.entry.pieces) }
+    ensures { Gives view_read result (reads or_numbered cursor.entry.line cursor.entry.pieces) }
 {
     let (target, after) = read_register(cursor)?;
-    let after = expect_here(after, COMMA, Kind::BadInstruction)?;
-    let (zero, after) = read_register(after)?;
-    if zero != 0 {
-        return Err(after.fault(Kind::BadInstruction));
-    }
-    let after = expect_here(after, COMMA, Kind::BadInstruction)?;
+    let after = expect_here(after, Kind::BadInstruction, COMMA)?;
+    let after = no_register(after)?;
+    let after = expect_here(after, Kind::BadInstruction, COMMA)?;
     let (value, after) = read_number(after)?;
     Ok(((target, value), after))
 }
 
-/// `r`, `w` or `rw`.
-#[tactic(auto, unfolding(crate::specs::ReadingForms::fence_set_at))]
-fn fence_set<'a>(cursor: Cursor<'a>) -> Result<Cursor<'a>, ReadError>
-    ensures { Gives view_position result (fence_set_at cursor.entry.line cursor.entry.pieces) }
-{
-    let (word, after) = word_here(cursor, Kind::BadInstruction)?;
-    if is_fence_set(word) {
-        Ok(after)
-    } else {
-        Err(after.fault(Kind::BadInstruction))
-    }
-}
-
 /// `A,B` of a fence.
-#[tactic(auto, unfolding(crate::specs::ReadingForms::fence_at))]
+#[tactic(auto, unfolding(crate::specs::Instructions::sets))]
 fn fence<'a>(cursor: Cursor<'a>) -> Result<Cursor<'a>, ReadError>
-    ensures { Gives view_position result (fence_at cursor.entry.line cursor.entry.pieces) }
+    ensures { Gives (λ at. (tt, at.line, at.pieces)) result
+        (reads sets cursor.entry.line cursor.entry.pieces) }
 {
     let after = fence_set(cursor)?;
-    let after = expect_here(after, COMMA, Kind::BadInstruction)?;
+    let after = expect_here(after, Kind::BadInstruction, COMMA)?;
     let after = fence_set(after)?;
     Ok(after)
 }
 
 /// The operands of a mnemonic.
-#[tactic(auto, unfolding(crate::specs::ReadingForms::operands_at))]
+#[tactic(auto, unfolding(crate::specs::Instructions::operands))]
 fn operands<'a>(mnemonic: Mnemonic, cursor: Cursor<'a>) -> Result<(Form, Cursor<'a>), ReadError>
-    ensures { Gives view_read result (operands_at mnemonic cursor.entry.line cursor.entry.pieces) }
+    ensures { Gives view_read result (reads (operands mnemonic) cursor.entry.line cursor.entry.pieces) }
 {
     match mnemonic {
         Mnemonic::Load(width) => {
@@ -246,14 +302,11 @@ fn operands<'a>(mnemonic: Mnemonic, cursor: Cursor<'a>) -> Result<(Form, Cursor<
 }
 
 /// An instruction as it is written.
-#[tactic(auto, unfolding(crate::specs::ReadingForms::form_at))]
+#[tactic(auto, unfolding(crate::specs::Instructions::instruction))]
 pub fn read_form<'a>(cursor: Cursor<'a>) -> Result<(Form, Cursor<'a>), ReadError>
-    ensures { Gives view_read result (form_at cursor.entry.line cursor.entry.pieces) }
+    ensures { Gives view_read result (reads instruction cursor.entry.line cursor.entry.pieces) }
 {
-    let (word, after) = word_here(cursor, Kind::BadInstruction)?;
-    let Some(mnemonic) = mnemonic_named(word) else {
-        return Err(after.fault(Kind::BadInstruction));
-    };
+    let (mnemonic, after) = read_mnemonic(cursor)?;
     let (form, after) = operands(mnemonic, after)?;
     Ok((form, after))
 }

@@ -2,7 +2,8 @@
 
 ghost use Rattle.std.specs.Prelude.{◌≡◌};
 ghost use Rattle.litmus_lexer.specs.Reading.{Gives};
-ghost use Rattle.litmus_parser.specs.Verdicts.{kept_at, value_register_at, base_at, judged_at};
+ghost use Rattle.piece_forms.specs.Reading.{judged};
+ghost use Rattle.litmus_parser.specs.Verdicts.{bases_of, kept, value_in, base_in, meaning};
 
 use crate::forms::Form;
 use crate::items::{address_of, is_address};
@@ -10,9 +11,9 @@ use crate::syntax::{Instruction, Item, Width};
 use litmus_lexer::{Cursor, Kind, MOST_ORI, ReadError, VALUE_BOUND};
 
 /// The width of the text after a memory instruction of this width.
-#[tactic(auto, unfolding(crate::specs::Verdicts::kept_at))]
+#[tactic(auto, unfolding(crate::specs::Verdicts::kept))]
 fn kept(width: Option<Width>, own: Width, at: &Cursor<'_>) -> Result<Option<Width>, ReadError>
-    ensures { Gives (λ w. w) result (kept_at width own at.now.line) }
+    ensures { Gives (λ w. w) result (judged (kept width own) at.now.line) }
 {
     match width {
         None => Ok(Some(own)),
@@ -27,14 +28,15 @@ fn kept(width: Option<Width>, own: Width, at: &Cursor<'_>) -> Result<Option<Widt
 }
 
 /// The register, unless it is an address register.
-#[tactic(auto, unfolding(crate::specs::Verdicts::value_register_at))]
+#[tactic(auto, unfolding(crate::specs::Verdicts::value_in))]
 fn value_register(
     items: &[Item],
     thread: u8,
     register: u8,
     at: &Cursor<'_>,
 ) -> Result<u8, ReadError>
-    ensures { Gives (λ r. r) result (value_register_at items.now thread register at.now.line) }
+    ensures { Gives (λ r. r) result
+        (judged (value_in (bases_of items.now) thread register) at.now.line) }
 {
     if is_address(items, thread, register) {
         return Err(at.fault(Kind::AddressAsValue));
@@ -43,9 +45,10 @@ fn value_register(
 }
 
 /// The location that an address register holds.
-#[tactic(auto, unfolding(crate::specs::Verdicts::base_at))]
+#[tactic(auto, unfolding(crate::specs::Verdicts::base_in))]
 fn base_location(items: &[Item], thread: u8, register: u8, at: &Cursor<'_>) -> Result<u8, ReadError>
-    ensures { Gives (λ r. r) result (base_at items.now thread register at.now.line) }
+    ensures { Gives (λ r. r) result
+        (judged (base_in (bases_of items.now) thread register) at.now.line) }
 {
     match address_of(items, thread, register) {
         Some(location) => Ok(location),
@@ -55,7 +58,7 @@ fn base_location(items: &[Item], thread: u8, register: u8, at: &Cursor<'_>) -> R
 
 /// The instruction that a thread's form stands for, and the width of the text after it: the
 /// number is tested first, then the width, then the registers from the left.
-#[tactic(auto, unfolding(crate::specs::Verdicts::judged_at))]
+#[tactic(auto, unfolding(crate::specs::Verdicts::meaning))]
 pub fn judge(
     items: &[Item],
     thread: u8,
@@ -63,7 +66,8 @@ pub fn judge(
     form: Form,
     at: &Cursor<'_>,
 ) -> Result<(Instruction, Option<Width>), ReadError>
-    ensures { Gives (λ r. r) result (judged_at items.now thread width form at.now.line) }
+    ensures { Gives (λ r. r) result
+        (judged (meaning (bases_of items.now) thread width form) at.now.line) }
 {
     match form {
         Form::Load(own, target, base) => {

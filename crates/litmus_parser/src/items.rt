@@ -4,15 +4,27 @@ ghost use Rattle.std.specs.Prelude.{◌≡◌, IfOk, ◌<◌, length};
 ghost use Rattle.std.specs.List.{list_any};
 ghost use Rattle.litmus_lexer.specs.Views.{view_read, view_as};
 ghost use Rattle.litmus_lexer.specs.Reading.{Gives};
+ghost use Rattle.litmus_lexer.specs.Spelling.{register_of};
+ghost use Rattle.litmus_lexer.specs.declared.errors.Kind.TheVariants.{BadInitial};
+ghost use Rattle.piece_forms.specs.Forms.{one, word};
+ghost use Rattle.piece_forms.specs.Reading.{reads, judged};
 ghost use Rattle.litmus_parser.specs.Names.{same_name, address_of, is_present};
-ghost use Rattle.litmus_parser.specs.ReadingItems.{location_at, small_number_at, setting_at, register_item_at};
-ghost use Rattle.litmus_parser.specs.ReadingItems.{location_item_at, item_at};
+ghost use Rattle.litmus_parser.specs.Words.{value, location};
+ghost use Rattle.litmus_parser.specs.Block.{opening, settable, setting, rest_of_item};
 
 use crate::syntax::{Item, Name, Setting};
 use litmus_lexer::{
-    COLON, Cursor, EQUALS, Kind, LAST_THREAD, Locations, MOST_LOCATIONS, ReadError, VALUE_BOUND,
-    expect, is_location, is_number, number, register, small, word,
+    COLON, Cursor, EQUALS, Kind, LAST_THREAD, Locations, MOST_LOCATIONS, ReadError, Token,
+    VALUE_BOUND, is_location, is_number, number, register, small,
 };
+use piece_forms::{ahead, expect_sign};
+
+/// What an item begins with.
+#[derive(Clone, Copy)]
+pub enum Opening {
+    OfThread(u8),
+    OfLocation(u8),
+}
 
 /// Whether two names are the same.
 pub fn same_name(a: Name, b: Name) -> bool
@@ -55,7 +67,7 @@ pub fn is_address(items: &[Item], thread: u8, register: u8) -> bool
 }
 
 /// The number of the location that a word names, which is new if it was not named before.
-#[tactic(auto, unfolding(crate::specs::ReadingItems::location_at))]
+#[tactic(auto, unfolding(crate::specs::Words::location))]
 pub fn location(
     locations: &mut Locations,
     word: &[u8],
@@ -63,7 +75,7 @@ pub fn location(
     kind: Kind,
 ) -> Result<u8, ReadError>
     ensures { Gives (λ number. (number, locations.new)) result
-        (location_at kind word.now at.now.line locations.old) }
+        (judged (location kind word.now locations.old) at.now.line) }
 {
     if !is_location(word) {
         return Err(at.fault(kind));
@@ -80,109 +92,137 @@ pub fn location(
     Ok(number as u8)
 }
 
-/// A number that is a value.
-#[tactic(auto, unfolding(crate::specs::ReadingItems::small_number_at))]
-pub fn value<'a>(cursor: Cursor<'a>, kind: Kind) -> Result<(u32, Cursor<'a>), ReadError>
-    ensures { Gives view_read result (small_number_at kind cursor.entry.line cursor.entry.pieces) }
+/// The number that a word says, if it is a value.
+fn value_of(word: &[u8], at: &Cursor<'_>, kind: Kind) -> Result<u32, ReadError>
+    ensures { Gives (λ n. n) result (judged (value kind word.now) at.now.line) }
 {
-    let (digits, after) = word(cursor, kind)?;
-    if !is_number(digits) {
-        return Err(after.fault(kind));
+    if !is_number(word) {
+        return Err(at.fault(kind));
     }
-    let value = number(digits);
+    let value = number(word);
     if value == VALUE_BOUND {
-        return Err(after.fault(Kind::ValueRange));
+        return Err(at.fault(Kind::ValueRange));
     }
-    Ok((value, after))
+    Ok(value)
 }
 
-#[tactic(auto, unfolding(crate::specs::ReadingItems::setting_at))]
+/// A number that is a value.
+pub fn value<'a>(cursor: Cursor<'a>, kind: Kind) -> Result<(u32, Cursor<'a>), ReadError>
+    ensures { Gives view_read result
+        (reads (one (word kind (value kind))) cursor.entry.line cursor.entry.pieces) }
+{
+    match ahead(&cursor) {
+        (Some(Token::Word(word)), after) => {
+            let value = value_of(word, &after, kind)?;
+            Ok((value, after))
+        }
+        (Some(_), after) => Err(after.fault(kind)),
+        (None, end) => Err(end.fault(Kind::CutShort)),
+    }
+}
+
+/// What an item that begins with this word begins with.
+pub fn item_opening(
+    locations: &mut Locations,
+    word: &[u8],
+    at: &Cursor<'_>,
+) -> Result<Opening, ReadError>
+    ensures { Gives (λ opening. (opening, locations.new)) result
+        (judged (opening word.now locations.old) at.now.line) }
+{
+    match small(word, LAST_THREAD) {
+        Some(thread) => Ok(Opening::OfThread(thread)),
+        None => {
+            let number = location(locations, word, at, Kind::BadInitial)?;
+            Ok(Opening::OfLocation(number))
+        }
+    }
+}
+
+/// What a word sets a register to.
+fn setting_of(locations: &mut Locations, word: &[u8], at: &Cursor<'_>) -> Result<Setting, ReadError>
+    ensures { Gives (λ setting. (setting, locations.new)) result
+        (judged (setting locations.old word.now) at.now.line) }
+{
+    if is_number(word) {
+        let value = value_of(word, at, Kind::BadInitial)?;
+        return Ok(Setting::Number(value));
+    }
+    let number = location(locations, word, at, Kind::BadInitial)?;
+    Ok(Setting::Address(number))
+}
+
 fn setting<'a>(
     locations: &mut Locations,
     cursor: Cursor<'a>,
 ) -> Result<(Setting, Cursor<'a>), ReadError>
     ensures { Gives (view_as (λ read. (read, locations.new))) result
-        (setting_at locations.old cursor.entry.line cursor.entry.pieces) }
+        (reads (one (word BadInitial (setting locations.old)))
+        cursor.entry.line cursor.entry.pieces) }
 {
-    let (word, after) = word(cursor, Kind::BadInitial)?;
-    if is_number(word) {
-        let value = number(word);
-        if value == VALUE_BOUND {
-            return Err(after.fault(Kind::ValueRange));
+    match ahead(&cursor) {
+        (Some(Token::Word(word)), after) => {
+            let setting = setting_of(locations, word, &after)?;
+            Ok((setting, after))
         }
-        return Ok((Setting::Number(value), after));
+        (Some(_), after) => Err(after.fault(Kind::BadInitial)),
+        (None, end) => Err(end.fault(Kind::CutShort)),
     }
-    let number = location(locations, word, &after, Kind::BadInitial)?;
-    Ok((Setting::Address(number), after))
 }
 
-/// The rest of an item that begins with a thread's number.
-#[tactic(auto, unfolding(crate::specs::ReadingItems::register_item_at))]
-fn register_item<'a>(
-    locations: &mut Locations,
-    thread: u8,
-    cursor: Cursor<'a>,
-) -> Result<(Item, Cursor<'a>), ReadError>
-    ensures { Gives (view_as (λ read. (read, locations.new))) result
-        (register_item_at thread locations.old cursor.entry.line cursor.entry.pieces) }
+/// A register other than x0.
+fn settable<'a>(cursor: Cursor<'a>) -> Result<(u8, Cursor<'a>), ReadError>
+    ensures { Gives view_read result
+        (reads (one (word BadInitial (λ w. settable (register_of w))))
+        cursor.entry.line cursor.entry.pieces) }
 {
-    let line = cursor.line();
-    let after = expect(cursor, COLON, Kind::BadInitial)?;
-    let (word, after) = word(after, Kind::BadInitial)?;
-    let Some(register) = register(word) else {
-        return Err(after.fault(Kind::BadInitial));
-    };
-    if register == 0 {
-        return Err(after.fault(Kind::BadInitial));
+    match ahead(&cursor) {
+        (Some(Token::Word(word)), after) => match register(word) {
+            None | Some(0) => Err(after.fault(Kind::BadInitial)),
+            Some(register) => Ok((register, after)),
+        },
+        (Some(_), after) => Err(after.fault(Kind::BadInitial)),
+        (None, end) => Err(end.fault(Kind::CutShort)),
     }
-    let after = expect(after, EQUALS, Kind::BadInitial)?;
-    let (setting, after) = setting(locations, after)?;
-    Ok((
-        Item {
-            line,
-            name: Name::Register(thread, register),
-            setting,
-        },
-        after,
-    ))
 }
 
-/// The rest of an item that begins with a location.
-#[tactic(auto, unfolding(crate::specs::ReadingItems::location_item_at))]
-fn location_item<'a>(
-    locations: &mut Locations,
-    first: &[u8],
-    cursor: Cursor<'a>,
-) -> Result<(Item, Cursor<'a>), ReadError>
-    ensures { Gives (view_as (λ read. (read, locations.new))) result
-        (location_item_at first.now locations.old cursor.entry.line cursor.entry.pieces) }
-{
-    let line = cursor.line();
-    let number = location(locations, first, &cursor, Kind::BadInitial)?;
-    let after = expect(cursor, EQUALS, Kind::BadInitial)?;
-    let (value, after) = value(after, Kind::BadInitial)?;
-    Ok((
-        Item {
-            line,
-            name: Name::Location(number),
-            setting: Setting::Number(value),
-        },
-        after,
-    ))
-}
-
-/// The rest of an item that begins with this word.
-#[tactic(auto, unfolding(crate::specs::ReadingItems::item_at))]
+/// The rest of an item that begins with this.
+#[tactic(auto, unfolding(crate::specs::Block::rest_of_item))]
 pub fn item<'a>(
     locations: &mut Locations,
-    first: &[u8],
+    opening: Opening,
     cursor: Cursor<'a>,
 ) -> Result<(Item, Cursor<'a>), ReadError>
     ensures { Gives (view_as (λ read. (read, locations.new))) result
-        (item_at first.now locations.old cursor.entry.line cursor.entry.pieces) }
+        (reads (rest_of_item (opening, locations.old)) cursor.entry.line cursor.entry.pieces) }
 {
-    match small(first, LAST_THREAD) {
-        Some(thread) => register_item(locations, thread, cursor),
-        None => location_item(locations, first, cursor),
+    let line = cursor.line();
+    match opening {
+        Opening::OfThread(thread) => {
+            let after = expect_sign(cursor, Kind::BadInitial, COLON)?;
+            let (register, after) = settable(after)?;
+            let after = expect_sign(after, Kind::BadInitial, EQUALS)?;
+            let (setting, after) = setting(locations, after)?;
+            Ok((
+                Item {
+                    line,
+                    name: Name::Register(thread, register),
+                    setting,
+                },
+                after,
+            ))
+        }
+        Opening::OfLocation(number) => {
+            let after = expect_sign(cursor, Kind::BadInitial, EQUALS)?;
+            let (value, after) = value(after, Kind::BadInitial)?;
+            Ok((
+                Item {
+                    line,
+                    name: Name::Location(number),
+                    setting: Setting::Number(value),
+                },
+                after,
+            ))
+        }
     }
 }

@@ -20,4 +20,4 @@ pub use extent::reach;
 pub use headers::preamble;
 pub use items::same_name;
 pub use syntax::{Cell, Expr, Instruction, Item, Name, Quantifier, Setting, Width};
-pub use table::{absent_line, header_row, rows};
+pub use table::whole_table;

@@ -1,20 +1,24 @@
 //! The table: the header row and the rows.
 
-ghost use Rattle.std.specs.Prelude.{◌≡◌, ◌<◌, ◌≤◌, ◌+◌, [], IfOk, OnOk};
+ghost use Rattle.std.specs.Prelude.{◌≡◌, ◌<◌, ◌≤◌, ◌+◌, [], IfOk, OnOk, None};
 ghost use Rattle.litmus_lexer.specs.Views.{view_read, view_as};
 ghost use Rattle.litmus_lexer.specs.Reading.{Gives};
 ghost use Rattle.litmus_lexer.specs.Spelling.{thread_named};
+ghost use Rattle.litmus_lexer.specs.declared.errors.Kind.TheVariants.{BadTable};
+ghost use Rattle.piece_forms.specs.Forms.{one, here, turn, many};
+ghost use Rattle.piece_forms.specs.Reading.{reads};
 ghost use Rattle.litmus_parser.specs.Keywords.{quantifier_of};
-ghost use Rattle.litmus_parser.specs.ReadingTable.{is_absent, absent_line, headings_separated, heading_at, headings_at};
-ghost use Rattle.litmus_parser.specs.ReadingTable.{header_row_at, quantifier_next, next_row_at, table_at, rows_at};
+ghost use Rattle.litmus_parser.specs.Verdicts.{bases_of};
+ghost use Rattle.litmus_parser.specs.Table.{heading, another, further_heading, header, is_absent, absent_line, next_row};
+ghost use Rattle.litmus_parser.specs.Table.{row_or_condition, counted_row, rows, table};
 
 use crate::cells::row;
 use crate::forms::is;
 use crate::syntax::{Cell, Item, Name, Quantifier, Width};
 use litmus_lexer::{
-    BAR, Cursor, Kind, MOST_ROWS, MOST_THREADS, ReadError, SEMICOLON, Token, end_line, here, small,
-    start, word_here,
+    BAR, Cursor, Kind, MOST_ROWS, MOST_THREADS, ReadError, SEMICOLON, Token, small,
 };
+use piece_forms::{ahead, end_line, first, from_next};
 use std::alloc::Global;
 
 /// The number of the thread that a heading names, at most 16.
@@ -27,65 +31,98 @@ fn thread_named(word: &[u8]) -> Option<u8>
     }
 }
 
-/// Whether a further heading follows: the position after a `|`, or the line after a `;`.
-#[tactic(auto, unfolding(crate::specs::ReadingTable::headings_separated))]
-fn separator<'a>(cursor: Cursor<'a>) -> Result<(bool, Cursor<'a>), ReadError>
-    ensures { Gives view_read result (headings_separated cursor.entry.line cursor.entry.pieces) }
+/// The first heading.
+fn first_heading<'a>(cursor: Cursor<'a>) -> Result<Cursor<'a>, ReadError>
+    ensures { Gives (λ at. (tt, at.line, at.pieces)) result
+        (reads (one (heading 0)) cursor.entry.line cursor.entry.pieces) }
 {
-    let (token, after) = here(cursor, Kind::BadTable)?;
-    match token {
-        Token::Sign(BAR) => Ok((true, after)),
-        Token::Sign(SEMICOLON) => {
-            let after = end_line(after, Kind::BadTable)?;
-            Ok((false, after))
-        }
-        _ => Err(after.fault(Kind::BadTable)),
+    match ahead(&cursor) {
+        (Some(Token::Word(word)), after) => match thread_named(word) {
+            Some(0) => Ok(after),
+            _ => Err(after.fault(Kind::BadTable)),
+        },
+        (Some(_), after) => Err(after.fault(Kind::BadTable)),
+        (None, end) => Err(end.fault(Kind::CutShort)),
     }
 }
 
-/// The heading of a thread and the sign after it, and whether a further heading follows.
-#[tactic(auto, unfolding(crate::specs::ReadingTable::heading_at))]
-fn heading<'a>(thread: u8, cursor: Cursor<'a>) -> Result<(bool, Cursor<'a>), ReadError>
-    ensures read { Gives (λ r. (r.0, (thread + 1, r.1.line, r.1.pieces))) result
-        (heading_at (thread, cursor.entry.line, cursor.entry.pieces)) }
+/// Whether a further heading follows: the position after a `|`, or a `;`.
+fn separator<'a>(threads: u8, cursor: Cursor<'a>) -> Result<(bool, Cursor<'a>), ReadError>
+    ensures { Gives view_read result
+        (reads (another threads) cursor.entry.line cursor.entry.pieces) }
+{
+    match first(&cursor) {
+        (Some(Token::Sign(BAR)), after) => Ok((true, after)),
+        (Some(Token::Sign(SEMICOLON)), after) => Ok((false, after)),
+        _ => Err(cursor.fault(Kind::BadTable)),
+    }
+}
+
+/// The heading of a thread after the first one.
+fn later_heading<'a>(thread: u8, cursor: Cursor<'a>) -> Result<Cursor<'a>, ReadError>
+    ensures read { Gives (λ at. (tt, at.line, at.pieces)) result
+        (reads (here BadTable (heading thread)) cursor.entry.line cursor.entry.pieces) }
     ensures few { OnOk result (thread < MOST_THREADS) }
 {
-    let (word, after) = word_here(cursor, Kind::BadTable)?;
-    if thread_named(word) != Some(thread) {
-        return Err(after.fault(Kind::BadTable));
+    match first(&cursor) {
+        (Some(Token::Word(word)), after) => {
+            if thread_named(word) != Some(thread) {
+                return Err(cursor.fault(Kind::BadTable));
+            }
+            if thread >= MOST_THREADS {
+                return Err(cursor.fault(Kind::TooLarge));
+            }
+            Ok(after)
+        }
+        _ => Err(cursor.fault(Kind::BadTable)),
     }
-    if thread >= MOST_THREADS {
-        return Err(after.fault(Kind::TooLarge));
-    }
-    let (more, after) = separator(after)?;
-    Ok((more, after))
 }
 
-/// The headings `P0 | P1 | .. ;`: how many threads there are.
-fn headings<'a>(cursor: Cursor<'a>) -> Result<(u8, Cursor<'a>), ReadError>
-    ensures read { Gives view_read result (headings_at cursor.entry.line cursor.entry.pieces) }
+/// A further heading, if one follows.
+fn next_heading<'a>(threads: u8, cursor: Cursor<'a>) -> Result<(bool, u8, Cursor<'a>), ReadError>
+    requires { threads ≤ MOST_THREADS }
+    ensures read { Gives (λ r. ((r.0, r.1), r.2.line, r.2.pieces)) result
+        (reads (turn another further_heading threads) cursor.entry.line cursor.entry.pieces) }
+    ensures few { IfOk result (λ r. (threads ≤ r.1) × (r.1 ≤ MOST_THREADS)) }
+{
+    let (more, after) = separator(threads, cursor)?;
+    if !more {
+        return Ok((false, threads, after));
+    }
+    let after = later_heading(threads, after)?;
+    Ok((true, threads + 1, after))
+}
+
+/// The headings `P0 | P1 | ..` after the first: how many threads there are.
+fn later_headings<'a>(cursor: Cursor<'a>) -> Result<(u8, Cursor<'a>), ReadError>
+    ensures read { Gives view_read result
+        (reads (many another further_heading MOST_THREADS 1)
+        cursor.entry.line cursor.entry.pieces) }
     ensures few { IfOk result (λ r. (0 < r.0) × (r.0 ≤ MOST_THREADS)) }
 {
+    let mut threads = 1;
     let mut at = cursor;
-    for thread in 0..MOST_THREADS + 1 {
-        let (more, after) = heading(thread, at)?;
+    for _ in 0..MOST_THREADS {
+        let (more, count, after) = next_heading(threads, at)?;
+        threads = count;
         at = after;
         if !more {
-            return Ok((thread + 1, at));
+            return Ok((threads, at));
         }
     }
-    Err(at.fault(Kind::TooLarge))
+    Ok((threads, at))
 }
 
 /// The header row, after blank lines.
-#[tactic(auto, unfolding(crate::specs::ReadingTable::header_row_at))]
-pub fn header_row<'a>(cursor: Cursor<'a>) -> Result<(u8, Cursor<'a>), ReadError>
-    ensures read { Gives view_read result (header_row_at cursor.entry.line cursor.entry.pieces) }
+#[tactic(auto, unfolding(crate::specs::Table::header))]
+fn header_row<'a>(cursor: Cursor<'a>) -> Result<(u8, Cursor<'a>), ReadError>
+    ensures read { Gives view_read result (reads header cursor.entry.line cursor.entry.pieces) }
     // There are 1 to 16 threads.
     ensures few { IfOk result (λ r. (0 < r.0) × (r.0 ≤ MOST_THREADS)) }
 {
-    let after = start(cursor)?;
-    let (threads, after) = headings(after)?;
+    let after = first_heading(cursor)?;
+    let (threads, after) = later_headings(after)?;
+    let after = end_line(after, Kind::BadTable)?;
     Ok((threads, after))
 }
 
@@ -99,8 +136,8 @@ fn is_absent(name: Name, threads: u8) -> bool
 }
 
 /// The line of the first item for a thread that the table does not have.
-#[tactic(auto, unfolding(crate::specs::ReadingTable::absent_line))]
-pub fn absent_line(items: &[Item], threads: u8) -> Option<usize>
+#[tactic(auto, unfolding(crate::specs::Table::absent_line))]
+fn absent_line(items: &[Item], threads: u8) -> Option<usize>
     ensures { result ≡ absent_line threads items.now }
 {
     let mut left = items;
@@ -129,19 +166,33 @@ pub fn quantifier_named(word: &[u8]) -> Option<Quantifier>
     None
 }
 
-/// Whether the condition's keyword comes next.
-#[tactic(auto, unfolding(crate::specs::ReadingTable::quantifier_next))]
-fn begins_condition(cursor: &Cursor<'_>) -> bool
-    ensures { result ≡ quantifier_next cursor.now.pieces }
+/// Whether a further row begins, or the condition; and where it does.
+fn row_begins<'a>(count: u16, cursor: Cursor<'a>) -> Result<(bool, Cursor<'a>), ReadError>
+    ensures { Gives view_read result
+        (reads (one (row_or_condition count)) cursor.entry.line cursor.entry.pieces) }
 {
-    match cursor.piece() {
-        Some((Token::Word(word), _)) => quantifier_named(word).is_some(),
-        _ => false,
+    match ahead(&cursor) {
+        (Some(Token::Word(word)), after) => {
+            if quantifier_named(word).is_some() {
+                return Ok((false, from_next(&cursor)));
+            }
+            if count >= MOST_ROWS {
+                return Err(after.fault(Kind::TooLarge));
+            }
+            Ok((true, from_next(&cursor)))
+        }
+        (Some(_), after) => {
+            if count >= MOST_ROWS {
+                return Err(after.fault(Kind::TooLarge));
+            }
+            Ok((true, from_next(&cursor)))
+        }
+        (None, end) => Err(end.fault(Kind::CutShort)),
     }
 }
 
 /// The next row, unless the condition begins there; and whether it was a row.
-#[tactic(auto, unfolding(crate::specs::ReadingTable::next_row_at))]
+#[tactic(auto, unfolding(crate::specs::Table::counted_row))]
 fn next_row<'a>(
     items: &[Item],
     cells: &mut Vec<Cell>,
@@ -149,20 +200,19 @@ fn next_row<'a>(
     count: u16,
     width: Option<Width>,
     cursor: Cursor<'a>,
-) -> Result<(bool, Option<Width>, Cursor<'a>), ReadError>
-    ensures { Gives (λ r. (r.0, (count + 1, cells.new.items, r.1, r.2.line, r.2.pieces))) result
-        (next_row_at items.now threads
-        (count, cells.old.items, width, cursor.entry.line, cursor.entry.pieces)) }
+) -> Result<(bool, u16, Option<Width>, Cursor<'a>), ReadError>
+    requires { count < 65535 }
+    ensures read { Gives (λ r. ((r.0, (r.1, (cells.new.items, r.2))), r.3.line, r.3.pieces)) result
+        (reads (turn next_row (counted_row (bases_of items.now) threads)
+        (count, (cells.old.items, width))) cursor.entry.line cursor.entry.pieces) }
+    ensures more { IfOk result (λ r. r.1 ≤ count + 1) }
 {
-    let at = start(cursor)?;
-    if begins_condition(&at) {
-        return Ok((false, width, at));
-    }
-    if count >= MOST_ROWS {
-        return Err(at.fault(Kind::TooLarge));
+    let (more, at) = row_begins(count, cursor)?;
+    if !more {
+        return Ok((false, count, width, at));
     }
     let (width, after) = row(items, cells, threads, width, at)?;
-    Ok((true, width, after))
+    Ok((true, count + 1, width, after))
 }
 
 fn rows_into<'a>(
@@ -171,34 +221,57 @@ fn rows_into<'a>(
     threads: u8,
     cursor: Cursor<'a>,
 ) -> Result<(u16, Option<Width>, Cursor<'a>), ReadError>
-    ensures { Gives (λ r. (r.0, cells.new.items, r.1, r.2.line, r.2.pieces)) result
-        (table_at items.now threads cells.old.items cursor.entry.line cursor.entry.pieces) }
+    ensures { Gives (λ r. ((r.0, (cells.new.items, r.1)), r.2.line, r.2.pieces)) result
+        (reads (many next_row (counted_row (bases_of items.now) threads) (MOST_ROWS + 1)
+        (0, (cells.old.items, None))) cursor.entry.line cursor.entry.pieces) }
 {
+    let mut count = 0;
     let mut width = None;
     let mut at = cursor;
-    for count in 0..MOST_ROWS + 1 {
-        let (more, kept, after) = next_row(items, cells, threads, count, width, at)?;
+    for _ in 0..MOST_ROWS + 1 {
+        let (more, rows, kept, after) = next_row(items, cells, threads, count, width, at)?;
+        count = rows;
         width = kept;
         at = after;
         if !more {
-            return Ok((count + 1, width, at));
+            return Ok((count, width, at));
         }
     }
-    Err(at.fault(Kind::TooLarge))
+    Ok((count, width, at))
 }
 
 /// The instructions of all rows in reading order, and the position at which the condition begins.
-#[tactic(auto, unfolding(crate::specs::ReadingTable::rows_at))]
-pub fn rows<'a>(
+#[tactic(auto, unfolding(crate::specs::Table::rows))]
+fn rows<'a>(
     alloc: Global,
     items: &[Item],
     threads: u8,
     cursor: Cursor<'a>,
 ) -> Result<(Vec<Cell>, Cursor<'a>), ReadError>
     ensures { Gives (view_as (λ cells. cells.items)) result
-        (rows_at items.now threads [] cursor.entry.line cursor.entry.pieces) }
+        (reads (rows (bases_of items.now) threads) cursor.entry.line cursor.entry.pieces) }
 {
     let mut cells = Vec::new(alloc);
     let (_, _, after) = rows_into(items, &mut cells, threads, cursor)?;
     Ok((cells, after))
+}
+
+/// How many threads there are, their instructions, and the position at which the condition begins.
+#[tactic(auto, unfolding(crate::specs::Table::table))]
+pub fn whole_table<'a>(
+    alloc: Global,
+    items: &[Item],
+    cursor: Cursor<'a>,
+) -> Result<(u8, Vec<Cell>, Cursor<'a>), ReadError>
+    ensures read { Gives (λ r. ((r.0, r.1.items), r.2.line, r.2.pieces)) result
+        (reads (table items.now) cursor.entry.line cursor.entry.pieces) }
+    // There are 1 to 16 threads.
+    ensures few { IfOk result (λ r. (0 < r.0) × (r.0 ≤ MOST_THREADS)) }
+{
+    let (threads, after) = header_row(cursor)?;
+    if let Some(line) = absent_line(items, threads) {
+        return Err(ReadError::at(line, Kind::BadInitial));
+    }
+    let (cells, after) = rows(alloc, items, threads, after)?;
+    Ok((threads, cells, after))
 }

@@ -3,7 +3,7 @@ use Rattle.std.proofs.Common.{◌≡◌, ◌≢◌, ℕ, ◌+◌, ◌-◌, ◌<�
 use Rattle.std.proofs.Common.{take, drop, Result, Ok, Err, refl, sym, ap, subst, ◌∙◌, inl, inr, arith}
 use Rattle.std.specs.Prelude.{◌⊎◌, IfErr}
 use Rattle.std.specs.List.{list_all, prefix_len}
-use Rattle.std.proofs.lemmas.Bool.{cases_Bool, eqb-true, eq-eqb, ltb-true, ltb-false, and_parts, false_from_ne_true}
+use Rattle.std.proofs.lemmas.Bool.{cases_Bool, eqb-true, eq-eqb, ltb-true, ltb-false, le-ltb, and_parts, false_from_ne_true}
 use Rattle.std.proofs.lemmas.Bool.{both_ways}
 use Rattle.std.proofs.lemmas.List.{take-append-drop, length-take}
 use Rattle.std.proofs.lemmas.List.Folds.{list_all-append}
@@ -28,7 +28,7 @@ use Rattle.litmus_reader.specs.Faults.{cut_short}
 use Rattle.litmus_reader.specs.declared.contents.Test.{Test}
 use Rattle.litmus_reader.proofs.Found.{parts_take}
 use Rattle.litmus_reader.proofs.FaultParts.{above_refused, parts_explain}
-use Rattle.litmus_reader.proofs.NoMemoryFault.{never_memory}
+use Rattle.litmus_reader.proofs.NoMemoryFault.{is_memory, told_before, ended_kind, no_memory_of}
 
 -- ---- how far a text can be read
 
@@ -174,12 +174,13 @@ pub early-told : (text : List ℕ) (r : Result Test LitmusError) →
     ((e : LitmusError) → preamble_at (reach text).0 ≡ Err e → ToldSurely test_of r (test_at text))
     → (kind : Kind) (n : ℕ) → FaultBefore (good_lines text) kind n →
     IfErr r (λ e. (e.kind ≢ NoMemory) × Fault text e.kind e.line)
+unfolding test_at parts_at
 early-told text r large sure kind n fault =
     elim (cases_Bool (ltb 65536 (length text))) [
       | inl more ↦ told-large text r (ltb-true _ _ more) (large (ltb-true _ _ more))
       | inr few ↦ let le : length text ≤ 65536 = ltb-false _ _ few in
           let refused = above_refused (good_lines text) kind n (omega (arith, le, good-within text)) fault in
-          told-sure text r (sure refused.0 refused.1)
+          told-sure text le r (sure refused.0 refused.1) refused.0 refused.1 refused.2
     ]
   where
     told-large : (text : List ℕ) (r : Result Test LitmusError) → 65536 < length text →
@@ -190,9 +191,21 @@ early-told text r large sure kind n fault =
         subst (λ (x : LitmusError). (x.kind ≢ NoMemory) × Fault text x.kind x.line) (sym same)
         (λ lacks. absurd cc, too_large more)
 
-    told-sure : (text : List ℕ) (r : Result Test LitmusError) → ToldSurely test_of r (test_at text) →
+    end_is : (text : List ℕ) → is_memory (reach text).1.kind ≡ false
+    end_is text =
+        elim (reaches text) [
+          | inl h ↦ ap (λ (e : LitmusError). is_memory e.kind) h.2
+          | inr h ↦ ap (λ (e : LitmusError). is_memory e.kind) h.2
+        ]
+
+    told-sure : (text : List ℕ) → length text ≤ 65536 → (r : Result Test LitmusError) →
+        ToldSurely test_of r (test_at text) → (first : LitmusError) → preamble_at (good_lines text) ≡ Err first →
+        FaultBefore (good_lines text) first.kind first.line →
         IfErr r (λ e. (e.kind ≢ NoMemory) × Fault text e.kind e.line)
-    told-sure text (Ok test) h = tt
-    told-sure text (Err e) h =
-        let fault = read_explains text e h in
-        (λ lacks. never_memory (subst (λ (k : Kind). Fault text k e.line) lacks fault), fault)
+    told-sure text le (Ok test) h first is before = tt
+    told-sure text le (Err e) h first is before =
+        let small : ltb 65536 (length text) ≡ false = le-ltb _ _ le in
+        let ended : ended_by (reach text).1 (Err first) ≡ Err e = rw (small, is) at h in (
+          no_memory_of e.kind (ended_kind (reach text).1 first e (end_is text) (told_before before) ended),
+          read_explains text e h,
+        )

@@ -1,34 +1,25 @@
 -- Every text of the grammar is read, as the test that it stands for.
 use Rattle.std.proofs.Common.{◌≡◌, ℕ, zero, suc, ◌+◌, ◌<◌, ◌≤◌, true, false, eqb, ltb, List, [], ◌∷◌, length, Some}
 use Rattle.std.proofs.Common.{None, Result, Ok, refl, subst, arith}
-use Rattle.std.specs.List.{prefix_len, AllByRecursion}
-use Rattle.std.proofs.lemmas.Bool.{ne_eqb, eq-eqb, le-ltb, lt-leb}
-use Rattle.litmus_lexer.specs.Pieces.{Piece, Word, pieces_of}
+use Rattle.std.specs.List.{prefix_len}
+use Rattle.std.proofs.lemmas.Bool.{ne_eqb, eq-eqb, le-ltb}
+use Rattle.litmus_lexer.specs.Pieces.{pieces_of}
 use Rattle.text_lines.specs.Lines.{before_line_feed, behind_line_feed}
 use Rattle.litmus_lexer.specs.FirstLines.{IsTitle, title_of, is_header_line, begins_block}
 use Rattle.litmus_lexer.specs.declared.errors.LitmusError.{LitmusError}
 use Rattle.litmus_lexer.specs.Reading.{repeat_at}
-use Rattle.litmus_lexer.proofs.Lemmas.{front-whole, title-again, header_line-no_block, block-some}
+use Rattle.litmus_lexer.proofs.Lemmas.{front-whole, title-again, header_line-no_block, block-some, repeat-more}
+use Rattle.litmus_lexer.proofs.Lemmas.{repeat-last}
 use Rattle.text_lines.proofs.Lemmas.{length-behind_line_feed}
-use Rattle.litmus_lexer.proofs.Lemmas.{length-pieces, repeat-more, repeat-last}
-use Rattle.litmus_parser.specs.ReadingHeader.{Lines, first_line_at, header_line_at, cut_short, preamble_at}
+use Rattle.piece_forms.proofs.Lemmas.{again}
+use Rattle.litmus_parser.specs.ReadingHeader.{first_line_at, header_line_at, cut_short, preamble_at}
 use Rattle.litmus_parser.specs.ReadingHeader as heads
-use Rattle.litmus_parser.specs.ReadingTable.{is_absent, absent_line, quantifier_next}
 use Rattle.litmus_parser.specs.Extents.{is_allowed}
-use Rattle.litmus_parser.specs.GrammarTable.{IsHeaderRow, AreRows}
-use Rattle.litmus_parser.specs.declared.syntax.Name.{Name}
-use Rattle.litmus_parser.specs.declared.syntax.Name.TheVariants.{Register, Location}
-use Rattle.litmus_parser.specs.declared.syntax.Item.{Item}
-use Rattle.litmus_parser.specs.declared.syntax.Cell.{Cell}
-use Rattle.litmus_parser.specs.declared.syntax.Quantifier.{Quantifier}
-use Rattle.litmus_parser.proofs.Lemmas.{AreAlike, alike-address, alike-all, block_again, header_again, rows_again}
-use Rattle.litmus_parser.proofs.Lemmas.{condition_again}
 use Rattle.litmus_reader.specs.Litmus.{Litmus}
 use Rattle.litmus_reader.specs.TestViews.{test_of}
-use Rattle.litmus_reader.specs.ReadingTest.{whole_table_at, parts_at, test_at, IsReadOrNoMemory}
-use Rattle.litmus_reader.specs.Grammar.{IsHeader, ends, more, IsThere, IsTest}
+use Rattle.litmus_reader.specs.Grammar.{AreHeaderLines, none, more, OpensBlock, body, IsTest}
+use Rattle.litmus_reader.specs.ReadingTest.{parts_at, test_at, IsReadOrNoMemory}
 use Rattle.litmus_reader.specs.declared.contents.Test.{Test}
-use Rattle.litmus_parser.specs.Keywords.{quantifier_of}
 
 -- ---- the first lines
 
@@ -46,84 +37,39 @@ header_line_again line text lt h =
     let some : eqb (length text) 0 ≡ false = ne_eqb _ _ (omega (arith, lt)) in
     rw (some, header_line-no_block (before_line_feed text) h, h) refl
 
-header-some : {text body : List ℕ} → IsHeader text body → 0 < length text
-header-some {text} (ends b) = block-some text b
-header-some {text} (more h rest) = omega (arith, header-some rest, length-behind_line_feed text)
-
-header-within : {text body : List ℕ} → IsHeader text body → length body ≤ length text
-header-within (ends b) = omega arith
-header-within {text} (more h rest) = omega (arith, header-within rest, length-behind_line_feed text)
-
-lines_again : (k line : ℕ) {text body : List ℕ} → length text ≤ k → IsHeader text body → (line' : ℕ) ×
-    (repeat_at k header_line_at cut_short (line, text) ≡ Ok (line', body))
-lines_again zero line le h = absurd (omega (arith, le, header-some h))
-lines_again (suc k) line {text} le (ends b) =
-    (line, repeat-last header_line_at cut_short k (line, text) (line, text) (block_line_again line text b))
-lines_again (suc k) line {text} le (more h rest) =
-    let some : 0 < length text = omega (arith, header-some rest, length-behind_line_feed text) in
-    let r = lines_again k (line + 1) (omega (arith, le, some, length-behind_line_feed text)) rest in (
-      r.0,
-      repeat-more header_line_at cut_short k (line, text) (line + 1, behind_line_feed text) _
-          (header_line_again line text some h) r.1,
-    )
+lines_again : (k line : ℕ) {n : ℕ} {text body : List ℕ} → length text ≤ k → AreHeaderLines line text n body →
+    begins_block (before_line_feed body) ≡ true →
+    repeat_at k header_line_at cut_short (line, text) ≡ Ok (n, body)
+lines_again zero line {text = text} le none b = absurd (omega (arith, le, block-some text b))
+lines_again zero line le (more some h rest) b = absurd (omega (arith, le, some))
+lines_again (suc k) line {text = text} le none b =
+    repeat-last header_line_at cut_short k (line, text) (line, text) (block_line_again line text b)
+lines_again (suc k) line {text = text} le (more some h rest) b =
+    repeat-more header_line_at cut_short k (line, text) (line + 1, behind_line_feed text) _
+    (header_line_again line text some h)
+    (lines_again k (line + 1) (omega (arith, le, some, length-behind_line_feed text)) rest b)
 
 pub title-some : (text name : List ℕ) → IsTitle (before_line_feed text) name → 0 < length text
 unfolding title_of
 title-some [] name t = let none : None ≡ Some name = title-again [] name t in absurd cc
 title-some (b ∷ text) name t = omega arith
 
-pub opening_again : (text name body : List ℕ) → length text ≤ 65536 → IsTitle (before_line_feed text) name →
-    IsHeader (behind_line_feed text) body → (line : ℕ) × (preamble_at text ≡ Ok (name, (line, body)))
+opening_again : (text name : List ℕ) (n : ℕ) (lines : List ℕ) → length text ≤ 65536 →
+    OpensBlock text name n lines → preamble_at text ≡ Ok (name, (n, lines))
 unfolding preamble_at first_line_at heads.header_at
-opening_again text name body le title header =
-    let some : eqb (length text) 0 ≡ false = ne_eqb _ _ (omega (arith, title-some text name title)) in
-    let r = lines_again 65536 2 (omega (arith, le, length-behind_line_feed text)) header in
-    (r.0, rw (some, title-again (before_line_feed text) name title, r.1) refl)
-
--- ---- the table
-
-there-no_absent : (threads : ℕ) (name : Name) → IsThere threads name → is_absent threads name ≡ false
-there-no_absent threads (Register t r) lt = lt-leb _ _ lt
-there-no_absent threads (Location l) h = refl
-
-there-none : (threads : ℕ) (items : List Item) → AllByRecursion (λ item. IsThere threads item.name) items →
-    absent_line threads items ≡ None
-unfolding absent_line
-there-none threads [] h = refl
-there-none threads (item ∷ items) h = rw (there-no_absent threads item.name h.0, there-none threads items h.1) refl
-
-quantifier-ahead : (pieces after : List Piece) (w : List ℕ) (q : Quantifier) → pieces ≡ Word w ∷ after →
-    quantifier_of w ≡ Some q → quantifier_next pieces ≡ true
-unfolding quantifier_next
-quantifier-ahead pieces after w q e f = rw (e, f) refl
-
-table_again : (items items' : List Item) (line : ℕ) (pieces : List Piece) (threads : ℕ) (body_rows : List Piece)
-    (cells : List Cell) (rest : List Piece)
-    → AreAlike items' items → IsHeaderRow pieces threads body_rows →
-    AllByRecursion (λ item. IsThere threads item.name) items → AreRows items threads 0 body_rows None cells rest →
-    quantifier_next rest ≡ true
-    → (line' : ℕ) × (whole_table_at items' line pieces ≡ Ok (threads, cells, line', rest))
-unfolding whole_table_at
-table_again items items' line pieces threads body_rows cells rest alike header there rows ahead =
-    let h = header_again line pieces threads body_rows header in
-    let r = rows_again items items' threads h.0 body_rows cells rest (alike-address items' items alike) rows ahead in
-    (r.0, rw (h.1, there-none threads items' (alike-all (IsThere threads) items' items alike there), r.1) refl)
+opening_again text name n lines le opens =
+    let some : eqb (length text) 0 ≡ false = ne_eqb _ _ (omega (arith, title-some text name opens.0.0)) in
+    let header = lines_again 65536 2 (omega (arith, le, length-behind_line_feed text)) opens.0.1 opens.1 in
+    rw (some, title-again (before_line_feed text) name opens.0.0, header) refl
 
 -- ---- the whole
 
 parts_again : (text : List ℕ) (test : Litmus) → IsTest text test → parts_at text ≡ Ok test
 unfolding parts_at
 parts_again text test h =
-    let o = opening_again text test.name h.body h.length_is h.title h.header in
-    let few : length (pieces_of h.body) ≤ 65536 =
-    omega (arith, h.length_is, length-pieces h.body, header-within h.header, length-behind_line_feed text) in
-    let b = block_again o.0 (pieces_of h.body) h.items h.named h.table few h.block in
-    let t = table_again h.items b.0 b.1 h.table test.threads h.body_rows test.cells h.rest b.3 h.header_row
-    h.threads_there h.rows (quantifier-ahead h.rest h.condition.1 h.condition.0 test.quantifier
-    h.condition.4 h.condition.5) in
-    let c = condition_again h.items b.0 test.threads t.0 h.rest h.named test.quantifier test.tree test.locations
-    (alike-address b.0 h.items b.3) h.condition in
-    rw (o.1, b.2, t.1, c, b.3, ← h.items_are, ← h.seen) refl
+    let o = opening_again text test.name h.first h.lines h.length_is h.opens in
+    let b = again body h.first (pieces_of h.lines) _ h.last h.end h.stands in
+    rw (o, b, ← h.items_are, ← h.seen) refl
 
 pub read_again : (text : List ℕ) (test : Litmus) → IsTest text test → test_at text ≡ Ok test
 unfolding test_at

@@ -2,8 +2,8 @@ pub mod Litmus
 pub mod ThreadSteps
 pub mod Seen
 pub mod TestViews
-pub mod ReadingTest
 pub mod Grammar
+pub mod ReadingTest
 pub mod Truth
 pub mod OpeningMemory
 pub mod Faults

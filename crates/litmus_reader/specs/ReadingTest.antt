@@ -1,50 +1,36 @@
 -- Reading a whole text, with its first fault.
-use Rattle.std.specs.Prelude.{◌≡◌, ℕ, ◌⊎◌, nat_lt, Bool, true, false, if◌then◌else◌, List, [], length, Option, Some}
-use Rattle.std.specs.Prelude.{None, Result, Ok, Err}
+use Rattle.std.specs.Prelude.{◌≡◌, ℕ, ◌⊎◌, nat_lt, Bool, true, false, if◌then◌else◌, List, [], length, Result, Ok, Err}
 use Rattle.litmus_lexer.specs.declared.limits.TheConstants.{MOST_BYTES}
-use Rattle.litmus_lexer.specs.Pieces.{Piece, pieces_of}
+use Rattle.litmus_lexer.specs.Pieces.{pieces_of}
 use Rattle.litmus_lexer.specs.declared.errors.Kind.{Kind}
-use Rattle.litmus_lexer.specs.declared.errors.Kind.TheVariants.{NoMemory, TooLarge, BadInitial, CutShort}
+use Rattle.litmus_lexer.specs.declared.errors.Kind.TheVariants.{NoMemory, TooLarge, CutShort}
 use Rattle.litmus_lexer.specs.declared.errors.LitmusError.{LitmusError}
 use Rattle.text_lines.specs.Reading.{◌>>=◌}
 use Rattle.litmus_lexer.specs.Reading.{fails}
+use Rattle.piece_forms.specs.Reading.{reads}
 use Rattle.litmus_parser.specs.ReadingHeader.{preamble_at}
-use Rattle.litmus_parser.specs.ReadingBlock.{initial_block_at}
-use Rattle.litmus_parser.specs.ReadingTable.{header_row_at, absent_line, rows_at}
-use Rattle.litmus_parser.specs.ReadingEnd.{condition_at}
 use Rattle.litmus_parser.specs.Extents.{reach}
-use Rattle.litmus_parser.specs.declared.syntax.Item.{Item}
-use Rattle.litmus_parser.specs.declared.syntax.Cell.{Cell}
 use Rattle.litmus_reader.specs.Litmus.{Litmus, settings_of}
+use Rattle.litmus_reader.specs.Grammar.{Body, body}
 use Rattle.litmus_reader.specs.Seen.{seen_in}
 
-abbrev pub unless_absent : {A : Type 0} → Option ℕ → Result A LitmusError → Result A LitmusError
-unless_absent None read = read
-unless_absent (Some line) read = fails BadInitial line
-
--- items for threads that are not there are tested once the header row is read
-unfoldable pub whole_table_at : List Item → ℕ → List Piece → Result (ℕ × List Cell × ℕ × List Piece) LitmusError
-whole_table_at items line pieces = do
-  h ← header_row_at line pieces
-  unless_absent (absent_line h.0 items) (rows_at items h.0 [] h.1 h.2 >>= λ r. Ok (h.0, r.0, r.1, r.2))
+abbrev pub test_from : List ℕ → Body → Litmus
+test_from name b = record {
+  name = name;
+  locations = b.2.2;
+  items = settings_of b.0;
+  threads = b.1.0;
+  cells = b.1.1;
+  quantifier = b.2.0;
+  tree = b.2.1;
+  seen = seen_in b.2.1 [];
+}
 
 unfoldable pub parts_at : List ℕ → Result Litmus LitmusError
 parts_at text = do
   o ← preamble_at text
-  b ← initial_block_at [] o.1.0 (pieces_of o.1.1)
-  t ← whole_table_at b.0 b.2 b.3
-  c ← condition_at b.0 t.0 b.1 t.2 t.3
-  Ok (record {
-    name = o.0;
-    locations = c.2;
-    items = settings_of b.0;
-    threads = t.0;
-    cells = t.1;
-    quantifier =
-        c.0;
-    tree = c.1;
-    seen = seen_in c.1 [];
-  })
+  b ← reads body o.1.0 (pieces_of o.1.1)
+  Ok (test_from o.0 b.0)
 
 abbrev pub is_cut_short : Kind → Bool
 is_cut_short CutShort = true

@@ -8,7 +8,7 @@ ghost use Rattle.litmus_parser.specs.TreeViews.{tree_of};
 ghost use Rattle.litmus_reader.specs.Litmus.{Litmus};
 ghost use Rattle.litmus_reader.specs.TestViews.{test_of};
 ghost use Rattle.litmus_reader.specs.Seen.{seen_in, with_name};
-ghost use Rattle.litmus_reader.specs.ReadingTest.{whole_table_at, parts_at, is_cut_short, test_at, IsReadOrNoMemory};
+ghost use Rattle.litmus_reader.specs.ReadingTest.{parts_at, is_cut_short, test_at, IsReadOrNoMemory};
 ghost use Rattle.litmus_reader.specs.ReadingTest.{ToldSurely};
 ghost use Rattle.litmus_reader.specs.Grammar.{IsTest};
 ghost use Rattle.litmus_reader.specs.Faults.{FaultBefore, good_lines, Fault};
@@ -17,31 +17,8 @@ ghost use Rattle.litmus_parser.specs.ReadingHeader.{preamble_at};
 
 use crate::contents::Test;
 use litmus_lexer::{Cursor, Kind, LitmusError, Locations, MOST_BYTES, MOST_THREADS, ReadError};
-use litmus_parser::{
-    Cell, Expr, Item, Name, absent_line, block, condition, header_row, preamble, reach, rows,
-    same_name,
-};
+use litmus_parser::{Expr, Name, block, condition, preamble, reach, same_name, whole_table};
 use std::alloc::{AllocError, Global};
-
-/// The table after the initial block: how many threads there are, their instructions, and the
-/// position at which the condition begins.
-#[tactic(auto, unfolding(crate::specs::ReadingTest::whole_table_at))]
-fn table<'a>(
-    alloc: Global,
-    items: &[Item],
-    cursor: Cursor<'a>,
-) -> Result<(u8, Vec<Cell>, Cursor<'a>), ReadError>
-    ensures read { Gives (λ r. (r.0, r.1.items, r.2.line, r.2.pieces)) result
-        (whole_table_at items.now cursor.entry.line cursor.entry.pieces) }
-    ensures few { IfOk result (λ r. (0 < r.0) × (r.0 ≤ MOST_THREADS)) }
-{
-    let (threads, after) = header_row(cursor)?;
-    if let Some(line) = absent_line(items, threads) {
-        return Err(ReadError::at(line, Kind::BadInitial));
-    }
-    let (cells, after) = rows(alloc, items, threads, after)?;
-    Ok((threads, cells, after))
-}
 
 fn is_seen(seen: &[Name], name: Name) -> bool
     ensures { result ≡ list_any (λ other. same_name other name) seen.now }
@@ -73,7 +50,7 @@ fn see(seen: &mut Vec<Name>, expr: &Expr) -> Result<(), AllocError>
 }
 
 /// The parts of a text, one after the other.
-#[tactic(auto, unfolding(crate::specs::ReadingTest::parts_at))]
+#[tactic(auto, unfolding(crate::specs::ReadingTest::parts_at, crate::specs::Grammar::body))]
 fn parts(alloc: Global, text: &[u8]) -> Result<Test, ReadError>
     requires { length text.now ≤ MOST_BYTES }
     ensures read { Gives test_of result (parts_at text.now) }
@@ -83,8 +60,8 @@ fn parts(alloc: Global, text: &[u8]) -> Result<Test, ReadError>
     let (name, body) = preamble(text)?;
     let mut locations = Locations::new(alloc);
     let (items, after) = block(alloc, &mut locations, Cursor::new(body))?;
-    let (threads, cells, after) = table(alloc, &items, after)?;
-    let (quantifier, expr) = condition(alloc, &items, threads, &mut locations, after)?;
+    let (threads, cells, after) = whole_table(alloc, &items, after)?;
+    let (quantifier, expr, _) = condition(alloc, &items, threads, &mut locations, after)?;
     let name = Vec::from_slice(alloc, name)?;
     let mut seen = Vec::new(alloc);
     see(&mut seen, &expr)?;

@@ -2,9 +2,8 @@
 
 -- What is read stands in the form; what stands in it is read; and a fault has its cause.
 pub use Rattle.piece_forms.proofs.Laws.{takes, again, explains}
--- What is known of what stands in a form, and of what it refuses.
-pub use Rattle.piece_forms.proofs.Leads.{Leads, leads-given, leads-then, leads-wide, Tells, leads-at, Onto, leads-many}
--- How many lines end in pieces one after another.
-pub use Rattle.piece_forms.proofs.Places.{line-ends-append}
+-- What is known of what stands in a form.
+pub use Rattle.piece_forms.proofs.Leads.{Leads, leads-given, leads-then, leads-known, Tells, leads-at, Onto}
+pub use Rattle.piece_forms.proofs.Leads.{leads-until}
 -- A loop over the steps of a form.
-pub use Rattle.piece_forms.proofs.Loops.{many-fails, many-goes, many-stops, many-out}
+pub use Rattle.piece_forms.proofs.Loops.{until-fails, until-goes, until-stops, until-out}

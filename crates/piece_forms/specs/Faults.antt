@@ -1,24 +1,38 @@
 -- Why pieces don't stand in a form: the first piece that is refused, and in which line it stands.
-use Rattle.std.specs.Prelude.{◌≡◌, ℕ, ◌+◌, ◌⊎◌, List, ◌++◌}
+use Rattle.std.specs.Prelude.{◌≡◌, ℕ, ◌⊎◌, Bool, true, false, List, ◌++◌, Err}
 use Rattle.litmus_lexer.specs.Pieces.{Piece}
 use Rattle.litmus_lexer.specs.declared.errors.Kind.{Kind}
-use Rattle.piece_forms.specs.Places.{next_piece, ends_ahead, line_ends}
-use Rattle.piece_forms.specs.Forms.{Refuses, Form, Gives, At, InOrder, said, Stands}
+use Rattle.litmus_lexer.specs.declared.errors.LitmusError.{LitmusError}
+use Rattle.litmus_lexer.specs.Reading.{fault_at}
+use Rattle.piece_forms.specs.Places.{first_piece, seen, from, line_of}
+use Rattle.piece_forms.specs.Forms.{Refuses, Form, Gives, At, Test, Line, Known, InOrder, said, Stands}
 
--- pieces stand in a form up to there, where it refuses the next piece, or the end, by this kind
-abbrev pub IsRefused : {A : Type 0} → Form A → List Piece → Kind → List Piece → Type 0
-IsRefused (Gives x) pieces kind there = ⊥
-IsRefused (At look end) pieces kind there = (said look end (next_piece pieces) ≡ Refuses kind) × (pieces ≡ there)
-IsRefused (InOrder {A = Y} f g) pieces kind there = IsRefused f pieces kind there
-    ⊎ ((y : Y) × (middle : List Piece) × Stands f pieces y middle × IsRefused (g y) middle kind there)
+-- pieces that begin in this line stand in a form up to there, where it refuses the first piece, or the end, or all that
+-- follows, by the fault's kind and in its line; or by what is known there
+abbrev pub IsRefused : {A : Type 0} → Form A → ℕ → List Piece → LitmusError → List Piece → Bool → Type 0
+IsRefused (Gives x) line pieces e there all = ⊥
+IsRefused (At place look end) line pieces e there all = (said look end (seen place pieces) ≡ Refuses e.kind) ×
+    (line_of place line pieces ≡ e.line) × (from place pieces ≡ there) × (all ≡ false)
+IsRefused (Test holds kind) line pieces e there all =
+    (holds pieces ≡ false) × (fault_at kind line ≡ e) × (pieces ≡ there) × (all ≡ true)
+IsRefused Line line pieces e there all = ⊥
+IsRefused (Known known) line pieces e there all = (known ≡ Err e) × (pieces ≡ there) × (all ≡ false)
+IsRefused (InOrder {A = Y} f g) line pieces e there all = IsRefused f line pieces e there all
+    ⊎ ((y : Y) × (m : ℕ) × (middle : List Piece) × Stands f line pieces y m middle ×
+    IsRefused (g y) m middle e there all)
 
--- the cause of a fault of this kind in line n: that piece stands there, and whatever follows it, the pieces don't
--- stand in the form
+-- other pieces have what is refused there
+abbrev pub HasSame : Bool → List Piece → List Piece → Type 0
+HasSame true there others = there ≡ others
+HasSame false there others = first_piece there ≡ first_piece others
+
+-- the cause of a fault of this kind in line n: that place refuses it, and whatever follows what is refused there, the
+-- pieces don't stand in the form
 pub record Cause {A : Type 0} (form : Form A) (line : ℕ) (pieces : List Piece) (kind : Kind) (n : ℕ) : Type 0 where
   pub front : List Piece
   pub there : List Piece
+  pub all : Bool
   pub split : pieces ≡ front ++ there
-  pub refused : IsRefused form pieces kind there
-  pub line_is : n ≡ line + line_ends front + ends_ahead there
-  pub no_way : (others : List Piece) → next_piece others ≡ next_piece there
-      → (x : A) (rest : List Piece) → Stands form (front ++ others) x rest → ⊥
+  pub refused : IsRefused form line pieces (fault_at kind n) there all
+  pub no_way : (others : List Piece) → HasSame all there others
+      → (x : A) (m : ℕ) (rest : List Piece) → Stands form line (front ++ others) x m rest → ⊥

@@ -4,19 +4,24 @@ use Rattle.std.specs.Prelude.{Result, Ok, Err}
 use Rattle.litmus_lexer.specs.Pieces.{Piece, Word, Sign, LineEnd}
 use Rattle.litmus_lexer.specs.declared.errors.Kind.{Kind}
 use Rattle.litmus_lexer.specs.declared.errors.Kind.TheVariants.{CutShort}
-use Rattle.piece_forms.specs.Places.{next_piece, behind_next}
+use Rattle.litmus_lexer.specs.declared.errors.LitmusError.{LitmusError}
+use Rattle.piece_forms.specs.Places.{Where, Beyond, InLine, seen, behind, line_behind, from, line_of}
 
--- a piece is taken, or left to what comes after, and gives a value; or it is a fault of this kind
+-- a piece is taken, or left to what comes after it in the form, and gives a value; or it is a fault of this kind
 pub data Verdict (A : Type 0) : Type 0 where
   Takes : A → Verdict A
   Leaves : A → Verdict A
   Refuses : Kind → Verdict A
 
--- nothing more; a look at the next piece, and what the end of the text gives in its place, or the kind of its fault; or
--- two forms in order, the second by what the first gives
+-- nothing more; a look at the next piece, and what the end of the text gives in its place, or the kind of its fault; a
+-- test of all that follows, or this kind of fault; the line; what is known, or this fault; or two forms in order, the
+-- second by what the first gives
 pub data Form : Type 0 → Type 1 where
   Gives : {A : Type 0} → A → Form A
-  At : {A : Type 0} → (Piece → Verdict A) → Result A Kind → Form A
+  At : {A : Type 0} → Where → (Piece → Verdict A) → Result A Kind → Form A
+  Test : (List Piece → Bool) → Kind → Form (Unit {0})
+  Line : Form ℕ
+  Known : {A : Type 0} → Result A LitmusError → Form A
   InOrder : {A B : Type 0} → Form A → (A → Form B) → Form B
 
 infixl 10 ◌>>=◌
@@ -31,18 +36,24 @@ abbrev pub said : {A : Type 0} → (Piece → Verdict A) → Result A Kind → O
 said look end (Some piece) = look piece
 said look end None = at_end end
 
--- the next piece is taken or left with x, and the rest follows
-abbrev pub Passes : {A : Type 0} → Verdict A → List Piece → A → List Piece → Type 0
-Passes (Takes y) pieces x rest = (y ≡ x) × (behind_next pieces ≡ rest)
-Passes (Leaves y) pieces x rest = (y ≡ x) × (pieces ≡ rest)
-Passes (Refuses kind) pieces x rest = ⊥
+-- the next piece is taken or left with x, and the rest follows in line n
+abbrev pub Passes : {A : Type 0} → Where → Verdict A → ℕ → List Piece → A → ℕ → List Piece → Type 0
+Passes place (Takes y) line pieces x n rest =
+    (y ≡ x) × (line_behind place line pieces ≡ n) × (behind place pieces ≡ rest)
+Passes place (Leaves y) line pieces x n rest =
+    (y ≡ x) × (line_of place line pieces ≡ n) × (from place pieces ≡ rest)
+Passes place (Refuses kind) line pieces x n rest = ⊥
 
--- pieces stand in a form, which Gives x, and the rest follows
-abbrev pub Stands : {A : Type 0} → Form A → List Piece → A → List Piece → Type 0
-Stands (Gives y) pieces x rest = (y ≡ x) × (pieces ≡ rest)
-Stands (At look end) pieces x rest = Passes (said look end (next_piece pieces)) pieces x rest
-Stands (InOrder {A = Y} f g) pieces x rest =
-    (y : Y) × (middle : List Piece) × Stands f pieces y middle × Stands (g y) middle x rest
+-- pieces that begin in this line stand in a form, which Gives x, and the rest follows in line n
+abbrev pub Stands : {A : Type 0} → Form A → ℕ → List Piece → A → ℕ → List Piece → Type 0
+Stands (Gives y) line pieces x n rest = (y ≡ x) × (line ≡ n) × (pieces ≡ rest)
+Stands (At place look end) line pieces x n rest =
+    Passes place (said look end (seen place pieces)) line pieces x n rest
+Stands (Test holds kind) line pieces x n rest = (holds pieces ≡ true) × (tt ≡ x) × (line ≡ n) × (pieces ≡ rest)
+Stands Line line pieces x n rest = (line ≡ x) × (line ≡ n) × (pieces ≡ rest)
+Stands (Known known) line pieces x n rest = (known ≡ Ok x) × (line ≡ n) × (pieces ≡ rest)
+Stands (InOrder {A = Y} f g) line pieces x n rest = (y : Y) × (m : ℕ) × (middle : List Piece) ×
+    Stands f line pieces y m middle × Stands (g y) m middle x n rest
 
 -- ---- one piece
 
@@ -68,19 +79,33 @@ is_word test (Word w) = if test w then Takes true else Leaves false
 is_word test (Sign b) = Leaves false
 is_word test LineEnd = Leaves false
 
+-- the end of a line
+abbrev pub ends_line : Kind → Piece → Verdict (Unit {0})
+ends_line kind (Word w) = Refuses kind
+ends_line kind (Sign b) = Refuses kind
+ends_line kind LineEnd = Takes tt
+
 -- ---- forms
 
 -- such a piece
 abbrev pub one : {A : Type 0} → (Piece → Verdict A) → Form A
-one look = At look (Err CutShort)
+one look = At Beyond look (Err CutShort)
+
+-- such a piece of the line
+abbrev pub here : {A : Type 0} → Kind → (Piece → Verdict A) → Form A
+here kind look = At InLine look (Err kind)
 
 -- such a word, if it stands there
 abbrev pub perhaps : (List ℕ → Bool) → Form Bool
-perhaps test = At (is_word test) (Ok false)
+perhaps test = At Beyond (is_word test) (Ok false)
+
+-- the end of the line, or of the text
+abbrev pub line_end : Kind → Form (Unit {0})
+line_end kind = At InLine (ends_line kind) (Ok tt)
 
 -- the end of the text
 abbrev pub no_more : Kind → Form (Unit {0})
-no_more kind = At (λ piece. Refuses kind) (Ok tt)
+no_more kind = At Beyond (λ piece. Refuses kind) (Ok tt)
 
 -- one of two
 abbrev pub either : {A : Type 0} → Form A → Form A → Bool → Form A
@@ -88,10 +113,14 @@ either f g true = f
 either f g false = g
 
 -- a step, if the first form says that there is one more
-abbrev pub turn : {A : Type 0} → Form Bool → (A → Form A) → A → Form (Bool × A)
-turn one_more step x = one_more >>= either (step x >>= λ y. Gives (true, y)) (Gives (false, x))
+abbrev pub turn : {A : Type 0} → (A → Form Bool) → (A → Form A) → A → Form (Bool × A)
+turn one_more step x = one_more x >>= either (step x >>= λ y. Gives (true, y)) (Gives (false, x))
+
+-- steps until one says that it is the last, at most so many
+unfoldable pub until : {A : Type 0} → (A → Form (Bool × A)) → ℕ → A → Form A
+until step zero x = Gives x
+until step (suc k) x = step x >>= λ r. either (until step k r.1) (Gives r.1) r.0
 
 -- steps as long as there is one more, at most so many
-unfoldable pub many : {A : Type 0} → Form Bool → (A → Form A) → ℕ → A → Form A
-many one_more step zero x = Gives x
-many one_more step (suc k) x = turn one_more step x >>= λ r. either (many one_more step k r.1) (Gives r.1) r.0
+abbrev pub many : {A : Type 0} → (A → Form Bool) → (A → Form A) → ℕ → A → Form A
+many one_more step = until (turn one_more step)

@@ -1,6 +1,13 @@
--- Places in a text: the piece that stands next, and what stands in front. Line ends count as blanks.
+-- Places in a text: the piece that stands next, and what stands in front.
 use Rattle.std.specs.Prelude.{ℕ, ◌+◌, List, [], ◌∷◌, Option, Some, None}
 use Rattle.litmus_lexer.specs.Pieces.{Piece, Word, Sign, LineEnd}
+
+-- where a look goes: to the next piece behind the line ends that come first, or to the first piece, which may be one
+pub data Where : Type 0 where
+  Beyond : Where
+  InLine : Where
+
+-- ---- behind line ends
 
 -- the next piece, if there is one
 unfoldable pub next_piece : List Piece → Option Piece
@@ -16,6 +23,13 @@ behind_next (LineEnd ∷ pieces) = behind_next pieces
 behind_next (Word w ∷ pieces) = pieces
 behind_next (Sign b ∷ pieces) = pieces
 
+-- the pieces from it on
+unfoldable pub from_next : List Piece → List Piece
+from_next [] = []
+from_next (LineEnd ∷ pieces) = from_next pieces
+from_next (Word w ∷ pieces) = Word w ∷ pieces
+from_next (Sign b ∷ pieces) = Sign b ∷ pieces
+
 -- how many lines end before it, or before the end of the text
 unfoldable pub ends_ahead : List Piece → ℕ
 ends_ahead [] = 0
@@ -23,9 +37,43 @@ ends_ahead (LineEnd ∷ pieces) = 1 + ends_ahead pieces
 ends_ahead (Word w ∷ pieces) = 0
 ends_ahead (Sign b ∷ pieces) = 0
 
--- how many lines end in these pieces
-unfoldable pub line_ends : List Piece → ℕ
-line_ends [] = 0
-line_ends (LineEnd ∷ pieces) = 1 + line_ends pieces
-line_ends (Word w ∷ pieces) = line_ends pieces
-line_ends (Sign b ∷ pieces) = line_ends pieces
+-- ---- in the line
+
+-- the first piece, if there is one
+unfoldable pub first_piece : List Piece → Option Piece
+first_piece [] = None
+first_piece (piece ∷ pieces) = Some piece
+
+-- what follows it, and in which line
+unfoldable pub behind_first : List Piece → List Piece
+behind_first [] = []
+behind_first (piece ∷ pieces) = pieces
+
+unfoldable pub line_behind_first : ℕ → List Piece → ℕ
+line_behind_first line [] = line
+line_behind_first line (LineEnd ∷ pieces) = line + 1
+line_behind_first line (Word w ∷ pieces) = line
+line_behind_first line (Sign b ∷ pieces) = line
+
+-- ---- where the look goes
+
+abbrev pub seen : Where → List Piece → Option Piece
+seen Beyond pieces = next_piece pieces
+seen InLine pieces = first_piece pieces
+
+abbrev pub behind : Where → List Piece → List Piece
+behind Beyond pieces = behind_next pieces
+behind InLine pieces = behind_first pieces
+
+abbrev pub line_behind : Where → ℕ → List Piece → ℕ
+line_behind Beyond line pieces = line + ends_ahead pieces
+line_behind InLine line pieces = line_behind_first line pieces
+
+-- the pieces from the seen one on, and their line
+abbrev pub from : Where → List Piece → List Piece
+from Beyond pieces = from_next pieces
+from InLine pieces = pieces
+
+abbrev pub line_of : Where → ℕ → List Piece → ℕ
+line_of Beyond line pieces = line + ends_ahead pieces
+line_of InLine line pieces = line

@@ -1,6 +1,8 @@
-//! A language of forms, and what its readers share: a look at the next piece.
+//! A language of forms, and what its readers share: looks at the next piece.
 #![tactic(auto)]
 
 mod looks;
 
-pub use looks::{ahead, expect_end, expect_sign, over_word};
+pub use looks::{
+    ahead, end_line, expect_end, expect_here, expect_sign, first, from_next, over_word,
+};

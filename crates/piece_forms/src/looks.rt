@@ -4,10 +4,11 @@ ghost use Rattle.std.specs.Prelude.{◌≡◌, ◌≢◌, ◌+◌, option_map, O
 ghost use Rattle.litmus_lexer.specs.declared.errors.ReadError.TheVariants.{Memory};
 ghost use Rattle.litmus_lexer.specs.TokenPieces.{piece_of};
 ghost use Rattle.litmus_lexer.specs.Reading.{Gives};
-ghost use Rattle.piece_forms.specs.Places.{next_piece, behind_next, ends_ahead};
+ghost use Rattle.piece_forms.specs.Places.{next_piece, behind_next, from_next, ends_ahead, first_piece, behind_first};
+ghost use Rattle.piece_forms.specs.Places.{line_behind_first};
 ghost use Rattle.std.specs.Str.{bytes_eq};
-ghost use Rattle.piece_forms.specs.Forms.{one, sign, perhaps, no_more};
-ghost use Rattle.piece_forms.specs.Reading.{reads, perhaps_over};
+ghost use Rattle.piece_forms.specs.Forms.{one, here, sign, perhaps, line_end, no_more};
+ghost use Rattle.piece_forms.specs.Reading.{reads};
 
 use litmus_lexer::{Cursor, Kind, ReadError, Token};
 
@@ -23,6 +24,14 @@ fn behind_line_ends<'a>(cursor: &Cursor<'a>) -> (Option<Token<'a>>, Cursor<'a>)
         Some((token, after)) => (Some(token), after),
         None => (None, at),
     }
+}
+
+/// The position of the next piece, or the end.
+pub fn from_next<'a>(cursor: &Cursor<'a>) -> Cursor<'a>
+    ensures rest { result.pieces ≡ from_next cursor.now.pieces }
+    ensures line { result.line ≡ cursor.now.line + ends_ahead cursor.now.pieces }
+{
+    cursor.past_line_ends()
 }
 
 /// The next piece, if there is one, and the position after it, or the end.
@@ -54,14 +63,14 @@ pub fn expect_sign<'a>(cursor: Cursor<'a>, kind: Kind, wanted: u8) -> Result<Cur
     }
 }
 
-/// The position after this word, if it comes next.
-pub fn over_word<'a>(cursor: &Cursor<'a>, wanted: &[u8]) -> Option<Cursor<'a>>
+/// Whether this word comes next; and the position after it, or that of what comes next.
+pub fn over_word<'a>(cursor: &Cursor<'a>, wanted: &[u8]) -> (bool, Cursor<'a>)
     ensures { reads (perhaps (λ word. bytes_eq word wanted.now)) cursor.now.line cursor.now.pieces
-        ≡ Ok (perhaps_over cursor.now result) }
+        ≡ Ok (result.0, result.1.line, result.1.pieces) }
 {
     match ahead(cursor) {
-        (Some(Token::Word(word)), after) if word == wanted => Some(after),
-        _ => None,
+        (Some(Token::Word(word)), after) if word == wanted => (true, after),
+        _ => (false, from_next(cursor)),
     }
 }
 
@@ -74,6 +83,44 @@ pub fn expect_end<'a>(cursor: Cursor<'a>, kind: Kind) -> Result<Cursor<'a>, Read
 {
     match ahead(&cursor) {
         (Some(_), after) => Err(after.fault(kind)),
+        (None, _) => Ok(from_next(&cursor)),
+    }
+}
+
+/// The first piece, if there is one, and the position after it.
+#[tactic(auto, unfolding(crate::specs::Places::first_piece, crate::specs::Places::behind_first, crate::specs::Places::line_behind_first))]
+pub fn first<'a>(cursor: &Cursor<'a>) -> (Option<Token<'a>>, Cursor<'a>)
+    ensures piece { option_map piece_of result.0 ≡ first_piece cursor.now.pieces }
+    ensures rest { result.1.pieces ≡ behind_first cursor.now.pieces }
+    ensures line { result.1.line ≡ line_behind_first cursor.now.line cursor.now.pieces }
+{
+    match cursor.piece() {
+        Some((Token::Word(word), after)) => (Some(Token::Word(word)), after),
+        Some((Token::Sign(sign), after)) => (Some(Token::Sign(sign)), after),
+        Some((Token::LineEnd, after)) => (Some(Token::LineEnd), after),
+        None => (None, cursor.past_line_ends()),
+    }
+}
+
+/// The position after this sign of the line; anything else is a fault of this kind.
+pub fn expect_here<'a>(cursor: Cursor<'a>, kind: Kind, wanted: u8) -> Result<Cursor<'a>, ReadError>
+    ensures { Gives (λ at. (tt, at.line, at.pieces)) result
+        (reads (here kind (sign kind wanted)) cursor.entry.line cursor.entry.pieces) }
+{
+    match first(&cursor) {
+        (Some(Token::Sign(found)), after) if found == wanted => Ok(after),
+        _ => Err(cursor.fault(kind)),
+    }
+}
+
+/// The next line, if nothing more stands in this one; anything else is a fault of this kind.
+pub fn end_line<'a>(cursor: Cursor<'a>, kind: Kind) -> Result<Cursor<'a>, ReadError>
+    ensures { Gives (λ at. (tt, at.line, at.pieces)) result
+        (reads (line_end kind) cursor.entry.line cursor.entry.pieces) }
+{
+    match first(&cursor) {
+        (Some(Token::LineEnd), after) => Ok(after),
+        (Some(_), _) => Err(cursor.fault(kind)),
         (None, _) => Ok(cursor),
     }
 }

@@ -1,20 +1,34 @@
 -- The names that a test's condition names are there: registers of its threads, and locations that it numbers.
-use Rattle.std.proofs.Common.{ℕ, zero, suc, ◌<◌, ◌≤◌, List, [], ◌∷◌, ◌++◌, length, inl, inr, arith, length-append}
+use Rattle.std.proofs.Common.{◌≡◌, ℕ, zero, suc, ◌<◌, ◌≤◌, Bool, true, false, not, eqb, ltb, leb, List, [], ◌∷◌, ◌++◌}
+use Rattle.std.proofs.Common.{length, Option, Some, None, Result, Ok, Err, refl, sym, ap, subst, arith, length-append}
 use Rattle.std.specs.List.{list_any, AllByRecursion as Each}
-use Rattle.std.proofs.lemmas.Bool.{cond_both}
-use Rattle.litmus_lexer.specs.Pieces.{Piece}
+use Rattle.std.proofs.lemmas.Bool.{cond_both, ltb-true, leb-false}
+use Rattle.litmus_lexer.specs.Pieces.{Piece, Word, Sign, LineEnd, pieces_of}
+use Rattle.litmus_lexer.specs.Naming.{place_of}
+use Rattle.litmus_lexer.specs.Spelling.{small_of, is_location}
+use Rattle.litmus_lexer.specs.declared.errors.Kind.{Kind}
+use Rattle.litmus_lexer.specs.declared.errors.Kind.TheVariants.{TooLarge, BadCondition, CutShort}
+use Rattle.piece_forms.specs.Places.{Beyond}
+use Rattle.piece_forms.specs.Forms.{Verdict, Refuses, Form, ◌>>=◌, Gives, said, one, either, turn}
+use Rattle.piece_forms.proofs.Lemmas.{Leads, leads-given, leads-then, Tells, leads-at, Onto, leads-until}
 use Rattle.litmus_parser.specs.Names.{Names, same_name}
 use Rattle.litmus_parser.specs.Trees.{Tree, Is, Both, Either}
-use Rattle.litmus_parser.specs.GrammarWords.{IsNumbered}
-use Rattle.litmus_parser.specs.GrammarCondition.{Sight, IsNamed, IsAtom, and_word, or_word, Part, Chained, one, more}
-use Rattle.litmus_parser.specs.GrammarCondition.{IsFactor, IsCondition}
-use Rattle.litmus_parser.specs.declared.syntax.Item.{Item}
+use Rattle.litmus_parser.specs.Condition.{Sight, PartForm, Addresses, addresses, located, name, counted, start}
+use Rattle.litmus_parser.specs.Condition.{rest_of_atom, rest_of_factor, join_of, further, joined, chain, expression}
+use Rattle.litmus_parser.specs.Condition.{too_deep, factor_with, inner, factor, keyword, condition}
+use Rattle.litmus_parser.specs.declared.atoms.Start.{Start}
+use Rattle.litmus_parser.specs.declared.atoms.Start.TheVariants.{OfThread, OfLocation, Parenthesis}
+use Rattle.litmus_parser.specs.declared.expressions.Connective.{Connective}
+use Rattle.litmus_parser.specs.declared.expressions.Connective.TheVariants.{And, Or}
 use Rattle.litmus_parser.specs.declared.syntax.Name.{Name}
 use Rattle.litmus_parser.specs.declared.syntax.Name.TheVariants.{Register, Location}
 use Rattle.litmus_parser.specs.declared.syntax.Quantifier.{Quantifier}
 use Rattle.litmus_reader.specs.Seen.{seen_in}
 use Rattle.litmus_reader.specs.Litmus.{Litmus}
-use Rattle.litmus_reader.specs.Grammar.{IsTest}
+use Rattle.litmus_parser.specs.Words.{location}
+use Rattle.litmus_parser.specs.Block.{block}
+use Rattle.litmus_parser.specs.Table.{table}
+use Rattle.litmus_reader.specs.Grammar.{body, IsTest}
 
 abbrev pub IsThere : ℕ → ℕ → Name → Type 0
 IsThere threads locations (Register t r) = t < threads
@@ -37,61 +51,146 @@ more_are_there threads a b le (Both x y) h =
 more_are_there threads a b le (Either x y) h =
     (more_are_there threads a b le x h.0, more_are_there threads a b le y h.1)
 
-numbered_there : (word : List ℕ) (before : Names) (number : ℕ) (after : Names) → IsNumbered word before number after →
-    (length before ≤ length after) × (number < length after)
-numbered_there word before number after h =
-    elim h.2 [
-      | inl k ↦ (rw (k.1) (omega arith), rw (k.1) k.0)
-      | inr k ↦ (
-        rw (k.2, length-append before (word ∷ [])) (omega arith),
-        rw (k.2, length-append before (word ∷ []), k.0) (omega arith),
-      )
-    ]
+-- ---- what stands in the form of the condition
 
-named_there : (items : List Item) (threads : ℕ) (pieces : List Piece) (before : Names) (name : Name) (after : Names)
-    (rest : List Piece) → IsNamed items threads pieces before name after rest →
-    (length before ≤ length after) × IsThere threads (length after) name
-named_there items threads pieces before (Register t r) after rest h = (rw (h.12) (omega arith), h.8)
-named_there items threads pieces before (Location l) after rest h = numbered_there h.0 before l after h.2
+pub all-lead : {A : Type 0} (f : Form A) → Leads f (λ x. Unit {0})
+all-lead f = record { stands = λ line ps x n rest s. tt }
 
--- where a part is read, no number is taken back, and the names in it are there
-abbrev Adds : ℕ → Part → Type 0
-Adds threads P = (s : Sight) (ps : List Piece) (tree : Tree) (t : Sight) (rest : List Piece) → P s ps tree t rest →
-    (length s.0 ≤ length t.0) × AreThere threads (length t.0) tree
+wider : {A : Type 0} {f : Form A} {P Q : A → Type 0} → ((x : A) → P x → Q x) → Leads f P → Leads f Q
+wider more h = record { stands = λ line ps x n rest s. more x (h.stands line ps x n rest s) }
 
-atom_adds : (items : List Item) (threads : ℕ) → Adds threads (IsAtom items threads)
-atom_adds items threads s ps (Is name n) t rest h = named_there items threads ps s.0 name t.0 h.1 h.3
-atom_adds items threads s ps (Both a b) t rest h = absurd h
-atom_adds items threads s ps (Either a b) t rest h = absurd h
+-- no number is taken back, and the names in the tree are there
+abbrev Adds : ℕ → Sight → Tree × Sight → Type 0
+Adds threads s x = (length s.0 ≤ length x.1.0) × AreThere threads (length x.1.0) x.0
 
-chain_adds : (threads : ℕ) (P : Part) (sign : Piece) (join : Tree → Tree → Tree) →
-    ((n : ℕ) (a b : Tree) → AreThere threads n a → AreThere threads n b → AreThere threads n (join a b)) →
-    Adds threads P → Adds threads (Chained P sign join)
-chain_adds threads P sign join both adds s ps tree t rest (one h) = adds s ps tree t rest h
-chain_adds threads P sign join both adds s ps tree t rest (more {a = a} {b = b} u qs rs c n p) =
-    let first = chain_adds threads P sign join both adds s ps a u qs c in
-    let last = adds u rs b t rest p in
-    (omega arith, both (length t.0) a b (more_are_there threads (length u.0) (length t.0) last.0 a first.1) last.1)
+-- what a factor begins with is there
+abbrev StartsThere : ℕ → ℕ → Start → Type 0
+StartsThere threads locations (OfThread t) = t < threads
+StartsThere threads locations (OfLocation l) = l < locations
+StartsThere threads locations Parenthesis = Unit {0}
 
-expression_adds : (items : List Item) (threads : ℕ) (P : Part) → Adds threads P →
-    Adds threads (Chained (Chained P and_word Both) or_word Either)
-expression_adds items threads P adds =
-    chain_adds threads (Chained P and_word Both) or_word Either (λ n a b x y. (x, y))
-    (chain_adds threads P and_word Both (λ n a b x y. (x, y)) adds)
+abbrev Begins : ℕ → Names → Start × Names → Type 0
+Begins threads before x = (length before ≤ length x.1) × StartsThere threads (length x.1) x.0
 
-factor_adds : (items : List Item) (threads depth : ℕ) → Adds threads (IsFactor items threads depth)
-factor_adds items threads zero s ps tree t rest h = atom_adds items threads s ps tree t rest h
-factor_adds items threads (suc depth) s ps tree t rest (inl h) = atom_adds items threads s ps tree t rest h
-factor_adds items threads (suc depth) s ps tree t rest (inr h) =
-    expression_adds items threads (IsFactor items threads depth) (factor_adds items threads depth)
-    s h.0 tree t h.1 h.3
+abbrev Named : ℕ → Names → Result (Start × Names) Kind → Type 0
+Named threads before (Ok x) = Begins threads before x
+Named threads before (Err kind) = Unit {0}
 
-condition_there : (items : List Item) (threads : ℕ) (ps : List Piece) (before : Names) (quantifier : Quantifier)
-    (tree : Tree) (after : Names) → IsCondition items threads ps before quantifier tree after →
-    AreThere threads (length after) tree
-condition_there items threads ps before quantifier tree after h =
-    (expression_adds items threads (IsFactor items threads 64) (factor_adds items threads 64) (before, 0) h.1 tree
-    (after, h.3) h.2 h.6).1
+module _ (threads : ℕ) where
+  located_there : (w : List ℕ) (names : Names) → Named threads names (located (location BadCondition w names))
+  unfolding location
+  located_there w names =
+      let place = place_of w names in
+      let M : Result (ℕ × Names) Kind → Type 0 = λ r. Named threads names (located r) in
+      cond_both (not (is_location w)) _ _ M (λ _. tt) (λ _.
+      cond_both (ltb place (length names)) _ _ M (λ e. (omega arith, ltb-true _ _ e)) (λ _.
+      cond_both (leb 64 (length names)) _ _ M (λ _. tt)
+      (λ _. let more = length-append names (w ∷ []) in (omega (arith, more), omega (arith, more)))))
+
+  name_there : (o : Option ℕ) (w : List ℕ) (names : Names) → Named threads names (name threads o w names)
+  name_there (Some t) w names =
+      cond_both (leb threads t) _ _ (Named threads names) (λ _. tt) (λ e. (omega arith, leb-false _ _ e))
+  name_there None w names = located_there w names
+
+  module _ (depth : ℕ) (s : Sight) where
+    abbrev Looks : Verdict (Start × Sight) → Type 0
+    Looks = Tells (λ x. Begins threads s.0 (x.0, x.1.0))
+
+    counted_there : (r : Result (Start × Names) Kind) → Named threads s.0 r → Looks (counted s.1 r)
+    counted_there (Ok x) h = cond_both (leb 256 s.1) _ _ Looks (λ _. tt) (λ _. h)
+    counted_there (Err kind) h = tt
+
+    start_there : Leads (one (start threads depth s)) (λ x. Begins threads s.0 (x.0, x.1.0))
+    start_there = leads-at _ Beyond (start threads depth s) (Err CutShort) on
+      where
+        on : (o : Option Piece) → Looks (said (start threads depth s) (Err CutShort) o)
+        on None = tt
+        on (Some LineEnd) = tt
+        on (Some (Sign b)) = cond_both (eqb b 40) _ _ Looks
+            (λ _. cond_both (eqb depth 0) _ _ Looks (λ _. tt) (λ _. (omega arith, tt))) (λ _. tt)
+        on (Some (Word w)) = counted_there (name threads (small_of 15 w) w s.0) (name_there (small_of 15 w) w s.0)
+
+  atom_there : (n : Name) (sight : Sight) →
+      Leads {A = Tree × Sight} (rest_of_atom n >>= λ tree. Gives (tree, sight))
+      (λ x. (v : ℕ) × (x ≡ (let y : Tree × Sight = (Is n v, sight) in y)))
+  atom_there n sight =
+      leads-then (leads-then (all-lead _) (λ u _. leads-then {P = λ v. Unit {0}} (all-lead _) (λ v _.
+      leads-given {P = λ tree. (v : ℕ) × (tree ≡ Is n v)} (Is n v) (v, refl)))) (λ tree h.
+      leads-given (tree, sight) (h.0, ap (λ (t : Tree). (let y : Tree × Sight = (t, sight) in y)) h.1))
+
+  -- a part of an expression
+  abbrev Part : PartForm → Type 0
+  Part part = (s : Sight) → Leads (part s) (Adds threads s)
+
+  module _ (holds : Addresses) (inside : PartForm) (within : Part inside) where
+    rest_there : (s : Sight) (x : Start × Sight) → Begins threads s.0 (x.0, x.1.0) →
+        Leads (rest_of_factor holds inside x) (Adds threads s)
+    rest_there s (OfThread t, sight) h =
+        leads-then (all-lead _) (λ u _. leads-then {P = λ v. Unit {0}} (all-lead _) (λ r _.
+        wider (λ y e. subst (Adds threads s) (sym e.1) h) (atom_there (Register t r) sight)))
+    rest_there s (OfLocation l, sight) h =
+        wider (λ y e. subst (Adds threads s) (sym e.1) h) (atom_there (Location l) sight)
+    rest_there s (Parenthesis, sight) h =
+        leads-then (within sight) (λ e k. leads-then (all-lead _) (λ u _.
+        leads-given e (omega (arith, h.0, k.0), k.1)))
+
+    factor_there : (depth : ℕ) → Part (factor_with holds threads depth inside)
+    factor_there depth s = leads-then (start_there depth s) (λ x h. rest_there s x h)
+
+  join_there : (c : Connective) (n : ℕ) (a b : Tree) → AreThere threads n a → AreThere threads n b →
+      AreThere threads n (join_of c a b)
+  join_there And n a b x y = (x, y)
+  join_there Or n a b x y = (x, y)
+
+  chain_there : (c : Connective) (part : PartForm) → Part part → Part (chain c part)
+  chain_there c part there s =
+      leads-then (there s) (λ x h.
+      leads-until (turn (further c) (joined c part)) (Adds threads s) (Adds threads s) turn_there (λ y k. k) 256 x h)
+    where
+      turn_there : (x : Tree × Sight) → Adds threads s x →
+          Leads (turn (further c) (joined c part) x) (Onto (Adds threads s) (Adds threads s))
+      turn_there x h = leads-then {P = λ v. Unit {0}} (all-lead _) (λ more _. on more)
+        where
+          on : (more : Bool) → Leads (either (joined c part x >>= λ y. Gives (true, y)) (Gives (false, x)) more)
+              (Onto (Adds threads s) (Adds threads s))
+          on false = leads-given (false, x) h
+          on true =
+              leads-then {P = Adds threads s} (leads-then (there x.1) (λ right g.
+              leads-given (join_of c x.0 right.0, right.1) (
+                omega (arith, h.0, g.0),
+                join_there c (length right.1.0) x.0 right.0
+                    (more_are_there threads (length x.1.0) (length right.1.0) g.0 x.0 h.1) g.1,
+              ))) (λ y g. leads-given (true, y) g)
+
+  expression_there : (holds : Addresses) (depth : ℕ) → Part (expression (factor holds threads depth))
+  unfolding inner
+  expression_there holds zero =
+      chain_there Or _ (chain_there And _ (factor_there holds too_deep (λ s. no_way s) 0))
+    where
+      no_way : (s : Sight) → Leads (too_deep s) (Adds threads s)
+      no_way s = leads-at _ Beyond (λ piece. Refuses TooLarge) (Err CutShort) refuses
+        where
+          refuses : (o : Option Piece) → Tells (Adds threads s) (said (λ piece. Refuses TooLarge) (Err CutShort) o)
+          refuses None = tt
+          refuses (Some p) = tt
+  expression_there holds (suc depth) =
+      chain_there Or _ (chain_there And _ (factor_there holds (expression (factor holds threads depth))
+      (expression_there holds depth) (suc depth)))
+
+condition_there : (holds : Addresses) (threads : ℕ) (before : Names) → Leads (condition holds threads before)
+    (λ (x : Quantifier × Tree × Names). AreThere threads (length x.2) x.1)
+unfolding condition
+condition_there holds threads before =
+    leads-then {P = λ q. Unit {0}} (all-lead keyword) (λ q _.
+    leads-then (expression_there threads holds 64 (before, 0)) (λ e h.
+    leads-then {P = λ u. Unit {0}} (all-lead _) (λ u _. leads-given (q, e.0, e.1.0) h.1)))
+
+body_there : Leads body (λ x. AreThere x.1.0 (length x.2.2) x.2.1)
+unfolding body
+body_there =
+    leads-then {P = λ b. Unit {0}} (all-lead (block [])) (λ b _.
+    leads-then {P = λ t. Unit {0}} (all-lead (table b.0)) (λ t _.
+    leads-then (condition_there (addresses b.0) t.0 b.1) (λ c h. leads-given (b.0, t, c) h)))
 
 each_behind : (P : Name → Type 0) (names : List Name) (name : Name) → Each P names → P name →
     Each P (names ++ name ∷ [])
@@ -112,5 +211,5 @@ seen_there threads locations (Either a b) names h e =
 pub names_there : (text : List ℕ) (test : Litmus) → IsTest text test →
     Each (IsThere test.threads (length test.locations)) test.seen
 names_there text test h =
-    rw (h.seen) (seen_there test.threads (length test.locations) test.tree [] (condition_there h.items test.threads
-    h.rest h.named test.quantifier test.tree test.locations h.condition) tt)
+    rw (h.seen) (seen_there test.threads (length test.locations) test.tree []
+    (body_there.stands h.first (pieces_of h.lines) _ h.last h.end h.stands) tt)

@@ -1,28 +1,38 @@
 -- Items that set each name once, and what is there when all have been taken in turn.
 use Rattle.std.proofs.Common.{◌≡◌, ◌≢◌, ℕ, zero, suc, ◌+◌, ◌-◌, ◌*◌, ◌<◌, Bool, true, false, eqb, ◌||◌, ◌&&◌, nat_le}
-use Rattle.std.proofs.Common.{List, [], ◌∷◌, ◌++◌, length, Option, Some, None, replicate, slice_set}
+use Rattle.std.proofs.Common.{List, [], ◌∷◌, ◌++◌, length, Option, Some, None, Result, Ok, Err, replicate, slice_set}
 use Rattle.std.proofs.Common.{refl, sym, ap, ◌∙◌, subst, inl, inr, arith}
-use Rattle.std.specs.Prelude.{slice_get, nat_lt, unwrap_or}
+use Rattle.std.specs.Prelude.{◌⊎◌, slice_get, nat_lt, unwrap_or}
 use Rattle.std.specs.List.{list_any}
 use Rattle.std.specs.FinMap as finite
 use Rattle.std.specs.FinMap.{get-empty, get-insert}
 use Rattle.std.specs.Ordering.{nat_cmp, eq_by_cmp}
 use Rattle.std.specs.Cmp.{nat_cmp_total, unsigned_tied}
 use Rattle.std.proofs.lemmas.Bool.{cond_both, cond-true, cond-false, eqb-true, eq-eqb, ne_eqb, and_parts}
-use Rattle.std.proofs.lemmas.Bool.{leb-true, lt-ltb}
-use Rattle.std.proofs.lemmas.List.Folds.{list_any-append}
+use Rattle.std.proofs.lemmas.Bool.{leb-true, lt-ltb, eqb-false}
 use Rattle.physiological_order.specs.Order.{flat}
-use Rattle.litmus_lexer.specs.Pieces.{Piece, between}
+use Rattle.litmus_lexer.specs.Pieces.{Piece, Word, Sign, LineEnd, between, pieces_of}
 use Rattle.litmus_lexer.specs.Spelling.{is_digit, small_of, register_of}
 use Rattle.litmus_parser.specs.Names.{Names, same_name}
-use Rattle.litmus_parser.specs.GrammarBlock.{IsItem, AreItems}
+use Rattle.litmus_parser.specs.Block.{settable, rest_of_item, Block, added, whole_item, item_or_end, entry, block}
+use Rattle.litmus_parser.specs.Table.{table}
+use Rattle.litmus_parser.specs.Condition.{addresses, condition}
+use Rattle.litmus_parser.specs.declared.items.Opening.{Opening}
+use Rattle.litmus_parser.specs.declared.items.Opening.TheVariants.{OfThread, OfLocation}
+use Rattle.litmus_lexer.specs.declared.errors.Kind.{Kind}
+use Rattle.litmus_lexer.specs.declared.errors.Kind.TheVariants.{BadInitial, CutShort}
+use Rattle.litmus_lexer.specs.declared.errors.LitmusError.{LitmusError}
+use Rattle.piece_forms.specs.Places.{Beyond}
+use Rattle.piece_forms.specs.Forms.{Line, said, taken, word, one}
+use Rattle.piece_forms.proofs.Lemmas.{Leads, leads-given, leads-then, leads-known, Tells, leads-at, Onto, leads-until}
+use Rattle.sequential_machine.proofs.Names.{all-lead}
 use Rattle.litmus_parser.specs.declared.syntax.Name.{Name}
 use Rattle.litmus_parser.specs.declared.syntax.Name.TheVariants.{Register, Location}
 use Rattle.litmus_parser.specs.declared.syntax.Setting.{Setting}
 use Rattle.litmus_parser.specs.declared.syntax.Setting.TheVariants.{Number, Address}
 use Rattle.litmus_parser.specs.declared.syntax.Item.{Item}
 use Rattle.litmus_reader.specs.Litmus.{Litmus, settings_of}
-use Rattle.litmus_reader.specs.Grammar.{IsTest}
+use Rattle.litmus_reader.specs.Grammar.{body, IsTest}
 use Rattle.litmus_reader.specs.OpeningMemory.{Words, with_setting, words_opened}
 use Rattle.litmus_reader.specs.ThreadSteps.{or_zero, register_value, with_register, with_item, with_items}
 use Rattle.sequential_machine.specs.Openings.{OpensAsSet}
@@ -227,18 +237,9 @@ register_below (first ∷ number) r e =
     cond_both (eqb first 120) (small_of 31 number) None (λ (o : Option ℕ). o ≡ Some r → r < 32)
     (λ _ s. digits_below number r s) (λ _ s. absurd cc) e
 
-settable : (pieces : List Piece) (before : Names) (name : Name) (setting : Setting) (after : Names)
-    (rest : List Piece) → IsItem pieces before name setting after rest → IsSettable name
-settable pieces before (Register t r) setting after rest h =
-    let ne = h.14 in (omega (arith, ne), register_below h.1 r h.13)
-settable pieces before (Location l) setting after rest h = tt
-
 is_same : (name : Name) → same_name name name ≡ true
 is_same (Register t r) = rw (eq-eqb t t refl, eq-eqb r r refl) refl
 is_same (Location l) = eq-eqb l l refl
-
-abbrev IsEarlier : Name → List Item → Type 0
-IsEarlier name earlier = list_any (λ other. same_name other.name name) earlier ≡ true
 
 abbrev name_or : Name → Option (Name × Setting) → Name
 name_or name None = name
@@ -247,68 +248,110 @@ name_or name (Some item) = item.0
 never : (b : Bool) → b ≡ true → b ≡ false → ⊥
 never b e f = cc
 
-still_earlier : (name : Name) (earlier : List Item) (item : Item) → IsEarlier name earlier →
-    IsEarlier name (earlier ++ item ∷ [])
-still_earlier name earlier item h =
-    list_any-append (λ other. same_name other.name name) earlier (item ∷ []) ∙ rw h refl
+no_either : (a b : Bool) → (a || b) ≡ false → (a ≡ false) × (b ≡ false)
+no_either true b e = absurd cc
+no_either false b e = (refl, e)
 
-or_last : (a b : Bool) → b ≡ true → (a || (b || false)) ≡ true
-or_last true b e = refl
-or_last false b e = rw e refl
+-- what is among items with one more is among them, or is that one
+last_or : (items : List Item) (item : Item) (name : Name) (setting : Setting) (i : ℕ) →
+    slice_get (settings_of (items ++ item ∷ [])) i ≡ Some (name, setting) →
+    Among name setting (settings_of items) ⊎ (item.name ≡ name)
+last_or [] item name setting zero e = inr (ap (λ (o : Option (Name × Setting)). name_or name o) e)
+last_or [] item name setting (suc i) e = absurd cc
+last_or (x ∷ items) item name setting zero e = inl (0, e)
+last_or (x ∷ items) item name setting (suc i) e =
+    elim (last_or items item name setting i e) [
+      | inl m ↦ inl (suc m.0, m.1)
+      | inr same ↦ inr same
+    ]
 
-last_earlier : (earlier : List Item) (item : Item) → IsEarlier item.name (earlier ++ item ∷ [])
-last_earlier earlier item =
-    list_any-append (λ other. same_name other.name item.name) earlier (item ∷ [])
-    ∙ or_last (list_any (λ other. same_name other.name item.name) earlier) (same_name item.name item.name)
-    (is_same item.name)
+one_more : (items : List Item) (item : Item) → list_any (λ other. same_name other.name item.name) items ≡ false →
+    IsSettable item.name → AreSingle (settings_of items) → AreSingle (settings_of (items ++ item ∷ []))
+one_more [] item none settable single = (settable, λ setting m. absurd cc, tt)
+one_more (x ∷ items) item none settable single =
+    let no = no_either (same_name x.name item.name) (list_any (λ other. same_name other.name item.name) items) none in (
+      single.0,
+      λ setting m. elim (last_or items item x.name setting m.0 m.1) [
+        | inl there ↦ single.1 setting there
+        | inr same ↦ never (same_name x.name item.name)
+            (subst (λ (n : Name). same_name x.name n ≡ true) (sym same) (is_same x.name)) no.0
+      ],
+      one_more items item no.1 settable single.2,
+    )
 
-no_place : {item : Name × Setting} → None ≡ Some item → ⊥
-no_place e = cc
+added_single : (items : List Item) (item : Item) (all : List Item) → IsSettable item.name →
+    AreSingle (settings_of items) → added items item ≡ Ok all → AreSingle (settings_of all)
+unfolding added
+added_single items item all settable single =
+    cond_both (list_any (λ other. same_name other.name item.name) items) _ _
+    (λ (r : Result (List Item) LitmusError). r ≡ Ok all → AreSingle (settings_of all))
+    (λ twice e. absurd cc) (λ none e. let same : items ++ item ∷ [] ≡ all = cc in
+    subst (λ (xs : List Item). AreSingle (settings_of xs)) same (one_more items item none settable single))
 
-no_item : (items : List Item) (name : Name) (setting : Setting) (i : ℕ) → items ≡ [] →
-    slice_get (settings_of items) i ≡ Some (name, setting) → ⊥
-no_item items name setting i none e =
-    no_place (subst (λ (xs : List Item). slice_get (settings_of xs) i ≡ Some (name, setting)) none e)
+abbrev IsSetting : ℕ → Type 0
+IsSetting r = (0 < r) × (r < 32)
 
--- none sets a name that an earlier one sets
-module _ (after : Names) (rest : List Piece) where
-  none_again : (items earlier : List Item) (pieces : List Piece) (before : Names) →
-      AreItems earlier pieces before items after rest → (name : Name) (setting : Setting) (i : ℕ) →
-      IsEarlier name earlier → slice_get (settings_of items) i ≡ Some (name, setting) → ⊥
-  none_again [] earlier pieces before h name setting i is e = cc
-  none_again (item ∷ items) earlier pieces before h name setting zero is e =
-      let same : item.name ≡ name = ap (λ (o : Option (Name × Setting)). name_or name o) e in
-      never (list_any (λ other. same_name other.name name) earlier) is
-      (subst (λ (n : Name). list_any (λ other. same_name other.name n) earlier ≡ false) same h.3)
-  none_again (item ∷ items) earlier pieces before h name setting (suc i) is e =
-      elim h.4 [
-        | inl k ↦ none_again items (earlier ++ item ∷ []) k.0 h.0 k.2 name setting i
-            (still_earlier name earlier item is) e
-        | inr k ↦ no_item items name setting i k.1 e
-      ]
+register_settable : Leads (one (word BadInitial (λ w. settable (register_of w)))) IsSetting
+register_settable = leads-at IsSetting Beyond (word BadInitial (λ w. settable (register_of w))) (Err CutShort) on
+  where
+    told : (w : List ℕ) (o : Option ℕ) → register_of w ≡ o → Tells IsSetting (taken (settable o))
+    told w None e = tt
+    told w (Some r) e =
+        cond_both (eqb r 0) (Err BadInitial) (Ok r) (λ (v : Result ℕ Kind). Tells IsSetting (taken v)) (λ _. tt)
+        (λ ne. let other = eqb-false r 0 ne in (omega (arith, other), register_below w r e))
 
-  are_single : (items earlier : List Item) (pieces : List Piece) (before : Names) →
-      AreItems earlier pieces before items after rest → AreSingle (settings_of items)
-  are_single [] earlier pieces before h = tt
-  are_single (item ∷ items) earlier pieces before h =
-      elim h.4 [
-        | inl k ↦ (
-          settable pieces before item.name item.setting h.0 h.1 h.2,
-          λ setting m. none_again items (earlier ++ item ∷ []) k.0 h.0 k.2 item.name setting m.0
-              (last_earlier earlier item) m.1,
-          are_single items (earlier ++ item ∷ []) k.0 h.0 k.2,
-        )
-        | inr k ↦ (
-          settable pieces before item.name item.setting h.0 h.1 h.2,
-          λ setting m. no_item items item.name setting m.0 k.1 m.1,
-          subst (λ (xs : List Item). AreSingle (settings_of xs)) (sym k.1) tt,
-        )
-      ]
+    on : (o : Option Piece) → Tells IsSetting (said (word BadInitial (λ w. settable (register_of w))) (Err CutShort) o)
+    on None = tt
+    on (Some (Word w)) = told w (register_of w) refl
+    on (Some (Sign b)) = tt
+    on (Some LineEnd) = tt
+
+item_settable : (o : Opening × Names) → Leads (rest_of_item o) (λ i. IsSettable i.0.name)
+unfolding rest_of_item
+item_settable (OfThread thread, names) =
+    leads-then {P = λ l. Unit {0}} (all-lead Line) (λ line _.
+    leads-then {P = λ u. Unit {0}} (all-lead _) (λ u _. leads-then register_settable (λ r is.
+    leads-then {P = λ v. Unit {0}} (all-lead _) (λ v _. leads-then {P = λ s. Unit {0}} (all-lead _) (λ s _.
+    leads-given (record { line = line; name = Register thread r; setting = s.0 }, s.1) is)))))
+item_settable (OfLocation l, names) =
+    leads-then {P = λ l. Unit {0}} (all-lead Line) (λ line _.
+    leads-then {P = λ u. Unit {0}} (all-lead _) (λ u _. leads-then {P = λ n. Unit {0}} (all-lead _) (λ n _.
+    leads-given (record { line = line; name = Location l; setting = Number n }, names) tt)))
+
+abbrev SingleSo : Block → Type 0
+SingleSo b = AreSingle (settings_of b.0)
+
+entry_single : (b : Block) → SingleSo b → Leads (entry b) (Onto SingleSo SingleSo)
+unfolding entry whole_item
+entry_single b single = leads-then {P = λ o. Unit {0}} (all-lead _) (λ o _. on o)
+  where
+    onto : (more : Bool) (x : Block) → SingleSo x → Onto SingleSo SingleSo (more, x)
+    onto true x h = h
+    onto false x h = h
+
+    on : (o : Option (Opening × Names)) → Leads (item_or_end b o) (Onto SingleSo SingleSo)
+    on None = leads-given (false, b) single
+    on (Some o) =
+        leads-then (item_settable o) (λ i settable.
+        leads-then {P = λ all. AreSingle (settings_of all)}
+        (leads-known (added b.0 i.0) (λ all e. added_single b.0 i.0 all settable single e)) (λ all h.
+        leads-then {P = λ m. Unit {0}} (all-lead _) (λ more _.
+        leads-given (more, (all, i.1)) (onto more (all, i.1) h))))
+
+body_single : Leads body (λ x. AreSingle (settings_of x.0))
+unfolding body block
+body_single =
+    leads-then {P = SingleSo} (leads-then {P = λ u. Unit {0}} (all-lead _) (λ u _.
+    leads-then (leads-until entry SingleSo SingleSo entry_single (λ b h. h) 65536 ([], []) tt) (λ b h.
+    leads-then {P = λ v. Unit {0}} (all-lead _) (λ v _. leads-given b h)))) (λ b h.
+    leads-then {P = λ t. Unit {0}} (all-lead (table b.0)) (λ t _.
+    leads-then {P = λ c. Unit {0}} (all-lead (condition (addresses b.0) t.0 b.1)) (λ c _.
+    leads-given (b.0, t, c) h)))
 
 pub opens_as_set : (text : List ℕ) (test : Litmus) → IsTest text test → OpensAsSet test
 opens_as_set text test h =
     let single : AreSingle test.items =
-    subst AreSingle (sym h.items_are) (are_single h.named h.block.1 h.items [] h.block.0 [] h.block.3) in
+    subst AreSingle (sym h.items_are) (body_single.stands h.first (pieces_of h.lines) _ h.last h.end h.stands) in
     record {
       register_count = λ t. all_length t test.items (replicate 32 0) refl;
       register_set = λ t r n s. given (registers_open t r) test.items (replicate 32 0) n s.0 single refl s.1;

@@ -1,34 +1,30 @@
 use Rattle.std.proofs.Common.{◌≡◌, ◌-◌, ℕ, ◌∙◌, ap, arith, refl, Ok}
 use Rattle.std.proofs.lemmas.Result.{err_from_is_err_and}
-use Rattle.litmus_lexer.proofs.Lemmas.{goes-on, fails-there, runs-out}
-use Rattle.litmus_parser.specs.ReadingRows.{column_at, row_ended, columns_at}
+use Rattle.piece_forms.proofs.Lemmas.{until-fails, until-goes, until-out}
+use Rattle.litmus_parser.proofs.TableSteps.{column-goes, column-fails}
 use Rattle.litmus_parser.proofs.cells.columns.Goals as goal
 
 pub loop-thread-init : goal.loop-thread-init
-unfolding columns_at
 loop-thread-init c = let z : c.args.threads - 0 ≡ c.args.threads = omega arith in rw z refl
 
 pub returns-in_err-kept : goal.returns-in_err-kept
 returns-in_err-kept c =
     let p = err_from_is_err_and c.from_residual.result c.from_residual.ensures.1 in
-    rw (p.1, p.2) (fails-there _ (column_at c.args.items.now c.args.threads) row_ended c.args.threads
-    c.loop-thread.thread
-    _ _ c.loop-thread-test.true c.in_err-kept.ensures c.loop-thread.invariant)
+    rw (p.1, p.2) (until-fails _ c.args.threads c.loop-thread.thread _ _ _ _ _ c.loop-thread-test.true
+    (column-fails _ _ _ _ _ _ c.in_err-kept.ensures) c.loop-thread.invariant)
 
 pub loop-thread-preserved : goal.loop-thread-preserved
-loop-thread-preserved c = goes-on (column_at c.args.items.now c.args.threads) row_ended c.args.threads
-    c.loop-thread.thread _ _ _ c.loop-thread-test.true c.in_ok-kept.ensures c.loop-thread.invariant
+loop-thread-preserved c =
+    until-goes _ c.args.threads c.loop-thread.thread _ _ _ _ _ _ _ c.loop-thread-test.true
+    (column-goes _ _ _ _ _ _ c.in_ok-kept.ensures) c.loop-thread.invariant
 
 pub returns : goal.returns
 returns c =
     let last : c.loop-thread.thread ≡ c.args.threads =
     omega (arith, c.loop-thread-test.false, c.loop-thread.auto.thread-end) in
-    runs-out (column_at c.args.items.now c.args.threads) row_ended c.args.threads c.loop-thread.thread _ _
-    c.loop-thread-test.false c.loop-thread.invariant
+    until-out _ c.args.threads c.loop-thread.thread _ _ _ _ c.loop-thread-test.false c.loop-thread.invariant
     ∙ ap (λ (n : ℕ). Ok (
-      n,
-      c.loop-thread.cells.items,
-      c.loop-thread.width,
+      (n, (c.loop-thread.cells.items, c.loop-thread.width)),
       c.loop-thread.at.line,
       c.loop-thread.at.pieces,
     )) last

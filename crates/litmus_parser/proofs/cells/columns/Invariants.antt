@@ -1,10 +1,14 @@
 use Rattle.std.proofs.Common.{◌≡◌, ◌-◌}
-use Rattle.litmus_lexer.specs.Reading.{repeat_at}
-use Rattle.litmus_parser.specs.ReadingRows.{column_at, row_ended, columns_at}
+use Rattle.piece_forms.specs.Forms.{many}
+use Rattle.piece_forms.specs.Reading.{reads}
+use Rattle.litmus_parser.specs.Verdicts.{bases_of}
+use Rattle.litmus_parser.specs.Table.{column, always}
 use Rattle.litmus_parser.proofs.cells.columns.Given as goal
 
 -- what is left to read is what all of it reads as
 abbrev pub invariant-loop-thread : goal.invariant-loop-thread
-invariant-loop-thread l = repeat_at (l.fn.threads - l.thread) (column_at l.fn.items l.fn.threads) row_ended
-    (l.thread, l.cells.items, l.width, l.at.line, l.at.pieces)
-    ≡ columns_at l.fn.items l.fn.threads (0, l.fn.cells.items, l.fn.width, l.fn.cursor.line, l.fn.cursor.pieces)
+invariant-loop-thread l =
+    reads (many always (column (bases_of l.fn.items) l.fn.threads) (l.fn.threads - l.thread)
+    (l.thread, (l.cells.items, l.width))) l.at.line l.at.pieces
+    ≡ reads (many always (column (bases_of l.fn.items) l.fn.threads) l.fn.threads (0, (l.fn.cells.items, l.fn.width)))
+    l.fn.cursor.line l.fn.cursor.pieces

@@ -1,6 +1,6 @@
 use Rattle.std.proofs.Common.{◌≡◌, length}
 use Rattle.litmus_lexer.specs.Pieces.{pieces_of}
-use Rattle.litmus_parser.specs.ReadingRows.{has_shape}
+use Rattle.litmus_parser.specs.Table.{has_shape}
 use Rattle.litmus_parser.proofs.cells.has_shape.Given as goal
 
 abbrev pub invariant-loop-token : goal.invariant-loop-token

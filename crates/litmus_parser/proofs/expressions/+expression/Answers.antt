@@ -1,6 +1,6 @@
 use Rattle.std.proofs.Common.{rules}
 use Rattle.std.proofs.lemmas.Result.{err_from_is_err_and}
-use Rattle.piece_forms.proofs.Lemmas.{many-fails, many-goes, many-stops, many-out}
+use Rattle.piece_forms.proofs.Lemmas.{until-fails, until-goes, until-stops, until-out}
 use Rattle.litmus_parser.specs.Condition.{addresses}
 use Rattle.litmus_parser.proofs.ConditionSteps.{paren-fails}
 use Rattle.litmus_parser.proofs.expressions.+expression.Goals as goal
@@ -8,18 +8,18 @@ use Rattle.litmus_parser.proofs.expressions.+expression.Goals as goal
 pub expression-returns-in_err-more : goal.expression-returns-in_err-more
 expression-returns-in_err-more t c =
     let p = err_from_is_err_and c.from_residual-in_err-more.result c.from_residual-in_err-more.ensures.1 in
-    rw (p.1, p.2) (many-fails _ _ 256 c.loop.counter _ _ _ _ _ c.loop-test.true c.in_err-more.ensures c.loop.invariant)
+    rw (p.1, p.2) (until-fails _ 256 c.loop.counter _ _ _ _ _ c.loop-test.true c.in_err-more.ensures c.loop.invariant)
 
 pub expression-returns-then-not-more : goal.expression-returns-then-not-more
 expression-returns-then-not-more t c =
-    many-stops _ _ 256 c.loop.counter _ _ _ _ _ _ _ c.loop-test.true (search rules) c.loop.invariant
+    until-stops _ 256 c.loop.counter _ _ _ _ _ _ _ c.loop-test.true (search rules) c.loop.invariant
 
 pub expression-loop-preserved : goal.expression-loop-preserved
 expression-loop-preserved t c =
-    many-goes _ _ 256 c.loop.counter _ _ _ _ _ _ _ c.loop-test.true (search rules) c.loop.invariant
+    until-goes _ 256 c.loop.counter _ _ _ _ _ _ _ c.loop-test.true (search rules) c.loop.invariant
 
 pub expression-returns : goal.expression-returns
-expression-returns t c = many-out _ _ 256 c.loop.counter _ _ _ _ c.loop-test.false c.loop.invariant
+expression-returns t c = until-out _ 256 c.loop.counter _ _ _ _ c.loop-test.false c.loop.invariant
 
 pub factor-returns-in_err-after-in-Parenthesis : goal.factor-returns-in_err-after-in-Parenthesis
 factor-returns-in_err-after-in-Parenthesis t c =

@@ -1,5 +1,5 @@
 use Rattle.std.proofs.Common.{◌≡◌, length}
-use Rattle.litmus_parser.specs.ReadingTable.{absent_line}
+use Rattle.litmus_parser.specs.Table.{absent_line}
 use Rattle.litmus_parser.proofs.table.absent_line.Given as goal
 
 abbrev pub invariant-loop-item : goal.invariant-loop-item

@@ -1,10 +1,16 @@
-use Rattle.std.proofs.Common.{◌≡◌, ◌-◌}
-use Rattle.litmus_lexer.specs.Reading.{repeat_at}
-use Rattle.litmus_parser.specs.ReadingTable.{next_row_at, too_long, table_at}
+use Rattle.std.proofs.Common.{◌≡◌, ◌-◌, ◌≤◌, None}
+use Rattle.piece_forms.specs.Forms.{many}
+use Rattle.piece_forms.specs.Reading.{reads}
+use Rattle.litmus_parser.specs.Verdicts.{bases_of}
+use Rattle.litmus_parser.specs.Table.{next_row, counted_row}
 use Rattle.litmus_parser.proofs.table.rows_into.Given as goal
 
 -- what is left to read is what all of it reads as
-abbrev pub invariant-loop-count : goal.invariant-loop-count
-invariant-loop-count l = repeat_at (1025 - l.count) (next_row_at l.fn.items l.fn.threads) too_long
-    (l.count, l.cells.items, l.width, l.at.line, l.at.pieces)
-    ≡ table_at l.fn.items l.fn.threads l.fn.cells.items l.fn.cursor.line l.fn.cursor.pieces
+abbrev pub invariant-loop : goal.invariant-loop
+invariant-loop l = record {
+  left : reads (many next_row (counted_row (bases_of l.fn.items) l.fn.threads) (1025 - l.counter)
+      (l.count, (l.cells.items, l.width))) l.at.line l.at.pieces
+      ≡ reads (many next_row (counted_row (bases_of l.fn.items) l.fn.threads) 1025 (0, (l.fn.cells.items, None)))
+      l.fn.cursor.line l.fn.cursor.pieces;
+  few : l.count ≤ l.counter;
+}

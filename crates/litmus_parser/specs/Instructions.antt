@@ -1,0 +1,98 @@
+-- The grammar of instructions, as forms within a line.
+use Rattle.std.specs.Prelude.{ℕ, ◌==◌, min, Bool, false, if◌then◌else◌, List, Option, Some, None, Result, Ok, Err}
+use Rattle.litmus_lexer.specs.declared.limits.TheConstants.{VALUE_BOUND}
+use Rattle.litmus_lexer.specs.declared.signs.TheConstants.{CLOSING_PARENTHESIS, COMMA, OPENING_PARENTHESIS}
+use Rattle.litmus_lexer.specs.Spelling.{is_number, value_of_digits, register_of}
+use Rattle.litmus_lexer.specs.declared.errors.Kind.{Kind}
+use Rattle.litmus_lexer.specs.declared.errors.Kind.TheVariants.{BadInstruction}
+use Rattle.piece_forms.specs.Forms.{Form, Gives, ◌>>=◌, here, word, sign}
+use Rattle.litmus_parser.specs.Mnemonics.{mnemonic_of, is_zero, is_fence_set}
+use Rattle.litmus_parser.specs.Words.{or_fault}
+use Rattle.litmus_parser.specs.declared.forms.Mnemonic.{Mnemonic}
+use Rattle.litmus_parser.specs.declared.forms.Mnemonic.TheVariants as word_of
+use Rattle.litmus_parser.specs.declared.forms.Form.{Form as Written}
+use Rattle.litmus_parser.specs.declared.forms.Form.TheVariants as written
+
+abbrev pub passes : Bool → Result (Unit {0}) Kind
+passes b = if b then Ok tt else Err BadInstruction
+
+abbrev pub operand : {A : Type 0} → (List ℕ → Result A Kind) → Form A
+operand test = here BadInstruction (word BadInstruction test)
+
+abbrev pub mark : ℕ → Form (Unit {0})
+mark wanted = here BadInstruction (sign BadInstruction wanted)
+
+abbrev pub register : Form ℕ
+register = operand (λ w. or_fault BadInstruction (register_of w))
+
+abbrev pub is_x0 : Option ℕ → Bool
+is_x0 (Some r) = r == 0
+is_x0 None = false
+
+-- a number; all that are no value count as the bound of values
+abbrev pub number : Form ℕ
+number = operand (λ w. if is_number w then Ok (min (value_of_digits w) VALUE_BOUND) else Err BadInstruction)
+
+-- base := "(" xB ")"
+unfoldable pub base : Form ℕ
+base = do
+  _ ← mark OPENING_PARENTHESIS
+  b ← register
+  _ ← mark CLOSING_PARENTHESIS
+  Gives b
+
+-- offset := xR , 0 base
+unfoldable pub offset : Form (ℕ × ℕ)
+offset = do
+  r ← register
+  _ ← mark COMMA
+  _ ← operand (λ w. passes (is_zero w))
+  b ← base
+  Gives (r, b)
+
+-- swapped := xD , xS , base
+unfoldable pub swapped : Form (ℕ × ℕ × ℕ)
+swapped = do
+  d ← register
+  _ ← mark COMMA
+  s ← register
+  _ ← mark COMMA
+  b ← base
+  Gives (d, s, b)
+
+-- numbered := xD , N
+unfoldable pub numbered : Form (ℕ × ℕ)
+numbered = do
+  d ← register
+  _ ← mark COMMA
+  n ← number
+  Gives (d, n)
+
+-- or_numbered := xD , x0 , N
+unfoldable pub or_numbered : Form (ℕ × ℕ)
+or_numbered = do
+  d ← register
+  _ ← mark COMMA
+  _ ← operand (λ w. passes (is_x0 (register_of w)))
+  _ ← mark COMMA
+  n ← number
+  Gives (d, n)
+
+-- sets := ( r | w | rw ) , ( r | w | rw )
+unfoldable pub sets : Form (Unit {0})
+sets = do
+  _ ← operand (λ w. passes (is_fence_set w))
+  _ ← mark COMMA
+  operand (λ w. passes (is_fence_set w))
+
+unfoldable pub operands : Mnemonic → Form Written
+operands (word_of.Load width) = offset >>= λ r. Gives (written.Load width r.0 r.1)
+operands (word_of.Store width) = offset >>= λ r. Gives (written.Store width r.0 r.1)
+operands (word_of.Swap width) = swapped >>= λ r. Gives (written.Swap width r.0 r.1 r.2)
+operands word_of.Li = numbered >>= λ r. Gives (written.Li r.0 r.1)
+operands word_of.Ori = or_numbered >>= λ r. Gives (written.Ori r.0 r.1)
+operands word_of.Fence = sets >>= λ r. Gives written.Fence
+
+-- instruction := load offset | store offset | swap swapped | li numbered | ori or_numbered | fence sets
+unfoldable pub instruction : Form Written
+instruction = operand (λ w. or_fault BadInstruction (mnemonic_of w)) >>= operands

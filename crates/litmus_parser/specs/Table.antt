@@ -1,0 +1,161 @@
+-- The grammar of the table, as forms: the header row, and the rows up to the condition.
+use Rattle.std.specs.Prelude.{ℕ, ◌+◌, ◌-◌, ◌==◌, ◌&&◌, nat_le, Bool, true, false, if◌then◌else◌, List, [], ◌∷◌, ◌++◌}
+use Rattle.std.specs.Prelude.{Option, Some, None, Result, Ok, Err}
+use Rattle.litmus_lexer.specs.declared.limits.TheConstants.{MOST_ROWS, MOST_THREADS}
+use Rattle.litmus_lexer.specs.declared.signs.TheConstants.{BAR, SEMICOLON}
+use Rattle.litmus_lexer.specs.Pieces.{Piece, Word, Sign, LineEnd}
+use Rattle.litmus_lexer.specs.Spelling.{thread_named}
+use Rattle.litmus_lexer.specs.declared.errors.Kind.{Kind}
+use Rattle.litmus_lexer.specs.declared.errors.Kind.TheVariants.{TooLarge, BadInitial, BadTable, BadInstruction}
+use Rattle.litmus_lexer.specs.declared.errors.LitmusError.{LitmusError}
+use Rattle.litmus_lexer.specs.Reading.{fails}
+use Rattle.piece_forms.specs.Places.{InLine}
+use Rattle.piece_forms.specs.Forms.{Verdict, Takes, Leaves, Refuses, Form, Gives, At, Test, Known}
+use Rattle.piece_forms.specs.Forms.{◌>>=◌, taken, word, one, here, line_end, either, many}
+use Rattle.litmus_parser.specs.Names.{is_present}
+use Rattle.litmus_parser.specs.Keywords.{quantifier_of}
+use Rattle.litmus_parser.specs.Instructions.{instruction}
+use Rattle.litmus_parser.specs.Verdicts.{Bases, bases_of, meaning}
+use Rattle.litmus_parser.specs.declared.syntax.Width.{Width}
+use Rattle.litmus_parser.specs.declared.syntax.Item.{Item}
+use Rattle.litmus_parser.specs.declared.syntax.Name.{Name}
+use Rattle.litmus_parser.specs.declared.syntax.Name.TheVariants.{Register, Location}
+use Rattle.litmus_parser.specs.declared.syntax.Cell.{Cell}
+
+-- ---- the header row
+
+-- the heading of this thread, of 16 at most
+abbrev pub is_heading : ℕ → Option ℕ → Result (Unit {0}) Kind
+is_heading thread None = Err BadTable
+is_heading thread (Some named) =
+    if named == thread then (if nat_le MOST_THREADS thread then Err TooLarge else Ok tt) else Err BadTable
+
+abbrev pub heading : ℕ → Piece → Verdict (Unit {0})
+heading thread = word BadTable (λ w. is_heading thread (thread_named w))
+
+-- | before a further heading, or ;
+abbrev pub separator : Piece → Verdict Bool
+separator (Word w) = Refuses BadTable
+separator (Sign b) = if b == BAR then Takes true else if b == SEMICOLON then Takes false else Refuses BadTable
+separator LineEnd = Refuses BadTable
+
+abbrev pub another : ℕ → Form Bool
+another threads = here BadTable separator
+
+abbrev pub further_heading : ℕ → Form ℕ
+further_heading threads = here BadTable (heading threads) >>= λ _. Gives (threads + 1)
+
+-- header := P0 { "|" PT } ;
+unfoldable pub header : Form ℕ
+header = do
+  _ ← one (heading 0)
+  threads ← many another further_heading MOST_THREADS 1
+  _ ← line_end BadTable
+  Gives threads
+
+abbrev pub is_absent : ℕ → Name → Bool
+is_absent threads (Register thread register) = nat_le threads thread
+is_absent threads (Location l) = false
+
+-- the line of the first item for a thread that is not there
+unfoldable pub absent_line : ℕ → List Item → Option ℕ
+absent_line threads [] = None
+absent_line threads (item ∷ items) = if is_absent threads item.name then Some item.line else absent_line threads items
+
+abbrev pub unless_absent : Option ℕ → Result (Unit {0}) LitmusError
+unless_absent None = Ok tt
+unless_absent (Some line) = fails BadInitial line
+
+-- ---- rows
+
+abbrev pub ends_here : List Piece → Bool
+ends_here [] = true
+ends_here (LineEnd ∷ pieces) = true
+ends_here (Word w ∷ pieces) = false
+ends_here (Sign b ∷ pieces) = false
+
+-- so many |, then a ;, and nothing after it in the line
+unfoldable pub has_shape : ℕ → List Piece → Bool
+has_shape bars [] = false
+has_shape bars (LineEnd ∷ pieces) = false
+has_shape bars (Word w ∷ pieces) = has_shape bars pieces
+has_shape bars (Sign b ∷ pieces) =
+    if b == SEMICOLON then bars == 0 && ends_here pieces
+    else if b == BAR then (if bars == 0 then false else has_shape (bars - 1) pieces)
+    else has_shape bars pieces
+
+-- the instructions so far, and the width so far
+abbrev pub Rows : Type 0
+Rows = List Cell × Option Width
+
+-- the sign with which a cell ends, if it comes next
+abbrev pub ends_cell : ℕ → Piece → Verdict Bool
+ends_cell end (Word w) = Leaves false
+ends_cell end (Sign b) = if b == end then Takes true else Leaves false
+ends_cell end LineEnd = Leaves false
+
+-- that sign, if this is found of what stands in the cell
+abbrev pub closes : {A : Type 0} → ℕ → Result A Kind → Piece → Verdict A
+closes end found (Word w) = Refuses BadInstruction
+closes end found (Sign b) = if b == end then taken found else Refuses BadInstruction
+closes end found LineEnd = Refuses BadInstruction
+
+-- an instruction, with what it means in its thread
+unfoldable pub filled : Bases → ℕ → ℕ → Rows → Form Rows
+filled bases thread end rows = do
+  f ← instruction
+  i ← here BadInstruction (closes end (meaning bases thread rows.1 f))
+  Gives (rows.0 ++ (record { thread = thread; instruction = i.0 }) ∷ [], i.1)
+
+-- cell := [ instruction ]
+unfoldable pub cell : Bases → ℕ → ℕ → Rows → Form Rows
+cell bases thread end rows =
+    At InLine (ends_cell end) (Ok false) >>= either (Gives rows) (filled bases thread end rows)
+
+-- the cell of the thread, with | after it, or ; for the last one
+unfoldable pub column : Bases → ℕ → ℕ × Rows → Form (ℕ × Rows)
+column bases threads c =
+    cell bases c.0 (if c.0 + 1 == threads then SEMICOLON else BAR) c.1 >>= λ rows. Gives (c.0 + 1, rows)
+
+abbrev pub always : ℕ × Rows → Form Bool
+always c = Gives true
+
+-- row := cell { "|" cell } ;
+-- its shape is tested before its cells
+unfoldable pub row : Bases → ℕ → Rows → Form Rows
+row bases threads rows = do
+  _ ← Test (has_shape (threads - 1)) BadTable
+  c ← many always (column bases threads) threads (0, rows)
+  _ ← line_end BadTable
+  Gives c.1
+
+-- a row begins there, of 1024 at most, or the condition
+abbrev pub row_begins : Bool → ℕ → Verdict Bool
+row_begins is_keyword count =
+    if is_keyword then Leaves false else if nat_le MOST_ROWS count then Refuses TooLarge else Leaves true
+
+abbrev pub row_or_condition : ℕ → Piece → Verdict Bool
+row_or_condition count (Word w) = row_begins (is_present (quantifier_of w)) count
+row_or_condition count (Sign b) = row_begins false count
+row_or_condition count LineEnd = row_begins false count
+
+abbrev pub next_row : ℕ × Rows → Form Bool
+next_row t = one (row_or_condition t.0)
+
+unfoldable pub counted_row : Bases → ℕ → ℕ × Rows → Form (ℕ × Rows)
+counted_row bases threads t = row bases threads t.1 >>= λ rows. Gives (t.0 + 1, rows)
+
+-- rows := { row }
+-- up to the condition
+unfoldable pub rows : Bases → ℕ → Form (List Cell)
+rows bases threads =
+    many next_row (counted_row bases threads) (MOST_ROWS + 1) (0, ([], None)) >>= λ t. Gives t.1.0
+
+-- table := header rows
+-- the items are of threads that the header row names
+unfoldable pub table : List Item → Form (ℕ × List Cell)
+table items = do
+  threads ← header
+  _ ← Known (unless_absent (absent_line threads items))
+  cells ← rows (bases_of items) threads
+  Gives (threads, cells)

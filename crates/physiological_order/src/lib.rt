@@ -12,6 +12,7 @@ mod number_places;
 pub mod operation;
 pub mod replays;
 pub mod stale;
+mod stamps;
 pub mod steps;
 pub mod verdict;
 mod walk;

@@ -5,6 +5,7 @@
 pub mod arrangement;
 pub mod checks;
 mod core_lists;
+mod lane_places;
 pub mod laws;
 pub mod memory;
 mod merged_lists;

@@ -60,7 +60,8 @@ returns-then-ne c =
           c.loop-stamp.invariant.counted c.loop-stamp.invariant.in_order next;
       fault = λ h. received_other c.in_ok-perform.field-0 r.received c.if-ne.ensures
           (c.in_ok-perform.ensures.received ∙ ap (λ m. flat_received m r.op) c.loop-stamp.invariant.memory
-          ∙ values-last (flat c.args.opening.now) (picked c.args.records.now c.args.by_number.now (take i c.args.stamps.now)) r
+          ∙ values-last (flat c.args.opening.now)
+          (picked c.args.records.now c.args.by_number.now (take i c.args.stamps.now)) r
           c.loop-stamp.invariant.values h);
     }
 

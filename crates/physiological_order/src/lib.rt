@@ -5,6 +5,7 @@
 pub mod arrangement;
 pub mod checks;
 mod core_lists;
+mod lane_places;
 pub mod laws;
 pub mod memory;
 mod merged_lists;
@@ -12,6 +13,7 @@ mod number_places;
 pub mod operation;
 pub mod replays;
 pub mod stale;
+mod stamps;
 pub mod steps;
 pub mod verdict;
 mod walk;

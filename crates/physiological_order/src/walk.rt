@@ -7,26 +7,28 @@ ghost use Rattle.physiological_order.specs.Walking.{IsNext};
 
 use crate::memory::Memory;
 use crate::operation::{Op, Record};
+use crate::stamps::Stamp;
 use crate::verdict::Verdict;
 use std::alloc::{AllocError, Global};
 
-/// The verdict on records picked by indexes, which are arranged: the first fault along the indexes, program order
-/// before value.
+/// The verdict on records picked by stamps, which are arranged: the first fault along the stamps, program order before
+/// value.
 pub(crate) fn walk(
     alloc: Global,
     opening: &Memory,
     issued: &[Vec<Op>],
     records: &[Record],
-    indexes: &[usize],
+    by_number: &[usize],
+    stamps: &[Stamp],
 ) -> Result<Verdict, AllocError>
-    requires { Within records.now indexes.now }
-    ensures { IfOk result
-        (WalksTo (flat opening.now) (issued_by issued.now) (picked records.now indexes.now)) }
+    requires { Within records.now by_number.now stamps.now }
+    ensures { IfOk result (WalksTo (flat opening.now) (issued_by issued.now)
+        (picked records.now by_number.now stamps.now)) }
 {
     let mut memory = opening.try_clone()?;
     let mut places = vec![in alloc; 0u64; issued.len()]?;
-    for index in indexes {
-        let record = &records[*index];
+    for stamp in stamps {
+        let record = &records[by_number[stamp.number as usize]];
         if !is_next(issued, &places, record) {
             return Ok(Verdict::OutOfProgramOrder(record.number));
         }

@@ -6,7 +6,7 @@ use crate::turn_counts::TurnCounts;
 use machine_table::Config;
 use mailboxes::Run;
 use physiological_order::Memory;
-use programs::End;
+use programs::{End, Program, Step};
 use std::alloc::{AllocError, Global};
 use std::thread::Threads;
 use thread_driver::{ThreadRun, run_threads};
@@ -35,7 +35,34 @@ pub(crate) struct Case {
     pub(crate) turn_limit: u32,
 }
 
-fn scripts(alloc: Global, case: &Case) -> Result<Vec<Script>, AllocError> {
+/// A script whose core's turns pass a gate. It reports a wrong turn if it goes on while none of them is under way.
+#[derive(Drop)]
+struct Watched<'a> {
+    script: Script,
+    core: u32,
+    gate: &'a TurnCounts,
+}
+
+impl Program for Watched<'_> {
+    ghost use Rattle.test_threads.specs.Scripts.{script_next, script_done};
+
+    ghost acts = { record { next = λ w. script_next w.script; done = λ w received. record w { script = script_done w.script received } } };
+
+    fn next(&mut self) -> Option<Step> {
+        self.script.next()
+    }
+
+    fn done(&mut self, received: Option<u64>) {
+        self.gate.tell(self.gate.is_under_way(self.core as usize));
+        self.script.done(received);
+    }
+}
+
+fn scripts<'a>(
+    alloc: Global,
+    case: &Case,
+    gate: &'a TurnCounts,
+) -> Result<Vec<Watched<'a>>, AllocError> {
     let mut scripts = Vec::new(alloc);
     for core in 0..case.config.cores {
         let (word, at, end) = case
@@ -43,7 +70,8 @@ fn scripts(alloc: Global, case: &Case) -> Result<Vec<Script>, AllocError> {
             .get(core as usize)
             .copied()
             .unwrap_or((0, 0, 0));
-        scripts.push(Script { word, at, end })?;
+        let script = Script { word, at, end };
+        scripts.push(Watched { script, core, gate })?;
     }
     Ok(scripts)
 }
@@ -59,7 +87,7 @@ pub(crate) fn end_of<R: Threads + Sync>(
     requires { (0 < workers) × (workers ≤ 16) }
 {
     let _inside: Option<Run> = None;
-    let scripts = scripts(alloc, case).ok()?;
+    let scripts = scripts(alloc, case, gate).ok()?;
     let config = case.config;
     if !config.is_good() || scripts.len() != config.cores as usize {
         return None;

@@ -1,5 +1,5 @@
--- What turns report, and how they decide an end, in the words of their calls: no definition that the code follows is
--- cited here.
+-- What turns report, and how they decide an end, in the words of their calls. The definitions by which code computes
+-- both (`told_of`, `told_by_both`, `end_told`) aren't cited here.
 use Rattle.std.specs.Prelude.{◌≡◌, ◌≢◌, ◌⊎◌, ◌↔◌, ℕ, ◌<◌, Bool, true, false, List, Option, Result, Ok, Err}
 use Rattle.machine_table.specs.declared.event.Refusal.{Refusal}
 use Rattle.machine_table.specs.declared.event.Refusal.TheVariants.{NoMemory}

@@ -23,7 +23,7 @@ use Rattle.thread_driver.specs.Given.{AllGiven, none, one_more}
 use Rattle.thread_driver.specs.Given.{TurnsGiven, rests, more, quiet, told_by_both}
 use Rattle.thread_driver.specs.Reports.{BankLacked, BankStopped, CoreLacked, CoreStopped, IsDecided, IsReport, Moved}
 use Rattle.thread_driver.specs.Reports.{OneOf, OneOfAll, SomeLacked, SomeStopped, Stopped, Went}
-use Rattle.thread_driver.specs.Shifts.{Ran}
+use Rattle.thread_driver.specs.Shifts.{Ran, end_told}
 use Rattle.thread_driver.specs.Turns.{AfterAdvance, AfterAttempt, AfterIssue, AfterRefusal, BankHadTurn, CoreHadTurn}
 use Rattle.thread_driver.specs.Turns.{NextDone, OpenTried, StepDone}
 use Rattle.thread_driver.specs.Turns.{has_moved, has_stopped, is_done, is_served, lacks_memory}
@@ -195,6 +195,10 @@ decided false false l s e is =
       );
       turns_used = (λ x. ((λ y. true≢false (sym (l.1 y))), (λ y. true≢false (sym (s.1 y)))), λ x. is);
     }
+
+-- what the turns reported, by the end
+pub by_end : (told : Told) (e : End) → e ≡ end_told told → IsDecided (told.no_memory ≡ true) (told.is_exhausted ≡ true) e
+by_end told e is = decided told.no_memory told.is_exhausted ((λ x. x), (λ x. x)) ((λ x. x), (λ x. x)) e is
 
 pub turns_decide : {P : Type 0} (acts : Acts P) (m : Machine) (limit : ℕ) (cores cores' : List CoreSeat)
     (banks banks' : List BankSeat) (programs programs' : List P) (e : End)

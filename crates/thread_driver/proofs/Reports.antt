@@ -105,7 +105,8 @@ module _ {P : Type 0} (acts : Acts P) (m : Machine) where
     went : (result : Result Bool Refusal) → done ≡ result → Went acts result before after → Went acts done before after
     went result e is = subst (λ d. Went acts d before after) (sym e) is
 
-    after_refusal : (r : Refusal) (p q : CoreSeat) → AfterRefusal r p done q → after ≡ before → Went acts done before after
+    after_refusal : (r : Refusal) (p q : CoreSeat) → AfterRefusal r p done q → after ≡ before →
+        Went acts done before after
     after_refusal refusal.NoRoom p q c e = went (Ok false) c.0 e
     after_refusal refusal.Busy p q c e = went (Err refusal.Busy) c.0 e
     after_refusal refusal.TooMany p q c e = went (Err refusal.TooMany) c.0 e
@@ -169,7 +170,8 @@ decided : (a b : Bool) {Lacked Stops : Type 0} → Tests a Lacked → Tests b St
 decided true b l s e is =
     record {
       no_memory = (λ x. l.0 refl, λ x. is);
-      exhausted = (λ x. absurd (let both : end.NoMemory ≡ end.Exhausted = sym is ∙ x in cc), λ x. absurd (x.0 (l.0 refl)));
+      exhausted =
+          (λ x. absurd (let both : end.NoMemory ≡ end.Exhausted = sym is ∙ x in cc), λ x. absurd (x.0 (l.0 refl)));
       turns_used =
           (λ x. absurd (let both : end.NoMemory ≡ end.TurnsUsed = sym is ∙ x in cc), λ x. absurd (x.0 (l.0 refl)));
     }
@@ -197,7 +199,8 @@ decided false false l s e is =
     }
 
 -- what the turns reported, by the end
-pub by_end : (told : Told) (e : End) → e ≡ end_told told → IsDecided (told.no_memory ≡ true) (told.is_exhausted ≡ true) e
+pub by_end : (told : Told) (e : End) → e ≡ end_told told →
+    IsDecided (told.no_memory ≡ true) (told.is_exhausted ≡ true) e
 by_end told e is = decided told.no_memory told.is_exhausted ((λ x. x), (λ x. x)) ((λ x. x), (λ x. x)) e is
 
 pub turns_decide : {P : Type 0} (acts : Acts P) (m : Machine) (limit : ℕ) (cores cores' : List CoreSeat)

@@ -1,7 +1,7 @@
 -- A team whose turns told no end: each worker used all turns of its seats, or all programs are over.
 use Rattle.std.proofs.Common.{◌≡◌, ◌⊎◌, inl, inr, ℕ, zero, suc, ◌%◌, ◌/◌, ◌<◌, ◌≤◌, Bool, true, false, ◌||◌}
-use Rattle.std.proofs.Common.{List, [], ◌∷◌, length, map, get_or, Some, refl, sym, ap, ap₂, ◌∙◌, subst, arith, true≢false}
-use Rattle.std.proofs.Common.{⊎_elim, ◌≢◌}
+use Rattle.std.proofs.Common.{List, [], ◌∷◌, length, map, get_or, Some, refl, sym, ap, ap₂, ◌∙◌, subst, arith}
+use Rattle.std.proofs.Common.{true≢false, ⊎_elim, ◌≢◌}
 use Rattle.std.specs.Prelude.{slice_get}
 use Rattle.std.specs.List.{list_any, zip}
 use Rattle.std.proofs.lemmas.Bool.{cases_lt, false_from_ne_true}
@@ -252,4 +252,5 @@ given_by e told limit Given Over otherwise done most used =
     let not_done = λ (d : e ≡ end.AllDone). (let both : end.TurnsUsed ≡ end.AllDone = sym is ∙ d in absurd cc) in
     ⊎_elim (λ all. all) (λ over. absurd (not_done (done over)))
     (let none = (by_end told e (otherwise not_done)).turns_used.0 is in
-    used (ap₂ (λ a b. a || b) (false_from_ne_true told.no_memory none.0) (false_from_ne_true told.is_exhausted none.1))))
+    used (ap₂ (λ a b. a || b) (false_from_ne_true told.no_memory none.0)
+    (false_from_ne_true told.is_exhausted none.1))))

@@ -61,8 +61,8 @@ module _ {P : Type 0} (acts : Acts P) (m : Machine) where
   abbrev pub CoreStopped : (x : CoreSeat × P) (told : Told) (y : CoreSeat × P) → IsCoreTurn acts m x told y → Type 0
   CoreStopped x told y is = Stopped x.0.is_stopped y.0.is_stopped
 
-  module _ {Many : ℕ → Type 0} {cores cores' : List CoreSeat} {banks banks' : List BankSeat} {programs programs' : List P}
-      {told : Told} (given : SeatsGiven acts m Many cores banks programs told cores' banks' programs') where
+  module _ {Many : ℕ → Type 0} {cores cores' : List CoreSeat} {banks banks' : List BankSeat}
+      {programs programs' : List P} {told : Told} (given : SeatsGiven acts m Many cores banks programs told cores' banks' programs') where
     -- a call of some seat's turn was refused memory; and some seat stopped in a turn
     abbrev pub SomeLacked : Type 0
     SomeLacked = OneOfAll CoreLacked given.of_cores ⊎ OneOfAll (BankLacked m) given.of_banks

@@ -1,5 +1,5 @@
-//! Laws for callers: of new seats, of turns and the end that they decide, and of a machine that was closed. The functions
-//! do nothing: their contracts are the laws.
+//! Laws for callers: of new seats, of turns and the end that they decide, and of a machine that was closed. The
+//! functions do nothing: their contracts are the laws.
 ghost use Rattle.std.specs.Prelude.{◌≡◌, ◌≢◌, ◌⊎◌, ◌<◌, ◌≤◌, ℕ, true, List, [], length, slice_index_or, Ok, Err};
 ghost use Rattle.machine_theorem.specs.Consistency.{IsConsistent};
 ghost use Rattle.machine_table.specs.declared.event.Refusal.TheVariants.{NoMemory};

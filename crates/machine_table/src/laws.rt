@@ -27,13 +27,17 @@ pub fn every_answer_keeps_its_word()
 /// number; its sets and ways, its lease, its time and the rest of its set-up are those of the configuration, value by
 /// value.
 pub fn machines_open_as_configured()
-    ensures set_up { (config : Config) (opening : FinMap nat_cmp ℕ) → let m = at_start config opening in
+    ensures set_up { (config : Config) (opening : FinMap nat_cmp ℕ) →
+        let m = at_start config opening in
         (m.config ≡ config) × (m.opening ≡ opening) }
-    ensures many { (config : Config) (opening : FinMap nat_cmp ℕ) → let m = at_start config opening in
+    ensures many { (config : Config) (opening : FinMap nat_cmp ℕ) →
+        let m = at_start config opening in
         (length m.cores ≡ config.cores) × (length m.banks ≡ config.banks) ×
         (length m.drams ≡ config.banks) }
-    ensures cores { (config : Config) (opening : FinMap nat_cmp ℕ) (core : ℕ) → core < config.cores →
+    ensures cores { (config : Config) (opening : FinMap nat_cmp ℕ) (core : ℕ) →
+        core < config.cores →
         slice_get (at_start config opening).cores core ≡ Some (open_core config core) }
-    ensures banks { (config : Config) (opening : FinMap nat_cmp ℕ) (bank : ℕ) → bank < config.banks →
+    ensures banks { (config : Config) (opening : FinMap nat_cmp ℕ) (bank : ℕ) →
+        bank < config.banks →
         slice_get (at_start config opening).banks bank ≡ Some (open_bank config bank) }
 {}

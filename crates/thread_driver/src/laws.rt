@@ -57,10 +57,11 @@ pub fn turns_report_what_calls_answered<P: Program>()
 /// Unless all is done, turns end NoMemory exactly if a call of some turn was refused memory, else Exhausted exactly if
 /// some seat stopped in a turn, else TurnsUsed.
 pub fn turns_decide_the_end<P: Program>()
-    ensures { (m : Machine) (limit : ℕ) (cores cores' : List CoreSeat) (banks banks' : List BankSeat)
-        (programs programs' : List P) (e : End)
+    ensures { (m : Machine) (limit : ℕ) (cores cores' : List CoreSeat)
+        (banks banks' : List BankSeat) (programs programs' : List P) (e : End)
         (ran : Ran P.acts m limit cores banks programs cores' banks' programs' e) →
-        e ≢ end.AllDone → IsDecided (SomeLacked P.acts m ran.given) (SomeStopped P.acts m ran.given) e }
+        e ≢ end.AllDone →
+        IsDecided (SomeLacked P.acts m ran.given) (SomeStopped P.acts m ran.given) e }
 {}
 
 /// The machine that a closed one shows is consistent, as are those that events lead to: its records are a legal

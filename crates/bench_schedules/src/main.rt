@@ -1,9 +1,10 @@
 //! Measurements of runs: programs of random operations on a machine with a core for each, driven by rounds or by a seed
 //! until all are done. docs/BENCHMARKS.md has the table.
 //!
-//! The words are `round`, `seed`, `round_events` and `seed_events`, and three numbers follow each: cores, words, and
-//! operations of a core. Several may stand one after the other. Each prints how many operations were completed; the
-//! last two keep the events and print how many there were.
+//! The words are `round`, `seed`, `large_seed`, `round_events` and `seed_events`, and three numbers follow each: cores,
+//! words, and operations of a core. Several may stand one after the other. Each prints how many operations were
+//! completed; the last two keep the events and print how many there were. The caches and banks of `large_seed` are the
+//! largest that there may be.
 #![tactic(auto)]
 
 ghost use Rattle.std.specs.Prelude.{◌≡◌, length};
@@ -32,6 +33,15 @@ const ONE_CORE: Config = Config {
     messages: 4096,
     opening_time: 0,
     private_write: false,
+};
+
+/// The same with the most places in caches and banks.
+const LARGE: Config = Config {
+    sets: 1024,
+    ways: 16,
+    bank_sets: 1024,
+    bank_ways: 16,
+    ..ONE_CORE
 };
 
 /// A random operation: half are loads, three in ten stores, two in ten swaps, each of a word that is picked evenly.
@@ -81,7 +91,7 @@ fn driven(alloc: Global, word: &str, system: &mut System, programs: &mut [OpProg
         _ => {
             let policy = match word {
                 "round" => Policy::Rounds,
-                "seed" => Policy::Seed(1),
+                "seed" | "large_seed" => Policy::Seed(1),
                 _ => return None,
             };
             return match run_to_end(alloc, system, programs, policy, u32::MAX) {
@@ -98,7 +108,10 @@ fn driven(alloc: Global, word: &str, system: &mut System, programs: &mut [OpProg
 
 /// One measurement; `None` if there is none of that name, or it couldn't be made.
 fn measure(alloc: Global, word: &str, [cores, words, count]: [u32; 3]) -> Option<u64> {
-    let config = Config { cores, ..ONE_CORE };
+    let config = match word {
+        "large_seed" => Config { cores, ..LARGE },
+        _ => Config { cores, ..ONE_CORE },
+    };
     let mut system = System::new(alloc, config, Memory::new(alloc)).ok()?;
     let mut programs = programs_of(alloc, cores, words, count)?;
     if programs.len() as u64 != u64::from(system.cores()) {

@@ -23,7 +23,7 @@ use std::marker::Model;
 use timestamp_manager::Exhausted;
 
 /// A core: its time, the copies of lines in its private cache, and at most one open operation with at most one request
-/// out. It allocates nothing after `new`, except in `keep_order`. Contracts see it as data.
+/// out. After `new`, only `reopen`, `keep_order`, `free_copy` and `lines` allocate. Contracts see it as data.
 #[derive(Drop)]
 pub struct Core {
     config: CoreConfig,

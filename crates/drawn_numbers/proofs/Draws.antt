@@ -63,18 +63,7 @@ module _ (n : ℕ) where
           bounded = λ j.
               at_put r.drawn id h (λ i g. length g ≤ 4294967296) j (omega arith) (λ _. r.bounded j);
         },
-        (
-          refl,
-          refl,
-          own.1,
-          record {
-            count = n;
-            lists = r.drawn;
-            among = subst (λ z. z < n) (sym (r.shown.number id v at live)) seat;
-            mine = ap r.drawn (r.shown.number id v at live) ∙ is;
-            dealt = r.dealt;
-          },
-        ),
+        (refl, refl, own.1),
       )
 
   pub splitting : (id : ℕ) (v : V) → v.spent ≡ false → 0 < v.made → v.made < n →

@@ -29,15 +29,6 @@ once_below x bound = cond (ltb x bound) 1 0
 abbrev pub AreDealt : ℕ → (ℕ → List ℕ) → ℕ → Type 0
 AreDealt count lists next = (x : ℕ) → over count (λ j. times x (lists j)) ≡ once_below x next
 
--- Just before a drawer draws `next` there is a list of each drawer, what it has drawn; these have together the numbers
--- below `next`, each once. The drawer's own list is one of them.
-pub record DrawnBefore (number : ℕ) (own : List ℕ) (next : ℕ) : Type 0 where
-  pub count : ℕ
-  pub lists : ℕ → List ℕ
-  pub among : number < count
-  pub mine : lists number ≡ own
-  pub dealt : AreDealt count lists next
-
 -- a drawer that has drawn nothing
 abbrev pub no_numbers : ℕ → List ℕ
 no_numbers j = []
@@ -54,11 +45,11 @@ pub record Drawn (count : ℕ) (s : State (Unit {0}) (View (List ℕ))) : Type 0
   pub total : over count (λ j. length (drawn j)) ≡ slice_index_or s.words 0 0
   pub bounded : (j : ℕ) → length (drawn j) ≤ 4294967296
 
--- what a draw answers: the number is kept after those before, is above them all, and is the next of all drawers
+-- what a draw answers: the number is kept after those before, and is above them all
 abbrev pub drew : Me (Unit {0}) (View (List ℕ)) → ℕ → Me (Unit {0}) (View (List ℕ)) → Type 0
 drew before number after =
     (after.0 ≡ with_hold before.0 (before.0.mine ++ number ∷ [])) × (after.1 ≡ before.1)
-    × AllBelow number before.0.mine × DrawnBefore before.0.number before.0.mine number
+    × AllBelow number before.0.mine
 
 -- the seat is of the table, which has one word and no slot
 abbrev pub Belongs : TableId → TableId → ℕ → Type 0

@@ -18,6 +18,21 @@ pub enum DrawError {
     TooMany,
 }
 
+impl DrawError {
+    ghost use Rattle.std.specs.Prelude.{◌≡◌};
+
+    /// The error's number, as above.
+    pub fn number(self) -> u8
+        ensures no_memory { self ≡ DrawError.NoMemory → result ≡ 1 }
+        ensures too_many { self ≡ DrawError.TooMany → result ≡ 2 }
+    {
+        match self {
+            DrawError::NoMemory => 1,
+            DrawError::TooMany => 2,
+        }
+    }
+}
+
 /// A drawer of numbers, with all that it drew, in order.
 #[derive(Drop)]
 pub struct Drawer {
@@ -28,7 +43,7 @@ pub struct Drawer {
 }
 
 impl Drawer {
-    ghost use Rattle.drawn_numbers.specs.Drawn.{AllBelow, DrawnBefore};
+    ghost use Rattle.drawn_numbers.specs.Drawn.{AllBelow};
     ghost use Rattle.drawn_numbers.specs.Drawers.{IsDrawerOf};
     ghost use Rattle.drawn_numbers.specs.declared.drawer.DrawError.TheVariants.{NoMemory, TooMany};
 
@@ -39,8 +54,6 @@ impl Drawer {
         ensures kept { IfOk result (λ n.
             self.new.drawn.items ≡ self.old.drawn.items ++ n ∷ []) }
         ensures rising { IfOk result (λ n. AllBelow n self.old.drawn.items) }
-        ensures order { IfOk result (λ n.
-            DrawnBefore self.old.number self.old.drawn.items n) }
         ensures refused { OnErr result ((self.new.drawn.items ≡ self.old.drawn.items) ×
             (self.new.seat ≡ self.old.seat)) }
         ensures many { length self.old.drawn.items ≡ 4294967296 → result ≡ Err TooMany }

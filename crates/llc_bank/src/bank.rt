@@ -1,4 +1,4 @@
-//! A bank of the shared cache. It allocates all its memory when it is made.
+//! A bank of the shared cache. All memory for its entries is allocated when it is made.
 ghost use Rattle.std.specs.Prelude.{◌≡◌, ◌≢◌, ◌≤◌, ◌<◌, length, IfOk, IfSome, IsOk, IsSome};
 ghost use Rattle.std.specs.Prelude.{IsTrue, false, is_some, slice_get, Err, None, OnErr, OnOk, Some};
 ghost use Rattle.std.specs.Option.{option_copied};

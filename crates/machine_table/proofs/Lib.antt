@@ -1,2 +1,3 @@
 mod Cases
+mod Openings
 pub mod Lemmas

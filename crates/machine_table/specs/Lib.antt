@@ -1,6 +1,7 @@
 pub mod Answered
 pub mod Machine
 pub mod OpenNumbers
+pub mod Opened
 pub mod Opening
 pub mod Posted
 pub mod RefusalNumbers

@@ -1,4 +1,4 @@
-//! A private cache. It allocates all its memory when it is made.
+//! A private cache. All memory for its copies is allocated when it is made.
 ghost use Rattle.std.specs.Prelude.{◌≡◌, ◌≤◌, ◌<◌, length, IfOk, IfSome, IsSome, IsTrue};
 ghost use Rattle.std.specs.Prelude.{◌+◌, if◌then◌else◌, is_some, not, slice_get, true, IsOk, OnErr, OnOk};
 ghost use Rattle.std.specs.Prelude.{None, Option, Some, ℕ};

@@ -195,7 +195,7 @@ module _ {P S : Type 0} (acts : Acts P) (schedule : Schedule P S) (m : Machine) 
           ends = inr (
             refl,
             λ other ends. more (still_in limit turns other (schedule.next m programs own) ends),
-            inr (refl, lists),
+            inr (refl, lists, more),
           );
         });
   }

@@ -9,6 +9,7 @@ use Rattle.interleaving_core.specs.StepAnswers.{asks_memory}
 use Rattle.programs.specs.declared.ends.End.{End}
 use Rattle.programs.specs.declared.ends.End.TheVariants.{NoMemory}
 use Rattle.schedules.specs.Runs.{Plan, Before, Within, Position, Makes, Moves, Ends, next}
+use Rattle.schedules.specs.Schedules.{Over}
 
 -- the events, each as the plan has it, lead from the start to a position
 pub data FollowsPlan {P S : Type 0} (plan : Plan P S) (start : Position P S) : List Event →
@@ -32,12 +33,13 @@ initial_position m programs own = record {
 }
 
 -- the run asks for memory at a position: the event that comes next does, or may have to be kept in the list of events;
--- or the schedule does, to know what comes next
+-- or the schedule does, to know what comes next in a turn that isn't over
 abbrev pub WantsMemoryAt : {P S : Type 0} → Bool → Plan P S → Position P S → Type 0
 WantsMemoryAt {P} {S} keeps plan d =
     ((event : Event) × (leads : Answer × Machine → Position P S) × (next plan d ≡ Makes event leads)
     × IsTrue (keeps || asks_memory d.machine event))
-    ⊎ ((d.stage ≡ Within) × IsTrue (plan.schedule.lists d.own))
+    ⊎ ((d.stage ≡ Within) × IsTrue (plan.schedule.lists d.own)
+    × (plan.schedule.next d.machine d.programs d.own ≢ Over))
 
 -- the events, which are kept in a list or not, lead to this machine and these programs, where the plan has this end;
 -- or memory was refused, where the plan goes on and asks for some

@@ -13,8 +13,8 @@ struct Turns {
 
 /// A gate that counts the turns of some first seats that began, and those that ended. It counts a turn that begins or
 /// ends out of its order, or of another seat, as wrong: the turns of a seat are numbered from 0 on, and none begins
-/// before the one before it has ended. The first turns of seats 0 and 1 look for each other, `looks` times each, and
-/// the gate counts those that saw the other.
+/// before the one before it has ended. Others may report to it what was done outside of a turn. The first turns of
+/// seats 0 and 1 look for each other, `looks` times each, and the gate counts those that saw the other.
 #[derive(Drop)]
 pub(crate) struct TurnCounts {
     seats: Vec<Turns>,

@@ -1,7 +1,8 @@
 -- How a run by threads ends, said of the machine that the closed one shows.
-use Rattle.std.proofs.Common.{◌≡◌, ◌⊎◌, inl, inr, ℕ, ◌<◌, Bool, true, false, cond, ◌||◌, List, length, map, Option}
-use Rattle.std.proofs.Common.{refl, sym, ap, ap₂, ◌∙◌, arith}
+use Rattle.std.proofs.Common.{◌≡◌, ◌⊎◌, inl, inr, ℕ, ◌<◌, true, false, ◌||◌, List, length, map, Option}
+use Rattle.std.proofs.Common.{sym, ap, ap₂, ◌∙◌, arith}
 use Rattle.std.specs.List.{list_any}
+use Rattle.std.proofs.lemmas.Bool.{false_from_ne_true}
 use Rattle.std.proofs.lemmas.Option.{slice_get_within}
 use Rattle.programs.specs.declared.ends.End.{End}
 use Rattle.programs.specs.declared.ends.End.TheVariants as end
@@ -17,22 +18,11 @@ use Rattle.thread_driver.specs.Shifts.{AreBanksInOrder, AreCoresInOrder, AreOver
 use Rattle.thread_driver.specs.ThreadRuns.{AreOpened, IsOver, is_one_stopped, machine_of}
 use Rattle.thread_driver.proofs.Seats.{none_left, none_open}
 use Rattle.thread_driver.proofs.AllServed.{there}
+use Rattle.thread_driver.proofs.Reports.{by_end}
 use Rattle.thread_driver.proofs.Stops.{any_map, new_stopped}
 
 not_done : {A : Type 0} (e : End) → e ≡ end.NoMemory → e ≡ end.AllDone → A
 not_done e lacks done = (let both : end.NoMemory ≡ end.AllDone = sym lacks ∙ done in absurd cc)
-
--- what the turns reported of stops, by the end
-told_stopped : (a b : Bool) → cond a end.NoMemory (cond b end.Exhausted end.TurnsUsed) ≡ end.Exhausted → b ≡ true
-told_stopped true b e = absurd (cc)
-told_stopped false true e = refl
-told_stopped false false e = absurd (cc)
-
-told_not_stopped : (a b : Bool) → cond a end.NoMemory (cond b end.Exhausted end.TurnsUsed) ≡ end.TurnsUsed →
-    b ≡ false
-told_not_stopped true b e = absurd (cc)
-told_not_stopped false true e = absurd (cc)
-told_not_stopped false false e = refl
 
 module _ {P : Type 0} (acts : Acts P) (m : Machine) (run : Run) (parts : Parts run) (ended : List CoreSeat)
     (after : List P) (order : AreCoresInOrder m ended) (all : length ended ≡ run.set_up.config.cores)
@@ -81,17 +71,15 @@ module _ {P : Type 0} (acts : Acts P) (m : Machine) (run : Run) (parts : Parts r
       pub exhausted_is_stopped : e ≡ end.Exhausted → is_one_stopped run ≡ true
       exhausted_is_stopped is_so = elim is [
         | inl refused ↦ absurd (let both : end.NoMemory ≡ end.Exhausted = sym refused.end_is ∙ is_so in cc)
-        | inr ran ↦ sym (shown ran.told ran.stopped)
-            ∙ told_stopped ran.told.no_memory ran.told.is_exhausted
-            (sym (ran.otherwise (λ d. let both : end.Exhausted ≡ end.AllDone = sym is_so ∙ d in cc)) ∙ is_so)
+        | inr ran ↦ sym (shown ran.told ran.stopped) ∙ ((by_end ran.told e
+            (ran.otherwise (λ d. let both : end.Exhausted ≡ end.AllDone = sym is_so ∙ d in cc))).exhausted.0 is_so).1
       ]
 
       pub used_is_not_stopped : e ≡ end.TurnsUsed → is_one_stopped run ≡ false
       used_is_not_stopped is_so = elim is [
         | inl refused ↦ absurd (let both : end.NoMemory ≡ end.TurnsUsed = sym refused.end_is ∙ is_so in cc)
-        | inr ran ↦ sym (shown ran.told ran.stopped)
-            ∙ told_not_stopped ran.told.no_memory ran.told.is_exhausted
-            (sym (ran.otherwise (λ d. let both : end.TurnsUsed ≡ end.AllDone = sym is_so ∙ d in cc)) ∙ is_so)
+        | inr ran ↦ sym (shown ran.told ran.stopped) ∙ false_from_ne_true ran.told.is_exhausted ((by_end ran.told e
+            (ran.otherwise (λ d. let both : end.TurnsUsed ≡ end.AllDone = sym is_so ∙ d in cc))).turns_used.0 is_so).1
       ]
 
     pub over_is_done : IsOver acts (machine_of run parts) after →

@@ -1,6 +1,7 @@
 mod KeptWork
 mod TurnLaws
 mod Stops
+mod Reports
 pub mod Lemmas
 mod Played
 mod Turned

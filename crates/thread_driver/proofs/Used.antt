@@ -1,10 +1,10 @@
 -- A team whose turns told no end: each worker used all turns of its seats, or all programs are over.
 use Rattle.std.proofs.Common.{◌≡◌, ◌⊎◌, inl, inr, ℕ, zero, suc, ◌%◌, ◌/◌, ◌<◌, ◌≤◌, Bool, true, false, ◌||◌}
-use Rattle.std.proofs.Common.{List, [], ◌∷◌, length, map, get_or, Some, refl, sym, ap, ◌∙◌, subst, arith, true≢false}
-use Rattle.std.proofs.Common.{⊎_elim, ◌≢◌}
-use Rattle.std.specs.Prelude.{slice_get, if◌then◌else◌}
+use Rattle.std.proofs.Common.{List, [], ◌∷◌, length, map, get_or, Some, refl, sym, ap, ap₂, ◌∙◌, subst, arith}
+use Rattle.std.proofs.Common.{true≢false, ⊎_elim, ◌≢◌}
+use Rattle.std.specs.Prelude.{slice_get}
 use Rattle.std.specs.List.{list_any, zip}
-use Rattle.std.proofs.lemmas.Bool.{cases_lt}
+use Rattle.std.proofs.lemmas.Bool.{cases_lt, false_from_ne_true}
 use Rattle.std.proofs.lemmas.List.{length-map}
 use Rattle.std.proofs.lemmas.Option.{slice_get_within}
 use Rattle.mailboxes.specs.declared.machine.Machine.{Machine}
@@ -28,6 +28,7 @@ use Rattle.thread_driver.specs.Teams.{AllWork, HasWorked, Works, ends_all, is_ov
 use Rattle.thread_driver.proofs.Counted.{all_over, over_few}
 use Rattle.thread_driver.proofs.Dealt.{AllGave, pair_hands, pairs_dealt}
 use Rattle.thread_driver.proofs.Lists.{both_none, none_some, some_is, there}
+use Rattle.thread_driver.proofs.Reports.{by_end}
 use Rattle.thread_driver.proofs.Pairs.{pair_there, pairs_few}
 use Rattle.thread_driver.proofs.Worked.{Gave}
 
@@ -233,13 +234,6 @@ module _ {P : Type 0} (acts : Acts P) where
           inr
           (all_or (Gave acts m (Exactly rota.turns)) ws vs used)
 
--- what turns told that ended with all of them used
-none_ended : (a b : Bool) → (if a then end.NoMemory else (if b then end.Exhausted else end.TurnsUsed)) ≡ end.TurnsUsed →
-    (a || b) ≡ false
-none_ended true b e = absurd cc
-none_ended false true e = absurd cc
-none_ended false false e = refl
-
 -- as many turns as there are by the end
 turns_by : (e : End) (limit : ℕ) (Given : (ℕ → Type 0) → Type 0) → Given (AtMost limit) →
     (e ≡ end.TurnsUsed → Given (Exactly limit)) → Given (TurnsBy e limit)
@@ -257,4 +251,6 @@ given_by e told limit Given Over otherwise done most used =
     (λ is.
     let not_done = λ (d : e ≡ end.AllDone). (let both : end.TurnsUsed ≡ end.AllDone = sym is ∙ d in absurd cc) in
     ⊎_elim (λ all. all) (λ over. absurd (not_done (done over)))
-    (used (none_ended told.no_memory told.is_exhausted (sym (otherwise not_done) ∙ is))))
+    (let none = (by_end told e (otherwise not_done)).turns_used.0 is in
+    used (ap₂ (λ a b. a || b) (false_from_ne_true told.no_memory none.0)
+    (false_from_ne_true told.is_exhausted none.1))))

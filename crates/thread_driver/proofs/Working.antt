@@ -90,9 +90,10 @@ module _ {P : Type 0} (acts : Acts P) (m : Machine) (signals : Signals) where
 
   -- it ends before a pass
   pub ends_before : (turn : ℕ) (rota : Rota) (w t : Worker P) → turn ≤ rota.turns → Working turn w t →
+      t.signaler.said.finished ≡ over_in acts (zip t.cores.items t.programs.items) →
       ((last_look t.signaler).is_stopped ≡ false → (last_look t.signaler).finished < rota.programs →
       turn ≡ rota.turns) → HasWorked acts m rota w t
-  ends_before turn rota w t le was whole =
+  ends_before turn rota w t le was said whole =
       record {
         number = was.number;
         given = works_told acts m (Exactly turn) (AtMost rota.turns) w t t (λ n is. omega (arith, is, le)) was.given
@@ -102,6 +103,7 @@ module _ {P : Type 0} (acts : Acts P) (m : Machine) (signals : Signals) where
             (refl, refl, refl, refl);
         stops = was.silent ∙ sym was.goes;
         finished = was.finished;
+        all_finished = λ goes. said;
       }
 
   module _ (turn : ℕ) (w u v : Worker P) (told both : Told) (was : Working turn w u)
@@ -125,6 +127,7 @@ module _ {P : Type 0} (acts : Acts P) (m : Machine) (signals : Signals) where
               let few = was.finished in
               let more = over_rises acts m passed.of_cores in
               omega arith;
+          all_finished = λ goes. absurd (true≢false (sym all ∙ goes));
         }
 
     -- it goes on

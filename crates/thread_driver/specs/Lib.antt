@@ -2,6 +2,7 @@ pub mod Calls
 pub mod Given
 pub mod Hands
 pub mod Playing
+pub mod Reports
 pub mod Shifts
 pub mod Teams
 pub mod ThreadRuns

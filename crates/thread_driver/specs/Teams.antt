@@ -73,7 +73,8 @@ module _ {P : Type 0} where
 
   -- The worker gave its seats turns, and keeps what these reported: at most `rota.turns` each, and exactly so many
   -- unless one of its turns ended all, or its last look found a stop or that all programs are finished. It has signaled
-  -- a stop exactly if one of its turns ended all, and no more finished programs than it has.
+  -- a stop exactly if one of its turns ended all. Otherwise it has signaled each of its programs that is finished; it
+  -- never signals more.
   pub record HasWorked (acts : Acts P) (m : Machine) (rota : Rota) (w v : Worker P) : Type 0 where
     pub number : number_of v.signaler ≡ number_of w.signaler
     pub given : SeatsGiven acts m (AtMost rota.turns) w.cores.items w.banks.items w.programs.items v.told v.cores.items
@@ -84,6 +85,8 @@ module _ {P : Type 0} where
         v.banks.items v.programs.items
     pub stops : v.signaler.said.stops ≡ ends_all v.told
     pub finished : v.signaler.said.finished ≤ over_in acts (zip v.cores.items v.programs.items)
+    pub all_finished : ends_all v.told ≡ false →
+        v.signaler.said.finished ≡ over_in acts (zip v.cores.items v.programs.items)
 
   unfoldable pub Works : Acts P → Machine → Rota → Worker P → Worker P → Type 0
   Works acts m rota w v = HasWorked acts m rota w v

@@ -1,17 +1,22 @@
-//! Laws for callers: of new seats, and of a machine that was closed. The functions do nothing: their contracts are the
-//! laws.
-ghost use Rattle.std.specs.Prelude.{◌≡◌, ◌<◌, ◌≤◌, ℕ, true, List, [], length, slice_index_or};
+//! Laws for callers: of new seats, of turns and the end that they decide, and of a machine that was closed. The
+//! functions do nothing: their contracts are the laws.
+ghost use Rattle.std.specs.Prelude.{◌≡◌, ◌≢◌, ◌⊎◌, ◌<◌, ◌≤◌, ℕ, true, List, [], length, slice_index_or, Ok, Err};
 ghost use Rattle.machine_theorem.specs.Consistency.{IsConsistent};
+ghost use Rattle.machine_table.specs.declared.event.Refusal.TheVariants.{NoMemory};
 ghost use Rattle.mailboxes.specs.declared.machine.Machine.{Machine};
 ghost use Rattle.mailboxes.specs.declared.core_seat.CoreSeat.{CoreSeat};
 ghost use Rattle.mailboxes.specs.declared.bank_seat.BankSeat.{BankSeat};
+ghost use Rattle.programs.specs.declared.ends.End.{End};
+ghost use Rattle.programs.specs.declared.ends.End.TheVariants as end;
 ghost use Rattle.closed_machine.specs.declared.run.Run.{Run};
 ghost use Rattle.closed_machine.specs.RunParts.{Parts, state_of_run};
 ghost use Rattle.mailboxes.specs.Seats.{AllNewBanks, AllNewCores};
 ghost use Rattle.thread_driver.specs.declared.told.Told.{Told};
 ghost use Rattle.thread_driver.specs.Given.{IsBankTurn, IsCoreTurn, TurnsGiven};
-ghost use Rattle.thread_driver.specs.Shifts.{AreBanksInOrder, AreCoresInOrder, NoneOpen};
+ghost use Rattle.thread_driver.specs.Reports.{IsDecided, IsReport, Moved, SomeLacked, SomeStopped, Stopped, Went};
+ghost use Rattle.thread_driver.specs.Shifts.{AreBanksInOrder, AreCoresInOrder, NoneOpen, Ran};
 ghost use Rattle.thread_driver.specs.ThreadRuns.{machine_of};
+ghost use Rattle.thread_driver.specs.Turns.{BankHadTurn, CoreHadTurn};
 
 use machine_theorem::laws::machines_with_the_invariant_are_consistent;
 use programs::program::Program;
@@ -32,6 +37,31 @@ pub fn stopped_seats_stay_stopped<P: Program>()
         q.is_stopped ≡ true }
     ensures banks { (m : Machine) (p q : BankSeat) (n : ℕ) (told : Told) →
         TurnsGiven (IsBankTurn m) p n told q → p.is_stopped ≡ true → q.is_stopped ≡ true }
+{}
+
+/// A turn reports what its calls answered: no memory exactly if one of them was refused it, a stop exactly if the seat
+/// stopped in the turn, and progress exactly if a step of the program was done, or messages were put or served. The
+/// program goes on exactly if its step was done, so an eviction alone is no progress.
+pub fn turns_report_what_calls_answered<P: Program>()
+    ensures cores { (m : Machine) (p q : CoreSeat) (before after : P) (told : Told)
+        (turn : CoreHadTurn P.acts m p before told q after) → IsReport told
+        ((turn.moved ≡ Err NoMemory) ⊎ (turn.done ≡ Err NoMemory))
+        (Stopped p.is_stopped q.is_stopped) (Moved turn.moved ⊎ (turn.done ≡ Ok true)) }
+    ensures steps { (m : Machine) (p q : CoreSeat) (before after : P) (told : Told)
+        (turn : CoreHadTurn P.acts m p before told q after) → Went P.acts turn.done before after }
+    ensures banks { (m : Machine) (p q : BankSeat) (told : Told) (turn : BankHadTurn m p told q) →
+        IsReport told (turn.moved ≡ Err NoMemory) (Stopped p.is_stopped q.is_stopped)
+        (Moved turn.moved) }
+{}
+
+/// Unless all is done, turns end NoMemory exactly if a call of some turn was refused memory, else Exhausted exactly if
+/// some seat stopped in a turn, else TurnsUsed.
+pub fn turns_decide_the_end<P: Program>()
+    ensures { (m : Machine) (limit : ℕ) (cores cores' : List CoreSeat)
+        (banks banks' : List BankSeat) (programs programs' : List P) (e : End)
+        (ran : Ran P.acts m limit cores banks programs cores' banks' programs' e) →
+        e ≢ end.AllDone →
+        IsDecided (SomeLacked P.acts m ran.given) (SomeStopped P.acts m ran.given) e }
 {}
 
 /// The machine that a closed one shows is consistent, as are those that events lead to: its records are a legal

@@ -1,4 +1,5 @@
-//! That workers don't show in runs. The function does nothing: its contract is the law.
+//! That machines are as options ask, and that workers don't show in runs. The functions do nothing: their contracts are
+//! the laws.
 ghost use Rattle.std.specs.Prelude.{◌≡◌, ◌≢◌, List, length, slice_get, Option, Some, None, ℕ};
 ghost use Rattle.litmus_reader.specs.Litmus.{Litmus};
 ghost use Rattle.machine_table.specs.declared.config.Config.{Config};
@@ -6,10 +7,23 @@ ghost use Rattle.programs.specs.declared.ends.End.TheVariants.{NoMemory};
 ghost use Rattle.report_text.specs.declared.run_end.RunEnd.{RunEnd};
 ghost use Rattle.schedules.specs.declared.policy.Policy.{Policy};
 ghost use Rattle.worker_driver.specs.Batches.{AreMade};
+ghost use Rattle.run_options.specs.declared.options.MachineOptions.{MachineOptions};
 ghost use Rattle.worker_driver.specs.Runs.{AreFrom, IsRun};
+ghost use Rattle.worker_driver.specs.SetUp.{config_of};
 
 use litmus_reader::ThreadState;
 use schedules::laws::one_seed_gives_one_list;
+
+/// The machine that options ask for has each of their values as it is, and as many cores as are asked for.
+pub fn machines_are_as_asked()
+    ensures parts { (options : MachineOptions) (cores : ℕ) → let c = config_of options cores in
+        (c.cores ≡ cores) × (c.banks ≡ options.banks) × (c.sets ≡ options.sets) ×
+        (c.ways ≡ options.ways) × (c.bank_sets ≡ options.bank_sets) ×
+        (c.bank_ways ≡ options.bank_ways) × (c.line_words ≡ options.line_words) }
+    ensures times { (options : MachineOptions) (cores : ℕ) → let c = config_of options cores in
+        (c.lease ≡ options.lease) × (c.messages ≡ options.messages) ×
+        (c.opening_time ≡ options.time) × (c.private_write ≡ options.private_write) }
+{}
 
 /// Two batches of the same test, machine, policy and limit have the same run at each place where neither has a run
 /// that ended with a failed allocation. If no run did, batches of one length are the same list. A run that did has no

@@ -13,7 +13,6 @@ mod told;
 
 pub use batches::{batch, policy_runs, seeded_runs};
 pub use finished::Finished;
-pub use one_run::run_once;
 pub use programs::{End, OpProgram, Program, Step, StepProgram};
 pub use report_text::RunEnd;
 pub use schedules::{Driven, Policy, drive_round, drive_seed, run_to_end};

@@ -1,4 +1,4 @@
-//! One run of a litmus test by a policy.
+//! One run of a litmus test by a policy, and the machine for it.
 ghost use Rattle.std.specs.Prelude.{◌≡◌, ℕ, true, IfOk, IfSome, List, OnOk, Some};
 ghost use Rattle.std.specs.FinMap.{empty};
 ghost use Rattle.litmus_reader.specs.Grammar.{IsTest};
@@ -18,25 +18,6 @@ use report_text::RunEnd;
 use schedules::{Policy, run_to_end};
 use sequential_machine::laws::performed_histories_are_sequential;
 use std::alloc::{AllocError, Global};
-
-/// A run of the test on a machine with a core for each thread, by this policy, with at most `limit` turns. The end
-/// state of a run that is all done is an outcome of the sequential machine.
-pub fn run_once(
-    alloc: Global,
-    test: &Test,
-    config: Config,
-    policy: Policy,
-    limit: u32,
-) -> Result<RunEnd, AllocError>
-    requires good { is_good config ≡ true }
-    requires cores { config.cores ≡ (test_of test.now).threads }
-    ensures run { IfOk result (IsRun (test_of test.now) config (Some policy) limit) }
-    ensures outcome { IfOk result (λ run.
-        (text : List ℕ) → IsTest text (test_of test.now) → HasOutcome (test_of test.now) run) }
-{
-    let mut system = open(alloc, test, config)?;
-    run_on(alloc, test, &mut system, policy, limit)
-}
 
 /// A machine with this set-up that opens with the test's memory.
 pub(crate) fn open(alloc: Global, test: &Test, config: Config) -> Result<System, AllocError>
@@ -69,8 +50,8 @@ pub(crate) fn open_again(
     }
 }
 
-/// A run of the test, as `run_once` makes it, on a machine that has just opened with the test's memory. The machine's
-/// configuration stays.
+/// A run of the test by this policy, with at most `limit` turns, on a machine that has just opened with the test's
+/// memory. The end state of a run that is all done is an outcome of the sequential machine. The configuration stays.
 pub(crate) fn run_on(
     alloc: Global,
     test: &Test,

@@ -30,6 +30,7 @@ returns-then-look-clause-works g c =
     look.signaler.1 in
     let ended = c.then-look.either in
     ends_before a m signals turn c.args.rota w (record t { signaler = c.look-look.new.self }) (omega arith) looked
+    (ap (λ (h : Said). h.finished) look.signaler.1 ∙ tell.told)
     (λ on left.
     let found = ap (λ (l : Look). l.finished) look.kept.1 in
     let stopped = ap (λ (l : Look). l.is_stopped) look.kept.1 in
@@ -110,4 +111,4 @@ returns-clause-works g c =
     let tell = c.tell-2.ensures in
     let told = after_telling a m signals turn w c.loop-turn.worker t c.loop-turn.invariant tell.same tell.signaler
     tell.kept.0 tell.kept.2 tell.told in
-    ends_before a m signals turn c.args.rota w t (omega arith) told (λ on left. omega arith)
+    ends_before a m signals turn c.args.rota w t (omega arith) told tell.told (λ on left. omega arith)

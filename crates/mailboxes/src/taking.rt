@@ -1,22 +1,77 @@
 //! A seat takes messages out of slots.
-ghost use Rattle.std.specs.Prelude.{◌≡◌, ◌+◌, ◌%◌, ◌<◌, ◌≤◌, None};
-ghost use Rattle.mailboxes.specs.Places.{EndsAt, incoming, incoming_count};
-ghost use Rattle.mailboxes.specs.BoxMoves.{IsAt, Stands, Stays, TakesAt, Takes, hold};
+ghost use Rattle.std.specs.Prelude.{◌≡◌, ℕ, ◌+◌, ◌*◌, ◌%◌, ◌<◌, ◌≤◌, [], false, cond, nat_lt, None, IfSome, MatchOption};
+ghost use Rattle.seat_rule.specs.declared.views.Stage.TheVariants.{Idle};
+ghost use Rattle.mailboxes.specs.Places.{incoming, incoming_count};
+ghost use Rattle.mailboxes.specs.BoxMoves.{FindsFull, FindsNone, IsAt, Stands, Stays, Takes, hold};
 
-use crate::ends::{incoming, incoming_count};
+use crate::ends::{incoming, incoming_count, incoming_stride};
 use crate::machine::Machine;
 use crate::mailbox::Mailbox;
-use crate::steps::{look_in, receive};
+use crate::steps::{SlotSeat, look_in, receive};
 use crate::taken::Take;
 use network::Body;
+use seat_rule::laws::slots_are_few;
 use seat_rule::parts::seats_stand;
 
-// The place after this one among so many, going round.
-fn place_after(place: usize, count: usize) -> usize
-    requires { (place < count) × (count ≤ 256) }
-    ensures { result ≡ (place + 1) % count }
+// The place after this one among so many, going round, and its slot: the first, the next one, or that of the next link.
+fn next_place(
+    place: usize,
+    slot: usize,
+    count: usize,
+    first: usize,
+    stride: usize,
+) -> (usize, usize)
+    requires within { (place < count) × (count ≤ 256) × (slot < 4096) × (4 ≤ stride) × (stride ≤ 256) }
+    ensures next { (cores banks number : ℕ) → count ≡ incoming_count cores banks number →
+        first ≡ incoming cores banks number 0 → stride ≡ 4 * cond (nat_lt number cores) cores banks →
+        slot ≡ incoming cores banks number place → (result.0 ≡ (place + 1) % count) ×
+        (result.1 ≡ incoming cores banks number result.0) }
 {
-    if place + 1 == count { 0 } else { place + 1 }
+    let after = place + 1;
+    if after % 4 != 0 {
+        return (after, slot + 1);
+    }
+    if after == count {
+        return (0, first);
+    }
+    (after, slot + (stride - 3))
+}
+
+// The first slot that comes in and is found full, from the cursor on and going round, and the place after it. The slot
+// is then out with the seat. All are looked at if none is full.
+fn find_full(
+    machine: &Machine,
+    seat: &mut SlotSeat,
+    number: u32,
+    cursor: usize,
+) -> Option<(usize, usize)>
+    requires table { seat.old.table_id ≡ machine.now.table.shared.table_id }
+    requires number { (number < machine.now.set_up.config.cores + machine.now.set_up.config.banks) ×
+        (seat.old.me.0.number ≡ number) }
+    requires idle { (seat.old.me.0.spent ≡ false) × (seat.old.me.0.mine.stage ≡ Idle) ×
+        (seat.old.me.1 ≡ []) }
+    ensures table { (seat.new.table_id ≡ seat.old.table_id) × (seat.new.id ≡ seat.old.id) }
+    ensures found { MatchOption result
+        (FindsNone machine.now.set_up number cursor seat.old.me seat.new.me)
+        (λ f. FindsFull machine.now.set_up number cursor f seat.old.me seat.new.me) }
+    ensures within { IfSome result (λ f. f.1 < 256) }
+{
+    let config = &machine.set_up.config;
+    slots_are_few(config);
+    let count = incoming_count(config, number);
+    let first = incoming(config, number, 0);
+    let stride = incoming_stride(config, number);
+    let mut place = cursor % count;
+    let mut slot = incoming(config, number, place);
+    for n in 0..count {
+        let next = next_place(place, slot, count, first, stride);
+        if look_in(&machine.table.shared, seat, slot) != 0 {
+            return Some((slot, next.0));
+        }
+        place = next.0;
+        slot = next.1;
+    }
+    None
 }
 
 impl Mailbox {
@@ -33,57 +88,15 @@ impl Mailbox {
         if self.inbox.hand().is_some() {
             return Take::HandFull;
         }
-        let count = self.slots_in(machine);
-        let mut place = self.cursor % count;
-        for n in 0..count {
-            let slot = self.slot_at(machine, place);
-            let after = place_after(place, count);
-            if self.take_at(machine, slot) {
-                self.cursor = after;
-                return Take::Taken;
-            }
-            place = after;
-        }
-        Take::Nothing
-    }
-
-    // How many slots come in.
-    fn slots_in(&self, machine: &Machine) -> usize
-        requires { IsAt machine.now self.now }
-        ensures count { result ≡ incoming_count self.now.cores self.now.banks self.now.number }
-        ensures within { (4 ≤ result) × (result ≤ 256) }
-    {
-        incoming_count(&machine.set_up.config, self.number)
-    }
-
-    // The slot of a place among those that come in.
-    fn slot_at(&self, machine: &Machine, place: usize) -> usize
-        requires seat { IsAt machine.now self.now }
-        requires place { place < incoming_count self.now.cores self.now.banks self.now.number }
-        ensures slot { result ≡ incoming self.now.cores self.now.banks self.now.number place }
-        ensures end { EndsAt machine.now.set_up result self.now.number }
-    {
-        incoming(&machine.set_up.config, self.number, place)
-    }
-
-    // Takes the message of a slot into the empty hand.
-    fn take_at(&mut self, machine: &Machine, slot: usize) -> bool
-        requires seat { IsAt machine.now self.old }
-        requires stands { Stands machine.now self.old }
-        requires slot { EndsAt machine.now.set_up slot self.old.number }
-        requires hand { self.old.inbox.hand ≡ None }
-        ensures seat { IsAt machine.now self.new × Stays self.old self.new }
-        ensures stands { Stands machine.now self.new }
-        ensures outbox { (hold self.new).outbox ≡ (hold self.old).outbox }
-        ensures taken { TakesAt machine.now.set_up slot result self.old self.new }
-    {
         seats_stand();
-        if look_in(&machine.table.shared, &mut self.seat, slot) == 0 {
-            return false;
-        }
+        let Some((slot, after)) = find_full(machine, &mut self.seat, self.number, self.cursor)
+        else {
+            return Take::Nothing;
+        };
         let message = receive(&machine.table.shared, &mut self.seat, slot);
         let _body: Body = message.body;
         self.inbox.fill_hand(message);
-        true
+        self.cursor = after;
+        Take::Taken
     }
 }

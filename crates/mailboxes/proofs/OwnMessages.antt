@@ -44,11 +44,11 @@ own_taken z cores number b c m same to all hand held =
     }
 
 -- the message of a slot that was found full is in the hand
-pub own_after : (z : SetUp) (cores number cursor : ℕ) (f : ℕ × ℕ) (old new : SeatState) (message : Message)
-    (b c : InboxState Message) → cores ≡ z.config.cores → FindsFull z number cursor f old new →
+pub own_after : (z : SetUp) (cores number start slots : ℕ) (f : ℕ × ℕ) (old new : SeatState) (message : Message)
+    (b c : InboxState Message) → cores ≡ z.config.cores → FindsFull z number start slots f old new →
     new.0.mine.stage ≡ Reading f.0 message → AllOwn cores number b → c ≡ inbox (Some message) b.held →
     AllOwn cores number c
-own_after z cores number cursor f old new message b c alike found stage all is =
+own_after z cores number start slots f old new message b c alike found stage all is =
     let same : Reading f.0 found.1 ≡ Reading f.0 message =
     sym (ap (λ (s : SeatState). s.0.mine.stage) found.6) ∙ stage in
     let one : found.1 ≡ message = cc in

@@ -92,29 +92,26 @@ TakenNothing looks p q =
     ((hold q).looks ≡ (hold p).looks ++ looks) × (q.inbox.hand ≡ p.inbox.hand) × ((hold q).taken ≡ (hold p).taken)
     × (q.cursor ≡ p.cursor) × SameOutgoing p q
 
--- the slot f.0 that comes in was found full, and is out with the seat: the n slots before it, from the cursor on and
--- going round, were found empty. f.1 is the place after it
-abbrev pub FindsFull : SetUp → ℕ → ℕ → ℕ × ℕ → SeatState → SeatState → Type 0
-FindsFull z number cursor f s t =
+-- of so many slots that come in, from a place on and going round, f.0 was found full, and is out with the seat: the k
+-- before it were found empty. f.1 is the place after it
+abbrev pub FindsFull : SetUp → ℕ → ℕ → ℕ → ℕ × ℕ → SeatState → SeatState → Type 0
+FindsFull z number start slots f s t =
     let cores = z.config.cores in
     let banks = z.config.banks in
-    let place = λ (n : ℕ). (cursor + n) % incoming_count cores banks number in
-    (n : ℕ) × (m : Message) × (n < incoming_count cores banks number)
-    × (f.0 ≡ incoming cores banks number (place n)) × (f.1 ≡ (place n + 1) % incoming_count cores banks number)
-    × (m.to ≡ node_of z number)
+    let place = λ (k : ℕ). (start + k) % incoming_count cores banks number in
+    (k : ℕ) × (m : Message) × (k < slots) × (f.0 ≡ incoming cores banks number (place k))
+    × (f.1 ≡ (place k + 1) % incoming_count cores banks number) × (m.to ≡ node_of z number)
     × (t ≡ (
-      with_hold s.0 (looking s.0.mine (found_empty cores banks number cursor n ++ (f.0, 1) ∷ []) (Reading f.0 m)),
+      with_hold s.0 (looking s.0.mine (found_empty cores banks number start k ++ (f.0, 1) ∷ []) (Reading f.0 m)),
       (f.0, Some m) ∷ [],
     ))
 
--- all slots that come in were found empty
-abbrev pub FindsNone : SetUp → ℕ → ℕ → SeatState → SeatState → Type 0
-FindsNone z number cursor s t =
-    let cores = z.config.cores in
-    let banks = z.config.banks in
+-- all of them were found empty
+abbrev pub FindsNone : SetUp → ℕ → ℕ → ℕ → SeatState → SeatState → Type 0
+FindsNone z number start slots s t =
     t ≡ (
       with_hold s.0
-          (looking s.0.mine (found_empty cores banks number cursor (incoming_count cores banks number)) Idle),
+          (looking s.0.mine (found_empty z.config.cores z.config.banks number start slots) Idle),
       [],
     )
 

@@ -1,68 +1,120 @@
-use Rattle.std.proofs.Common.{◌+◌, ◌%◌, ◌<◌, sym, ap, ◌∙◌, subst, arith}
-use Rattle.seat_rule.specs.declared.views.SetUp.{SetUp}
-use Rattle.seat_rule.specs.Plays.{SeatState}
-use Rattle.mailboxes.specs.Places.{EndsAt, incoming, incoming_count}
-use Rattle.mailboxes.proofs.EmptySlots.{first_full, one_more_empty, place_ends, place_on}
+use Rattle.std.proofs.Common.{◌≡◌, ℕ, ◌+◌, ◌-◌, ◌*◌, ◌%◌, ◌<◌, ◌≤◌, sym, ap, refl, ◌∙◌, subst, arith}
+use Rattle.std.proofs.Math.Nat.{mod-add-mod}
+use Rattle.mailboxes.specs.Places.{incoming_count}
+use Rattle.mailboxes.proofs.EmptySlots.{first_slot, found_on, full_on, last_place, none_on, none_yet, place_ends, place_on}
 use Rattle.mailboxes.proofs.taking.find_full.Goals as goal
 
-pub next_place-next-requires : goal.next_place-next-requires
-next_place-next-requires c =
+pub returns-in-Some-clause-found : goal.returns-in-Some-clause-found
+returns-in-Some-clause-found c =
+    let z = c.args.machine.now.set_up in
+    let s = c.args.seat.now.me in
+    let count = c.incoming_count-count.ensures in
+    let column : ℕ = c.args.cursor % c.incoming_count-count.result % 4 in
+    let e : c.args.cursor ≡ c.args.cursor + 0 = omega arith in
+    full_on z c.args.number c.args.cursor 0 (c.args.cursor % c.incoming_count-count.result) s s
+    (none_yet z c.args.number c.args.cursor s c.requires.idle.1 c.requires.idle.2)
+    (λ j. e j % count.count j) (4 - column) (incoming_count z.config.cores z.config.banks c.args.number) c.in-Some.found
+    c.find_in_link.new.seat.me
+    (subst (λ n. 0 + (4 - column) ≤ n) count.count (let m = count.within.0 in omega (arith, m)))
+    c.in-Some.ensures.found
+
+pub loop-n-init : goal.loop-n-init
+loop-n-init c =
+    let z = c.args.machine.now.set_up in
+    let s = c.args.seat.now.me in
+    let cursor : ℕ = c.args.cursor in
+    let count = c.incoming_count-count.ensures.count in
+    let start : ℕ = cursor % c.incoming_count-count.result in
+    let column : ℕ = start % 4 in
+    let e : cursor ≡ cursor + 0 = omega arith in
+    let first = first_slot z.config.cores z.config.banks c.args.number start c.incoming-slot.result
+    c.incoming-slot.ensures.slot in
+    let next = c.next_link-link.ensures z.config.cores z.config.banks c.args.number count c.incoming-first.ensures.slot
+    c.incoming_stride-stride.ensures.stride first.1 first.2 in
+    let far : start - column + 4 ≡ start + (0 + (4 - column)) = omega arith in (
+      c.find_in_link.ensures.table.0,
+      c.find_in_link.ensures.table.1,
+      none_on z c.args.number cursor 0 start s s
+          (none_yet z c.args.number cursor s c.requires.idle.1 c.requires.idle.2) (λ j. e j % count j) (4 - column)
+          (0 + (4 - column)) c.find_in_link.new.seat.me refl c.in_default.ensures.found,
+      next.0 ∙ ap (λ m. m % c.incoming_count-count.result) far
+          ∙ mod-add-mod cursor c.incoming_count-count.result (0 + (4 - column))
+          ∙ (λ j. (cursor + (0 + (4 - column))) % count j),
+      next.1,
+      next.2,
+    )
+
+pub returns-in-Some-find_in_link-clause-found : goal.returns-in-Some-find_in_link-clause-found
+returns-in-Some-find_in_link-clause-found c =
     let z = c.args.machine.now.set_up in
     let i = c.loop-n.invariant in
     let count = c.incoming_count-count.ensures in
-    let stride = c.incoming_stride-stride.ensures.within in
-    let few = c.slots_are_few.ensures in
-    let at = place_ends z c.args.number c.args.cursor c.loop-n.n c.loop-n.place c.loop-n.slot c.requires.number.0
-    (subst (λ k. 0 < k) count.count (omega (arith, count.within.0))) i.3 i.4 in
-    record {
-      within = (
-        subst (λ k. c.loop-n.place < k) (sym count.count) at.0,
-        count.within.1,
-        omega (arith, at.1, few),
-        stride.0,
-        stride.1,
-      );
-    }
+    let column : ℕ = c.args.cursor % c.incoming_count-count.result % 4 in
+    let looks : ℕ = 4 * c.loop-n.n + (4 - column) in
+    full_on z c.args.number c.args.cursor looks c.loop-n.link.0 c.args.seat.now.me c.loop-n.seat.me i.2 i.3 4
+    (incoming_count z.config.cores z.config.banks c.args.number) c.in-Some-find_in_link.found
+    c.find_in_link-in-loop-n.new.seat.me
+    (subst (λ n. looks + 4 ≤ n) count.count (let t = c.loop-n-test.true in omega (arith, t)))
+    c.in-Some-find_in_link.ensures.found
 
-pub look_in-requires-clause-slot : goal.look_in-requires-clause-slot
-look_in-requires-clause-slot c =
-    let m = c.args.machine.now in
+pub next_link-link-requires-in-loop-n : goal.next_link-link-requires-in-loop-n
+next_link-link-requires-in-loop-n c =
+    let z = c.args.machine.now.set_up in
     let i = c.loop-n.invariant in
+    let column : ℕ = c.args.cursor % c.incoming_count-count.result % 4 in
     let count = c.incoming_count-count.ensures in
-    let at = place_ends m.set_up c.args.number c.args.cursor c.loop-n.n c.loop-n.place c.loop-n.slot
-    c.requires.number.0 (subst (λ k. 0 < k) count.count (omega (arith, count.within.0))) i.3 i.4 in
-    let ends = subst (λ (z : SetUp). EndsAt z c.loop-n.slot c.args.number) (sym m.keyed) at.1 in
-    (ends.0, ends.1 ∙ sym c.requires.number.1 ∙ sym (ap (λ (s : SeatState). s.0.number) i.2))
-
-pub returns-then-look_in-ne0-clause-found : goal.returns-then-look_in-ne0-clause-found
-returns-then-look_in-ne0-clause-found c =
-    let m = c.args.machine.now in
-    let z = m.set_up in
-    let i = c.loop-n.invariant in
-    let count = c.incoming_count-count.ensures.count in
-    let next = c.next_place-next.ensures.next z.config.cores z.config.banks c.args.number count
-    c.incoming-first.ensures.slot c.incoming_stride-stride.ensures.stride i.4 in
-    first_full z c.args.number c.args.cursor c.loop-n.n c.loop-n.slot c.look_in.result c.args.seat.now.me
-    c.loop-n.seat.me c.look_in.new.seat.me c.requires.number.1 i.2
-    (i.4 ∙ ap (incoming z.config.cores z.config.banks c.args.number) i.3) m.table.shared.key m.keyed
-    c.look_in.ensures.saw c.next_place-next.result.0 (next.0 ∙ (λ j. (i.3 j + 1) % count j))
-    (subst (λ k. c.loop-n.n < k) count c.loop-n-test.true) c.if-look_in-ne0.true
+    let few = c.slots_are_few.ensures in
+    let at = place_ends z c.args.number c.args.cursor (4 * c.loop-n.n + (4 - column)) c.loop-n.link.0 c.loop-n.link.1
+    c.requires.number.0 (subst (λ k. 0 < k) count.count (omega (arith, count.within.0))) i.3 i.4 in (
+      subst (λ n. c.loop-n.link.0 + 4 ≤ n) (sym count.count)
+          (let near = at.0 in let even = i.5 in omega (arith, near, even)),
+      count.within.1,
+      omega (arith, at.1, few),
+      c.incoming_stride-stride.ensures.within.1,
+    )
 
 pub loop-n-preserved : goal.loop-n-preserved
 loop-n-preserved c =
-    let m = c.args.machine.now in
-    let z = m.set_up in
+    let z = c.args.machine.now.set_up in
     let i = c.loop-n.invariant in
+    let cursor : ℕ = c.args.cursor in
     let count = c.incoming_count-count.ensures.count in
-    let next = c.next_place-next.ensures.next z.config.cores z.config.banks c.args.number count
-    c.incoming-first.ensures.slot c.incoming_stride-stride.ensures.stride i.4 in (
-      c.look_in.ensures.table.0 ∙ i.0,
-      c.look_in.ensures.table.1 ∙ i.1,
-      one_more_empty z c.args.number c.args.cursor c.loop-n.n c.loop-n.slot c.look_in.result c.args.seat.now.me
-          c.loop-n.seat.me c.look_in.new.seat.me c.requires.number.1 i.2
-          (i.4 ∙ ap (incoming z.config.cores z.config.banks c.args.number) i.3) m.table.shared.key m.keyed
-          c.look_in.ensures.saw c.if-look_in-ne0.false,
-      next.0 ∙ (λ j. (i.3 j + 1) % count j)
-          ∙ place_on c.args.cursor c.loop-n.n (incoming_count z.config.cores z.config.banks c.args.number),
+    let column : ℕ = cursor % c.incoming_count-count.result % 4 in
+    let looks : ℕ = 4 * c.loop-n.n + (4 - column) in
+    let more : looks + 4 ≡ 4 * (c.loop-n.n + 1) + (4 - column) = omega arith in
+    let next = c.next_link-link-in-loop-n.ensures z.config.cores z.config.banks c.args.number count
+    c.incoming-first.ensures.slot c.incoming_stride-stride.ensures.stride i.4 i.5 in
+    let seat = c.find_in_link-in-loop-n.ensures.table in (
+      seat.0 ∙ i.0,
+      seat.1 ∙ i.1,
+      none_on z c.args.number cursor looks c.loop-n.link.0 c.args.seat.now.me c.loop-n.seat.me i.2 i.3 4
+          (4 * (c.loop-n.n + 1) + (4 - column)) c.find_in_link-in-loop-n.new.seat.me more
+          c.in_default-find_in_link.ensures.found,
+      next.0 ∙ (λ j. (c.loop-n.link.0 + 4) % count j)
+          ∙ place_on cursor looks 4 c.loop-n.link.0 (incoming_count z.config.cores z.config.banks c.args.number) i.3
+          ∙ ap (λ m. (cursor + m) % incoming_count z.config.cores z.config.banks c.args.number) more,
       next.1,
+      next.2,
     )
+
+pub returns-clause-found : goal.returns-clause-found
+returns-clause-found c =
+    let z = c.args.machine.now.set_up in
+    let i = c.loop-n.invariant in
+    let cursor : ℕ = c.args.cursor in
+    let count = c.incoming_count-count.ensures in
+    let all : ℕ = c.incoming_count-count.result in
+    let column : ℕ = cursor % all % 4 in
+    let looks : ℕ = 4 * c.loop-n.n + (4 - column) in
+    let whole : all ≡ incoming_count z.config.cores z.config.banks c.args.number = count.count in
+    let past = c.loop-n-test.false in
+    let end = c.loop-n.auto.n-end in
+    let some = count.within.0 in
+    let done : looks ≡ all - column = omega (arith, whole, past, end, some) in
+    let rest : looks + column ≡ incoming_count z.config.cores z.config.banks c.args.number =
+    (let d = done in omega (arith, d, whole, some)) in
+    let last = last_place cursor all column (omega (arith, some)) (omega arith) in
+    found_on z c.args.number cursor looks (cursor % all - column) c.args.seat.now.me c.loop-n.seat.me i.2
+    (last ∙ ap (λ m. (cursor + m) % all) (sym done) ∙ (λ j. (cursor + looks) % whole j)) column
+    (incoming_count z.config.cores z.config.banks c.args.number) c.find_in_link-2.result c.find_in_link-2.new.seat.me rest
+    c.find_in_link-2.ensures.found

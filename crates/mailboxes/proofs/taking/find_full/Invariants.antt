@@ -1,17 +1,14 @@
-use Rattle.std.proofs.Common.{◌≡◌, ◌+◌, ◌%◌, []}
-use Rattle.seat_rule.specs.declared.views.Stage.TheVariants.{Idle}
-use Rattle.seat_views.specs.Seated.{with_hold}
-use Rattle.seat_rule.specs.Plays.{looking}
-use Rattle.mailboxes.specs.Places.{found_empty, incoming, incoming_count}
+use Rattle.std.proofs.Common.{◌≡◌, ◌+◌, ◌-◌, ◌*◌, ◌%◌}
+use Rattle.mailboxes.specs.BoxMoves.{FindsNone}
+use Rattle.mailboxes.specs.Places.{incoming, incoming_count}
 use Rattle.mailboxes.proofs.taking.find_full.Given as goal
 
--- all slots so far were found empty, and the place and the slot are the next ones
+-- all slots so far were found empty, and the link is the next one
 abbrev pub invariant-loop-n : goal.invariant-loop-n
 invariant-loop-n l =
-    let v = l.initial.seat.me.0 in
-    let cores = l.machine.set_up.config.cores in
-    let banks = l.machine.set_up.config.banks in
-    (l.seat.table_id ≡ l.initial.seat.table_id) × (l.seat.id ≡ l.initial.seat.id)
-    × (l.seat.me ≡ (with_hold v (looking v.mine (found_empty cores banks l.number l.cursor l.n) Idle), []))
-    × (l.place ≡ (l.cursor + l.n) % incoming_count cores banks l.number)
-    × (l.slot ≡ incoming cores banks l.number l.place)
+    let z = l.machine.set_up in
+    let looks = 4 * l.n + (4 - l.column) in
+    (l.seat.table_id ≡ l.fn.seat.table_id) × (l.seat.id ≡ l.fn.seat.id)
+    × FindsNone z l.number l.cursor looks l.fn.seat.me l.seat.me
+    × (l.link.0 ≡ (l.cursor + looks) % incoming_count z.config.cores z.config.banks l.number)
+    × (l.link.1 ≡ incoming z.config.cores z.config.banks l.number l.link.0) × (l.link.0 % 4 ≡ 0)

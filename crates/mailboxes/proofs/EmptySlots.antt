@@ -19,7 +19,8 @@ use Rattle.mailboxes.specs.Places.{EndsAt, found_empty, incoming, incoming_count
 use Rattle.mailboxes.proofs.LinkEnds.{slot_ends}
 
 -- the place after the n-th from a start is so far from there
-pub place_on : (start n k place count : ℕ) → place ≡ (start + n) % count → (place + k) % count ≡ (start + (n + k)) % count
+pub place_on : (start n k place count : ℕ) → place ≡ (start + n) % count →
+    (place + k) % count ≡ (start + (n + k)) % count
 place_on start n k place count is =
     let whole : start + n + k ≡ start + (n + k) = omega arith in
     ap (λ m. (m + k) % count) is ∙ mod-add-mod (start + n) count k ∙ ap (λ m. m % count) whole

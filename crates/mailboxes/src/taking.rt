@@ -1,5 +1,5 @@
 //! A seat takes messages out of slots.
-ghost use Rattle.std.specs.Prelude.{◌≡◌, ℕ, ◌+◌, ◌*◌, ◌%◌, ◌<◌, ◌≤◌, [], false, cond, nat_lt, None, IfSome, MatchOption};
+ghost use Rattle.std.specs.Prelude.{◌≡◌, ℕ, ◌+◌, ◌*◌, ◌%◌, ◌<◌, ◌≤◌, [], false, cond, nat_lt, IfSome, MatchOption};
 ghost use Rattle.seat_rule.specs.declared.views.Stage.TheVariants.{Idle};
 ghost use Rattle.mailboxes.specs.Places.{incoming, incoming_count};
 ghost use Rattle.mailboxes.specs.BoxMoves.{FindsFull, FindsNone, IsAt, Stands, Stays, Takes, hold};

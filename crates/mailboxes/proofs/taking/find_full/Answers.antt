@@ -1,7 +1,8 @@
 use Rattle.std.proofs.Common.{◌≡◌, ℕ, ◌+◌, ◌-◌, ◌*◌, ◌%◌, ◌<◌, ◌≤◌, sym, ap, refl, ◌∙◌, subst, arith}
 use Rattle.std.proofs.Math.Nat.{mod-add-mod}
 use Rattle.mailboxes.specs.Places.{incoming_count}
-use Rattle.mailboxes.proofs.EmptySlots.{first_slot, found_on, full_on, last_place, none_on, none_yet, place_ends, place_on}
+use Rattle.mailboxes.proofs.EmptySlots.{first_slot, found_on, full_on, last_place, none_on, none_yet}
+use Rattle.mailboxes.proofs.EmptySlots.{place_ends, place_on}
 use Rattle.mailboxes.proofs.taking.find_full.Goals as goal
 
 pub returns-in-Some-clause-found : goal.returns-in-Some-clause-found
@@ -116,5 +117,6 @@ returns-clause-found c =
     let last = last_place cursor all column (omega (arith, some)) (omega arith) in
     found_on z c.args.number cursor looks (cursor % all - column) c.args.seat.now.me c.loop-n.seat.me i.2
     (last ∙ ap (λ m. (cursor + m) % all) (sym done) ∙ (λ j. (cursor + looks) % whole j)) column
-    (incoming_count z.config.cores z.config.banks c.args.number) c.find_in_link-2.result c.find_in_link-2.new.seat.me rest
+    (incoming_count z.config.cores z.config.banks c.args.number) c.find_in_link-2.result
+    c.find_in_link-2.new.seat.me rest
     c.find_in_link-2.ensures.found

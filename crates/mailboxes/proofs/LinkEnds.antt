@@ -1,5 +1,7 @@
 -- The ends of a link, from its number.
-use Rattle.std.proofs.Common.{◌≡◌, ℕ, ◌+◌, ◌-◌, ◌*◌, ◌%◌, ◌<◌, ◌≤◌, Bool, true, cond, ltb, leb}
+use Rattle.std.proofs.Common.{◌≡◌, ℕ, ◌+◌, ◌-◌, ◌*◌, ◌/◌, ◌%◌, ◌<◌, ◌≤◌, Bool, true, cond, ltb, leb}
+use mathlib.Core.Logic.{dite}
+use native.Mathlib.Decide.{dec_lt}
 use Rattle.std.proofs.Common.{sym, refl, ap, ◌∙◌, subst, arith, mod-eq_of_lt, mul_comm, mul_assoc, lt-ltb, le-ltb}
 use Rattle.std.proofs.Math.Nat.{mul-add-mod_self_right}
 use Rattle.std.proofs.lemmas.Nat.{div-mul-add, mul-add-lt}
@@ -9,7 +11,7 @@ use Rattle.network.specs.declared.message.Node.TheVariants.{Core, Bank, Dram}
 use Rattle.machine_table.specs.declared.config.Config.{Config}
 use Rattle.seat_rule.specs.declared.views.SetUp.{SetUp}
 use Rattle.seat_rule.specs.Rule.{source, target, node_of, to_of}
-use Rattle.mailboxes.specs.Places.{has_link_to, link_to, incoming_count}
+use Rattle.mailboxes.specs.Places.{EndsAt, has_link_to, link_to, incoming, incoming_count}
 
 -- a link from a core to a bank, and one from a bank to a core, are among the links
 down_below : (cores banks c b : ℕ) → c < cores → b < banks → c * banks + b < cores * banks
@@ -144,3 +146,40 @@ bank_end c number from le lt near z is =
 -- the slots of a link are numbered after it
 pub slot_link : (z : SetUp) (link place : ℕ) → to_of z (4 * link + place % 4) ≡ target z link
 slot_link z link place = ap (target z) (omega arith)
+
+-- a slot that comes in to a core's seat, or to a bank's, is one of the machine, and ends there
+core_slot : (z : SetUp) (number place : ℕ) → number < z.config.cores →
+    place < incoming_count z.config.cores z.config.banks number →
+    EndsAt z (incoming z.config.cores z.config.banks number place) number
+core_slot z number place lt few =
+    let cores : ℕ = z.config.cores in
+    let banks : ℕ = z.config.banks in
+    let near = core_in cores banks number (place / 4) lt (omega (arith, few)) in
+    let within = up_within cores banks (place / 4) number near lt in
+    rw (lt-ltb number cores lt) (
+      omega (arith, within),
+      slot_link z (cores * banks + (place / 4 * cores + number)) place
+          ∙ core_end z.config number (place / 4) lt near z refl,
+    )
+
+bank_slot : (z : SetUp) (number place : ℕ) → z.config.cores ≤ number → number < z.config.cores + z.config.banks →
+    place < incoming_count z.config.cores z.config.banks number →
+    EndsAt z (incoming z.config.cores z.config.banks number place) number
+bank_slot z number place le below few =
+    let cores : ℕ = z.config.cores in
+    let banks : ℕ = z.config.banks in
+    let near = bank_in cores banks number (place / 4) le (omega (arith, few)) in
+    let within = down_within cores banks (place / 4) (number - cores) near (omega (arith, le, below)) in
+    rw (le-ltb number cores le) (
+      omega (arith, within),
+      slot_link z (place / 4 * banks + (number - cores)) place
+          ∙ bank_end z.config number (place / 4) le below near z refl,
+    )
+
+-- each slot that comes in to a seat is one of the machine, and ends there
+pub slot_ends : (z : SetUp) (number place : ℕ) → number < z.config.cores + z.config.banks →
+    place < incoming_count z.config.cores z.config.banks number →
+    EndsAt z (incoming z.config.cores z.config.banks number place) number
+slot_ends z number place below few =
+    dite (dec_lt number z.config.cores) (λ lt. core_slot z number place lt few)
+    (λ no. bank_slot z number place (omega arith) below few)

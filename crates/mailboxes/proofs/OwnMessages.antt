@@ -1,6 +1,6 @@
 -- What comes in to a seat goes to its own core or bank.
 use Rattle.std.proofs.Common.{◌≡◌, ℕ, ◌+◌, ◌-◌, ◌==◌, ◌&&◌, Bool, true, false, cond, nat_lt, Some}
-use Rattle.std.proofs.Common.{ap, ◌∙◌, arith, sym, refl, ⊎_elim}
+use Rattle.std.proofs.Common.{ap, ◌∙◌, arith, sym, refl}
 use mathlib.Core.Logic.{dite}
 use native.Mathlib.Decide.{dec_lt}
 use Rattle.std.specs.Prelude.{slice_get}
@@ -10,13 +10,10 @@ use Rattle.network.specs.declared.message.Message.{Message}
 use Rattle.inbox.specs.Inboxes.{InboxState, inbox}
 use Rattle.seat_views.proofs.Lemmas.{some_is}
 use Rattle.seat_rule.specs.declared.views.SetUp.{SetUp}
-use Rattle.seat_views.specs.declared.views.View.{View}
 use Rattle.seat_rule.specs.declared.views.Stage.TheVariants.{Reading}
-use Rattle.seat_rule.specs.declared.views.Hold.{Hold}
-use Rattle.seat_rule.specs.Plays.{SeatState, saw_in}
+use Rattle.seat_rule.specs.Plays.{SeatState}
 use Rattle.seat_rule.specs.Rule.{node_of}
-use Rattle.atomic_table.specs.Table.{step}
-use mathlib.Core.Option.{none}
+use Rattle.mailboxes.specs.BoxMoves.{FindsFull}
 use Rattle.mailboxes.specs.Places.{AllOwn, is_own}
 
 both : (a b : Bool) → a ≡ true → b ≡ true → (a && b) ≡ true
@@ -47,17 +44,14 @@ own_taken z cores number b c m same to all hand held =
     }
 
 -- the message of a slot that was found full is in the hand
-pub own_after : (z key : SetUp) (cores number k r : ℕ) (old new : SeatState) (message : Message)
-    (b c : InboxState Message) → key ≡ z → cores ≡ z.config.cores → old.0.number ≡ number →
-    saw_in key (step 0 k 0 0 none) old r new → (r ≡ 0 → ⊥) → new.0.mine.stage ≡ Reading k message →
-    AllOwn cores number b → c ≡ inbox (Some message) b.held → AllOwn cores number c
-own_after z key cores number k r old new message b c same alike named saw some stage all is =
-    ⊎_elim (λ e. absurd (some e.0))
-    (λ s.
-    let found : Reading k s.1.0 ≡ Reading k message = sym (ap (λ (v : View Hold). v.mine.stage) s.1.1) ∙ stage in
-    let one : s.1.0 ≡ message = cc in
-    let to : message.to ≡ node_of z number =
-    ap (λ (m : Message). m.to) (sym one) ∙ s.1.3 ∙ (λ i. node_of (same i) (named i)) in
-    own_taken z cores number b c message alike to all (ap (λ (y : InboxState Message). y.hand) is)
-    (ap (λ (y : InboxState Message). y.held) is))
-    saw
+pub own_after : (z : SetUp) (cores number start slots : ℕ) (f : ℕ × ℕ) (old new : SeatState) (message : Message)
+    (b c : InboxState Message) → cores ≡ z.config.cores → FindsFull z number start slots f old new →
+    new.0.mine.stage ≡ Reading f.0 message → AllOwn cores number b → c ≡ inbox (Some message) b.held →
+    AllOwn cores number c
+own_after z cores number start slots f old new message b c alike found stage all is =
+    let same : Reading f.0 found.1 ≡ Reading f.0 message =
+    sym (ap (λ (s : SeatState). s.0.mine.stage) found.6) ∙ stage in
+    let one : found.1 ≡ message = cc in
+    own_taken z cores number b c message alike (ap (λ (m : Message). m.to) (sym one) ∙ found.5) all
+    (ap (λ (y : InboxState Message). y.hand) is)
+    (ap (λ (y : InboxState Message). y.held) is)

@@ -5,7 +5,9 @@ use Rattle.std.specs.List.{list_any}
 use Rattle.network.specs.declared.message.Message.{Message}
 use Rattle.seat_rule.specs.declared.views.Hold.{Hold}
 use Rattle.seat_rule.specs.Rule.{node_of, seat_count}
-use Rattle.seat_rule.specs.Plays.{SamePart, Standing, ones}
+use Rattle.seat_rule.specs.declared.views.Stage.TheVariants.{Idle, Reading}
+use Rattle.seat_rule.specs.Plays.{SamePart, SeatState, Standing, looking, ones}
+use Rattle.seat_views.specs.Seated.{with_hold}
 use Rattle.mailboxes.specs.declared.machine.Machine.{Machine}
 use Rattle.mailboxes.specs.declared.mailbox.Mailbox.{Mailbox}
 use Rattle.seat_rule.specs.declared.views.SetUp.{SetUp}
@@ -90,10 +92,28 @@ TakenNothing looks p q =
     ((hold q).looks ≡ (hold p).looks ++ looks) × (q.inbox.hand ≡ p.inbox.hand) × ((hold q).taken ≡ (hold p).taken)
     × (q.cursor ≡ p.cursor) × SameOutgoing p q
 
--- the message of the slot was taken, or the slot was found empty
-abbrev pub TakesAt : SetUp → ℕ → Bool → Mailbox → Mailbox → Type 0
-TakesAt z k true p q = (m : Message) × TakenFrom z [] k m p q × (q.cursor ≡ p.cursor)
-TakesAt z k false p q = TakenNothing ((k, 0) ∷ []) p q
+-- of so many slots that come in, from a place on and going round, f.0 was found full, and is out with the seat: the k
+-- before it were found empty. f.1 is the place after it
+abbrev pub FindsFull : SetUp → ℕ → ℕ → ℕ → ℕ × ℕ → SeatState → SeatState → Type 0
+FindsFull z number start slots f s t =
+    let cores = z.config.cores in
+    let banks = z.config.banks in
+    let place = λ (k : ℕ). (start + k) % incoming_count cores banks number in
+    (k : ℕ) × (m : Message) × (k < slots) × (f.0 ≡ incoming cores banks number (place k))
+    × (f.1 ≡ (place k + 1) % incoming_count cores banks number) × (m.to ≡ node_of z number)
+    × (t ≡ (
+      with_hold s.0 (looking s.0.mine (found_empty cores banks number start k ++ (f.0, 1) ∷ []) (Reading f.0 m)),
+      (f.0, Some m) ∷ [],
+    ))
+
+-- all of them were found empty
+abbrev pub FindsNone : SetUp → ℕ → ℕ → ℕ → SeatState → SeatState → Type 0
+FindsNone z number start slots s t =
+    t ≡ (
+      with_hold s.0
+          (looking s.0.mine (found_empty z.config.cores z.config.banks number start slots) Idle),
+      [],
+    )
 
 -- with an empty hand, the first slot that comes in and was found full was emptied into the hand, from the cursor on and
 -- going round; the cursor is now after it. Or all slots that come in were found empty. A full hand stays, and nothing

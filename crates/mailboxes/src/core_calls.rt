@@ -1,7 +1,7 @@
 //! What a core's seat does with its core alone: it issues an operation, advances the core's time, and answers look-ups
 //! of the core.
 ghost use Rattle.std.specs.Prelude.{◌≡◌, ◌||◌, ◌<◌, ◌≤◌, ◌++◌, ◌∷◌, [], true, is_none, length, option_map};
-ghost use Rattle.std.specs.Prelude.{OnOk, OnErr, vec_capacity};
+ghost use Rattle.std.specs.Prelude.{◌≢◌, ◌⊎◌, false, Err, OnOk, OnErr, vec_capacity};
 ghost use Rattle.physiological_order.specs.declared.operation.Op.{Op};
 ghost use Rattle.private_cache.specs.CopyTable.{victim_for};
 ghost use Rattle.core_pts.specs.CoreTable as core_table;
@@ -17,13 +17,15 @@ use machine_table::Refusal;
 use network::LineNo;
 use physiological_order::{Op, Record};
 
-// Makes room for one more in both lists; false if allocation failed.
+// Makes room for one more in both lists; false if one of them is full and allocation failed.
 fn has_room(issued: &mut Vec<Op>, records: &mut Vec<Record>) -> bool
     ensures issued { (issued.new.items ≡ issued.old.items) ×
         (result ≡ true → length issued.new.items < vec_capacity issued.new) }
     ensures records { (records.new.items ≡ records.old.items) ×
         (result ≡ true → length records.new.items < vec_capacity records.new) }
     ensures kept { vec_capacity records.old ≤ vec_capacity records.new }
+    ensures wanted { result ≡ false → (vec_capacity issued.old ≤ length issued.old.items)
+        ⊎ (vec_capacity records.old ≤ length records.old.items) }
 {
     let one_more = issued.reserve(1).is_ok();
     let one_record_more = records.reserve(1).is_ok();
@@ -32,7 +34,9 @@ fn has_room(issued: &mut Vec<Op>, records: &mut Vec<Record>) -> bool
 
 // Whether a core's seat can be given an operation, and why not; of lists it says nothing.
 fn may_issue(is_stopped: bool, core: &Core) -> Result<(), Refusal>
-    ensures { (op : Op) → result ≡ issue_answer is_stopped (core_table.issue core.now op).0 }
+    ensures answer { (op : Op) →
+        result ≡ issue_answer is_stopped (core_table.issue core.now op).0 }
+    ensures sure { result ≢ Err Refusal.NoMemory }
 {
     if is_stopped {
         return Err(Refusal::Stopped);
@@ -65,7 +69,8 @@ impl CoreSeat {
 
     /// Gives the core its next operation, which is open then. Stopped exactly if the seat is stopped; else Busy
     /// exactly if an operation is open; else TooMany exactly if the core was issued 4,294,967,295 operations; else
-    /// NoMemory only if allocation failed. A refusal changes nothing.
+    /// NoMemory only if the list of operations or that of records is full and allocation failed. A refusal changes
+    /// nothing.
     pub fn issue(&mut self, machine: &Machine, op: Op) -> Result<(), Refusal>
         requires { IsCoreSeat machine.now self.old }
         ensures seat { IsCoreSeat machine.now self.new × SamePlace self.old self.new }
@@ -76,6 +81,9 @@ impl CoreSeat {
             (core_table.issue self.old.part.core op).1 (self.old.issued.items ++ op ∷ [])) }
         ensures refused { OnErr result (hold self.new.mail ≡ hold self.old.mail) }
         ensures stopped { self.new.is_stopped ≡ self.old.is_stopped }
+        ensures memory { result ≡ Err Refusal.NoMemory →
+            (vec_capacity self.old.issued ≤ length self.old.issued.items)
+            ⊎ (vec_capacity self.old.records ≤ length self.old.records.items) }
     {
         may_issue(self.is_stopped, &self.part.core)?;
         if !has_room(&mut self.issued, &mut self.records) {

@@ -1,5 +1,5 @@
 //! The links of a seat: which one goes to a node, and which slots come in.
-ghost use Rattle.std.specs.Prelude.{◌≡◌, ◌+◌, ◌*◌, ◌≤◌, ◌<◌, true};
+ghost use Rattle.std.specs.Prelude.{◌≡◌, ◌+◌, ◌*◌, ◌≤◌, ◌<◌, true, cond, nat_lt};
 ghost use Rattle.machine_table.specs.SetUp.{is_good};
 ghost use Rattle.seat_rule.specs.declared.views.SetUp.{SetUp};
 ghost use Rattle.seat_rule.specs.Rule.{slot_count, source, target, node_of, to_of};
@@ -52,6 +52,20 @@ pub fn incoming_count(config: &Config, number: u32) -> usize
         config.banks
     } else {
         config.cores
+    };
+    4 * ends as usize
+}
+
+/// How far the first slots of two links are apart that come in to a seat one after the other.
+pub fn incoming_stride(config: &Config, number: u32) -> usize
+    requires { is_good config.now ≡ true }
+    ensures stride { result ≡ 4 * cond (nat_lt number config.now.cores) config.now.cores config.now.banks }
+    ensures within { (4 ≤ result) × (result ≤ 256) }
+{
+    let ends = if number < config.cores {
+        config.cores
+    } else {
+        config.banks
     };
     4 * ends as usize
 }

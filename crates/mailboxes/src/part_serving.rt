@@ -1,6 +1,8 @@
 //! A core, a bank or a DRAM answers messages, and its seat sends what it answers.
-ghost use Rattle.std.specs.Prelude.{◌≡◌, ℕ, Bool, ◌≤◌, ◌⊎◌, IsTrue, true, false, Some, Err, is_some};
-ghost use Rattle.network.specs.Sends.{sent_in};
+ghost use Rattle.std.specs.Prelude.{◌≡◌, ℕ, Bool, ◌≤◌, ◌⊎◌, IsTrue, true, false, Option, Some, None, Err, is_some, []};
+ghost use Rattle.network.specs.Sends.{sent_by, sent_in};
+ghost use Rattle.network.specs.declared.message.Node.{Node};
+ghost use Rattle.inbox.specs.Inboxes.{inbox};
 ghost use Rattle.inbox.specs.declared.answer.Refusal.TheVariants.{NoMemory};
 ghost use Rattle.inbox.specs.Effects.{Effect, LeavesPart, NeverNoMemory};
 ghost use Rattle.inbox.specs.Serving.{HaveCases, Serves, WantsMemory, is_quiet, needs, order_of};
@@ -85,6 +87,33 @@ fn answered(is_core: bool, outbox: &mut Outbox, reaction: Reaction) -> Answer<Me
     }
 }
 
+// Whether whatever a part would send, and the delivered message, find their places: they want two of the held list at
+// most.
+fn is_roomy(outbox: &Outbox, places: u32) -> bool
+    ensures { result ≡ true → (is_core : Bool) (sends : Option (Node × Bool)) →
+        finds_places is_core outbox.now places sends ≡ true }
+{
+    places >= 2 && outbox.can_send_out()
+}
+
+// Whether what a part would send, if anything, and the delivered message find their places. The part is asked only if
+// not all would.
+fn finds_room<P: Part>(
+    is_core: bool,
+    part: &P,
+    outbox: &Outbox,
+    message: &Message,
+    places: u32,
+) -> bool
+    requires { IsTrue (P.has_case part.now message.now) }
+    ensures { result ≡ finds_places is_core outbox.now places (sent_by (P.table part.now message.now)) }
+{
+    if is_roomy(outbox, places) {
+        return true;
+    }
+    finds_places(is_core, outbox, places, &part.sends(message))
+}
+
 /// Hands a message to the part, if all that it would send finds a place, and sends that.
 pub(crate) fn react<P: Part>(
     is_core: bool,
@@ -98,7 +127,7 @@ pub(crate) fn react<P: Part>(
         part.old (P.table part.old message.now) result part.new outbox.new }
     ensures fits { (result ≡ Answer.Held) ⊎ (needs result ≤ places) }
 {
-    if !finds_places(is_core, outbox, places, &part.sends(message)) {
+    if !finds_room(is_core, part, outbox, message, places) {
         return Answer::Refused(Refusal::Full);
     }
     match part.deliver(message) {
@@ -106,6 +135,13 @@ pub(crate) fn react<P: Part>(
         Err(PartError::Exhausted) => Answer::Refused(Refusal::Exhausted),
         Err(PartError::NoMemory) => Answer::Refused(Refusal::NoMemory),
     }
+}
+
+// Whether no message came in that isn't served.
+fn is_empty(came_in: &Inbox<Message>) -> bool
+    ensures { result ≡ true → came_in.now ≡ inbox None [] }
+{
+    came_in.hand().is_none() && came_in.places() == 256
 }
 
 /// Serves a message by the seat's part.
@@ -123,6 +159,9 @@ pub(crate) fn serve_part<P: Receiver<Message>>(
     ensures memory { result ≡ Err NoMemory → WantsMemory P.table P.takes_memory came_in.old.held
         part.old (order_of came_in.old.hand came_in.old.held) }
 {
+    if is_empty(came_in) {
+        return Ok(Served::Nothing);
+    }
     servings_do_one_of_five::<Message, P>();
     memory_is_wanted_for_the_served::<Message, P>();
     came_in.serve(part)

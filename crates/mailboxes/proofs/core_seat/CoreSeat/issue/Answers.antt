@@ -5,7 +5,7 @@ use Rattle.mailboxes.proofs.core_seat.CoreSeat.issue.Goals as goal
 pub unwrap-requires : goal.unwrap-requires
 unwrap-requires c =
     let done : c.issue-issued.result ≡ Ok tt = ap (λ r. r.0) c.issue-issued.ensures
-    ∙ issued_well c.args.self.now.is_stopped _ (c.in_ok-may_issue.ensures c.args.op) in rw done refl
+    ∙ issued_well c.args.self.now.is_stopped _ (c.in_ok-may_issue.ensures.answer c.args.op) in rw done refl
 
 pub change_core-requires-clause-change : goal.change_core-requires-clause-change
 change_core-requires-clause-change c =

@@ -1,25 +1,33 @@
-use Rattle.std.proofs.Common.{◌+◌, ◌%◌, ◌∙◌}
-use Rattle.mailboxes.specs.Places.{incoming, incoming_count}
-use Rattle.mailboxes.proofs.EmptySlots.{empty_more, next_place}
-use Rattle.mailboxes.proofs.Lemmas.{stays_on}
+use Rattle.std.proofs.Common.{◌<◌, ◌+◌, ◌%◌, ap, refl, subst, sym, ◌∙◌, arith, rules}
+use Rattle.seat_rule.specs.declared.views.SetUp.{SetUp}
+use Rattle.seat_rule.specs.Plays.{SeatState}
+use Rattle.seat_rule.specs.Rule.{slot_count}
+use Rattle.mailboxes.specs.Places.{incoming_count}
+use Rattle.mailboxes.proofs.EmptySlots.{place_ends}
+use Rattle.mailboxes.proofs.OwnMessages.{own_after}
 use Rattle.mailboxes.proofs.mailbox.Mailbox.take.Goals as goal
 
-pub loop-n-preserved : goal.loop-n-preserved
-loop-n-preserved c =
+pub receive-message-requires-clause-slot : goal.receive-message-requires-clause-slot
+receive-message-requires-clause-slot c =
     let p = c.args.self.now in
-    let i = c.loop-n.invariant in
-    let n = c.loop-n.n in
-    let q = c.take_at.new.self in
-    let seat = c.take_at.ensures.seat in
-    let none = c.if-take_at.ensures.taken in (
-      seat.0,
-      stays_on p c.loop-n.self q i.1 seat.1,
-      none.1 ∙ i.2,
-      empty_more p c.loop-n.self q n c.slot_at-slot.result
-          (c.slot_at-slot.ensures.slot
-          ∙ (λ j. incoming (i.1.cores j) (i.1.banks j) (i.1.number j) (i.5 j)))
-          i.3 none,
-      c.take_at.ensures.stands,
-      c.place_after-after.ensures ∙ (λ j. (i.5 j + 1) % c.slots_in-count.ensures.count j)
-          ∙ next_place p.cursor n (incoming_count p.cores p.banks p.number),
+    let m = c.args.machine.now in
+    let z = m.set_up in
+    let f = c.in-Some.ensures.found in
+    let few = f.2 in
+    let count = incoming_count z.config.cores z.config.banks p.number in
+    let ends = place_ends z p.number p.cursor f.0 ((p.cursor + f.0) % count) c.in-Some.slot c.requires.seat.1
+    (omega (arith, few)) refl f.3 in (
+      subst (λ (y : SetUp). c.in-Some.slot < slot_count y) (sym m.keyed) ends.1.0,
+      ap (λ (s : SeatState). s.0.spent) f.6 ∙ p.tied.live,
+      search rules,
     )
+
+pub invariant_of-self-2-clause-own : goal.invariant_of-self-2-clause-own
+invariant_of-self-2-clause-own c =
+    let p = c.args.self.now in
+    let z = c.args.machine.now.set_up in
+    own_after z p.cores p.number p.cursor (incoming_count z.config.cores z.config.banks p.number)
+    (c.in-Some.slot, c.in-Some.after) p.seat.me c.find_full.new.seat.me
+    c.receive-message.result p.inbox c.fill_hand.new.self c.requires.seat.2 c.in-Some.ensures.found
+    c.receive-message.ensures.taken.0 p.own
+    c.fill_hand.ensures

@@ -10,6 +10,7 @@ ghost use Rattle.private_cache.specs.CopyTable.{copy_of, place_for, victim_for, 
 ghost use Rattle.core_pts.specs.SetUp.{IsInRange};
 ghost use Rattle.core_pts.specs.CoreTable.{advance, attempt, attempt_on, attempt_unserved, attempt_without, evict};
 ghost use Rattle.core_pts.specs.FreeCopies.{free_copies};
+ghost use Rattle.core_pts.specs.OpenCopy.{open_victim, waits_without};
 ghost use Rattle.core_pts.specs.CoreTable.{index_of, is_pinned, issue, line_of, need, opened, pinned_line, to_bank};
 
 use crate::attempt::{Attempt, IssueError};
@@ -135,6 +136,16 @@ impl Core {
         (self.open_op.is_some(), self.is_out)
     }
 
+    /// Whether the open operation's request is out, and there is no copy of its line: an attempt is then answered
+    /// Waiting.
+    #[inline(always)]
+    pub fn is_waiting(&self) -> bool
+        ensures value { result ≡ waits_without self.now self.now.open_op }
+        ensures waiting { IsTrue result → attempt self.now ≡ (Some Attempt.Waiting, self.now) }
+    {
+        self.is_out && !self.has_copy && self.open_op.is_some()
+    }
+
     /// The copy of a line.
     #[inline(always)]
     pub fn copy(&self, line: LineNo) -> Option<&LineCopy>
@@ -153,6 +164,20 @@ impl Core {
             (λ victim. IsTrue (place_for (without_copy self.now.cache victim) line)) }
     {
         self.cache.victim(line)
+    }
+
+    /// The copy to evict to make room for the line of the open operation; `None` without one. Nothing is looked for.
+    #[inline(always)]
+    pub fn open_victim(&self) -> Option<LineNo>
+        ensures { result ≡ open_victim self.now self.now.open_op }
+    {
+        if self.has_copy {
+            return None;
+        }
+        match &self.open_op {
+            Some(op) => self.cache.victim_of_absent(self.line_of_word(op)),
+            None => None,
+        }
     }
 
     /// The lines of all copies, in rising order.
@@ -396,6 +421,7 @@ impl Core {
     /// Takes out the copy of a line; if the core owns it, the answer is the message that returns the line. On an error
     /// the core is unchanged: NotHere exactly when there is no copy, else Pinned exactly when the open operation is on
     /// the line. The call never answers NoRoom.
+    #[inline(always)]
     pub fn evict(&mut self, line: LineNo) -> Result<Option<Message>, CacheError>
         ensures result { (result, self.new) ≡ evict self.old line }
         ensures never { result ≢ Err CacheError.NoRoom }

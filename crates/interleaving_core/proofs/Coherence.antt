@@ -1,5 +1,5 @@
 -- What a step of the machine in memory keeps.
-use Rattle.std.proofs.Common.{◌≡◌, ◌≢◌, inl, inr, ℕ, IsSome, sym, ap, ◌∙◌, subst}
+use Rattle.std.proofs.Common.{◌≡◌, ◌≢◌, inl, inr, ℕ, IsSome, true, sym, ap, ◌∙◌, subst}
 use Rattle.network.specs.NumberedMessages.{at_number}
 use Rattle.machine_table.specs.declared.event.Event.{Event}
 use Rattle.machine_table.specs.declared.event.Event.TheVariants.{Deliver}
@@ -8,12 +8,14 @@ use Rattle.machine_table.specs.declared.event.Answer.TheVariants.{Refused}
 use Rattle.machine_table.specs.declared.event.Refusal.TheVariants.{NoSuch}
 use Rattle.machine_table.specs.Machine.{Machine}
 use Rattle.machine_table.specs.Transition.{transition}
-use Rattle.machine_table.specs.SetUp.{SetUpAs}
+use Rattle.machine_table.specs.SetUp.{SetUpAs, is_good}
 use Rattle.machine_theorem.specs.Kept.{Invariant}
 use Rattle.machine_theorem.proofs.Lemmas.{any_transition, delivery_found, messages_find_cases, set_up_same}
 use Rattle.machine_theorem.proofs.Lemmas.{transition_same}
 use Rattle.interleaving_core.specs.StepAnswers.{Stepped}
+use Rattle.interleaving_core.specs.RecordOrder.{AreNumbered}
 use Rattle.interleaving_core.proofs.ChangedParts.{had}
+use Rattle.interleaving_core.proofs.InOrder.{step_numbers}
 
 pub step_invariant : (m : Machine) (event : Event) (answer : Answer) (after : Machine) → Invariant m →
     Stepped m event answer after → Invariant after
@@ -26,6 +28,16 @@ pub step_set_up : (m : Machine) (event : Event) (answer : Answer) (after : Machi
 step_set_up m event answer after (inl is) =
     subst (λ (x : Answer × Machine). SetUpAs m x.1) (sym is) (transition_same m event)
 step_set_up m event answer after (inr none) = subst (SetUpAs m) (sym none.1) (set_up_same m)
+
+-- what is always true of a machine in memory
+pub step_keeps : (m : Machine) (event : Event) (answer : Answer) (after : Machine) →
+    (is_good m.config ≡ true) × Invariant m × AreNumbered 0 m.records → Stepped m event answer after →
+    (is_good after.config ≡ true) × Invariant after × AreNumbered 0 after.records
+step_keeps m event answer after kept stepped = (
+  ap is_good (step_set_up m event answer after stepped).config ∙ kept.0,
+  step_invariant m event answer after kept.1 stepped,
+  step_numbers m event answer after kept.2 stepped,
+)
 
 -- the delivery of a message in flight finds its part, and its case there
 pub step_found : (m : Machine) (event : Event) (answer : Answer) (after : Machine) → Invariant m →

@@ -10,6 +10,7 @@ mod MaskedCores
 mod MemoryAnswers
 mod OpenedOps
 mod Only
+mod OwnVictims
 mod PartRows
 mod OpenCounts
 mod Parts

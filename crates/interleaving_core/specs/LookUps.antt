@@ -1,6 +1,8 @@
 -- What can be looked up in a machine. A core or a bank that isn't there has nothing.
-use Rattle.std.specs.Prelude.{ℕ, Bool, true, false, List, [], Option, Some, None, option_map, slice_get}
+use Rattle.std.specs.Prelude.{ℕ, ◌/◌, Bool, true, false, List, [], Option, Some, None, option_map, slice_get}
 use Rattle.std.specs.Prelude.{if◌then◌else◌}
+use Rattle.physiological_order.specs.declared.operation.Op.{Op}
+use Rattle.physiological_order.specs.Order.{address}
 use Rattle.line_sets.specs.SetTable.{all_listed}
 use Rattle.network.specs.declared.message.Body.{Body}
 use Rattle.network.specs.declared.message.Body.TheVariants.{ShReq, ExReq}
@@ -23,6 +25,11 @@ victim_of line (Some core) = victim_for core.cache line
 
 abbrev pub victim : Machine → ℕ → ℕ → Option ℕ
 victim m core line = victim_of line (slice_get m.cores core)
+
+-- the copy to evict to make a place for the line of a core's open operation
+abbrev pub victim_for_core : Machine → ℕ → Option (Op × Bool) → Option ℕ
+victim_for_core m core None = None
+victim_for_core m core (Some x) = victim m core (address x.0 / m.config.line_words)
 
 -- the lines of a core's copies, and those of a bank's entries that are settled, set by set
 abbrev pub copies_of : Option CoreState → List ℕ

@@ -4,7 +4,8 @@ ghost use Rattle.network.specs.NumberedMessages.{IsRising, at_number};
 ghost use Rattle.ranked_lines.specs.Rising.{sorted};
 ghost use Rattle.interleaving_core.specs.LookUps.{copies, entries, free_copies, is_request, make_room};
 ghost use Rattle.machine_table.specs.Machine.{open_op};
-ghost use Rattle.interleaving_core.specs.LookUps.{room_at, victim};
+ghost use Rattle.interleaving_core.specs.LookUps.{room_at, victim, victim_for_core};
+ghost use Rattle.machine_theorem.specs.Kept.{Invariant};
 ghost use Rattle.interleaving_core.specs.CoreMasks.{IsMask, is_idle, is_trying};
 
 use crate::machine_state::MachineState;
@@ -93,6 +94,18 @@ impl MachineState {
         ensures { result ≡ victim self.now core line }
     {
         self.cores.get(core as usize)?.victim(line)
+    }
+
+    // The copy to evict to make a place for the line of a core's open operation.
+    #[inline(always)]
+    pub(crate) fn open_victim(&self, core: u32) -> Option<LineNo>
+        requires { Invariant self.now }
+        ensures { result ≡ victim_for_core self.now core (open_op self.now core) }
+    {
+        let Some(own) = self.core(core) else {
+            return None;
+        };
+        own.open_victim()
     }
 
     // The line to evict from a bank so that a request that waits for room there finds it.

@@ -9,7 +9,7 @@ use physiological_order::Record;
 /// The answers that have no record. It takes two bytes, where an `Answer`, which may have a record, takes 72. The order
 /// is that of `Answer`, with a refusal in place of a completion, so that `answer_of` needs no jump.
 #[derive(Clone, Copy)]
-pub(crate) enum PlainAnswer {
+pub enum PlainAnswer {
     Issued,
     /// Nothing changes, or the machine is stopped if times are exhausted.
     Refused(Refusal),

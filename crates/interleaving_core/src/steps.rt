@@ -10,7 +10,7 @@ ghost use Rattle.interleaving_core.specs.StepAnswers.{Stepped, TakesMemory, asks
 use crate::core_masks::{note, note_attempt, note_delivery};
 use crate::machine_state::MachineState;
 use crate::operations;
-use crate::plain_answer::{PlainAnswer, answer_in, answer_of, plain_of, stop_after};
+use crate::plain_answer::{PlainAnswer, plain_of, stop_after};
 use crate::reactions::{conclude, respond};
 use crate::records::{keep, reserve, stop};
 use machine_table::{Answer, Event, Refusal};
@@ -62,6 +62,21 @@ impl MachineState {
         keep(&mut self.records, &answer);
         stop(&mut self.is_stopped, &answer);
         plain_of(&answer)
+    }
+
+    // The same. Most attempts find a core that waits for its line: these take few instructions, and no call.
+    #[inline(always)]
+    fn try_core(&mut self, core: u32) -> Option<PlainAnswer>
+        requires { Invariant self.old }
+        ensures { (answer_in self.new.records result, self.new) ≡ attempt_at self.old core
+            (slice_get self.old.cores core) }
+    {
+        if let Some(own) = self.core(core) {
+            if own.is_waiting() {
+                return Some(PlainAnswer::Waiting);
+            }
+        }
+        self.attempt(core)
     }
 
     // A core's time goes on by one.
@@ -139,26 +154,24 @@ impl MachineState {
 
     // What the table answers to an event, if there is memory for it.
     #[inline(always)]
-    fn answer(&mut self, event: Event) -> Result<Answer, AllocError>
+    fn answer(&mut self, event: Event) -> Result<Option<PlainAnswer>, AllocError>
         requires { Invariant self.old }
-        ensures done { IfOk result (λ answer. (answer, self.new) ≡ transition self.old event) }
+        ensures done { IfOk result (λ plain. (answer_in self.new.records plain, self.new) ≡
+            transition self.old event) }
         ensures refused { OnErr result (self.new ≡ self.old) }
         ensures wanted { OnErr result (TakesMemory self.old (transition self.old event)) }
         ensures memory { OnErr result (IsTrue (asks_memory self.old event)) }
     {
         if self.is_stopped {
-            return Ok(Answer::Refused(Refusal::Stopped));
+            return Ok(Some(PlainAnswer::Refused(Refusal::Stopped)));
         }
         match event {
-            Event::Issue(core, op) => Ok(answer_of(self.issue(core, op)?)),
-            Event::Attempt(core) => {
-                let plain = self.attempt(core);
-                Ok(answer_in(&self.records, plain))
-            }
-            Event::Deliver(number) => Ok(answer_of(self.deliver(number)?)),
-            Event::EvictCache(core, line) => Ok(answer_of(self.evict_cache(core, line))),
-            Event::EvictBank(bank, line) => Ok(answer_of(self.evict_bank(bank, line))),
-            Event::Advance(core) => Ok(answer_of(self.advance(core))),
+            Event::Issue(core, op) => Ok(Some(self.issue(core, op)?)),
+            Event::Attempt(core) => Ok(self.try_core(core)),
+            Event::Deliver(number) => Ok(Some(self.deliver(number)?)),
+            Event::EvictCache(core, line) => Ok(Some(self.evict_cache(core, line))),
+            Event::EvictBank(bank, line) => Ok(Some(self.evict_bank(bank, line))),
+            Event::Advance(core) => Ok(Some(self.advance(core))),
         }
     }
 
@@ -166,15 +179,15 @@ impl MachineState {
     /// operation, or answers a DRAM's first store of a line, the answer may be NoMemory instead, and the machine is as
     /// it was.
     #[inline(always)]
-    pub(crate) fn step(&mut self, event: Event) -> Answer
+    pub(crate) fn step(&mut self, event: Event) -> Option<PlainAnswer>
         requires { Invariant self.old }
-        ensures stepped { Stepped self.old event result self.new }
-        ensures memory { result ≡ Answer.Refused Refusal.NoMemory →
+        ensures stepped { Stepped self.old event (answer_in self.new.records result) self.new }
+        ensures memory { answer_in self.new.records result ≡ Answer.Refused Refusal.NoMemory →
             IsTrue (asks_memory self.old event) }
     {
         match self.answer(event) {
-            Ok(answer) => answer,
-            Err(AllocError) => Answer::Refused(Refusal::NoMemory),
+            Ok(plain) => plain,
+            Err(AllocError) => Some(PlainAnswer::Refused(Refusal::NoMemory)),
         }
     }
 }

@@ -15,13 +15,15 @@ ghost use Rattle.machine_theorem.specs.Coherence.{owners, coherent};
 ghost use Rattle.machine_theorem.specs.Kept.{Invariant};
 ghost use Rattle.interleaving_core.specs.LookUps.{copies, entries, free_copies, make_room};
 ghost use Rattle.machine_table.specs.Machine.{open_op};
-ghost use Rattle.interleaving_core.specs.LookUps.{victim};
+ghost use Rattle.interleaving_core.specs.LookUps.{victim, victim_for_core};
 ghost use Rattle.interleaving_core.specs.CoreMasks.{IsMask, is_idle, is_trying};
 ghost use Rattle.interleaving_core.specs.Reservation.{completes};
 ghost use Rattle.interleaving_core.specs.Midway.{IsMidway};
+ghost use Rattle.interleaving_core.specs.PartChanges.{answer_in};
 ghost use Rattle.interleaving_core.specs.StepAnswers.{Stepped, Ran, asks_memory};
 
 use crate::machine_state::MachineState;
+use crate::plain_answer::{PlainAnswer, answer_in};
 use core_pts::Core;
 use dram_mts::Dram;
 use llc_bank::Bank;
@@ -114,6 +116,16 @@ impl System {
         ensures found { (number : ℕ) → event ≡ Event.Deliver number → IsSome (at_number number
             self.old.mail.messages) →
             result ≢ Answer.Refused Refusal.NoSuch }
+    {
+        let plain = self.state.step(event);
+        answer_in(self.state.records(), plain)
+    }
+
+    /// One event, as `step` makes it, with its answer in two bytes: `None` if an operation is completed. The last record
+    /// is then its own.
+    #[inline(always)]
+    pub fn step_plain(&mut self, event: Event) -> Option<PlainAnswer>
+        ensures { Stepped self.old event (answer_in self.new.records result) self.new }
     {
         self.state.step(event)
     }
@@ -250,6 +262,14 @@ impl System {
         ensures { result ≡ victim self.now core line }
     {
         self.state.victim(core, line)
+    }
+
+    /// The same for the line of a core's open operation; `None` without one. The line is not looked for.
+    #[inline(always)]
+    pub fn open_victim(&self, core: u32) -> Option<LineNo>
+        ensures { result ≡ victim_for_core self.now core (open_op self.now core) }
+    {
+        self.state.open_victim(core)
     }
 
     /// The bank and the line to evict from it so that this message, a request that is held because there is no room,

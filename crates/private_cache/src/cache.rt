@@ -232,6 +232,7 @@ impl Cache {
 
     /// Takes out the copy of a line and gives it. NotHere exactly when there is no copy; else Pinned exactly when the
     /// line is the pinned one.
+    #[inline(always)]
     pub fn evict(&mut self, line: LineNo, pinned: Option<LineNo>) -> Result<LineCopy, CacheError>
         ensures { (result, self.new) ≡ evicted self.old line pinned (copy_of self.old line) }
     {
@@ -262,6 +263,22 @@ impl Cache {
         }
         let oldest = self.table.oldest(self.set_of(line))?;
         Some(LineNo(oldest))
+    }
+
+    /// The same for a line without a copy, which is not looked for.
+    #[inline(always)]
+    pub fn victim_of_absent(&self, line: LineNo) -> Option<LineNo>
+        requires { copy_of self.now line ≡ None }
+        ensures { result ≡ victim_for self.now line }
+    {
+        let set = self.set_of(line);
+        if self.table.has_room(set) {
+            return None;
+        }
+        match self.table.oldest(set) {
+            Some(oldest) => Some(LineNo(oldest)),
+            None => None,
+        }
     }
 
     /// The lines of all copies, in rising order.

@@ -13,7 +13,7 @@ use Rattle.machine_table.specs.declared.event.Answer.{Answer}
 use Rattle.machine_table.specs.declared.event.Answer.TheVariants as answer
 use Rattle.machine_table.specs.Machine.{Machine, open_op}
 use Rattle.machine_table.specs.Transition.{transition}
-use Rattle.interleaving_core.specs.LookUps.{make_room}
+use Rattle.interleaving_core.specs.LookUps.{make_room, victim_for_core}
 use Rattle.programs.specs.Acts.{Acts, next_in}
 use Rattle.schedules.specs.RoundSchedule.{Round, RoundStage, Stepping, Attempting, AttemptingAgain, Delivering}
 use Rattle.schedules.specs.RoundSchedule.{rounds, step_of, attempt_of, to_stage, numbers_in_flight}
@@ -22,7 +22,6 @@ use Rattle.schedules.specs.Runs.{Plan, Stage, Before, Within, Evicting, MakingRo
 use Rattle.schedules.specs.Runs.{Makes, Moves, Ends, next, next_at, begin, chosen, next_eviction, evict_bank, plan_of}
 use Rattle.schedules.specs.Runs.{does, tries, delivers, advances, eviction_leads, at_stage, after_answer}
 use Rattle.schedules.specs.Runs.{is_progress, is_times_end, is_no_room, is_held, are_over, programs_told}
-use Rattle.schedules.specs.Runs.{victim_for_core}
 use Rattle.schedules.specs.RunEvents.{FollowsPlan, stays, moves, makes, initial_position}
 use Rattle.schedules.specs.RoundEvents.{Standing, Part, step_events, copy_events, line_events, rising}
 use Rattle.schedules.specs.RoundEvents.{after_answer_to, after_event, after_events, followed_by, for_each, steps_on}

@@ -7,7 +7,7 @@ use Rattle.machine_table.specs.declared.event.Answer.{Answer}
 use Rattle.machine_table.specs.Machine.{Machine, open_op}
 use Rattle.machine_table.specs.Transition.{transition}
 use Rattle.machine_table.specs.Runs.{after_all}
-use Rattle.interleaving_core.specs.LookUps.{make_room}
+use Rattle.interleaving_core.specs.LookUps.{make_room, victim_for_core}
 use Rattle.programs.specs.declared.ends.End.{End}
 use Rattle.programs.specs.declared.ends.End.TheVariants.{AllDone, Stalled, TurnsUsed, Exhausted, NoMemory}
 use Rattle.programs.specs.Acts.{next_in}
@@ -15,7 +15,6 @@ use Rattle.schedules.specs.Schedules.{Choice, Does, Tries, Delivers, Advances, G
 use Rattle.schedules.specs.Runs.{Plan, Stage, Before, Within, Evicting, MakingRoom, OutOfTimes, Position, Continuation}
 use Rattle.schedules.specs.Runs.{Makes, Moves, Ends, next, next_at, begin, chosen, next_eviction, evict_bank}
 use Rattle.schedules.specs.Runs.{does, tries, delivers, advances, eviction_leads, onward, at_stage, after_answer}
-use Rattle.schedules.specs.Runs.{victim_for_core}
 use Rattle.schedules.specs.Runs.{is_progress, is_times_end, is_no_room, are_over}
 use Rattle.schedules.specs.RunEvents.{FollowsPlan, stays, moves, makes, Ended}
 use Rattle.schedules.proofs.Over.{each_over}

@@ -20,7 +20,7 @@ use Rattle.machine_table.specs.Machine.{Machine, operation_of, open_op, open_op_
 use Rattle.machine_table.specs.Transition.{transition}
 use Rattle.protocol.specs.Issued.{IsIssued, listed}
 use Rattle.machine_theorem.proofs.Lemmas.{after_all_same}
-use Rattle.interleaving_core.specs.LookUps.{make_room}
+use Rattle.interleaving_core.specs.LookUps.{make_room, victim_for_core}
 use Rattle.programs.specs.declared.ends.End.{End}
 use Rattle.programs.specs.declared.ends.End.TheVariants.{Stalled, TurnsUsed}
 use Rattle.programs.specs.Acts.{Acts, done_in}
@@ -28,7 +28,7 @@ use Rattle.schedules.specs.Schedules.{Choice, Does, Tries, Delivers, Advances, G
 use Rattle.schedules.specs.Runs.{Plan, Stage, Before, Within, Evicting, MakingRoom, OutOfTimes, Position, Continuation}
 use Rattle.schedules.specs.Runs.{Makes, Moves, Ends, next, next_at, begin, chosen, next_eviction, evict_bank}
 use Rattle.schedules.specs.Runs.{does, tries, delivers, advances, eviction_leads, onward, programs_told, at_stage}
-use Rattle.schedules.specs.Runs.{after_answer, victim_for_core, is_progress, is_times_end, is_advanced, is_no_room}
+use Rattle.schedules.specs.Runs.{after_answer, is_progress, is_times_end, is_advanced, is_no_room}
 use Rattle.schedules.specs.Runs.{are_over}
 use Rattle.schedules.specs.RunEvents.{FollowsPlan, stays, moves, makes, Ended}
 use Rattle.machine_theorem.specs.Service.{AreServed}

@@ -4,14 +4,14 @@ use Rattle.machine_table.specs.declared.event.Event.{Event}
 use Rattle.machine_table.specs.declared.event.Event.TheVariants.{Attempt, Advance, EvictCache, EvictBank, Deliver}
 use Rattle.machine_table.specs.declared.event.Answer.{Answer}
 use Rattle.machine_table.specs.Machine.{Machine, open_op}
-use Rattle.interleaving_core.specs.LookUps.{make_room}
+use Rattle.interleaving_core.specs.LookUps.{make_room, victim_for_core}
 use Rattle.programs.specs.declared.ends.End.{End}
 use Rattle.programs.specs.declared.ends.End.TheVariants.{NoMemory}
 use Rattle.programs.specs.Acts.{Acts}
 use Rattle.schedules.specs.Schedules.{Schedule, Choice, Does, Tries, Delivers, Advances, Goes, Over}
 use Rattle.schedules.specs.Runs.{Within, Evicting, MakingRoom, chosen, does, tries, delivers}
 use Rattle.schedules.specs.Runs.{advances}
-use Rattle.schedules.specs.Runs.{next_eviction, evict_bank, eviction_leads, victim_for_core, programs_told}
+use Rattle.schedules.specs.Runs.{next_eviction, evict_bank, eviction_leads, programs_told}
 use Rattle.schedules.specs.Runs.{told_advance, is_held, is_no_room}
 use Rattle.schedules.specs.Runs.{plan_of, Ends}
 use Rattle.schedules.specs.Notes.{Log, Noted, Point, at, position, Leads, Stops, Led}

@@ -1,6 +1,7 @@
 -- How a run notes the events that it makes.
 use Rattle.std.specs.Prelude.{◌≡◌, ℕ, Bool, true, false, ◌||◌, List, [], ◌∷◌, ◌++◌, Option, is_some, option_map, IsTrue}
 use Rattle.std.specs.Prelude.{Result, Ok, Err}
+use Rattle.physiological_order.specs.declared.operation.Record.{Record}
 use Rattle.machine_table.specs.declared.event.Event.{Event}
 use Rattle.machine_table.specs.declared.event.Event.TheVariants as event
 use Rattle.machine_table.specs.declared.event.Answer.{Answer}
@@ -8,6 +9,8 @@ use Rattle.machine_table.specs.declared.event.Answer.TheVariants.{Refused}
 use Rattle.machine_table.specs.declared.event.Refusal.TheVariants.{Exhausted as TimesEnd, NoMemory as NoMemoryAnswer}
 use Rattle.machine_table.specs.Machine.{Machine}
 use Rattle.machine_table.specs.Transition.{transition}
+use Rattle.interleaving_core.specs.declared.plain_answer.PlainAnswer.{PlainAnswer}
+use Rattle.interleaving_core.specs.PartChanges.{answer_in}
 use Rattle.interleaving_core.specs.StepAnswers.{asks_memory}
 use Rattle.programs.specs.declared.ends.End.{End}
 use Rattle.programs.specs.declared.ends.End.TheVariants.{AllDone, Stalled, TurnsUsed, Exhausted, NoMemory}
@@ -42,6 +45,11 @@ is_refused _ = false
 abbrev pub is_no_memory : Answer → Bool
 is_no_memory (Refused NoMemoryAnswer) = true
 is_no_memory _ = false
+
+-- the answer to an event, by the records afterwards
+abbrev pub answered : List Record → Result (Option PlainAnswer) End → Result Answer End
+answered records (Ok plain) = Ok (answer_in records plain)
+answered records (Err end) = Err end
 
 -- an event is answered by the table and noted; if the answer is that times are exhausted, the run is to end; and if an
 -- allocation failed, nothing changed, and the event asks for memory or is to be kept

@@ -8,10 +8,10 @@ use Rattle.machine_table.specs.declared.event.Event.TheVariants as event
 use Rattle.machine_table.specs.declared.event.Answer.{Answer}
 use Rattle.machine_table.specs.Machine.{Machine, open_op}
 use Rattle.machine_table.specs.Transition.{transition}
-use Rattle.interleaving_core.specs.LookUps.{make_room}
+use Rattle.interleaving_core.specs.LookUps.{make_room, victim_for_core}
 use Rattle.programs.specs.Acts.{Acts, next_in}
 use Rattle.schedules.specs.RoundSchedule.{numbers_in_flight}
-use Rattle.schedules.specs.Runs.{is_no_room, is_held, programs_told, told_advance, victim_for_core}
+use Rattle.schedules.specs.Runs.{is_no_room, is_held, programs_told, told_advance}
 
 -- a machine, and the programs of its cores
 pub record Standing (P : Type 0) : Type 0 where

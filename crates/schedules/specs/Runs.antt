@@ -1,15 +1,13 @@
 -- A run by a schedule: where it is, what comes next there, and where an answer leads.
-use Rattle.std.specs.Prelude.{ℕ, zero, suc, ◌+◌, ◌/◌, ◌==◌, Bool, true, false, ◌&&◌, ◌||◌, not, is_none, List}
+use Rattle.std.specs.Prelude.{ℕ, zero, suc, ◌+◌, ◌==◌, Bool, true, false, ◌&&◌, ◌||◌, not, is_none, List}
 use Rattle.std.specs.Prelude.{Option, Some, None, if◌then◌else◌}
-use Rattle.physiological_order.specs.declared.operation.Op.{Op}
-use Rattle.physiological_order.specs.Order.{address}
 use Rattle.machine_table.specs.declared.event.Event.{Event}
 use Rattle.machine_table.specs.declared.event.Event.TheVariants as event
 use Rattle.machine_table.specs.declared.event.Answer.{Answer}
 use Rattle.machine_table.specs.declared.event.Answer.TheVariants.{Completed, Waiting, Held, Advanced, Refused}
 use Rattle.machine_table.specs.declared.event.Refusal.TheVariants.{NoRoom, Exhausted as TimesEnd}
 use Rattle.machine_table.specs.Machine.{Machine, open_op}
-use Rattle.interleaving_core.specs.LookUps.{victim, make_room}
+use Rattle.interleaving_core.specs.LookUps.{victim_for_core, make_room}
 use Rattle.programs.specs.declared.ends.End.{End}
 use Rattle.programs.specs.declared.ends.End.TheVariants.{AllDone, Stalled, TurnsUsed, Exhausted}
 use Rattle.programs.specs.Acts.{Acts, next_in, done_in}
@@ -101,11 +99,6 @@ is_over acts m programs core = is_none (open_op m core) && is_none (next_in acts
 abbrev pub are_over : {P : Type 0} → Acts P → Machine → List P → ℕ → Bool
 are_over acts m programs zero = true
 are_over acts m programs (suc core) = are_over acts m programs core && is_over acts m programs core
-
--- the copy to evict to make a place for the line of a core's open operation
-abbrev pub victim_for_core : Machine → ℕ → Option (Op × Bool) → Option ℕ
-victim_for_core m core None = None
-victim_for_core m core (Some x) = victim m core (address x.0 / m.config.line_words)
 
 abbrev pub plan_of : {P S : Type 0} → Acts P → Schedule P S → ℕ → Plan P S
 plan_of acts schedule limit = record { acts = acts; schedule = schedule; limit = limit }

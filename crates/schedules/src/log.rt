@@ -1,12 +1,13 @@
 //! The events that a run made, each noted when it is answered.
-ghost use Rattle.std.specs.Prelude.{◌≡◌, ◌<◌, ◌++◌, ◌∷◌, [], false, ◌||◌, IsSome, None, OnErr, OnOk, Some};
+ghost use Rattle.std.specs.Prelude.{◌≡◌, ◌<◌, ◌++◌, ◌∷◌, [], false, ◌||◌, IsSome, List, None, OnErr, OnOk, Some};
 ghost use Rattle.std.specs.Prelude.{is_some, option_map, true};
-ghost use Rattle.schedules.specs.Notes.{Noted, is_no_memory, is_refused};
+ghost use Rattle.interleaving_core.specs.PartChanges.{answer_in};
+ghost use Rattle.schedules.specs.Notes.{Noted, answered, is_no_memory, is_refused};
 ghost use Rattle.schedules.specs.Runs.{is_advanced, is_times_end, is_held, is_progress, is_no_room};
 
-use interleaving_core::{Answer, Event, Refusal, System};
+use interleaving_core::{Event, PlainAnswer, Refusal, System};
 use machine_table::laws::every_answer_keeps_its_word;
-use physiological_order::Op;
+use physiological_order::{Op, Record};
 use programs::End;
 use std::alloc::{AllocError, Global};
 use std::marker::Model;
@@ -32,50 +33,54 @@ impl Model for Log {
     } };
 }
 
-// Whether an answer is more than Waiting, Held or a refusal.
-fn is_progress(answer: &Answer) -> bool
-    ensures { result ≡ is_progress answer.now }
+// Whether an answer, of a machine with any records, is more than Waiting, Held or a refusal.
+fn is_progress(plain: &Option<PlainAnswer>) -> bool
+    ensures { (records : List Record) → result ≡ is_progress (answer_in records plain.now) }
 {
-    !matches!(*answer, Answer::Waiting | Answer::Held | Answer::Refused(_))
+    match plain {
+        Some(PlainAnswer::Waiting | PlainAnswer::Held | PlainAnswer::Refused(_)) => false,
+        _ => true,
+    }
 }
 
-pub(crate) fn is_held(answer: &Answer) -> bool
-    ensures { result ≡ is_held answer.now }
+pub(crate) fn is_held(plain: &Option<PlainAnswer>) -> bool
+    ensures { (records : List Record) → result ≡ is_held (answer_in records plain.now) }
 {
-    matches!(*answer, Answer::Held)
+    matches!(*plain, Some(PlainAnswer::Held))
 }
 
-pub(crate) fn is_no_room(answer: &Answer) -> bool
-    ensures { result ≡ is_no_room answer.now }
+pub(crate) fn is_no_room(plain: &Option<PlainAnswer>) -> bool
+    ensures { (records : List Record) → result ≡ is_no_room (answer_in records plain.now) }
 {
-    matches!(*answer, Answer::Refused(Refusal::NoRoom))
+    matches!(*plain, Some(PlainAnswer::Refused(Refusal::NoRoom)))
 }
 
-pub(crate) fn is_advanced(answer: &Answer) -> bool
-    ensures { result ≡ is_advanced answer.now }
+pub(crate) fn is_advanced(plain: &Option<PlainAnswer>) -> bool
+    ensures { (records : List Record) → result ≡ is_advanced (answer_in records plain.now) }
 {
-    matches!(*answer, Answer::Advanced)
+    matches!(*plain, Some(PlainAnswer::Advanced))
 }
 
 // Whether an event was refused; only a refusal may end a run.
-fn is_refused(answer: &Answer) -> bool
-    ensures refused { result ≡ is_refused answer.now }
-    ensures goes_on { result ≡ false →
-        (is_no_memory answer.now ≡ false) × (is_times_end answer.now ≡ false) }
+fn is_refused(plain: &Option<PlainAnswer>) -> bool
+    ensures refused { (records : List Record) → result ≡ is_refused (answer_in records plain.now) }
+    ensures goes_on { (records : List Record) → result ≡ false →
+        (is_no_memory (answer_in records plain.now) ≡ false)
+        × (is_times_end (answer_in records plain.now) ≡ false) }
 {
-    matches!(*answer, Answer::Refused(_))
+    matches!(*plain, Some(PlainAnswer::Refused(_)))
 }
 
-fn is_no_memory(answer: &Answer) -> bool
-    ensures { result ≡ is_no_memory answer.now }
+fn is_no_memory(plain: &Option<PlainAnswer>) -> bool
+    ensures { (records : List Record) → result ≡ is_no_memory (answer_in records plain.now) }
 {
-    matches!(*answer, Answer::Refused(Refusal::NoMemory))
+    matches!(*plain, Some(PlainAnswer::Refused(Refusal::NoMemory)))
 }
 
-fn is_exhausted(answer: &Answer) -> bool
-    ensures { result ≡ is_times_end answer.now }
+fn is_exhausted(plain: &Option<PlainAnswer>) -> bool
+    ensures { (records : List Record) → result ≡ is_times_end (answer_in records plain.now) }
 {
-    matches!(*answer, Answer::Refused(Refusal::Exhausted))
+    matches!(*plain, Some(PlainAnswer::Refused(Refusal::Exhausted)))
 }
 
 impl Log {
@@ -157,16 +162,16 @@ impl Log {
 
     // An answered event is noted, for which memory was reserved.
     #[inline(always)]
-    fn note(&mut self, event: &Event, answer: &Answer)
+    fn note(&mut self, event: &Event, plain: &Option<PlainAnswer>)
         requires { 0 < self.old.reserved }
         ensures events { self.new.events ≡
             option_map (λ events. events ++ event.now ∷ []) self.old.events }
-        ensures progressed { self.new.has_progressed ≡ (self.old.has_progressed
-            || is_progress answer.now) }
+        ensures progressed { (records : List Record) → self.new.has_progressed ≡
+            (self.old.has_progressed || is_progress (answer_in records plain.now)) }
     {
         self.keep(event);
         if !self.has_progressed {
-            self.has_progressed = is_progress(answer);
+            self.has_progressed = is_progress(plain);
         }
     }
 }
@@ -174,24 +179,29 @@ impl Log {
 // Gives the machine an event and notes it. An error ends the run: Exhausted, where the event is noted, or NoMemory,
 // where nothing changed and it isn't. That comes only if the event asks for memory, or is to be kept.
 #[inline(always)]
-pub(crate) fn step(log: &mut Log, system: &mut System, event: &Event) -> Result<Answer, End>
-    ensures { Noted system.old log.old event.now result system.new log.new }
+pub(crate) fn step(
+    log: &mut Log,
+    system: &mut System,
+    event: &Event,
+) -> Result<Option<PlainAnswer>, End>
+    ensures { Noted system.old log.old event.now (answered system.new.records result)
+        system.new log.new }
 {
     every_answer_keeps_its_word();
     if log.reserve().is_err() {
         return Err(End::NoMemory);
     }
-    let answer = system.step(*event);
-    if !is_refused(&answer) {
-        log.note(event, &answer);
-        return Ok(answer);
+    let plain = system.step_plain(*event);
+    if !is_refused(&plain) {
+        log.note(event, &plain);
+        return Ok(plain);
     }
-    if is_no_memory(&answer) {
+    if is_no_memory(&plain) {
         return Err(End::NoMemory);
     }
-    log.note(event, &answer);
-    if is_exhausted(&answer) {
+    log.note(event, &plain);
+    if is_exhausted(&plain) {
         return Err(End::Exhausted);
     }
-    Ok(answer)
+    Ok(plain)
 }

@@ -1,22 +1,15 @@
 //! What a run looks up in the machine and the programs, and what it gives these.
-ghost use Rattle.std.specs.Prelude.{◌≡◌};
+ghost use Rattle.std.specs.Prelude.{◌≡◌, List};
+ghost use Rattle.interleaving_core.specs.PartChanges.{answer_in};
 ghost use Rattle.machine_table.specs.Machine.{open_op};
 ghost use Rattle.programs.specs.Acts.{next_in, done_in};
-ghost use Rattle.schedules.specs.Runs.{are_over, is_over, programs_told, told_advance, victim_for_core};
+ghost use Rattle.schedules.specs.Runs.{are_over, is_over, programs_told, told_advance};
 
 use crate::log::is_advanced;
-use interleaving_core::{Answer, System};
-use network::LineNo;
+use interleaving_core::{PlainAnswer, System};
+use physiological_order::Record;
 use programs::Step;
 use programs::program::Program;
-
-// The copy to evict for the line of a core's open operation.
-pub(crate) fn victim_for(system: &System, core: u32) -> Option<LineNo>
-    ensures { result ≡ victim_for_core system.now core (open_op system.now core) }
-{
-    let (op, _) = system.open_op(core)?;
-    system.victim(core, LineNo(op.word() / u64::from(system.line_words())))
-}
 
 // The next step of a core's program.
 pub(crate) fn next_in<P: Program>(programs: &mut [P], core: u32) -> Option<Step>
@@ -40,20 +33,25 @@ fn tell_done<P: Program>(programs: &mut [P], core: u32, received: Option<u64>)
     }
 }
 
-// Tells a core's program of a completion.
-pub(crate) fn tell<P: Program>(programs: &mut [P], answer: &Answer)
-    ensures { programs.new ≡ programs_told P.acts programs.old answer.now }
+// Tells a core's program of a completion, which the machine's last record is of.
+pub(crate) fn tell<P: Program>(system: &System, programs: &mut [P], plain: &Option<PlainAnswer>)
+    ensures { programs.new ≡ programs_told P.acts programs.old
+        (answer_in system.now.records plain.now) }
 {
-    if let Answer::Completed(record) = *answer {
+    if plain.is_some() {
+        return;
+    }
+    if let Some(record) = system.records().last() {
         tell_done(programs, record.core, record.received);
     }
 }
 
 // Tells a core's program that it has advanced.
-pub(crate) fn tell_advance<P: Program>(programs: &mut [P], core: u32, answer: &Answer)
-    ensures { programs.new ≡ told_advance P.acts programs.old core answer.now }
+pub(crate) fn tell_advance<P: Program>(programs: &mut [P], core: u32, plain: &Option<PlainAnswer>)
+    ensures { (records : List Record) → programs.new ≡
+        told_advance P.acts programs.old core (answer_in records plain.now) }
 {
-    if is_advanced(answer) {
+    if is_advanced(plain) {
         tell_done(programs, core, None);
     }
 }

@@ -6,7 +6,7 @@ ghost use Rattle.schedules.specs.Runs.{Within, Evicting, MakingRoom};
 ghost use Rattle.schedules.specs.Notes.{IsMade, Led, at, is_full, step_choice};
 
 use crate::log::{Log, is_held, is_no_room, step};
-use crate::look_ups::{tell, tell_advance, victim_for};
+use crate::look_ups::{tell, tell_advance};
 use interleaving_core::{Event, System};
 use network::MsgNo;
 use programs::program::Program;
@@ -23,8 +23,8 @@ pub(crate) fn make<P: Program, S>(
     ensures { IsMade {S = S} P.acts (Does event.now) false system.old programs.old log.old result
         system.new programs.new log.new }
 {
-    let answer = step(log, system, event)?;
-    tell(programs, &answer);
+    let plain = step(log, system, event)?;
+    tell(system, programs, &plain);
     Ok(())
 }
 
@@ -39,12 +39,12 @@ pub(crate) fn attempt<P: Program, S>(
     ensures { IsMade {S = S} P.acts (Tries core) (is_full result) system.old programs.old log.old
         result system.new programs.new log.new }
 {
-    let answer = step(log, system, &Event::Attempt(core))?;
-    if is_no_room(&answer) {
+    let plain = step(log, system, &Event::Attempt(core))?;
+    if is_no_room(&plain) {
         evict::<P, S>(system, log, core)?;
         return Ok(true);
     }
-    tell(programs, &answer);
+    tell(system, programs, &plain);
     Ok(false)
 }
 
@@ -54,7 +54,7 @@ fn evict<P: Program, S>(system: &mut System, log: &mut Log, core: u32) -> Result
         Led P.acts rule (at system.old programs log.old own (Evicting core)) result
         (at system.new programs log.new own Within) }
 {
-    let Some(line) = victim_for(system, core) else {
+    let Some(line) = system.open_victim(core) else {
         return Ok(());
     };
     step(log, system, &Event::EvictCache(core, line))?;
@@ -71,8 +71,8 @@ pub(crate) fn deliver<P: Program, S>(
     ensures { (programs : List P) → IsMade {S = S} P.acts (Delivers number) false
         system.old programs log.old result system.new programs log.new }
 {
-    let answer = step(log, system, &Event::Deliver(number))?;
-    if is_held(&answer) {
+    let plain = step(log, system, &Event::Deliver(number))?;
+    if is_held(&plain) {
         return evict_bank::<P, S>(system, log, number);
     }
     Ok(())
@@ -101,8 +101,8 @@ fn advance<P: Program, S>(
     ensures { IsMade {S = S} P.acts (Advances core) false system.old programs.old log.old result
         system.new programs.new log.new }
 {
-    let answer = step(log, system, &Event::Advance(core))?;
-    tell_advance(programs, core, &answer);
+    let plain = step(log, system, &Event::Advance(core))?;
+    tell_advance(programs, core, &plain);
     Ok(())
 }
 

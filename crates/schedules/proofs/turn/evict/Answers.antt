@@ -21,4 +21,4 @@ returns g c rule programs own =
     let a = c.args in
     evicted g.P.Program.acts rule a.system.now programs a.log.now own c.step.new.system
     c.step.new.log a.core c.in-Some.line (search rules)
-    (Ok c.in_ok-step.field-0) c.in_ok-step.ensures
+    (Ok _) c.in_ok-step.ensures

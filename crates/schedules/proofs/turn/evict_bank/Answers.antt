@@ -21,4 +21,4 @@ returns g c rule programs own =
     let a = c.args in
     room_made g.P.Program.acts rule a.system.now programs a.log.now own
     c.step.new.system c.step.new.log a.number c.in-Some.victim.0 c.in-Some.victim.1 (search rules)
-    (Ok c.in_ok-step.field-0) c.in_ok-step.ensures
+    (Ok _) c.in_ok-step.ensures

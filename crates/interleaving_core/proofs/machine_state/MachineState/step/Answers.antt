@@ -3,4 +3,4 @@ use Rattle.interleaving_core.proofs.machine_state.MachineState.step.Goals as goa
 
 pub returns-in-Ok-clause-memory : goal.returns-in-Ok-clause-memory
 returns-in-Ok-clause-memory c = λ none.
-    absurd (never_told _ c.args.event c.in-Ok.answer _ c.in-Ok.ensures.done none)
+    absurd (never_told _ c.args.event _ _ c.in-Ok.ensures.done none)

@@ -2,7 +2,7 @@
 use Rattle.std.proofs.Common.{◌≡◌, ℕ, zero, suc, ◌<◌, ◌≤◌, List, [], Some, replicate, refl, arith}
 use Rattle.std.specs.Prelude.{slice_get, slice_index_or}
 use Rattle.physiological_order.specs.declared.operation.Op.{Op}
-use Rattle.seat_rule.specs.States.{first}
+use Rattle.machine_theorem.specs.States.{first}
 
 module _ {X : Type 0} where
   pub first_at : (f : ℕ → X) (n k : ℕ) → k < n → slice_get (first f n) k ≡ Some (f k)

@@ -6,6 +6,7 @@ use Rattle.network.specs.declared.message.Message.{Message}
 use Rattle.network.specs.NumberedMessages.{IsRising, at_number, without_number}
 use Rattle.machine_theorem.specs.Bags.{weigh, SameBag, bag_of}
 use Rattle.machine_theorem.specs.States.{numbered_from}
+use Rattle.protocol.proofs.Lemmas.{Some_injective}
 
 -- numbers don't change a bag
 pub bag-numbered : (n : ℕ) (xs : List Message) → bag_of (numbered_from n xs) ≡ xs
@@ -32,9 +33,6 @@ as_many xs ys same = sym (each_one xs) ∙ same (λ x. 1) ∙ each_one ys
 pub bag-sent : (ms : List (ℕ × Message)) (n : ℕ) (q : Message) → SameBag (bag_of (ms ++ (n, q) ∷ [])) (q ∷ bag_of ms)
 bag-sent [] n q h = refl
 bag-sent (m ∷ ms) n q h = let e = bag-sent ms n q h in omega arith
-
-pub Some_injective : {X : Type 0} (x y : X) → Some x ≡ Some y → x ≡ y
-Some_injective x y e = cc
 
 -- a message that is found, and those without it
 pub bag-taken : (n : ℕ) (ms : List (ℕ × Message)) (m : Message) → at_number n ms ≡ Some m →

@@ -47,6 +47,7 @@ use Rattle.machine_theorem.proofs.Turns as turns
 use Rattle.machine_theorem.proofs.Routes.{GoesDown, ownership_of, both, core_and_bank, up_ends}
 use Rattle.machine_theorem.proofs.OnEntries.{IsFor, bank_goes}
 use Rattle.machine_theorem.proofs.DramWords.{words-insert_same, words-insert_other}
+use Rattle.machine_theorem.proofs.ByParts.{bank_by, shape_by}
 
 abbrev IsOwnedIf : ℕ → Option Entry → Type 0
 IsOwnedIf cores None = Unit {0}
@@ -98,28 +99,19 @@ module _ (config : Config) (opening : FinMap nat_cmp ℕ) (a : State) (s : IsKep
       → IsKept config opening (record a { banks = with_at a.banks b new; bag = bag; counts = counts })
   step new o front bag counts number banks lease sets here owned there bags others each move =
       record {
-        shape = record {
-          some_words = s.shape.some_words;
-          some_banks = s.shape.some_banks;
-          each_core = s.shape.each_core;
-          each_bank = with_at_cases (λ j y. IsBank config j y) a.banks b new (record {
-            numbered = number ∙ is.numbered;
-            banks = banks ∙ is.banks;
-            lease = lease ∙ is.lease;
-            sets = sets;
-            own = λ k ne. there k (λ q. ne (ap (λ (j : ℕ). j % config.banks) q)) ∙ is.own k ne;
-            owners = λ k y i. ⊎_elim
-                (λ (q : k ≡ l). subst (IsOwnedIf config.cores)
-                (sym here ∙ subst (λ (j : ℕ). entry_of new j ≡ Some y) q i) owned)
-                (λ (ne : k ≡ l → ⊥). is.owners k y (sym (there k ne) ∙ i))
-                (cases_eq k l);
-          }) (λ j ne. s.shape.each_bank j);
-          each_message = each;
-          cores_beyond = s.shape.cores_beyond;
-          banks_beyond = λ j le. with_at_other a.banks b new j (apart j le) ∙ s.shape.banks_beyond j le;
-          drams_beyond = s.shape.drams_beyond;
-          lists_beyond = s.shape.lists_beyond;
-        };
+        shape = shape_by s.shape.some_words s.shape.some_banks s.shape.each_core
+            (with_at_cases (λ j y. IsBank config j y) a.banks b new
+            (bank_by (number ∙ is.numbered) (banks ∙ is.banks) (lease ∙ is.lease) sets
+            (λ k ne. there k (λ q. ne (ap (λ (j : ℕ). j % config.banks) q)) ∙ is.own k ne)
+            (λ k y i. ⊎_elim
+            (λ (q : k ≡ l). subst (IsOwnedIf config.cores)
+            (sym here ∙ subst (λ (j : ℕ). entry_of new j ≡ Some y) q i) owned)
+            (λ (ne : k ≡ l → ⊥). is.owners k y (sym (there k ne) ∙ i))
+            (cases_eq k l)))
+            (λ j ne. s.shape.each_bank j))
+            each s.shape.cores_beyond
+            (λ j le. with_at_other a.banks b new j (apart j le) ∙ s.shape.banks_beyond j le)
+            s.shape.drams_beyond s.shape.lists_beyond;
         reached = turns.bank_turn config opening a new l (entry_seen o) front bag (sym (ap entry_seen here)) bags there
             others move s.reached;
       }
@@ -302,18 +294,12 @@ module _ (config : Config) (opening : FinMap nat_cmp ℕ) (before : State) (mess
   answered new reply route there move =
       let q = answer_to message reply in
       record {
-        shape = record {
-          some_words = s.shape.some_words;
-          some_banks = s.shape.some_banks;
-          each_core = s.shape.each_core;
-          each_bank = s.shape.each_bank;
-          each_message = ((goes_home.1, goes_home.0, route), s.shape.each_message.1);
-          cores_beyond = s.shape.cores_beyond;
-          banks_beyond = s.shape.banks_beyond;
-          drams_beyond = λ j le. with_at_other a.drams home_bank new j (apart config opening a s l j le)
-              ∙ s.shape.drams_beyond j le;
-          lists_beyond = s.shape.lists_beyond;
-        };
+        shape = shape_by s.shape.some_words s.shape.some_banks s.shape.each_core s.shape.each_bank
+            ((goes_home.1, goes_home.0, route), s.shape.each_message.1) s.shape.cores_beyond
+            s.shape.banks_beyond
+            (λ j le. with_at_other a.drams home_bank new j (apart config opening a s l j le)
+            ∙ s.shape.drams_beyond j le)
+            s.shape.lists_beyond;
         reached = turns.dram_turn config opening a new l
             (body_seen (core_of message.to) (core_of message.from) reply ∷ messages_of rest l) (q ∷ rest)
             (sym (messages_here q rest)) there (λ k ne. others k ne ∙ messages_there q rest k ne) move s.reached;

@@ -133,19 +133,15 @@ owner_is (core ∷ cores) line h =
     (owner_is cores line (omega arith))
     ∙ go (copy_of core.cache line) h
   where
+    none_or : (o : Option (List ℕ)) → or_other o None ≡ o
+    none_or None = refl
+    none_or (Some ws) = refl
+
     go : (o : Option LineCopy) → owner_in o + exclusive_copies cores line ≤ 1 → or_other (owner_words cores line)
         (owner_or (copy_or_none o) None) ≡ or_other (owned_words o) (owner_words cores line)
     go None h = none_or (owner_words cores line)
-      where
-        none_or : (o : Option (List ℕ)) → or_other o None ≡ o
-        none_or None = refl
-        none_or (Some ws) = refl
     go (Some copy) h = by_state (is_exclusive copy.state) h
       where
-        none_or : (o : Option (List ℕ)) → or_other o None ≡ o
-        none_or None = refl
-        none_or (Some ws) = refl
-
         by_state : (b : Bool) → cond b 1 0 + exclusive_copies cores line ≤ 1 → or_other (owner_words cores line)
             (cond b (Some copy.words) None) ≡ or_other (cond b (Some copy.words) None) (owner_words cores line)
         by_state true h = ap (λ o. or_other o (Some copy.words)) (none_owns cores line (omega arith))
@@ -187,10 +183,11 @@ module _ (cores : List CoreState) (line : ℕ) where
       go : (b : Bool) → by_line.granted_words copies (messages_of (bag_of xs) line) ≡ granted_words cores line
           (first_message (is_ownership_of line) xs) →
           by_line.granted_words copies (cond b (body_seen (core_of x.1.from) (core_of x.1.to) x.1.body ∷
-          messages_of (bag_of xs) line) (messages_of (bag_of xs) line)) ≡ granted_words cores line (cond (b && right.carries_ownership x.1.body)
-          (Some x) (first_message (is_ownership_of line) xs))
+          messages_of (bag_of xs) line) (messages_of (bag_of xs) line)) ≡ granted_words cores line
+          (cond (b && right.carries_ownership x.1.body) (Some x) (first_message (is_ownership_of line) xs))
       go true rest = with_ownership x.1 (messages_of (bag_of xs) line) (first_message (is_ownership_of line) xs) x.0
-          x.1.body rest ∙ sym (granted_if (right.carries_ownership x.1.body) x (first_message (is_ownership_of line) xs))
+          x.1.body rest
+          ∙ sym (granted_if (right.carries_ownership x.1.body) x (first_message (is_ownership_of line) xs))
       go false rest = rest
 
 -- words in a bank
@@ -223,8 +220,8 @@ stored_is (x ∷ xs) line = go (eqb x.1.line line) (stored_is xs line)
     go : (b : Bool) → by_line.stored_words (messages_of (bag_of xs) line) ≡ stored_words
         (first_message (is_store_of line) xs) →
         by_line.stored_words (cond b (body_seen (core_of x.1.from) (core_of x.1.to) x.1.body ∷
-        messages_of (bag_of xs) line) (messages_of (bag_of xs) line)) ≡ stored_words (cond (b && right.is_dram_store x.1.body) (Some x)
-        (first_message (is_store_of line) xs))
+        messages_of (bag_of xs) line) (messages_of (bag_of xs) line)) ≡
+        stored_words (cond (b && right.is_dram_store x.1.body) (Some x) (first_message (is_store_of line) xs))
     go true rest = with_store (core_of x.1.from) (core_of x.1.to) (messages_of (bag_of xs) line)
         (first_message (is_store_of line) xs) x.1.body rest
         ∙ sym (stored_if (right.is_dram_store x.1.body) x (first_message (is_store_of line) xs))

@@ -1,16 +1,14 @@
 -- A delivery to a core keeps the invariant.
-use Rattle.std.proofs.Common.{◌≡◌, ◌≢◌, ℕ, ◌%◌, ◌<◌, Bool, true, false, List, ◌∷◌, length, Option, Some, None}
+use Rattle.std.proofs.Common.{◌≡◌, ◌≢◌, ℕ, ◌%◌, ◌<◌, true, false, List, ◌∷◌, length, Option, Some, None}
 use Rattle.std.proofs.Common.{refl, sym, ap, ◌∙◌, subst}
 use Rattle.std.specs.Ordering.{nat_cmp}
 use Rattle.std.specs.FinMap.{FinMap}
-use Rattle.std.specs.List.{AllByRecursion as Each}
 use Rattle.std.specs.List.Sorted.{IsPermutation}
 use Rattle.std.proofs.lemmas.List.Sorted.{IsPermutation-refl}
 use Rattle.network.specs.declared.message.Node.TheVariants as node
 use Rattle.network.specs.declared.message.Body.{Body}
 use Rattle.network.specs.declared.message.Body.TheVariants as body
 use Rattle.network.specs.declared.message.Message.{Message}
-use Rattle.network.specs.declared.counts.Counts.{Counts}
 use Rattle.network.specs.Mail.{counted}
 use Rattle.line_sets.specs.SetTable.{Sets}
 use Rattle.private_cache.specs.declared.line_copy.LineCopy.{LineCopy}
@@ -26,13 +24,12 @@ use Rattle.machine_table.specs.declared.config.Config.{Config}
 use Rattle.machine_table.specs.Step.{reacted}
 use Rattle.protocol.specs.Machine as by_line
 use Rattle.protocol.specs.Machine.{Copy, Line, with_at, IsPinned, Answers, answer}
-use Rattle.machine_theorem.specs.PastWords.{IsReached}
 use Rattle.machine_theorem.proofs.PastWords.{goes_on}
 use Rattle.machine_theorem.specs.States.{State}
-use Rattle.machine_theorem.specs.Moves.{with_core}
-use Rattle.machine_theorem.specs.View.{copy_seen, copy_or_none, body_seen, messages_of, copy_in, core_seen}
+use Rattle.machine_theorem.specs.Moves.{with_core, with_answer}
+use Rattle.machine_theorem.specs.View.{copy_seen, copy_or_none, body_seen, messages_of, core_seen}
 use Rattle.machine_theorem.specs.View.{set_up, line_seen, view}
-use Rattle.machine_theorem.specs.Shape.{IsCore, GoesHome, HasShape}
+use Rattle.machine_theorem.specs.Shape.{IsCore}
 use Rattle.machine_theorem.specs.Kept.{IsKept}
 use Rattle.machine_theorem.proofs.KeptSteps.{shape_with, Goes}
 use Rattle.machine_theorem.proofs.Lookups.{put_here, put_there, put_sets, change_here, change_there, change_sets}
@@ -75,31 +72,27 @@ module _ (config : Config) (opening : FinMap nat_cmp ℕ) (before : State) (mess
   is : IsCore config c (a.issued c) core
   is = moves.is config opening a s c below
 
-  shape_of : (is_out : Bool) (kept : Sets LineCopy) → 0 < length kept.sets →
-      moves.HasRoom config opening a s c below core.open_op is_out kept → (bag : List Message) (counts : Counts) →
-      Each (GoesHome config) bag → HasShape config opening (record a {
-        cores = with_at a.cores c (record core { is_out = is_out; cache = kept });
-        bag = bag;
-        counts = counts;
-      })
-  shape_of is_out kept some room bag =
-      moves.shape config opening a s c below core.pts core.open_op is_out kept some room bag a.records
-
-  answered : (new : CoreState) (copy : LineCopy) → core_seen new ≡ record (core_seen core) { out = false } →
-      copy_in new l ≡ Some (copy_seen copy) → ((k : ℕ) → k ≢ l → copy_in new k ≡ copy_in core k) →
+  -- a reply is taken, and with it a copy
+  replied : (kept : Sets LineCopy) (copy : LineCopy) → 0 < length kept.sets → copy_of kept l ≡ Some copy →
+      ((k : ℕ) → k ≢ l → copy_of kept k ≡ copy_of core.cache k) →
       Answers c (line_seen config a l) (record (line_seen config a l) {
         copies = with_at (line_seen config a l).copies c (Some (copy_seen copy));
         messages = messages_of rest l;
-      }) →
-      IsReached (set_up config opening) (view config (record a { cores = with_at a.cores c new; bag = rest }))
-  answered new copy same here there answers =
+      }) → IsKept config opening (with_answer (with_core a c (record core { is_out = false; cache = kept })) rest None)
+  replied kept copy some here there answers =
       let y : Line = record (v.lines l) {
         copies = with_at ((v.lines l).copies) c (Some (copy_seen copy));
         messages = messages_of rest l;
       } in
-      core_turn config opening a c new l y (record (core_seen core) { out = false }) rest a.records
-      (ap (λ (o : Option Copy). record y { copies = with_at ((v.lines l).copies) c o }) (sym here)) (sym same) there
-      others (goes_on s.reached (answer {m = v} c l y answers))
+      record {
+        shape = moves.shape config opening a s c below core.pts core.open_op false kept some
+            (λ p o q. absurd (let z : false ≡ true = q in cc)) rest a.records a.counts s.shape.each_message.1;
+        reached = core_turn config opening a c (record core { is_out = false; cache = kept }) l y
+            (record (core_seen core) { out = false }) rest a.records
+            (ap (λ (o : Option LineCopy). record y { copies = with_at ((v.lines l).copies) c (copy_or_none o) })
+            (sym here)) refl (λ k ne. ap copy_or_none (there k ne)) others
+            (goes_on s.reached (answer {m = v} c l y answers));
+      }
 
   kept_here : (old : LineCopy) → copy_of core.cache l ≡ Some old → (kept : Option LineCopy) →
       copy_or_none (copy_of (kept_in core l kept) l) ≡ copy_or_none kept
@@ -127,30 +120,21 @@ module _ (config : Config) (opening : FinMap nat_cmp ℕ) (before : State) (mess
   reaction_goes : (r : CoreReaction) → Fits r →
       Goes config opening a (with_core a c) rest (reacted (core_table.after_reaction core l r))
   reaction_goes (Arrives copy) fit =
-      let new : CoreState = record core { cache = with_used core.cache l copy; is_out = false } in
-      record {
-        shape = shape_of false (with_used core.cache l copy) (put_sets (λ k. k) core.cache.sets is.sets l copy)
-            (λ p o q. absurd (let z : false ≡ true = q in cc)) rest a.counts s.shape.each_message.1;
-        reached = answered new copy refl (ap copy_or_none (put_here (λ k. k) core.cache.sets is.sets l copy))
-            (λ k ne. ap copy_or_none (put_there (λ j. j) core.cache.sets is.sets l copy k ne)) fit;
-      }
+      let sets = core.cache.sets in
+      replied (with_used core.cache l copy) copy (put_sets (λ k. k) sets is.sets l copy)
+      (put_here (λ k. k) sets is.sets l copy) (put_there (λ j. j) sets is.sets l copy) fit
   reaction_goes (Grants copy) fit =
-      let new : CoreState = record core { cache = with_changed core.cache l copy; is_out = false } in
-      record {
-        shape = shape_of false (with_changed core.cache l copy) (change_sets (λ k. k) core.cache.sets is.sets l copy)
-            (λ p o q. absurd (let z : false ≡ true = q in cc)) rest a.counts s.shape.each_message.1;
-        reached = answered new copy refl (ap copy_or_none (change_here (λ k. k) core.cache.sets is.sets l copy fit.0.0
-            fit.0.1)) (λ k ne. ap copy_or_none (change_there (λ j. j) core.cache.sets is.sets l copy k ne)) fit.1;
-      }
+      let sets = core.cache.sets in
+      replied (with_changed core.cache l copy) copy (change_sets (λ k. k) sets is.sets l copy)
+      (change_here (λ k. k) sets is.sets l copy fit.0.0 fit.0.1) (change_there (λ j. j) sets is.sets l copy) fit.1
   reaction_goes (Returns kept sent) fit =
       let back = to_bank core l sent in
       let new : CoreState = record core { cache = kept_in core l kept } in
       record {
-        shape = shape_of core.is_out (kept_in core l kept) (kept_sets kept)
-            (λ p o q. kept_room kept (core_table.line_of core p)
-            (moves.off_line config opening a s c below l fit.1 p o) (is.room p o q)) (back ∷ rest)
-            (counted a.counts sent)
-            (moves.home config opening a s c below l sent fit.2, s.shape.each_message.1);
+        shape = moves.shape config opening a s c below core.pts core.open_op core.is_out (kept_in core l kept)
+            (kept_sets kept) (λ p o q. kept_room kept (core_table.line_of core p)
+            (moves.off_line config opening a s c below l fit.1 p o) (is.room p o q)) (back ∷ rest) a.records
+            (counted a.counts sent) (moves.home config opening a s c below l sent fit.2, s.shape.each_message.1);
         reached = core_move config opening a c new l (copy_or_none kept) (body_seen c 0 sent ∷ messages_of rest l)
             (back ∷ rest) refl (sym (kept_here fit.0.0 fit.0.1 kept)) (kept_there kept)
             (moves.sent config opening a s c below l sent rest)

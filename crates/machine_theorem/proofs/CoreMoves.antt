@@ -53,73 +53,46 @@ use Rattle.machine_theorem.proofs.Turns.{line_same, Moves, core_turn, core_alone
 use Rattle.machine_theorem.proofs.Routes.{GoesUp, core_and_bank}
 use Rattle.machine_theorem.proofs.Rooms.{place-without, place-there}
 use Rattle.machine_theorem.proofs.OnCopies.{serves_uses, serves_not, serves_clash}
+use Rattle.machine_theorem.proofs.ByParts.{core_by, shape_by}
 
 -- turns of an operation, by its line
+-- a core completes its operation on a line, with the next record
+abbrev completed_on : by_line.Machine → (c l place : ℕ) → Op → Copy → Option ℕ → ℕ → by_line.Machine
+completed_on n c l place op new received ts = record n {
+  cores = with_at n.cores c (record { pts = ts; open_op = None; out = false });
+  lines = with_at n.lines l (record (n.lines l) { copies = with_at ((n.lines l).copies) c (Some new) });
+  records = n.records ++ record {
+    core = c;
+    place = place;
+    op = op;
+    received = received;
+    ts = ts;
+    number = length n.records;
+  } ∷ [];
+}
+
 complete_at : (f : by_line.Config) (n : by_line.Machine) (c l place : ℕ) (op : Op) (copy new : Copy)
-    (received : Option ℕ) (ts : ℕ) → line_of f (address op) ≡ l → length (of_core c n.records) ≡ place → (n.cores c).open_op ≡ Some op →
-    (n.cores c).out ≡ false →
-    (n.lines l).copies c ≡ Some copy → Uses f (n.cores c).pts copy op received ts new → IsReached f n →
-    IsReached f (record n {
-      cores = with_at n.cores c (record { pts = ts; open_op = None; out = false });
-      lines = with_at n.lines l (record (n.lines l) { copies = with_at ((n.lines l).copies) c (Some new) });
-      records = n.records ++ record {
-        core = c;
-        place = place;
-        op = op;
-        received = received;
-        ts = ts;
-        number =
-            length n.records;
-      } ∷ [];
-    })
+    (received : Option ℕ) (ts : ℕ) → line_of f (address op) ≡ l → length (of_core c n.records) ≡ place →
+    (n.cores c).open_op ≡ Some op → (n.cores c).out ≡ false → (n.lines l).copies c ≡ Some copy →
+    Uses f (n.cores c).pts copy op received ts new → IsReached f n →
+    IsReached f (completed_on n c l place op new received ts)
 complete_at f n c l place op copy new received ts on count opens quiet is u r =
-    subst (λ (k : ℕ). IsReached f
-    (record n {
-      cores = with_at n.cores c (record { pts = ts; open_op = None; out = false });
-      lines =
-          with_at n.lines k (record (n.lines k) { copies = with_at ((n.lines k).copies) c (Some new) });
-      records =
-          n.records ++ record {
-            core = c;
-            place = place;
-            op = op;
-            received = received;
-            ts = ts;
-            number =
-                length n.records;
-          } ∷ [];
-    })) on
-    (subst (λ (p : ℕ). IsReached f
-    (record n {
-      cores = with_at n.cores c (record { pts = ts; open_op = None; out = false });
-      lines =
-          with_at n.lines (line_of f (address op)) (record (n.lines (line_of f (address op))) {
-            copies =
-                with_at ((n.lines (line_of f (address op))).copies) c (Some new);
-          });
-      records = n.records
-          ++ record { core = c; place = p; op = op; received = received; ts = ts; number = length n.records } ∷ [];
-    }))
-    count
+    subst (λ (k : ℕ). IsReached f (completed_on n c k place op new received ts)) on
+    (subst (λ (p : ℕ). IsReached f (completed_on n c (line_of f (address op)) p op new received ts)) count
     (goes_on r (complete {m = n} c op copy new received ts opens quiet
     (subst (λ (k : ℕ). (n.lines k).copies c ≡ Some copy) (sym on) is) u)))
 
 ask_at : (f : by_line.Config) (n : by_line.Machine) (c l : ℕ) (op : Op) (y : Line) → line_of f (address op) ≡ l →
-    (n.cores c).open_op ≡ Some op → (n.cores c).out ≡ false → Asks c (n.cores c).pts op (n.lines l)
-    y → IsReached f n →
-    IsReached f (record n {
+    (n.cores c).open_op ≡ Some op → (n.cores c).out ≡ false → Asks c (n.cores c).pts op (n.lines l) y →
+    IsReached f n → IsReached f (record n {
       cores = with_at n.cores c (record (n.cores c) { out = true });
-      lines =
-          with_at n.lines l y;
+      lines = with_at n.lines l y;
     })
 ask_at f n c l op y on opens quiet a r =
-    subst (λ (k : ℕ). IsReached f (record n {
+    subst (λ (k : ℕ). Asks c (n.cores c).pts op (n.lines k) y → IsReached f (record n {
       cores = with_at n.cores c (record (n.cores c) { out = true });
-      lines =
-          with_at n.lines k y;
-    })) on
-    (goes_on r (ask {m = n} c op y opens quiet (subst (λ (k : ℕ). Asks c (n.cores c).pts op (n.lines k) y) (sym on)
-    a)))
+      lines = with_at n.lines k y;
+    })) on (λ asks. goes_on r (ask {m = n} c op y opens quiet asks)) a
 
 -- the request of an operation
 reads : (c pts a : ℕ) (x : Line) (version : Option ℕ) (y : Option Copy) → x.copies c ≡ y → CannotUse (Load a) pts y →
@@ -165,33 +138,17 @@ module _ (config : Config) (opening : FinMap nat_cmp ℕ) (a : State) (s : IsKep
     new = record core { pts = pts; open_op = open_op; is_out = is_out; cache = kept }
 
     is_core : IsCore config c (a.issued c) new
-    is_core = record {
-      numbered = is.numbered;
-      banks = is.banks;
-      line_words = is.line_words;
-      lease = is.lease;
-      private_write = is.private_write;
-      sets = some;
-      count = is.count;
-      room = room;
-    }
+    is_core = core_by is.numbered is.banks is.line_words is.lease is.private_write some is.count room
 
     -- and so are the messages, records and counts
     pub shape : (bag : List Message) (rs : List Record) (counts : Counts) → Each (GoesHome config) bag →
         HasShape config opening (record a { cores = with_at a.cores c new; bag = bag; records = rs; counts = counts })
     shape bag rs counts each =
-        record {
-          some_words = s.shape.some_words;
-          some_banks = s.shape.some_banks;
-          each_core = with_at_cases (λ j y. IsCore config j (a.issued j) y) a.cores c new is_core
-              (λ j ne. s.shape.each_core j);
-          each_bank = s.shape.each_bank;
-          each_message = each;
-          cores_beyond = λ j le. with_at_other a.cores c new j (apart j le) ∙ s.shape.cores_beyond j le;
-          banks_beyond = s.shape.banks_beyond;
-          drams_beyond = s.shape.drams_beyond;
-          lists_beyond = s.shape.lists_beyond;
-        }
+        shape_by s.shape.some_words s.shape.some_banks
+        (with_at_cases (λ j y. IsCore config j (a.issued j) y) a.cores c new is_core (λ j ne. s.shape.each_core j))
+        s.shape.each_bank each
+        (λ j le. with_at_other a.cores c new j (apart j le) ∙ s.shape.cores_beyond j le)
+        s.shape.banks_beyond s.shape.drams_beyond s.shape.lists_beyond
 
   -- a message to the bank of a line goes home
   pub home : (l : ℕ) (b : Body) → GoesUp b → GoesHome config (to_bank core l b)
@@ -241,29 +198,18 @@ module _ (config : Config) (opening : FinMap nat_cmp ℕ) (a : State) (s : IsKep
       let new : CoreState = record core { open_op = Some op; issued = core.issued + 1 } in
       let more = a.issued c ++ op ∷ [] in
       record {
-        shape = record {
-          some_words = s.shape.some_words;
-          some_banks = s.shape.some_banks;
-          each_core = with_at_cases (λ j y. IsCore config j (with_at a.issued c more j) y) a.cores c new
-              (subst (λ (os : List Op). IsCore config c os new) (sym (with_at_same a.issued c more)) (record {
-                numbered = is.numbered;
-                banks = is.banks;
-                line_words = is.line_words;
-                lease = is.lease;
-                private_write = is.private_write;
-                sets = is.sets;
-                count = (let k = is.count in let n = length-append (a.issued c) (op ∷ []) in omega arith);
-                room = λ p o q. absurd (let z : true ≡ false = sym q ∙ idle none in cc);
-              }))
-              (λ j ne. subst (λ (os : List Op). IsCore config j os (a.cores j))
-              (sym (with_at_other a.issued c more j ne)) (s.shape.each_core j));
-          each_bank = s.shape.each_bank;
-          each_message = s.shape.each_message;
-          cores_beyond = λ j le. with_at_other a.cores c new j (apart j le) ∙ s.shape.cores_beyond j le;
-          banks_beyond = s.shape.banks_beyond;
-          drams_beyond = s.shape.drams_beyond;
-          lists_beyond = λ j le. with_at_other a.issued c more j (apart j le) ∙ s.shape.lists_beyond j le;
-        };
+        shape = shape_by s.shape.some_words s.shape.some_banks
+            (with_at_cases (λ j y. IsCore config j (with_at a.issued c more j) y) a.cores c new
+            (subst (λ (os : List Op). IsCore config c os new) (sym (with_at_same a.issued c more))
+            (core_by is.numbered is.banks is.line_words is.lease is.private_write is.sets
+            (let k = is.count in let n = length-append (a.issued c) (op ∷ []) in omega arith)
+            (λ p o q. absurd (let z : true ≡ false = sym q ∙ idle none in cc))))
+            (λ j ne. subst (λ (os : List Op). IsCore config j os (a.cores j)) (sym (with_at_other a.issued c more j ne))
+            (s.shape.each_core j)))
+            s.shape.each_bank s.shape.each_message
+            (λ j le. with_at_other a.cores c new j (apart j le) ∙ s.shape.cores_beyond j le)
+            s.shape.banks_beyond s.shape.drams_beyond
+            (λ j le. with_at_other a.issued c more j (apart j le) ∙ s.shape.lists_beyond j le);
         reached = core_alone config opening a c new (with_at a.issued c more) refl
             (goes_on s.reached (issue {m = v} c op none));
       }

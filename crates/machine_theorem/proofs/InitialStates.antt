@@ -8,6 +8,7 @@ use Rattle.machine_table.specs.declared.config.Config.{Config}
 use Rattle.machine_table.specs.Opening.{core_config, bank_config, geometry, dram_of, cores_from, banks_from}
 use Rattle.machine_table.specs.Opening.{drams_from, at_start}
 use Rattle.machine_theorem.specs.States.{Same, seen, initial_state}
+use Rattle.machine_theorem.proofs.ByParts.{same_by}
 
 -- a list of parts from a number on, part by part
 module _ {X : Type 0} (part : ℕ → X) (list : ℕ → ℕ → List X) (none : (k : ℕ) → list k zero ≡ []) (more : (k n : ℕ) →
@@ -34,15 +35,10 @@ none_issued (suc n) (suc k) = none_issued n k
 pub opening_same : (config : Config) (opening : FinMap nat_cmp ℕ) →
     Same (initial_state config opening) (seen (at_start config opening))
 opening_same config opening =
-    record {
-      cores = parts_at (λ c. opened (core_config config c) (geometry config)) (cores_from config) (λ k. refl)
-          (λ k n. refl) config.cores;
-      banks = parts_at (λ b. empty_bank (bank_config config b)) (banks_from config) (λ k. refl)
-          (λ k n. refl) config.banks;
-      drams = parts_at (λ b. dram_of config b (entries opening)) (drams_from config (entries opening)) (λ k. refl)
-          (λ k n. refl) config.banks;
-      bag = λ h. refl;
-      issued = none_issued config.cores;
-      records = refl;
-      counts = refl;
-    }
+    same_by
+    (parts_at (λ c. opened (core_config config c) (geometry config)) (cores_from config) (λ k. refl) (λ k n. refl)
+    config.cores)
+    (parts_at (λ b. empty_bank (bank_config config b)) (banks_from config) (λ k. refl) (λ k n. refl) config.banks)
+    (parts_at (λ b. dram_of config b (entries opening)) (drams_from config (entries opening)) (λ k. refl)
+    (λ k n. refl) config.banks)
+    (λ h. refl) (none_issued config.cores) refl refl

@@ -22,6 +22,7 @@ use Rattle.machine_theorem.specs.Kept.{IsKept}
 use Rattle.machine_theorem.proofs.Reorderings.{Reordered, none, behind, swapped, followed, reordered}
 use Rattle.machine_theorem.proofs.Lookups.{messages_there}
 use Rattle.machine_theorem.proofs.Turns.{bag_turn}
+use Rattle.machine_theorem.proofs.ByParts.{shape_by}
 
 -- two messages next to one another
 two : (b c : Bool) (x y : by_line.Message) (xs : List by_line.Message) →
@@ -74,17 +75,8 @@ module _ (config : Config) (opening : FinMap nat_cmp ℕ) where
   -- other messages that go home
   pub shape_with : (a : State) (bag : List Message) → Each (GoesHome config) bag → HasShape config opening a →
       HasShape config opening (record a { bag = bag })
-  shape_with a bag each s = record {
-    some_words = s.some_words;
-    some_banks = s.some_banks;
-    each_core = s.each_core;
-    each_bank = s.each_bank;
-    each_message = each;
-    cores_beyond = s.cores_beyond;
-    banks_beyond = s.banks_beyond;
-    drams_beyond = s.drams_beyond;
-    lists_beyond = s.lists_beyond;
-  }
+  shape_with a bag each s = shape_by s.some_words s.some_banks s.each_core s.each_bank each s.cores_beyond
+      s.banks_beyond s.drams_beyond s.lists_beyond
 
   -- the messages in another order
   pub kept_reordered : (a : State) (bag : List Message) → SameBag a.bag bag → IsKept config opening a →

@@ -3,6 +3,7 @@ mod Bags
 mod BankMoves
 mod Coherence
 mod Consistency
+mod ByParts
 mod CoreDeliveries
 mod CoreMoves
 mod DramOpening

@@ -43,6 +43,7 @@ use Rattle.machine_theorem.proofs.NumberedStates.{numbered_same, numbered_invari
 use Rattle.machine_theorem.proofs.Renumberings.{renumbered}
 use Rattle.machine_theorem.proofs.Routes.{both}
 use Rattle.machine_theorem.proofs.SetUps.{transition_same}
+use Rattle.machine_theorem.proofs.ByParts.{same_by}
 
 -- a test that holds, and the other one of two that hold
 if_true : {X : Type 0} (test : Bool) → test ≡ true → (x y : X) (P : X → Type 0) → P x → P (cond test x y)
@@ -65,15 +66,7 @@ module _ (config : Config) (opening : FinMap nat_cmp ℕ) (a : State) (s : IsKep
     same : Same a (seen ready)
     same =
         let k = numbered_same config opening a s in
-        record {
-          cores = k.cores;
-          banks = k.banks;
-          drams = k.drams;
-          bag = λ h. bag h ∙ sym (kept_bag 0 xs h);
-          issued = k.issued;
-          records = refl;
-          counts = refl;
-        }
+        same_by k.cores k.banks k.drams (λ h. bag h ∙ sym (kept_bag 0 xs h)) k.issued refl refl
 
     free : has_capacity (suc (length (numbered_from 0 xs))) mail ≡ true
     free = both _ _ (lt-ltb (length (numbered_from 0 xs)) (suc (length (numbered_from 0 xs))) (omega arith))

@@ -13,22 +13,19 @@ use Rattle.machine_theorem.specs.Kept.{IsKept, Invariant}
 use Rattle.machine_theorem.proofs.Bags.{kept_bag}
 use Rattle.machine_theorem.proofs.Lists.{length-first, first_listed}
 use Rattle.machine_theorem.proofs.KeptSteps.{kept_same}
+use Rattle.machine_theorem.proofs.ByParts.{same_by}
 
 module _ (config : Config) (opening : FinMap nat_cmp ℕ) (a : State) (s : IsKept config opening a) where
   abbrev m : Machine
   m = numbered config opening a
 
   pub numbered_same : Same a (seen m)
-  numbered_same = record {
-    cores = first_listed a.cores (λ c. opened (core_config config c) (geometry config)) config.cores
-        s.shape.cores_beyond;
-    banks = first_listed a.banks (λ b. empty_bank (bank_config config b)) config.banks s.shape.banks_beyond;
-    drams = first_listed a.drams (λ b. dram_of config b (entries opening)) config.banks s.shape.drams_beyond;
-    bag = λ h. sym (kept_bag 0 a.bag h);
-    issued = first_listed a.issued (λ c. []) config.cores s.shape.lists_beyond;
-    records = refl;
-    counts = refl;
-  }
+  numbered_same = same_by
+      (first_listed a.cores (λ c. opened (core_config config c) (geometry config)) config.cores s.shape.cores_beyond)
+      (first_listed a.banks (λ b. empty_bank (bank_config config b)) config.banks s.shape.banks_beyond)
+      (first_listed a.drams (λ b. dram_of config b (entries opening)) config.banks s.shape.drams_beyond)
+      (λ h. sym (kept_bag 0 a.bag h)) (first_listed a.issued (λ c. []) config.cores s.shape.lists_beyond) refl
+      refl
 
   pub numbered_shows : Shows config opening a m
   numbered_shows = record { set_up = refl; opened = refl; same = numbered_same; runs = refl }

@@ -27,6 +27,7 @@ use Rattle.machine_theorem.proofs.Turns.{machine_same, line_same}
 use Rattle.machine_theorem.proofs.KeptSteps.{kept_same}
 use Rattle.machine_theorem.proofs.InitialStates.{opening_same}
 use Rattle.machine_theorem.proofs.DramOpening.{get_replicate, dram_long, dram_word, dram_zeros}
+use Rattle.machine_theorem.proofs.ByParts.{core_by, bank_by, shape_by}
 
 -- what is taken of a good set-up
 pub record Fair (c : Config) : Type 0 where
@@ -124,33 +125,14 @@ module _ (c : Config) where
 
     pub initial_kept : IsKept c opening a
     initial_kept = record {
-      shape = record {
-        some_words = f.some_words;
-        some_banks = f.some_banks;
-        each_core = λ k. record {
-          numbered = refl;
-          banks = refl;
-          line_words = refl;
-          lease = refl;
-          private_write = refl;
-          sets = subst (λ (n : ℕ). 0 < n) (sym (length-replicate c.sets [])) f.some_sets;
-          count = refl;
-          room = λ p o q. absurd (let z : false ≡ true = q in cc);
-        };
-        each_bank = λ b. record {
-          numbered = refl;
-          banks = refl;
-          lease = refl;
-          sets = subst (λ (n : ℕ). 0 < n) (sym (length-replicate c.bank_sets [])) f.some_bank_sets;
-          own = λ l ne. no_entry b l;
-          owners = λ l y i. absurd (let z : ◌≡◌ {A = Option Entry} None (Some y) = sym (no_entry b l) ∙ i in cc);
-        };
-        each_message = tt;
-        cores_beyond = λ k le. refl;
-        banks_beyond = λ b le. refl;
-        drams_beyond = λ b le. refl;
-        lists_beyond = λ k le. refl;
-      };
+      shape = shape_by f.some_words f.some_banks
+          (λ k. core_by refl refl refl refl refl
+          (subst (λ (n : ℕ). 0 < n) (sym (length-replicate c.sets [])) f.some_sets) refl
+          (λ p o q. absurd (let z : false ≡ true = q in cc)))
+          (λ b. bank_by refl refl refl
+          (subst (λ (n : ℕ). 0 < n) (sym (length-replicate c.bank_sets [])) f.some_bank_sets) (λ l ne. no_entry b l)
+          (λ l y i. absurd (let z : ◌≡◌ {A = Option Entry} None (Some y) = sym (no_entry b l) ∙ i in cc)))
+          tt (λ k le. refl) (λ b le. refl) (λ b le. refl) (λ k le. refl);
       reached = reached;
     }
 

@@ -18,7 +18,7 @@ use Rattle.protocol.specs.Issued.{listed}
 use Rattle.machine_theorem.specs.States.{State}
 use Rattle.machine_theorem.specs.Moves.{with_answer, with_core, with_bank, with_dram, StepsTo, Move, issues, completes}
 use Rattle.machine_theorem.specs.Moves.{core_steps, bank_steps, dram_steps, Reached, opens, goes_on, same}
-use Rattle.machine_theorem.proofs.Bags.{Some_injective}
+use Rattle.protocol.proofs.Lemmas.{Some_injective}
 use Rattle.machine_theorem.proofs.Consistency.{issued_now}
 
 module _ (config : Config) (opening : FinMap nat_cmp ℕ) (a : State) (s : IsKept config opening a) (c : ℕ) where

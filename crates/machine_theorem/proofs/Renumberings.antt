@@ -11,6 +11,7 @@ use Rattle.machine_theorem.specs.Bags.{SameBag, bag_of}
 use Rattle.machine_theorem.specs.States.{State, seen}
 use Rattle.machine_theorem.specs.Kept.{IsKept, Invariant}
 use Rattle.machine_theorem.proofs.KeptSteps.{kept_reordered}
+use Rattle.machine_theorem.proofs.ByParts.{core_by, bank_by, shape_by}
 
 -- nothing looks at the capacity and the counts
 kept_with : (config : Config) (opening : FinMap nat_cmp ℕ) (a : State) (capacity : ℕ) (counts : Counts) →
@@ -18,35 +19,11 @@ kept_with : (config : Config) (opening : FinMap nat_cmp ℕ) (a : State) (capaci
 kept_with config opening a capacity counts s =
     let k = s.shape in
     record {
-      shape = record {
-        some_words = k.some_words;
-        some_banks = k.some_banks;
-        each_core = λ c. let is = k.each_core c in
-            record {
-              numbered = is.numbered;
-              banks = is.banks;
-              line_words = is.line_words;
-              lease = is.lease;
-              private_write = is.private_write;
-              sets = is.sets;
-              count = is.count;
-              room = is.room;
-            };
-        each_bank = λ b. let is = k.each_bank b in
-            record {
-              numbered = is.numbered;
-              banks = is.banks;
-              lease = is.lease;
-              sets = is.sets;
-              own = is.own;
-              owners = is.owners;
-            };
-        each_message = k.each_message;
-        cores_beyond = k.cores_beyond;
-        banks_beyond = k.banks_beyond;
-        drams_beyond = k.drams_beyond;
-        lists_beyond = k.lists_beyond;
-      };
+      shape = shape_by k.some_words k.some_banks
+          (λ c. let is = k.each_core c in
+          core_by is.numbered is.banks is.line_words is.lease is.private_write is.sets is.count is.room)
+          (λ b. let is = k.each_bank b in bank_by is.numbered is.banks is.lease is.sets is.own is.owners)
+          k.each_message k.cores_beyond k.banks_beyond k.drams_beyond k.lists_beyond;
       reached = s.reached;
     }
 

@@ -1,6 +1,6 @@
 -- A part that holds or drops a message stays as it is; a core starts nothing, a bank drops nothing that it has a case
 -- for, and a DRAM answers each message that it has a case for.
-use Rattle.std.proofs.Common.{◌≡◌, ◌≢◌, ℕ, Bool, true, false, ◌&&◌, List, Option, Some, None, refl, subst}
+use Rattle.std.proofs.Common.{◌≡◌, ◌≢◌, ℕ, Bool, true, false, List, Option, Some, None, refl, subst}
 use Rattle.std.specs.Ordering.{nat_cmp}
 use Rattle.std.specs.FinMap.{FinMap}
 use Rattle.network.specs.declared.message.TimedLine.{TimedLine}
@@ -25,10 +25,7 @@ use Rattle.llc_bank.specs.BankTable as banks
 use Rattle.llc_bank.specs.BankTable.{BankState, bank_table, bank_has_case, after_decision, is_this_bank, entry_of}
 use Rattle.llc_bank.specs.BankTable.{comes_to_bank, is_owned, is_loading, is_storing}
 use Rattle.dram_mts.specs.Table.{comes_to_dram, is_dram, dram_case, dram_table, dram_has_case}
-
-pub second : (x y : Bool) → (x && y) ≡ true → y ≡ true
-second true y e = e
-second false y e = absurd (let z : false ≡ true = e in cc)
+use Rattle.machine_theorem.proofs.Routes.{ownership_of}
 
 -- Cores
 
@@ -129,7 +126,7 @@ pub bank_drops : (bank after : BankState) (m : Message) → bank_has_case bank m
 bank_drops bank after m has e =
     subst DropsNothing e
     (bank_keeps bank m _ _ _ _ m.from (entry_of bank m.line) m.body
-    (second (is_this_bank bank.number m.to) (comes_to_bank m.from (entry_of bank m.line) m.body) has))
+    (ownership_of (is_this_bank bank.number m.to) (comes_to_bank m.from (entry_of bank m.line) m.body) has))
 
 -- DRAMs
 
@@ -144,4 +141,4 @@ answers lines m _ has = absurd (let z : false ≡ true = has in cc)
 
 pub dram_answers : (lines : FinMap nat_cmp (List ℕ)) (m : Message) → dram_has_case lines m ≡ true →
     (answer : Message) × (after : FinMap nat_cmp (List ℕ)) × (dram_table lines m ≡ Some (Done (Some answer), after))
-dram_answers lines m has = answers lines m m.body (second (is_dram m.to) (comes_to_dram m.body) has)
+dram_answers lines m has = answers lines m m.body (ownership_of (is_dram m.to) (comes_to_dram m.body) has)

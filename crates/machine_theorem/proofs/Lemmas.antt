@@ -20,3 +20,5 @@ pub use Rattle.machine_theorem.proofs.Routes.{both, core_and_bank}
 pub use Rattle.machine_theorem.proofs.SetUps.{after_all_same, set_up_same, transition_same}
 -- The owners of a line among messages, by their weights, and among caches.
 pub use Rattle.machine_theorem.proofs.Coherence.{owners_weigh, owns_is}
+-- The first of some parts, in a list.
+pub use Rattle.machine_theorem.proofs.Lists.{first_at}

@@ -18,12 +18,6 @@ from pathlib import Path
 TOP = Path(__file__).resolve().parent.parent
 CRATES = TOP / "crates"
 
-# The laws of moves; the others of their crate are about seats.
-MOVES = ("events_are_moves moves_are_events histories_are_reached reached_states_are_consistent "
-         "reached_states_have_the_invariant messages_find_their_parts owners_and_values_are_of_states places_count_records "
-         "records_are_in_order initial_states_are_reached reached_parts_have_their_shape waiting_cores_stay "
-         "waiting_banks_stay")
-
 # The public functions of each group, by crate: all (*), or those of a list; and clauses that are left to a later group.
 # What these contracts cite, and what that is made of, must be read by those who trust them.
 GROUPS = [
@@ -49,7 +43,7 @@ GROUPS = [
     ("Calls from C and C++: their numbers, and what stands in their buffers", [
         ("tardis_c", "*", "")]),
     ("Laws for later layers: of the table's histories, of the moves of a state, of the protocol by lines", [
-        ("machine_theorem", "*", ""), ("seat_rule", MOVES, ""), ("protocol", "*", "")]),
+        ("machine_theorem", "*", ""), ("protocol", "*", "")]),
 ]
 
 # How many definitions of a file the table of docs/TRUST.md names, where it means a part of the file.

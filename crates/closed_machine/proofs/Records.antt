@@ -8,7 +8,7 @@ use native.Mathlib.Decide.{dec_lt}
 use Rattle.physiological_order.specs.declared.operation.Op.{Op}
 use Rattle.physiological_order.specs.declared.operation.Record.{Record}
 use Rattle.physiological_order.specs.Order.{of_core, Follows}
-use Rattle.seat_rule.specs.States.{first}
+use Rattle.machine_theorem.specs.States.{first}
 use Rattle.closed_machine.specs.Merged.{StandIn}
 use Rattle.closed_machine.proofs.Places.{none_some, alike, past}
 

@@ -5,7 +5,7 @@ use Rattle.network.specs.declared.message.Message.{Message}
 use Rattle.machine_table.specs.SetUp.{is_good}
 use Rattle.seat_rule.specs.declared.views.SetUp.{SetUp}
 use Rattle.seat_rule.specs.declared.views.Hold.{Hold}
-use Rattle.seat_rule.specs.States.{State}
+use Rattle.machine_theorem.specs.States.{State}
 use Rattle.seat_rule.specs.Rule.{Phase, seat_count, slot_count, state_of, in_flight}
 use Rattle.seat_rule.specs.Ended.{Whole, lies, IsNotOut}
 use Rattle.closed_machine.specs.declared.parts.CorePart.{CorePart}

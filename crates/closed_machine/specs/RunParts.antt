@@ -1,5 +1,5 @@
 -- The state whose parts a closed machine leaves.
-use Rattle.seat_rule.specs.States.{State}
+use Rattle.machine_theorem.specs.States.{State}
 use Rattle.closed_machine.specs.declared.run.Run.{Run}
 use Rattle.closed_machine.specs.PartsOfState.{PartsOfState, state_of_parts}
 

@@ -4,7 +4,7 @@ ghost use Rattle.physiological_order.specs.declared.operation.Record.{Record};
 ghost use Rattle.physiological_order.specs.Order.{flat, Legal, Arrangement, of_core, replay_end};
 ghost use Rattle.physiological_order.specs.StaleHits.{RisesByNumber};
 ghost use Rattle.protocol.specs.Issued.{IsIssued};
-ghost use Rattle.seat_rule.specs.Ownership.{coherent};
+ghost use Rattle.machine_theorem.specs.Ownership.{coherent};
 ghost use Rattle.closed_machine.specs.ValuesLeft.{ValuesLeft};
 ghost use Rattle.closed_machine.specs.declared.parts.CorePart.{CorePart};
 ghost use Rattle.closed_machine.specs.RunParts.{Parts, state_of_run};
@@ -13,7 +13,7 @@ use crate::numbered::find;
 use crate::run::Run;
 use crate::values::{value_left, values_left};
 use physiological_order::{Op, Record, WordAddr};
-use seat_rule::move_laws::{places_count_records, records_are_in_order};
+use machine_theorem::move_laws::{places_count_records, records_are_in_order};
 use std::alloc::{AllocError, Global};
 
 impl Run {

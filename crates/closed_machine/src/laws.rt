@@ -6,12 +6,12 @@ ghost use Rattle.physiological_order.specs.declared.operation.Record.{Record};
 ghost use Rattle.physiological_order.specs.Order.{of_core};
 ghost use Rattle.machine_table.specs.declared.config.Config.{Config};
 ghost use Rattle.machine_table.specs.SetUp.{is_good};
-ghost use Rattle.seat_rule.specs.States.{State};
-ghost use Rattle.seat_rule.specs.Moves.{Reached};
+ghost use Rattle.machine_theorem.specs.States.{State};
+ghost use Rattle.machine_theorem.specs.Moves.{Reached};
 ghost use Rattle.closed_machine.specs.Merged.{StandIn};
 
 use machine_theorem::laws::machines_with_the_invariant_are_consistent;
-use seat_rule::move_laws::{reached_states_have_the_invariant, records_are_in_order};
+use machine_theorem::move_laws::{reached_states_have_the_invariant, records_are_in_order};
 
 /// In a reached state, the records of each core are among all records at the places of their numbers.
 pub(crate) fn records_of_cores_stand_by_number()

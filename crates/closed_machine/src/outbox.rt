@@ -3,7 +3,7 @@ ghost use Rattle.std.specs.Prelude.{◌≡◌, ◌+◌, ◌-◌, ◌<◌, ◌≤
 ghost use Rattle.std.specs.Borrow.{sem};
 ghost use Rattle.network.specs.Mail.{AreCounts};
 ghost use Rattle.machine_theorem.specs.Bags.{weigh};
-ghost use Rattle.seat_rule.specs.Ownership.{ownership_in};
+ghost use Rattle.machine_theorem.specs.Ownership.{ownership_in};
 ghost use Rattle.inbox.specs.Queues.{values_of};
 ghost use Rattle.closed_machine.specs.Sending.{can_still_send, can_send_out, has_outbox_place};
 ghost use Rattle.closed_machine.specs.Sending.{no_outbox, noted, sent_out};

@@ -4,7 +4,7 @@ ghost use Rattle.private_cache.specs.CopyTable.{copy_of};
 ghost use Rattle.machine_table.specs.SetUp.{is_good};
 ghost use Rattle.machine_theorem.specs.Bags.{weigh};
 ghost use Rattle.machine_theorem.specs.Coherence.{owner_in};
-ghost use Rattle.seat_rule.specs.Ownership.{owners, ownership_in};
+ghost use Rattle.machine_theorem.specs.Ownership.{owners, ownership_in};
 ghost use Rattle.seat_views.specs.Seated.{over};
 ghost use Rattle.seat_rule.specs.Rule.{bag_of_hold, content, seat_count, slot_count};
 ghost use Rattle.closed_machine.specs.RunParts.{Parts, state_of_run};

@@ -38,19 +38,22 @@ use Rattle.machine_table.specs.Step.{reacted}
 use Rattle.machine_table.specs.Transition.{changed, refused, deliver_core, deliver_bank, deliver_dram}
 use Rattle.machine_table.specs.Transition.{deliver_message, deliver_to}
 use Rattle.machine_table.specs.declared.event.Answer.TheVariants.{Delivered, Started}
-use Rattle.machine_table.specs.declared.event.Refusal.TheVariants.{NetworkFull, NoSuch}
+use Rattle.machine_table.specs.declared.event.Refusal.TheVariants.{NetworkFull}
 use Rattle.machine_theorem.specs.Cases.{core_case, bank_case, dram_takes, has_case_at, has_case}
-use Rattle.machine_theorem.specs.Shape.{GoesHome, IsOwnedBelow, IsWhole}
+use Rattle.machine_theorem.specs.Bags.{bag_of}
+use Rattle.machine_theorem.specs.Shape.{GoesHome, IsOwnedBelow}
 use Rattle.machine_theorem.specs.Kept.{Invariant}
-use Rattle.machine_theorem.proofs.Lemmas.{each_at_number, messages_find_cases, both, core_and_bank, any_core_delivery}
-use Rattle.machine_theorem.proofs.Lemmas.{any_bank_delivery}
+use Rattle.machine_theorem.proofs.Lemmas.{each_at_number, messages_find_cases, both, core_and_bank, any_event}
+use Rattle.machine_theorem.proofs.Lemmas.{core_shape, bank_shape}
+use Rattle.machine_table.specs.declared.event.Event.TheVariants.{Deliver}
 use Rattle.interleaving_core.specs.declared.core_masks.CoreMasks.{CoreMasks}
 use Rattle.interleaving_core.specs.CoreMasks.{AreMasks}
 use Rattle.interleaving_core.specs.Reservation.{IsFitted, owed}
 use Rattle.interleaving_core.specs.StepAnswers.{delivery_asks, is_first_store, is_first_store_at}
 use Rattle.interleaving_core.specs.Endpoints.{BackHasEndpoints, EvictedHasEndpoints, ReactionHasEndpoints}
 
-each_last : {X : Type 0} (P : X → Type 0) (xs : List X) (x : X) → Each P (xs ++ x ∷ []) → P x
+each_last : (P : Message → Type 0) (xs : List (ℕ × Message)) (x : ℕ × Message) → Each P (bag_of (xs ++ x ∷ [])) →
+    P x.1
 each_last P [] x each = each.0
 each_last P (y ∷ ys) x each = each_last P ys x each.1
 
@@ -103,7 +106,8 @@ module _ {S : Type 0} (m : Machine) (n : ℕ) (put : S → Machine) (config : (x
       → IsTrue (has_endpoints m.config.cores m.config.banks message)
   sent_endpoints x mail message invariant =
       subst (λ k. has_endpoints k.cores k.banks message ≡ true) (config x)
-      (each_last (GoesHome (put x).config) mail.messages (mail.next, message) invariant.whole.each_message).2
+      (each_last (GoesHome (put x).config) mail.messages (mail.next, message)
+      invariant.kept.shape.each_message).2
 
   pub reaction_endpoints : (reaction : Option (Reaction × S)) →
       Invariant (changed m put (Some n) (reacted reaction)).1 → can_send m.config.messages m.mail
@@ -152,20 +156,16 @@ module _ (m seen : Machine) (is_view : m ≡ seen) (holds : Invariant seen) (n :
     pub core_has : core_table.core_has_case core message ≡ true
     core_has = subst (λ o. core_case o message ≡ true) core_here (case_at (node.Core c) to)
 
-    pub core_endpoints : can_send m.config.messages m.mail (sent_by (core_table.core_table core message)) ≡ true →
-        ReactionHasEndpoints m.config.cores m.config.banks (core_table.core_table core message)
-    core_endpoints = reaction_endpoints m n (with_core m c) (λ x. refl) (core_table.core_table core message)
-        (subst (λ b.
-        Invariant (cond b (changed m (with_core m c) (Some n) (reacted (core_table.core_table core message)))
-        (refused m NoSuch)).1) core_has
-        (subst (λ o. Invariant (deliver_core m n message c o).1) core_here (any_core_delivery m invariant n message
-        found c (slice_get m.cores c) refl)))
-
     pub core_delivers : changed m (with_core m c) (Some n) (reacted (core_table.core_table core message)) ≡
         deliver_message m n (at_number n m.mail.messages)
     core_delivers = sym (with_case (core_table.core_has_case core message) _ _ core_has)
         ∙ ap (deliver_core m n message c) (sym core_here)
         ∙ delivers_there (node.Core c) to
+
+    pub core_endpoints : can_send m.config.messages m.mail (sent_by (core_table.core_table core message)) ≡ true →
+        ReactionHasEndpoints m.config.cores m.config.banks (core_table.core_table core message)
+    core_endpoints = reaction_endpoints m n (with_core m c) (λ x. refl) (core_table.core_table core message)
+        (subst (λ o. Invariant o.1) (sym core_delivers) (any_event m invariant (Deliver n)))
 
   -- so a bank
   module _ (b : ℕ) (to : message.to ≡ node.Bank b) (bank : BankState) (read : bank ≡ get_or m.banks b bank) where
@@ -175,20 +175,16 @@ module _ (m seen : Machine) (is_view : m ≡ seen) (holds : Invariant seen) (n :
     pub bank_has : bank_table.bank_has_case bank message ≡ true
     bank_has = subst (λ o. bank_case o message ≡ true) bank_here (case_at (node.Bank b) to)
 
-    pub bank_endpoints : can_send m.config.messages m.mail (sent_by (bank_table.bank_table bank message)) ≡ true →
-        ReactionHasEndpoints m.config.cores m.config.banks (bank_table.bank_table bank message)
-    bank_endpoints = reaction_endpoints m n (with_bank m b) (λ x. refl) (bank_table.bank_table bank message)
-        (subst (λ t.
-        Invariant (cond t (changed m (with_bank m b) (Some n) (reacted (bank_table.bank_table bank message)))
-        (refused m NoSuch)).1) bank_has
-        (subst (λ o. Invariant (deliver_bank m n message b o).1) bank_here (any_bank_delivery m invariant n
-        message found b to)))
-
     pub bank_delivers : changed m (with_bank m b) (Some n) (reacted (bank_table.bank_table bank message)) ≡
         deliver_message m n (at_number n m.mail.messages)
     bank_delivers = sym (with_case (bank_table.bank_has_case bank message) _ _ bank_has)
         ∙ ap (deliver_bank m n message b) (sym bank_here)
         ∙ delivers_there (node.Bank b) to
+
+    pub bank_endpoints : can_send m.config.messages m.mail (sent_by (bank_table.bank_table bank message)) ≡ true →
+        ReactionHasEndpoints m.config.cores m.config.banks (bank_table.bank_table bank message)
+    bank_endpoints = reaction_endpoints m n (with_bank m b) (λ x. refl) (bank_table.bank_table bank message)
+        (subst (λ o. Invariant o.1) (sym bank_delivers) (any_event m invariant (Deliver n)))
 
   -- so a DRAM
   module _ (b : ℕ) (to : message.to ≡ node.Dram b) (lines : FinMap nat_cmp (List ℕ))
@@ -217,16 +213,16 @@ module _ (m seen : Machine) (is_view : m ≡ seen) (holds : Invariant seen) (n :
         (subst (λ o. is_first_store o message ≡ true) (sym dram_here) takes)))
 
 -- what a core sends back goes to a bank
-module _ (m : Machine) (whole : IsWhole m) (c : ℕ) (core : CoreState) (here : slice_get m.cores c ≡ Some core) where
+module _ (m : Machine) (s : Invariant m) (c : ℕ) (core : CoreState) (here : slice_get m.cores c ≡ Some core) where
   back_goes : (line : ℕ) (copy : LineCopy) →
       IsTrue (has_endpoints m.config.cores m.config.banks (to_bank core line (FlushRep (words_of_copy copy))))
   back_goes line copy =
-      let is = whole.each_core c core here in
+      let is = core_shape m s c core here in
       let number = is.numbered in
-      let count = whole.core_count in
+      let count = s.core_count in
       let within = slice_get_within m.cores c core here in
       let banks = is.banks in
-      let some = whole.some_banks in
+      let some = s.kept.shape.some_banks in
       core_and_bank m.config.cores m.config.banks core.number (line % core.banks) (omega arith)
       (subst (λ k. line % core.banks < k) banks (mod-lt line (omega arith)))
 
@@ -249,18 +245,18 @@ module _ (m : Machine) (whole : IsWhole m) (c : ℕ) (core : CoreState) (here : 
       by_copy (Some copy) = by_pin copy (is_pinned (pinned_line core) line)
 
 -- what a bank sends when it evicts a line goes to its DRAM or to the line's owner
-module _ (m : Machine) (whole : IsWhole m) (b : ℕ) (bank : BankState) (here : slice_get m.banks b ≡ Some bank) where
+module _ (m : Machine) (s : Invariant m) (b : ℕ) (bank : BankState) (here : slice_get m.banks b ≡ Some bank) where
   number_below : bank.number < m.config.banks
   number_below =
-      let number = (whole.each_bank b bank here).numbered in
-      let count = whole.bank_count in
+      let number = (bank_shape m s b bank here).numbered in
+      let count = s.bank_count in
       let within = slice_get_within m.banks b bank here in
       omega arith
 
   pub evicted_endpoints : (line : ℕ) → EvictedHasEndpoints m.config.cores m.config.banks
       (bank_table.evict bank line).0
   evicted_endpoints line =
-      by_entry (bank_table.entry_of bank line) (λ x found. (whole.each_bank b bank here).owners line x found)
+      by_entry (bank_table.entry_of bank line) (λ x found. (bank_shape m s b bank here).owners line x found)
     where
       by_entry : (o : Option Entry) → ((x : Entry) → o ≡ Some x → IsOwnedBelow m.config.cores x) →
           EvictedHasEndpoints m.config.cores m.config.banks (bank_table.after_eviction bank line (evicted o)).0

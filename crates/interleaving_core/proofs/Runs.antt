@@ -40,8 +40,7 @@ pub run_issues : (events : List Event) (answers : List Answer) (m after : Machin
 run_issues [] [] m after invariant ran core =
     ap (λ (n : Machine). get_or n.issued core []) ran ∙ sym (append-nil (get_or m.issued core []))
 run_issues (event ∷ events) (answer ∷ answers) m after invariant (next, step, rest) core =
-    let whole = invariant.whole in
-    let now = (step_told m event answer next step).issues (whole.lists ∙ sym whole.core_count) core in
+    let now = (step_told m event answer next step).issues (invariant.lists ∙ sym invariant.core_count) core in
     run_issues events answers next after (step_invariant m event answer next invariant step) rest core
     ∙ ap (λ ops. ops ++ issued_in core events answers) now
     ∙ append_assoc (get_or m.issued core []) (issued_at_event core event answer) (issued_in core events answers)

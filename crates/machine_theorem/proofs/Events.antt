@@ -1,47 +1,66 @@
 -- Any event and any list of events keep the invariant.
-use Rattle.std.proofs.Common.{◌≡◌, ℕ, Bool, true, false, cond, List, [], ◌∷◌, Option, Some, None, refl}
-use Rattle.std.specs.List.{slice_get}
-use Rattle.network.specs.declared.message.Node.{Node}
-use Rattle.network.specs.declared.message.Node.TheVariants as node
-use Rattle.network.specs.declared.message.Message.{Message}
-use Rattle.network.specs.NumberedMessages.{at_number}
+use Rattle.std.proofs.Common.{◌≡◌, ℕ, true, List, [], ◌∷◌, sym, ◌∙◌, subst, ap}
+use Rattle.std.specs.Ordering.{nat_cmp}
+use Rattle.std.specs.FinMap.{FinMap}
+use Rattle.machine_table.specs.declared.config.Config.{Config}
 use Rattle.machine_table.specs.declared.event.Event.{Event}
-use Rattle.machine_table.specs.declared.event.Event.TheVariants.{Issue, Attempt, Deliver, EvictCache, EvictBank}
-use Rattle.machine_table.specs.declared.event.Event.TheVariants.{Advance}
-use Rattle.machine_table.specs.declared.event.Refusal.TheVariants.{Stopped}
+use Rattle.machine_table.specs.declared.event.Answer.{Answer}
+use Rattle.machine_table.specs.declared.event.Answer.TheVariants.{Waiting, Idle}
+use Rattle.machine_table.specs.declared.event.Answer.TheVariants.{Held}
+use Rattle.machine_table.specs.declared.event.Answer.TheVariants.{Refused}
 use Rattle.machine_table.specs.Machine.{Machine}
-use Rattle.machine_table.specs.Transition.{refused, deliver_to, deliver_message, on_event, transition}
+use Rattle.machine_table.specs.SetUp.{is_good}
+use Rattle.machine_table.specs.Opening.{at_start}
+use Rattle.machine_table.specs.Transition.{transition, on_event}
 use Rattle.machine_table.specs.Runs.{after_all}
-use Rattle.machine_theorem.specs.Kept.{Invariant}
-use Rattle.machine_theorem.proofs.CoreEvents.{any_issue, any_attempt, any_copy_evicted, any_advance}
-use Rattle.machine_theorem.proofs.Deliveries.{any_core_delivery}
-use Rattle.machine_theorem.proofs.BankEvents.{any_bank_delivery, any_dram_delivery, any_entry_evicted}
+use Rattle.machine_theorem.specs.States.{Same, seen}
+use Rattle.machine_theorem.specs.Effects.{IsMove, Effect}
+use Rattle.machine_theorem.specs.Kept.{IsKept, Invariant}
+use Rattle.machine_theorem.proofs.EventMoves.{event_goes, transition_goes}
+use Rattle.machine_theorem.proofs.KeptMoves.{move_kept}
+use Rattle.machine_theorem.proofs.KeptSteps.{kept_same}
+use Rattle.machine_theorem.proofs.Openings.{fair, at_start_invariant}
+use Rattle.machine_theorem.proofs.SetUps.{HasAsMany, on_event_same, as_many_parts}
 
-delivered : (m : Machine) → Invariant m → (n : ℕ) (o : Option Message) → at_number n m.mail.messages ≡ o →
-    Invariant (deliver_message m n o).1
-delivered m s n None found = s
-delivered m s n (Some message) found = by_node message.to refl
-  where
-    by_node : (to : Node) → message.to ≡ to → Invariant (deliver_to m n message to).1
-    by_node (node.Core c) to = any_core_delivery m s n message found c (slice_get m.cores c) refl
-    by_node (node.Bank b) to = any_bank_delivery m s n message found b to
-    by_node (node.Dram b) to = any_dram_delivery m s n message found b to
+-- what is done at a move, and where nothing of the state changes
+pub of_effect : (X : Type 0) (m : Machine) (answer : Answer) (after : Machine) → Effect m answer after →
+    (Same (seen m) (seen after) → X) → (IsMove m after → X) → X
+of_effect X m Waiting after e same moves = same e
+of_effect X m Idle after e same moves = same e
+of_effect X m Held after e same moves = same e
+of_effect X m (Refused why) after e same moves = same e
+of_effect X m _ after e same moves = moves e
+
+effect_kept : (m : Machine) → Invariant m → (answer : Answer) (after : Machine) → Effect m answer after →
+    HasAsMany m after → Invariant after
+effect_kept m s answer after effect many =
+    let kept : IsKept m.config m.opening (seen after) =
+    of_effect (IsKept m.config m.opening (seen after)) m answer after effect
+    (λ e. kept_same m.config m.opening (seen m) (seen after) e s.kept)
+    (λ move. kept_same m.config m.opening move.to (seen after) move.same
+    (move_kept m.config m.opening (seen m) s.kept move.to move.move)) in
+    record {
+      core_count = many.cores ∙ s.core_count ∙ ap (λ (c : Config). c.cores) (sym many.config);
+      bank_count = many.banks ∙ s.bank_count ∙ ap (λ (c : Config). c.banks) (sym many.config);
+      dram_count = many.drams ∙ s.dram_count ∙ ap (λ (c : Config). c.banks) (sym many.config);
+      lists = many.issued ∙ s.lists ∙ ap (λ (c : Config). c.cores) (sym many.config);
+      kept = subst (λ (c : Config). IsKept c after.opening (seen after)) (sym many.config)
+          (subst (λ (o : FinMap nat_cmp ℕ). IsKept m.config o (seen after)) (sym many.opening) kept);
+    }
 
 pub any_event : (m : Machine) → Invariant m → (event : Event) → Invariant (on_event m event).1
-any_event m s (Issue c op) = any_issue m s c op (slice_get m.cores c) refl
-any_event m s (Attempt c) = any_attempt m s c (slice_get m.cores c) refl
-any_event m s (Deliver n) = delivered m s n (at_number n m.mail.messages) refl
-any_event m s (EvictCache c line) = any_copy_evicted m s c line (slice_get m.cores c) refl
-any_event m s (EvictBank b line) = any_entry_evicted m s b line (slice_get m.banks b) refl
-any_event m s (Advance c) = any_advance m s c (slice_get m.cores c) refl
+any_event m s event =
+    effect_kept m s (on_event m event).0 (on_event m event).1 (event_goes m s event) (on_event_same m event)
 
 pub any_transition : (m : Machine) → Invariant m → (event : Event) → Invariant (transition m event).1
-any_transition m s event = go m.is_stopped
-  where
-    go : (b : Bool) → Invariant (cond b (refused m Stopped) (on_event m event)).1
-    go true = s
-    go false = any_event m s event
+any_transition m s event =
+    effect_kept m s (transition m event).0 (transition m event).1 (transition_goes m s event) (as_many_parts m event)
 
 pub any_events : (m : Machine) → Invariant m → (events : List Event) → Invariant (after_all m events)
 any_events m s [] = s
 any_events m s (event ∷ events) = any_events (transition m event).1 (any_transition m s event) events
+
+pub invariant : (config : Config) (opening : FinMap nat_cmp ℕ) (events : List Event) → is_good config ≡ true →
+    Invariant (after_all (at_start config opening) events)
+invariant config opening events good =
+    any_events (at_start config opening) (at_start_invariant config opening (fair config good)) events

@@ -7,7 +7,7 @@ use Rattle.network.specs.declared.message.Node.{Node}
 use Rattle.network.specs.declared.message.Node.TheVariants as node
 use Rattle.network.specs.declared.message.Message.{Message}
 use Rattle.network.specs.declared.part.Reaction.{Reaction}
-use Rattle.network.specs.declared.part.Reaction.TheVariants.{Done, Dropped, Held, HeldAfter}
+use Rattle.network.specs.declared.part.Reaction.TheVariants.{Done, HeldAfter}
 use Rattle.network.specs.NumberedMessages.{at_number}
 use Rattle.core_pts.specs.CoreTable.{CoreState, core_table, core_has_case}
 use Rattle.llc_bank.specs.BankTable.{BankState, bank_table, bank_has_case}
@@ -17,9 +17,9 @@ use Rattle.machine_table.specs.declared.event.Event.TheVariants.{Deliver}
 use Rattle.machine_table.specs.declared.event.Refusal.TheVariants.{NoSuch, Stopped}
 use Rattle.machine_table.specs.Machine.{Machine, with_core, with_bank, with_dram}
 use Rattle.network.specs.Mail.{has_number, has_capacity}
-use Rattle.machine_table.specs.Transition.{refused, deliver_core, deliver_bank, deliver_dram, deliver_to}
+use Rattle.machine_table.specs.Transition.{changed, refused, deliver_core, deliver_bank, deliver_dram, deliver_to}
 use Rattle.machine_table.specs.Transition.{deliver_message, transition}
-use Rattle.machine_theorem.proofs.PartChanges.{reacted}
+use Rattle.machine_table.specs.Step as step
 use Rattle.machine_table.specs.declared.event.Answer.{Answer}
 use Rattle.machine_theorem.specs.Cases.{core_case, bank_case, dram_takes, has_case_at, has_case}
 use Rattle.machine_theorem.proofs.Lookups.{each_at_number}
@@ -37,14 +37,12 @@ module _ (m : Machine) (n : ℕ) where
   tested_found true done other p q = p
   tested_found false done other p q = q
 
-  reacted_found : {S : Type 0} (put : S → Machine) (r : Option (Reaction × S)) → IsFound (reacted m n put r)
-  reacted_found put None = λ e. cc
-  reacted_found put (Some (Held, part)) = λ e. cc
-  reacted_found put (Some (Dropped, part)) = λ e. cc
-  reacted_found put (Some (Done None, part)) = λ e. cc
+  reacted_found : {S : Type 0} (put : S → Machine) (r : Option (Reaction × S)) →
+      IsFound (changed m put (Some n) (step.reacted r))
   reacted_found put (Some (Done (Some answer), part)) = (tested_found (has_number m.mail) _ _ (λ e. cc) (λ e. cc))
   reacted_found put (Some (HeldAfter started, part)) =
       (tested_found (has_capacity m.config.messages m.mail) _ _ (λ e. cc) (λ e. cc))
+  reacted_found put _ = λ e. cc
 
   to_found : (message : Message) (to : Node) → has_case_at m message to ≡ true → IsFound (deliver_to m n message to)
   to_found message (node.Core c) has = by_core (slice_get m.cores c) has

@@ -1,11 +1,7 @@
 -- What the proofs of this crate give to the crates above: they import this file and no other of this folder.
 
--- A delivery to a bank keeps the invariant.
-pub use Rattle.machine_theorem.proofs.BankEvents.{any_bank_delivery}
--- A delivery keeps the invariant.
-pub use Rattle.machine_theorem.proofs.Deliveries.{any_core_delivery}
 -- Any event and any list of events keep the invariant.
-pub use Rattle.machine_theorem.proofs.Events.{any_transition}
+pub use Rattle.machine_theorem.proofs.Events.{any_event, any_transition}
 -- Every message in flight has a case in the table of the part that it goes to.
 pub use Rattle.machine_theorem.proofs.FoundCases.{messages_find_cases}
 -- A message in flight is always found by its part.
@@ -16,7 +12,13 @@ pub use Rattle.machine_theorem.proofs.Consistency.{consistent}
 pub use Rattle.machine_theorem.proofs.Lookups.{each_at_number, get-set_other, get-set_same}
 -- The invariant holds of a machine as it opens.
 pub use Rattle.machine_theorem.proofs.Openings.{at_start_invariant, fair}
+-- The parts in a machine's lists have their shape.
+pub use Rattle.machine_theorem.proofs.Parts.{core_shape, bank_shape}
 -- Between which nodes the messages go that parts send.
 pub use Rattle.machine_theorem.proofs.Routes.{both, core_and_bank}
 -- No event changes how the machine was set up.
 pub use Rattle.machine_theorem.proofs.SetUps.{after_all_same, set_up_same, transition_same}
+-- The owners of a line among messages, by their weights, and among caches.
+pub use Rattle.machine_theorem.proofs.Coherence.{owners_weigh, owns_is}
+-- The first of some parts, in a list.
+pub use Rattle.machine_theorem.proofs.Lists.{first_at}

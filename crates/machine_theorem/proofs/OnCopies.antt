@@ -16,7 +16,7 @@ use Rattle.core_pts.specs.CoreTable.{CoreState, comes_to_core, waits_for, is_sha
 use Rattle.core_pts.specs.OnCopy as on_copy
 use Rattle.core_pts.specs.OnCopy.{is_exclusive, serves, time_of, received_at, copy_after, words_of_copy, at_core}
 use Rattle.core_pts.specs.declared.decision.CoreReaction.{CoreReaction}
-use Rattle.core_pts.specs.declared.decision.CoreReaction.TheVariants.{Arrives, Grants, Returns, Drops, Holds, TooLate}
+use Rattle.core_pts.specs.declared.decision.CoreReaction.TheVariants.{Arrives, Grants, Returns, Drops, Holds}
 use Rattle.core_pts.specs.declared.decision.CoreReaction.TheVariants.{NoCase}
 use Rattle.protocol.specs.Machine.{Config, Message, RenewRep, UpgradeRep, FlushReq, WbReq, Line, with_at, CannotUse}
 use Rattle.protocol.specs.Machine.{LineTransition, dropped, wb_dropped, flushed, written_back, Answers, shared}
@@ -94,9 +94,8 @@ CoreFits lease pinned t c x rest b o (Returns kept sent) = IsThere o × (b ≡ f
           body_seen c 0 sent ∷ rest;
     })
 CoreFits lease pinned t c x rest b o Drops = LineTransition lease pinned t x t (record x { messages = rest })
-CoreFits lease pinned t c x rest b o Holds = Unit {0}
-CoreFits lease pinned t c x rest b o TooLate = Unit {0}
 CoreFits lease pinned t c x rest b o NoCase = ⊥
+CoreFits lease pinned t c x rest b o _ = Unit {0}
 
 module _ (lease : ℕ) (pinned : ℕ → Type 0) (t c : ℕ) (x : Line) (rest : List Message) (b : Bool) where
   renewed_fits : (rts : ℕ) (o : Option LineCopy) → x.copies c ≡ copy_or_none o → is_shared_copy o ≡ true →
@@ -157,11 +156,4 @@ module _ (lease : ℕ) (pinned : ℕ → Type 0) (t c : ℕ) (x : Line) (rest : 
       upgraded_fits rts _ is (ownership_of (waits_for core line) _ has) p
   core_fits core line body.FlushReq un has is p = unless_open b _ _ (λ e. flush_fits _ is e (un e) p)
   core_fits core line (body.WbReq until) un has is p = unless_open b _ _ (λ e. back_fits until _ is e (un e) p)
-  core_fits core line (body.ShReq pts v) un has is p = absurd (let z : false ≡ true = has in cc)
-  core_fits core line (body.ExReq v) un has is p = absurd (let z : false ≡ true = has in cc)
-  core_fits core line (body.FlushRep y) un has is p = absurd (let z : false ≡ true = has in cc)
-  core_fits core line (body.WbRep y) un has is p = absurd (let z : false ≡ true = has in cc)
-  core_fits core line body.DramLd un has is p = absurd (let z : false ≡ true = has in cc)
-  core_fits core line (body.DramLdRep ws) un has is p = absurd (let z : false ≡ true = has in cc)
-  core_fits core line (body.DramSt ws) un has is p = absurd (let z : false ≡ true = has in cc)
-  core_fits core line body.DramStRep un has is p = absurd (let z : false ≡ true = has in cc)
+  core_fits core line _ un has is p = absurd (let z : false ≡ true = has in cc)

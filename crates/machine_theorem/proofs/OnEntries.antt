@@ -102,8 +102,7 @@ module _ (lease : ℕ) (pinned : ℕ → Type 0) (t : ℕ) (x : Line) (rest : Li
     shared_goes room pts v (Some (entry.Shared dirty line)) up at p =
         leases_go pts v dirty line up (is _ at) p (fits (line.wts + lease) && fits (pts + lease))
     shared_goes room pts v (Some (entry.Exclusive o)) up at p = back_goes o pts at (fits (pts + lease))
-    shared_goes room pts v (Some (entry.Recalling o)) up at p = waits
-    shared_goes room pts v (Some entry.Storing) up at p = waits
+    shared_goes room pts v _ up at p = waits
 
     grant_goes : (v : Option ℕ) (dirty : Bool) (line : TimedLine) → is_core_to_bank cores banks m.from m.to ≡ true →
         x.entry ≡ Shared dirty (timed line) → IsPermutation x.messages (ExReq c v ∷ rest) →
@@ -136,28 +135,17 @@ module _ (lease : ℕ) (pinned : ℕ → Type 0) (t : ℕ) (x : Line) (rest : Li
         P (after_decision bank m (on_entry.given_back line e))
     returns_go line (Some (entry.Exclusive o)) at h mv = becomes _ _ _ at mv
     returns_go line (Some (entry.Recalling o)) at h mv = becomes _ _ _ at mv
-    returns_go line None at h mv = absurd (let z : false ≡ true = h in cc)
-    returns_go line (Some entry.Loading) at h mv = absurd (let z : false ≡ true = h in cc)
-    returns_go line (Some (entry.Shared d y)) at h mv = absurd (let z : false ≡ true = h in cc)
-    returns_go line (Some entry.Storing) at h mv = absurd (let z : false ≡ true = h in cc)
+    returns_go line _ at h mv = absurd (let z : false ≡ true = h in cc)
 
     words_go : (ws : List ℕ) (e : Option Entry) → entry_of bank m.line ≡ e → is_loading e ≡ true →
         IsPermutation x.messages (DramLdRep ws ∷ rest) → P (after_decision bank m (on_entry.filled t ws e))
     words_go ws (Some entry.Loading) at h p = becomes _ _ _ at (loaded ws rest p)
-    words_go ws None at h p = absurd (let z : false ≡ true = h in cc)
-    words_go ws (Some (entry.Shared d y)) at h p = absurd (let z : false ≡ true = h in cc)
-    words_go ws (Some (entry.Exclusive o)) at h p = absurd (let z : false ≡ true = h in cc)
-    words_go ws (Some (entry.Recalling o)) at h p = absurd (let z : false ≡ true = h in cc)
-    words_go ws (Some entry.Storing) at h p = absurd (let z : false ≡ true = h in cc)
+    words_go ws _ at h p = absurd (let z : false ≡ true = h in cc)
 
     stored_goes : (e : Option Entry) → is_storing e ≡ true → IsPermutation x.messages (DramStRep ∷ rest) →
         P (after_decision bank m (on_entry.stored e))
     stored_goes (Some entry.Storing) h p = leaves (stored rest p)
-    stored_goes None h p = absurd (let z : false ≡ true = h in cc)
-    stored_goes (Some entry.Loading) h p = absurd (let z : false ≡ true = h in cc)
-    stored_goes (Some (entry.Shared d y)) h p = absurd (let z : false ≡ true = h in cc)
-    stored_goes (Some (entry.Exclusive o)) h p = absurd (let z : false ≡ true = h in cc)
-    stored_goes (Some (entry.Recalling o)) h p = absurd (let z : false ≡ true = h in cc)
+    stored_goes _ h p = absurd (let z : false ≡ true = h in cc)
 
     pub bank_goes : (room : Bool) (b : Body) → comes_to_bank m.from (entry_of bank m.line) b ≡ true →
         has_route cores banks m.from m.to b ≡ true → IsPermutation x.messages (body_seen c 0 b ∷ rest) →
@@ -168,11 +156,4 @@ module _ (lease : ℕ) (pinned : ℕ → Type 0) (t : ℕ) (x : Line) (rest : Li
     bank_goes room (body.WbRep y) has up p = returns_go y _ refl has (wb_returns c (timed y) rest p)
     bank_goes room (body.DramLdRep ws) has up p = words_go ws _ refl has p
     bank_goes room body.DramStRep has up p = stored_goes _ has p
-    bank_goes room (body.ShRep y) has up p = absurd (let z : false ≡ true = has in cc)
-    bank_goes room (body.ExRep y) has up p = absurd (let z : false ≡ true = has in cc)
-    bank_goes room (body.RenewRep r) has up p = absurd (let z : false ≡ true = has in cc)
-    bank_goes room (body.UpgradeRep r) has up p = absurd (let z : false ≡ true = has in cc)
-    bank_goes room body.FlushReq has up p = absurd (let z : false ≡ true = has in cc)
-    bank_goes room (body.WbReq r) has up p = absurd (let z : false ≡ true = has in cc)
-    bank_goes room body.DramLd has up p = absurd (let z : false ≡ true = has in cc)
-    bank_goes room (body.DramSt ws) has up p = absurd (let z : false ≡ true = has in cc)
+    bank_goes room _ has up p = absurd (let z : false ≡ true = has in cc)

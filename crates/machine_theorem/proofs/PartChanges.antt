@@ -1,45 +1,104 @@
--- What a step of one part makes of the machine, event by event.
-use Rattle.std.proofs.Common.{ℕ, Bool, true, false, cond, Option, Some, None}
-use Rattle.std.specs.Prelude.{Result}
+-- A machine and its state: one part put into both, and the messages in flight afterwards.
+use Rattle.std.proofs.Common.{◌≡◌, ℕ, ◌<◌, Bool, true, false, cond, List, [], ◌∷◌, ◌++◌, length, set, get_or, Option}
+use Rattle.std.proofs.Common.{Some, None, refl}
+use Rattle.std.proofs.Common.{ap, arith}
+use Rattle.std.specs.Ordering.{nat_cmp}
+use Rattle.std.specs.FinMap.{FinMap, entries}
 use Rattle.physiological_order.specs.declared.operation.Op.{Op}
-use Rattle.network.specs.declared.message.Body.{Body}
+use Rattle.network.specs.declared.counts.Counts.{Counts}
 use Rattle.network.specs.declared.message.Message.{Message}
-use Rattle.network.specs.declared.part.Reaction.{Reaction}
-use Rattle.private_cache.specs.declared.cache.CacheError.{CacheError}
-use Rattle.core_pts.specs.declared.attempt.Attempt.{Attempt}
-use Rattle.core_pts.specs.CoreTable.{CoreState}
-use Rattle.llc_bank.specs.declared.entry.Evict.{Evict}
-use Rattle.llc_bank.specs.declared.entry.EvictError.{EvictError}
-use Rattle.llc_bank.specs.BankTable.{BankState}
-use Rattle.machine_table.specs.declared.event.Answer.{Answer}
-use Rattle.machine_table.specs.declared.event.Refusal.{Refusal}
-use Rattle.machine_table.specs.Machine.{Machine, with_core, with_bank}
-use Rattle.machine_table.specs.Step as step
-use Rattle.machine_table.specs.Transition.{changed, refused, tried}
+use Rattle.network.specs.Mail.{Mail, counted, sent}
+use Rattle.core_pts.specs.CoreTable.{CoreState, opened}
+use Rattle.llc_bank.specs.BankTable.{BankState, empty_bank}
+use Rattle.machine_table.specs.Machine as table
+use Rattle.machine_table.specs.Machine.{Machine}
+use Rattle.machine_table.specs.Step.{record_of}
+use Rattle.machine_table.specs.Posted.{left, posted}
+use Rattle.machine_table.specs.Opening.{core_config, bank_config, geometry, dram_of}
+use Rattle.machine_theorem.specs.Bags.{SameBag, bag_of}
+use Rattle.protocol.specs.Machine.{with_at}
+use Rattle.machine_theorem.specs.States.{State, Same, seen}
+use Rattle.machine_theorem.specs.Moves.{with_core, with_bank, with_dram, with_answer}
+use Rattle.machine_theorem.proofs.Bags.{bag-sent}
+use Rattle.machine_theorem.proofs.Lists.{part_put}
+use Rattle.machine_theorem.proofs.ByParts.{same_by}
 
-abbrev pub attempted_op : Machine → ℕ → CoreState → Op → Option Attempt × CoreState → Answer × Machine
-attempted_op m c core op tries = tried m c core (step.attempted core op tries)
+pub itself : (a : State) → Same a a
+itself a = same_by (λ c. refl) (λ b. refl) (λ b. refl) (λ h. refl) (λ c. refl) refl refl
 
-abbrev pub attempt_open : Machine → ℕ → CoreState → Option Op → Answer × Machine
-attempt_open m c core op = tried m c core (step.attempt_open core op)
+-- one part, an operation issued, or one completed
+module _ (a : State) (m : Machine) (k : Same a (seen m)) where
+  pub core_put : (c : ℕ) (core : CoreState) → c < length m.cores →
+      Same (with_core a c core) (seen (table.with_core m c core))
+  core_put c core lt =
+      same_by
+      (part_put a.cores m.cores (λ j. opened (core_config m.config j) (geometry m.config)) c core core k.cores refl lt)
+      k.banks k.drams k.bag k.issued k.records k.counts
 
-abbrev pub requested : Machine → ℕ → CoreState → Op → Body → Answer × Machine
-requested m c core op body = changed m (with_core m c) None (step.asks core op body)
+  pub bank_put : (b : ℕ) (bank : BankState) → b < length m.banks →
+      Same (with_bank a b bank) (seen (table.with_bank m b bank))
+  bank_put b bank lt =
+      same_by k.cores
+      (part_put a.banks m.banks (λ j. empty_bank (bank_config m.config j)) b bank bank k.banks refl lt)
+      k.drams k.bag k.issued k.records k.counts
 
-abbrev pub reacted : {S : Type 0} → Machine → ℕ → (S → Machine) → Option (Reaction × S) → Answer × Machine
-reacted m n put reaction = changed m put (Some n) (step.reacted reaction)
+  pub dram_put : (b : ℕ) (lines : FinMap nat_cmp (List ℕ)) → b < length m.drams →
+      Same (with_dram a b lines) (seen (table.with_dram m b lines))
+  dram_put b lines lt =
+      same_by k.cores k.banks
+      (part_put a.drams m.drams (λ j. dram_of m.config j (entries m.opening)) b lines lines k.drams refl lt)
+      k.bag k.issued k.records k.counts
 
-abbrev pub copy_evicted : Machine → ℕ → Result (Option Message) CacheError × CoreState → Answer × Machine
-copy_evicted m c evicts = changed m (with_core m c) None (step.copy_evicted evicts)
+  pub issue_put : (c : ℕ) (op : Op) (core : CoreState) → c < length m.cores → c < length m.issued →
+      Same (record (with_core a c core) { issued = with_at a.issued c (a.issued c ++ op ∷ []) })
+      (seen (record (table.with_core m c core) { issued = set m.issued c (get_or m.issued c [] ++ op ∷ []) }))
+  issue_put c op core lt there =
+      let put = core_put c core lt in
+      same_by put.cores k.banks k.drams k.bag
+      (part_put a.issued m.issued (λ j. []) c (a.issued c ++ op ∷ []) (get_or m.issued c [] ++ op ∷ []) k.issued
+      (ap (λ (ops : List Op). ops ++ op ∷ []) (k.issued c)) there)
+      k.records k.counts
 
-abbrev pub entry_evicted : Machine → ℕ → Result Evict EvictError × BankState → Answer × Machine
-entry_evicted m b evicts = changed m (with_bank m b) None (step.entry_evicted evicts)
+  pub completion_put : (c : ℕ) (op : Op) (received : Option ℕ) (ts : ℕ) (old core : CoreState) → c < length m.cores →
+      Same (record (with_core a c core) {
+        records = a.records ++ record_of c
+            (length a.records) old op received ts ∷ [];
+      })
+      (seen (record (table.with_core m c core) {
+        records = m.records ++ record_of c
+            (length m.records) old op received ts ∷ [];
+      }))
+  completion_put c op received ts old core lt =
+      let put = core_put c core lt in
+      same_by put.cores k.banks k.drams k.bag k.issued
+      (ap (λ rs. rs ++ record_of c (length rs) old op received ts ∷ []) k.records) k.counts
 
-abbrev pub advanced : Machine → ℕ → Option (Unit {0}) × CoreState → Answer × Machine
-advanced m c time = changed m (with_core m c) None (step.advanced time)
+-- the messages in flight
+abbrev replied : Mail → Option Message → Mail
+replied mail None = mail
+replied mail (Some answer) = sent mail answer
 
--- what is done if a test says so, and is refused else, holds what the machine holds in both
-pub tested : (P : Machine → Type 0) (m : Machine) (b : Bool) (done : Answer × Machine) (why : Refusal) →
-    P done.1 → P m → P (cond b done (refused m why)).1
-tested P m true done why is kept = is
-tested P m false done why is kept = kept
+module _ (b : State) (m : Machine) (k : Same b (seen m)) (bag : List Message) (mail : Mail)
+    (same : SameBag bag (bag_of mail.messages)) (counts : b.counts ≡ mail.counts) where
+  pub bag_put : Same (record b { bag = bag }) (seen (record m { mail = mail }))
+  bag_put = same_by k.cores k.banks k.drams same k.issued k.records counts
+
+  answer_put : (answer : Option Message) →
+      Same (with_answer b bag answer) (seen (record m { mail = replied mail answer }))
+  answer_put None = bag_put
+  answer_put (Some message) =
+      same_by k.cores k.banks k.drams
+      (λ h. (let s = same h in let t = bag-sent mail.messages mail.next message h in omega arith)) k.issued
+      k.records (ap (λ (n : Counts). counted n message.body) counts)
+
+-- so after a step that consumes a message, beside which are the rest, or not, and sends this, if anything
+pub posted_put : (b : State) (m : Machine) → Same b (seen m) → (all rest : List Message) (mail : Mail)
+    (n : Option ℕ) → SameBag all (bag_of mail.messages) → SameBag rest (bag_of (left mail n).messages) →
+    b.counts ≡ mail.counts → (consumes : Bool) (sends : Option Message) →
+    Same (with_answer b (cond consumes rest all) sends) (seen (record m { mail = posted mail n consumes sends }))
+posted_put b m k all rest mail n same same_rest counts true None =
+    answer_put b m k rest (left mail n) same_rest counts None
+posted_put b m k all rest mail n same same_rest counts false None = answer_put b m k all mail same counts None
+posted_put b m k all rest mail n same same_rest counts true (Some q) =
+    answer_put b m k rest (left mail n) same_rest counts (Some q)
+posted_put b m k all rest mail n same same_rest counts false (Some q) = answer_put b m k all mail same counts (Some q)

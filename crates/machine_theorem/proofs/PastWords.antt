@@ -20,6 +20,11 @@ use Rattle.protocol.proofs.Lemmas.{with_at_cases, Some_injective}
 use Rattle.machine_theorem.specs.PastWords.{ZerosFrom, EntryEnds, MessageEnds, HasZeros, IsReached}
 
 module _ (n : ℕ) where
+  zeros_by : {x : Line} → ((core : ℕ) (copy : Copy) → x.copies core ≡ Some copy → ZerosFrom n copy.line.words) →
+      EntryEnds n x.entry → Each (MessageEnds n) x.messages → ZerosFrom n x.dram → HasZeros n x
+  zeros_by copies entry messages dram =
+      record { copies = copies; entry = entry; messages = messages; dram = dram }
+
   -- a core's copies after one changed
   copied : (x : Line) (c : ℕ) (new : Copy) → ZerosFrom n new.line.words → HasZeros n x → (d : ℕ) (copy : Copy) →
       with_at x.copies c (Some new) d ≡ Some copy → ZerosFrom n copy.line.words
@@ -46,111 +51,73 @@ module _ (n : ℕ) where
   moved : (lease : ℕ) (pinned : ℕ → Type 0) (t u : ℕ) (x y : Line) → LineTransition lease pinned t x u y →
       HasZeros n x → HasZeros n y
   moved lease pinned t u x y (evict_shared c copy un is sh) k =
-      record { copies = left x c k; entry = k.entry; messages = k.messages; dram = k.dram }
+      zeros_by (left x c k) k.entry k.messages k.dram
   moved lease pinned t u x y (evict_exclusive c copy un is ex) k =
-      record { copies = left x c k; entry = k.entry; messages = (k.copies c copy is, k.messages); dram = k.dram }
+      zeros_by (left x c k) k.entry (k.copies c copy is, k.messages) k.dram
   moved lease pinned t u x y (dropped c rest p) k =
-      record { copies = k.copies; entry = k.entry; messages = (taken _ _ p k.messages).1; dram = k.dram }
+      zeros_by k.copies k.entry ((taken _ _ p k.messages).1) k.dram
   moved lease pinned t u x y (wb_dropped c until rest p) k =
-      record { copies = k.copies; entry = k.entry; messages = (taken _ _ p k.messages).1; dram = k.dram }
+      zeros_by k.copies k.entry ((taken _ _ p k.messages).1) k.dram
   moved lease pinned t u x y (flushed c rest copy p un is ex) k =
-      record {
-        copies = left x c k;
-        entry = k.entry;
-        messages = (k.copies c copy is, (taken _ _ p k.messages).1);
-        dram = k.dram;
-      }
+      zeros_by (left x c k) k.entry (k.copies c copy is, (taken _ _ p k.messages).1) k.dram
   moved lease pinned t u x y (written_back c until rest copy p un is ex) k =
-      record {
-        copies = copied x c _ (k.copies c copy is) k;
-        entry = k.entry;
-        messages = (k.copies c copy is, (taken _ _ p k.messages).1);
-        dram = k.dram;
-      }
+      zeros_by (copied x c _ (k.copies c copy is) k) k.entry (k.copies c copy is, (taken _ _ p k.messages).1)
+      k.dram
   moved lease pinned t u x y (load_starts is) k =
-      record { copies = k.copies; entry = tt; messages = (tt, k.messages); dram = k.dram }
+      zeros_by k.copies tt (tt, k.messages) k.dram
   moved lease pinned t u x y (renewed c pts dirty line rest is p) k =
-      record {
-        copies = k.copies;
-        entry = entered x dirty line is k;
-        messages = (tt, (taken _ _ p k.messages).1);
-        dram = k.dram;
-      }
+      zeros_by k.copies (entered x dirty line is k) (tt, (taken _ _ p k.messages).1) k.dram
   moved lease pinned t u x y (leased c pts version dirty line rest is p) k =
-      record {
-        copies = k.copies;
-        entry = entered x dirty line is k;
-        messages = (entered x dirty line is k, (taken _ _ p k.messages).1);
-        dram = k.dram;
-      }
+      zeros_by k.copies (entered x dirty line is k) (entered x dirty line is k, (taken _ _ p k.messages).1)
+      k.dram
   moved lease pinned t u x y (upgraded c dirty line rest is p) k =
-      record { copies = k.copies; entry = tt; messages = (tt, (taken _ _ p k.messages).1); dram = k.dram }
+      zeros_by k.copies tt (tt, (taken _ _ p k.messages).1) k.dram
   moved lease pinned t u x y (granted c version dirty line rest is p) k =
-      record {
-        copies = k.copies;
-        entry = tt;
-        messages = (entered x dirty line is k, (taken _ _ p k.messages).1);
-        dram = k.dram;
-      }
+      zeros_by k.copies tt (entered x dirty line is k, (taken _ _ p k.messages).1) k.dram
   moved lease pinned t u x y (wb_starts owner until is) k =
-      record { copies = k.copies; entry = tt; messages = (tt, k.messages); dram = k.dram }
+      zeros_by k.copies tt (tt, k.messages) k.dram
   moved lease pinned t u x y (flush_starts owner is) k =
-      record { copies = k.copies; entry = tt; messages = (tt, k.messages); dram = k.dram }
+      zeros_by k.copies tt (tt, k.messages) k.dram
   moved lease pinned t u x y (flush_returns c line rest p) k =
       let each = taken _ _ p k.messages in
-      record { copies = k.copies; entry = each.0; messages = each.1; dram = k.dram }
+      zeros_by k.copies each.0 each.1 k.dram
   moved lease pinned t u x y (wb_returns c line rest p) k =
       let each = taken _ _ p k.messages in
-      record { copies = k.copies; entry = each.0; messages = each.1; dram = k.dram }
+      zeros_by k.copies each.0 each.1 k.dram
   moved lease pinned t u x y (loaded words rest p) k =
       let each = taken _ _ p k.messages in
-      record { copies = k.copies; entry = each.0; messages = each.1; dram = k.dram }
+      zeros_by k.copies each.0 each.1 k.dram
   moved lease pinned t u x y (stored rest p) k =
-      record { copies = k.copies; entry = tt; messages = (taken _ _ p k.messages).1; dram = k.dram }
+      zeros_by k.copies tt ((taken _ _ p k.messages).1) k.dram
   moved lease pinned t u x y (evict_clean line is) k =
-      record { copies = k.copies; entry = tt; messages = k.messages; dram = k.dram }
+      zeros_by k.copies tt k.messages k.dram
   moved lease pinned t u x y (evict_dirty line is) k =
-      record { copies = k.copies; entry = tt; messages = (entered x true line is k, k.messages); dram = k.dram }
+      zeros_by k.copies tt (entered x true line is k, k.messages) k.dram
   moved lease pinned t u x y (shuffled messages p) k =
-      record { copies = k.copies; entry = k.entry; messages = taken _ _ p k.messages; dram = k.dram }
+      zeros_by k.copies k.entry (taken _ _ p k.messages) k.dram
   moved lease pinned t u x y (dram_loads rest p) k =
-      record {
-        copies = k.copies;
-        entry = k.entry;
-        messages = (k.dram, (taken _ _ p k.messages).1);
-        dram = k.dram;
-      }
+      zeros_by k.copies k.entry (k.dram, (taken _ _ p k.messages).1) k.dram
   moved lease pinned t u x y (dram_stores words rest p) k =
       let each = taken _ _ p k.messages in
-      record { copies = k.copies; entry = k.entry; messages = (tt, each.1); dram = each.0 }
+      zeros_by k.copies k.entry (tt, each.1) each.0
 
   answered : (c : ℕ) (x y : Line) → Answers c x y → HasZeros n x → HasZeros n y
   answered c x y (shared line rest p) k =
       let each = taken _ _ p k.messages in
-      record { copies = copied x c _ each.0 k; entry = k.entry; messages = each.1; dram = k.dram }
+      zeros_by (copied x c _ each.0 k) k.entry each.1 k.dram
   answered c x y (exclusive line rest p) k =
       let each = taken _ _ p k.messages in
-      record { copies = copied x c _ each.0 k; entry = k.entry; messages = each.1; dram = k.dram }
+      zeros_by (copied x c _ each.0 k) k.entry each.1 k.dram
   answered c x y (renews rts copy rest p is) k =
-      record {
-        copies = copied x c _ (k.copies c copy is) k;
-        entry = k.entry;
-        messages = (taken _ _ p k.messages).1;
-        dram = k.dram;
-      }
+      zeros_by (copied x c _ (k.copies c copy is) k) k.entry ((taken _ _ p k.messages).1) k.dram
   answered c x y (upgrades rts copy rest p is) k =
-      record {
-        copies = copied x c _ (k.copies c copy is) k;
-        entry = k.entry;
-        messages = (taken _ _ p k.messages).1;
-        dram = k.dram;
-      }
+      zeros_by (copied x c _ (k.copies c copy is) k) k.entry ((taken _ _ p k.messages).1) k.dram
 
   asked : (c pts : ℕ) (op : Op) (x y : Line) → Asks c pts op x y → HasZeros n x → HasZeros n y
   asked c pts op x y (to_read a cannot) k =
-      record { copies = k.copies; entry = k.entry; messages = (tt, k.messages); dram = k.dram }
+      zeros_by k.copies k.entry (tt, k.messages) k.dram
   asked c pts op x y (to_write cannot) k =
-      record { copies = k.copies; entry = k.entry; messages = (tt, k.messages); dram = k.dram }
+      zeros_by k.copies k.entry (tt, k.messages) k.dram
 
 module _ (f : Config) (some : 0 < f.line_words) where
   -- a write of a word that the line has
@@ -185,12 +152,9 @@ module _ (f : Config) (some : 0 < f.line_words) where
   kept m n (complete c op copy new received ts opens quiet is u) k =
       let l = line_of f (address op) in
       let x = k l in
-      changed m l _ (record {
-        copies = copied f.line_words (m.lines l) c new (used _ copy op received ts new u (x.copies c copy is)) x;
-        entry = x.entry;
-        messages = x.messages;
-        dram = x.dram;
-      }) k
+      changed m l _ (zeros_by f.line_words
+      (copied f.line_words (m.lines l) c new (used _ copy op received ts new u (x.copies c copy is)) x)
+      x.entry x.messages x.dram) k
   kept m n (line_changes l t y move) k = changed m l y (moved f.line_words _ _ _ t _ y move (k l)) k
 
 -- one more turn of the protocol

@@ -51,10 +51,7 @@ up_ends cores banks (Core c) (Bank b) h = record {
       ltb-true c cores (left_of _ _ h);
   some_bank = ltb-true b banks (ownership_of _ _ h);
 }
-up_ends cores banks (Core c) (Core d) h = absurd (let z : false ≡ true = h in cc)
-up_ends cores banks (Core c) (Dram d) h = absurd (let z : false ≡ true = h in cc)
-up_ends cores banks (Bank b) to h = absurd (let z : false ≡ true = h in cc)
-up_ends cores banks (Dram b) to h = absurd (let z : false ≡ true = h in cc)
+up_ends cores banks _ _ h = absurd (let z : false ≡ true = h in cc)
 
 -- and of one between a bank and its DRAM
 pub record BackEnds (banks : ℕ) (from to : Node) : Type 0 where
@@ -67,7 +64,4 @@ pub record BackEnds (banks : ℕ) (from to : Node) : Type 0 where
 pub back_ends : (banks : ℕ) (from to : Node) → is_bank_to_dram banks from to ≡ true → BackEnds banks from to
 back_ends banks (Bank b) (Dram d) h =
     record { bank = b; dram = d; from_bank = refl; to_dram = refl; some_bank = ltb-true b banks (left_of _ _ h) }
-back_ends banks (Bank b) (Core d) h = absurd (let z : false ≡ true = h in cc)
-back_ends banks (Bank b) (Bank d) h = absurd (let z : false ≡ true = h in cc)
-back_ends banks (Core c) to h = absurd (let z : false ≡ true = h in cc)
-back_ends banks (Dram b) to h = absurd (let z : false ≡ true = h in cc)
+back_ends banks _ _ h = absurd (let z : false ≡ true = h in cc)

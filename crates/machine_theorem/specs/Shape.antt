@@ -1,6 +1,6 @@
--- The shape that every machine keeps: its parts know their numbers and how the machine was set up, banks have only
+-- The shape that every state keeps: its parts know their numbers and how the machine was set up, banks have only
 -- their own lines, and messages go to and from the bank of their line.
-use Rattle.std.specs.Prelude.{◌≡◌, ◌≢◌, ℕ, ◌<◌, ◌%◌, true, List, [], length, Some, None, slice_get, slice_index_or}
+use Rattle.std.specs.Prelude.{◌≡◌, ◌≢◌, ℕ, ◌<◌, ◌≤◌, ◌%◌, true, List, [], length, Some, None}
 use Rattle.std.specs.List.{AllByRecursion}
 use Rattle.std.specs.Ordering.{nat_cmp}
 use Rattle.std.specs.FinMap.{FinMap}
@@ -15,7 +15,7 @@ use Rattle.llc_bank.specs.declared.entry.Entry.{Entry}
 use Rattle.llc_bank.specs.declared.entry.Entry.TheVariants.{Exclusive, Recalling}
 use Rattle.llc_bank.specs.BankTable.{BankState, entry_of}
 use Rattle.machine_table.specs.declared.config.Config.{Config}
-use Rattle.machine_table.specs.Machine.{Machine}
+use Rattle.machine_theorem.specs.States.{State, initial_state}
 
 -- a core of this number that was issued these operations; while a request is out, the copy that it brings has a place
 pub record IsCore (config : Config) (number : ℕ) (issued : List Op) (core : CoreState) : Type 0 where
@@ -50,22 +50,18 @@ IsHome home (Bank b) = b ≡ home
 IsHome home (Dram b) = b ≡ home
 
 -- a message that goes between nodes of its kind, and these are the homes of its line
-abbrev pub GoesHome : Config → ℕ × Message → Type 0
-GoesHome config m = IsHome (m.1.line % config.banks) m.1.from × IsHome (m.1.line % config.banks) m.1.to ×
-    (has_endpoints config.cores config.banks m.1 ≡ true)
+abbrev pub GoesHome : Config → Message → Type 0
+GoesHome config m = IsHome (m.line % config.banks) m.from × IsHome (m.line % config.banks) m.to ×
+    (has_endpoints config.cores config.banks m ≡ true)
 
-pub record HasShape (config : Config) (cores : List CoreState) (banks : List BankState)
-    (drams : List (FinMap nat_cmp (List ℕ))) (messages : List (ℕ × Message)) (issued : List (List Op)) : Type 0 where
+pub record HasShape (config : Config) (opening : FinMap nat_cmp ℕ) (a : State) : Type 0 where
   pub some_words : 0 < config.line_words
   pub some_banks : 0 < config.banks
-  pub core_count : length cores ≡ config.cores
-  pub bank_count : length banks ≡ config.banks
-  pub dram_count : length drams ≡ config.banks
-  pub lists : length issued ≡ config.cores
-  pub each_core : (c : ℕ) (core : CoreState) → slice_get cores c ≡ Some core →
-      IsCore config c (slice_index_or issued c []) core
-  pub each_bank : (b : ℕ) (bank : BankState) → slice_get banks b ≡ Some bank → IsBank config b bank
-  pub each_message : AllByRecursion (GoesHome config) messages
-
-abbrev pub IsWhole : Machine → Type 0
-IsWhole m = HasShape m.config m.cores m.banks m.drams m.mail.messages m.issued
+  pub each_core : (c : ℕ) → IsCore config c (a.issued c) (a.cores c)
+  pub each_bank : (b : ℕ) → IsBank config b (a.banks b)
+  pub each_message : AllByRecursion (GoesHome config) a.bag
+  -- the parts beyond those that there are stay as they are initially
+  pub cores_beyond : (c : ℕ) → config.cores ≤ c → a.cores c ≡ (initial_state config opening).cores c
+  pub banks_beyond : (b : ℕ) → config.banks ≤ b → a.banks b ≡ (initial_state config opening).banks b
+  pub drams_beyond : (b : ℕ) → config.banks ≤ b → a.drams b ≡ (initial_state config opening).drams b
+  pub lists_beyond : (c : ℕ) → config.cores ≤ c → a.issued c ≡ []

@@ -1,7 +1,8 @@
--- The machine's data, seen line by line: what each table and each message says of one line, and of each core its time
+-- The machine's state, seen line by line: what each table and each message says of one line, and of each core its time
 -- and its open operation.
-use Rattle.std.specs.Prelude.{ℕ, ◌%◌, ◌==◌, false, List, [], ◌∷◌, Option, Some, None, if◌then◌else◌, slice_get}
-use Rattle.std.specs.Prelude.{slice_index_or}
+use Rattle.std.specs.Prelude.{ℕ, ◌%◌, ◌==◌, List, [], ◌∷◌, Option, Some, None, if◌then◌else◌}
+use Rattle.std.specs.Ordering.{nat_cmp}
+use Rattle.std.specs.FinMap.{FinMap}
 use Rattle.physiological_order.specs.Order.{flat}
 use Rattle.network.specs.declared.message.TimedLine.{TimedLine}
 use Rattle.network.specs.declared.message.Body.{Body}
@@ -14,8 +15,10 @@ use Rattle.core_pts.specs.OnCopy.{is_exclusive}
 use Rattle.llc_bank.specs.declared.entry.Entry.{Entry}
 use Rattle.llc_bank.specs.declared.entry.Entry.TheVariants as entry
 use Rattle.llc_bank.specs.BankTable.{BankState, core_of, entry_of}
+use Rattle.dram_mts.specs.Lines.{words_of}
+use Rattle.machine_table.specs.declared.config.Config.{Config}
 use Rattle.machine_table.specs.Machine.{Machine}
-use Rattle.machine_theorem.specs.Coherence.{words_in}
+use Rattle.machine_theorem.specs.States.{State, seen}
 use Rattle.protocol.specs.Machine as by_line
 use Rattle.protocol.specs.Machine.{Timed, Copy, Absent, Loading, Shared, Exclusive, Recalling, Storing, ShReq, ExReq}
 use Rattle.protocol.specs.Machine.{ShRep, ExRep, RenewRep, UpgradeRep, FlushReq, WbReq, FlushRep, WbRep, DramLd}
@@ -68,53 +71,51 @@ abbrev pub message_seen : Message → by_line.Message
 message_seen m = body_seen (core_of m.from) (core_of m.to) m.body
 
 -- the messages of a line
-abbrev pub messages_of : List (ℕ × Message) → ℕ → List by_line.Message
+abbrev pub messages_of : List Message → ℕ → List by_line.Message
 messages_of [] line = []
-messages_of (m ∷ ms) line = if m.1.line == line then message_seen m.1 ∷ messages_of ms line else messages_of ms line
+messages_of (m ∷ ms) line = if m.line == line then message_seen m ∷ messages_of ms line else messages_of ms line
 
--- what a core has of a line; one that isn't there has nothing
-abbrev pub copy_in : Option CoreState → ℕ → Option Copy
-copy_in None line = None
-copy_in (Some core) line = copy_or_none (copy_of core.cache line)
+-- what a core has of a line
+abbrev pub copy_in : CoreState → ℕ → Option Copy
+copy_in core line = copy_or_none (copy_of core.cache line)
 
-abbrev pub core_seen : Option CoreState → by_line.Core
-core_seen None = record { pts = 0; open_op = None; out = false }
-core_seen (Some core) = record { pts = core.pts; open_op = core.open_op; out = core.is_out }
+abbrev pub core_seen : CoreState → by_line.Core
+core_seen core = record { pts = core.pts; open_op = core.open_op; out = core.is_out }
 
--- what a bank has of a line, and its memory time
-abbrev pub entry_in : Option BankState → ℕ → by_line.Entry
-entry_in None line = Absent
-entry_in (Some bank) line = entry_seen (entry_of bank line)
+-- what a bank has of a line
+abbrev pub entry_in : BankState → ℕ → by_line.Entry
+entry_in bank line = entry_seen (entry_of bank line)
 
-abbrev pub time_in : Option BankState → ℕ
-time_in None = 0
-time_in (Some bank) = bank.mts
-
--- the numbers that the machine was set up with
-abbrev pub set_up : Machine → by_line.Config
-set_up m = record {
-  opening = flat m.opening;
-  opening_time = m.config.opening_time;
-  line_words = m.config.line_words;
-  lease = m.config.lease;
-  banks = m.config.banks;
-  private_write = m.config.private_write;
+-- the numbers that a machine was set up with
+abbrev pub set_up : Config → FinMap nat_cmp ℕ → by_line.Config
+set_up config opening = record {
+  opening = flat opening;
+  opening_time = config.opening_time;
+  line_words = config.line_words;
+  lease = config.lease;
+  banks = config.banks;
+  private_write = config.private_write;
 }
 
+-- a line of a state
+abbrev pub line_seen : Config → State → ℕ → by_line.Line
+line_seen config a line = record {
+  entry = entry_in (a.banks (line % config.banks)) line;
+  copies = λ core. copy_in (a.cores core) line;
+  messages = messages_of a.bag line;
+  dram = words_of (a.drams (line % config.banks)) line;
+}
+
+-- a state by lines
+abbrev pub view : Config → State → by_line.Machine
+view config a = record {
+  lines = λ line. line_seen config a line;
+  cores = λ core. core_seen (a.cores core);
+  mts = λ bank. (a.banks bank).mts;
+  issued = a.issued;
+  records = a.records;
+}
+
+-- a line of a machine
 abbrev pub line_in : Machine → ℕ → by_line.Line
-line_in m line = record {
-  entry = entry_in (slice_get m.banks (line % m.config.banks)) line;
-  copies = λ core. copy_in (slice_get m.cores core) line;
-  messages = messages_of m.mail.messages line;
-  dram = words_in (slice_get m.drams (line % m.config.banks)) line;
-}
-
--- the machine by lines
-abbrev pub view : Machine → by_line.Machine
-view m = record {
-  lines = λ line. line_in m line;
-  cores = λ core. core_seen (slice_get m.cores core);
-  mts = λ bank. time_in (slice_get m.banks bank);
-  issued = λ core. slice_index_or m.issued core [];
-  records = m.records;
-}
+line_in m line = line_seen m.config (seen m) line

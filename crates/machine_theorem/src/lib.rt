@@ -1,5 +1,6 @@
-//! The machine's table makes only transitions of the protocol by lines, so what holds of every machine that the
-//! protocol reaches holds after any list of events.
+//! The moves of a machine's parts make only transitions of the protocol by lines. So what holds of every machine that
+//! the protocol reaches holds after any moves, and after any list of events.
 #![tactic(auto)]
 
 pub mod laws;
+pub mod move_laws;

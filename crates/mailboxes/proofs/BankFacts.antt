@@ -31,7 +31,7 @@ use Rattle.seat_rule.specs.Found.{MessagesFindParts, OfStanding}
 use Rattle.seat_rule.specs.Plays.{Standing}
 use Rattle.seat_rule.specs.Rule.{bag_of_hold, seat_count}
 use Rattle.seat_rule.specs.SeatMoves.{SeatMove, bank_steps, dram_steps, sorts}
-use Rattle.seat_rule.specs.Staying.{BanksStay}
+use Rattle.machine_theorem.specs.Staying.{BanksStay}
 use Rattle.mailboxes.specs.declared.machine.Machine.{Machine}
 use Rattle.mailboxes.specs.declared.mailbox.Mailbox.{Mailbox}
 use Rattle.mailboxes.specs.declared.sending.SendingBank.{SendingBank}

@@ -34,7 +34,7 @@ use Rattle.seat_rule.specs.Found.{MessagesFindParts}
 use Rattle.seat_rule.specs.Plays.{Standing}
 use Rattle.seat_rule.specs.Rule.{bag_of_hold, seat_count}
 use Rattle.seat_rule.specs.SeatMoves.{SeatMove, core_steps, issues, sorts}
-use Rattle.seat_rule.specs.Staying.{CoresStay}
+use Rattle.machine_theorem.specs.Staying.{CoresStay}
 use Rattle.closed_machine.specs.Sending.{OutboxState, sent_if}
 use Rattle.mailboxes.specs.declared.machine.Machine.{Machine}
 use Rattle.mailboxes.specs.declared.mailbox.Mailbox.{Mailbox}

@@ -24,7 +24,7 @@ use Rattle.inbox.specs.Serving.{is_quiet, sent_list}
 use Rattle.inbox.specs.Effects.{LeavesPart, NeverNoMemory}
 use Rattle.seat_rule.proofs.Lemmas.{weigh-append}
 use Rattle.seat_rule.specs.Serving.{counted_if}
-use Rattle.seat_rule.specs.Staying.{BanksStay, CoresStay}
+use Rattle.machine_theorem.specs.Staying.{BanksStay, CoresStay}
 use Rattle.closed_machine.specs.Sending.{OutboxState, noted, sent_out}
 use Rattle.mailboxes.specs.declared.sending.SendingBank.{SendingBank}
 use Rattle.mailboxes.specs.BankServing.{reacts_at, sending_bank_table}

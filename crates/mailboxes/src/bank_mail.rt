@@ -17,7 +17,7 @@ use crate::sending::SendingBank;
 use inbox::Served;
 use machine_table::Refusal;
 use network::LineNo;
-use seat_rule::move_laws::waiting_banks_stay;
+use machine_theorem::move_laws::waiting_banks_stay;
 use seat_rule::parts::{messages_of_seats_find_their_parts, parts_of_seats_have_their_shape};
 
 impl Mailbox {

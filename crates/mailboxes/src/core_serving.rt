@@ -20,7 +20,7 @@ use crate::sending::SendingCore;
 use inbox::Served;
 use machine_table::Refusal;
 use physiological_order::Op;
-use seat_rule::move_laws::waiting_cores_stay;
+use machine_theorem::move_laws::waiting_cores_stay;
 use seat_rule::parts::messages_of_seats_find_their_parts;
 
 impl Mailbox {

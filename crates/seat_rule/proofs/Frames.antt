@@ -8,7 +8,7 @@ use Rattle.physiological_order.specs.declared.operation.Record.{Record}
 use Rattle.physiological_order.specs.Order.{of_core}
 use Rattle.network.specs.declared.message.Message.{Message}
 use Rattle.machine_theorem.specs.Bags.{weigh, SameBag}
-use Rattle.seat_rule.specs.Moves.{same}
+use Rattle.machine_theorem.specs.Moves.{same}
 use Rattle.seat_views.specs.declared.views.View.{View}
 use Rattle.seat_views.specs.Seated.{over, with_value_at, with_hold}
 use Rattle.seat_views.proofs.Lemmas.{at_put, over_put, over_put_by, put_here}

@@ -1,25 +1,13 @@
 pub mod Lemmas
-mod Bags
 mod Closings
 mod CountSteps
 mod CountSums
-mod EventMoves
 mod Frames
-mod Histories
-mod InitialStates
-mod Lists
-mod MoveEvents
 mod Openings
-mod Ownership
 mod OwnerSums
-mod PartChanges
 mod Phases
-mod ReachedParts
-mod ReachedStates
 mod SeatMoves
 mod Seats
 mod SetUps
 mod SlotSteps
-mod StayingParts
 mod Weights
-mod Witnesses

@@ -10,7 +10,7 @@ use Rattle.atomic_table.specs.Table.{opening}
 use Rattle.network.specs.declared.message.Message.{Message}
 use Rattle.llc_bank.specs.BankTable.{empty_bank}
 use Rattle.machine_table.specs.Opening.{bank_config, dram_of}
-use Rattle.seat_rule.specs.Moves.{same}
+use Rattle.machine_theorem.specs.Moves.{same}
 use Rattle.seat_views.specs.declared.views.View.{View}
 use Rattle.seat_views.specs.Seated.{over, Shown, first_view}
 use Rattle.seat_rule.specs.declared.views.SetUp.{SetUp}

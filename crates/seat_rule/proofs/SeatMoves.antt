@@ -20,11 +20,12 @@ use Rattle.machine_table.specs.Step.{record_of}
 use Rattle.machine_table.specs.Step as step
 use Rattle.machine_table.specs.Step.{Step, attempt_open, attempted, bank_step, dram_step, message_of}
 use Rattle.machine_theorem.specs.Bags.{SameBag}
-use Rattle.seat_rule.specs.States as moves
-use Rattle.seat_rule.specs.States.{with_at, Same}
-use Rattle.seat_rule.specs.Moves as move
-use Rattle.seat_rule.specs.Moves.{AreBeside, Move, Reached, StepsTo, goes_on, same, with_answer, with_core, with_bank}
-use Rattle.seat_rule.specs.Moves.{with_dram}
+use Rattle.machine_theorem.specs.States as moves
+use Rattle.machine_theorem.specs.States.{Same}
+use Rattle.protocol.specs.Machine.{with_at}
+use Rattle.machine_theorem.specs.Moves as move
+use Rattle.machine_theorem.specs.Moves.{AreBeside, Move, Reached, StepsTo, goes_on, same, with_answer, with_core}
+use Rattle.machine_theorem.specs.Moves.{with_bank, with_dram}
 use Rattle.seat_views.specs.Seated.{with_value_at}
 use Rattle.seat_views.proofs.Lemmas.{put_here, put_else, at_put}
 use Rattle.seat_rule.specs.declared.views.SetUp.{SetUp}

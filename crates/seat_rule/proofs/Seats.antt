@@ -13,8 +13,8 @@ use Rattle.protocol.specs.Issued.{IsIssued, listed}
 use Rattle.machine_table.specs.SetUp.{is_good}
 use Rattle.machine_theorem.specs.Bags.{weigh, SameBag}
 use Rattle.machine_theorem.specs.Shape.{IsCore, IsBank}
-use Rattle.seat_rule.specs.States as moves
-use Rattle.seat_rule.specs.Consistent.{FindsCase}
+use Rattle.machine_theorem.specs.States as moves
+use Rattle.machine_theorem.specs.Consistent.{FindsCase}
 use Rattle.seat_rule.specs.declared.views.SetUp.{SetUp}
 use Rattle.seat_rule.specs.declared.views.Hold.{Hold}
 use Rattle.seat_rule.specs.StateLaws.{StateLaws}

@@ -9,8 +9,8 @@ use Rattle.network.specs.declared.message.Message.{Message}
 use Rattle.private_cache.specs.CopyTable.{copy_of}
 use Rattle.machine_theorem.specs.Bags.{weigh}
 use Rattle.machine_theorem.specs.Coherence.{owner_in}
-use Rattle.seat_rule.specs.Consistent.{Consistent}
-use Rattle.seat_rule.specs.Ownership.{ownership_in}
+use Rattle.machine_theorem.specs.Consistent.{Consistent}
+use Rattle.machine_theorem.specs.Ownership.{ownership_in}
 use Rattle.seat_views.specs.Seated.{over}
 use Rattle.seat_rule.specs.declared.views.SetUp.{SetUp}
 use Rattle.seat_rule.specs.declared.views.Stage.TheVariants.{Idle}

@@ -1,15 +1,7 @@
-pub mod Consistent
-pub mod Effects
 pub mod Ended
-pub mod Events
 pub mod Found
-pub mod MachineLaws
-pub mod Moves
-pub mod Ownership
 pub mod Plays
 pub mod Rule
 pub mod SeatMoves
 pub mod Serving
 pub mod StateLaws
-pub mod States
-pub mod Staying

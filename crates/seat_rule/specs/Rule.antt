@@ -18,8 +18,8 @@ use Rattle.core_pts.specs.CoreTable.{opened}
 use Rattle.llc_bank.specs.BankTable.{empty_bank}
 use Rattle.machine_table.specs.Opening.{core_config, bank_config, geometry, dram_of}
 use Rattle.machine_theorem.specs.Bags.{weigh}
-use Rattle.seat_rule.specs.States as moves
-use Rattle.seat_rule.specs.Moves.{Reached}
+use Rattle.machine_theorem.specs.States as moves
+use Rattle.machine_theorem.specs.Moves.{Reached}
 use Rattle.seat_views.specs.declared.views.View.{View}
 use Rattle.seat_views.specs.Seated.{over, with_value_at, Shown}
 use Rattle.seat_rule.specs.declared.views.SetUp.{SetUp}

@@ -13,7 +13,7 @@ use Rattle.dram_mts.specs.Table.{dram_has_case}
 use Rattle.machine_table.specs.Step.{Step, Exhausts, Keeps, Drops, Makes, Does, Act, message_of, core_step, bank_step}
 use Rattle.machine_table.specs.Step.{dram_step}
 use Rattle.machine_theorem.specs.Bags.{SameBag}
-use Rattle.seat_rule.specs.Moves.{AreBeside}
+use Rattle.machine_theorem.specs.Moves.{AreBeside}
 use Rattle.seat_rule.specs.declared.views.SetUp.{SetUp}
 use Rattle.seat_rule.specs.declared.views.Hold.{Hold}
 use Rattle.seat_rule.specs.Rule.{bag_of_hold}

@@ -11,9 +11,9 @@ use Rattle.machine_table.specs.declared.config.Config.{Config}
 use Rattle.machine_table.specs.SetUp.{is_good}
 use Rattle.machine_theorem.specs.Bags.{SameBag}
 use Rattle.machine_theorem.specs.Shape.{IsCore, IsBank}
-use Rattle.seat_rule.specs.States.{State, initial_state}
-use Rattle.seat_rule.specs.Moves.{Reached}
-use Rattle.seat_rule.specs.Consistent.{Consistent, FindsPart}
+use Rattle.machine_theorem.specs.States.{State, initial_state}
+use Rattle.machine_theorem.specs.Moves.{Reached}
+use Rattle.machine_theorem.specs.Consistent.{Consistent, FindsPart}
 
 -- of every reached state of a machine with a good set-up
 abbrev pub OfEach : (Config → FinMap nat_cmp ℕ → State → Type 0) → Type 0

@@ -11,7 +11,7 @@ ghost use Rattle.core_pts.specs.declared.attempt.Attempt.TheVariants.{Completed}
 ghost use Rattle.core_pts.specs.CoreTable as core_table;
 ghost use Rattle.core_pts.specs.CoreTable.{CoreState};
 ghost use Rattle.machine_table.specs.SetUp.{is_good};
-ghost use Rattle.seat_rule.specs.Ownership.{owners};
+ghost use Rattle.machine_theorem.specs.Ownership.{owners};
 ghost use Rattle.seat_views.specs.declared.views.View.{View};
 ghost use Rattle.seat_views.specs.Seated.{first_view, seat_view, one_more, knows, spent_view};
 ghost use Rattle.seat_views.specs.Seated.{with_hold};
@@ -26,11 +26,11 @@ ghost use Rattle.seat_rule.specs.Plays.{put_hold, take_hold};
 ghost use Rattle.seat_rule.specs.Rule.{in_flight, state_of};
 ghost use Rattle.seat_rule.specs.Ended.{Whole, Closes, FourAtMostLie, NoneTakenTwice, owners_by_place};
 
-use crate::move_laws::{
+use machine_table::Config;
+use machine_theorem::move_laws::{
     initial_states_are_reached, messages_find_their_parts, places_count_records,
     reached_parts_have_their_shape, reached_states_are_consistent, records_are_in_order,
 };
-use machine_table::Config;
 
 /// What is known of every reached state, in one record.
 pub(crate) fn laws_of_states()

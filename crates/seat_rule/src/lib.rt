@@ -1,9 +1,7 @@
-//! The moves of a machine's state, and the rule of its seats: what all seats hold is together one state that moves
-//! reach.
+//! The rule of a shared machine's seats: what all seats hold is together one state that moves reach.
 #![tactic(auto)]
 
 pub mod laws;
-pub mod move_laws;
 pub mod parts;
 pub mod views;
 

@@ -2,14 +2,9 @@
 use Rattle.std.proofs.Common.{◌≡◌, ℕ, zero, suc, ◌<◌, ◌≤◌, List, [], Some, replicate, refl, arith}
 use Rattle.std.specs.Prelude.{slice_get, slice_index_or}
 use Rattle.physiological_order.specs.declared.operation.Op.{Op}
-use Rattle.seat_rule.specs.States.{first}
+use Rattle.machine_theorem.specs.States.{first}
 
 module _ {X : Type 0} where
-  pub first_at : (f : ℕ → X) (n k : ℕ) → k < n → slice_get (first f n) k ≡ Some (f k)
-  first_at f zero k below = absurd (omega (arith, below))
-  first_at f (suc n) zero below = refl
-  first_at f (suc n) (suc k) below = first_at (λ i. f (suc i)) n k (omega (arith, below))
-
   pub index_at : (f : ℕ → X) (n k : ℕ) (d : X) → k < n → slice_index_or (first f n) k d ≡ f k
   index_at f zero k d below = absurd (omega (arith, below))
   index_at f (suc n) zero d below = refl

@@ -14,7 +14,7 @@ use Rattle.mailboxes.specs.Remains.{core_part}
 use Rattle.closed_machine.specs.RunParts.{Parts}
 use Rattle.mailboxes.specs.Seats.{IsNewCore}
 use Rattle.thread_driver.specs.ThreadRuns.{machine_of}
-use Rattle.thread_driver.proofs.Numbered.{first_at}
+use Rattle.machine_theorem.proofs.Lemmas.{first_at}
 
 -- a new seat has no records
 pub new_records : (m : Machine) (j : ℕ) (p : CoreSeat) → IsNewCore m j p → p.records.items ≡ []

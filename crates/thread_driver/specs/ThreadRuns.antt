@@ -3,8 +3,8 @@ use Rattle.std.specs.Prelude.{◌≡◌, ◌⊎◌, ℕ, ◌<◌, Bool, true, fa
 use Rattle.std.specs.List.{list_any}
 use Rattle.machine_table.specs.Machine.{Machine, open_op}
 use Rattle.machine_table.specs.Opening.{at_start}
-use Rattle.seat_rule.specs.Moves.{Reached}
-use Rattle.seat_rule.specs.States.{numbered}
+use Rattle.machine_theorem.specs.Moves.{Reached}
+use Rattle.machine_theorem.specs.States.{numbered}
 use Rattle.programs.specs.declared.ends.End.{End}
 use Rattle.programs.specs.declared.ends.End.TheVariants as end
 use Rattle.programs.specs.Acts.{Acts, next_in}

@@ -1,4 +1,4 @@
-use Rattle.seat_rule.specs.States.{numbered}
+use Rattle.machine_theorem.specs.States.{numbered}
 use Rattle.closed_machine.proofs.Records.{all_placed}
 use Rattle.closed_machine.proofs.laws.placed_records_are_all.Goals as goal
 

@@ -1,6 +1,6 @@
 use Rattle.std.proofs.Common.{option_to_list, ap, ◌∙◌, arith}
 use Rattle.machine_theorem.specs.Bags.{weigh}
-use Rattle.seat_rule.specs.Ownership.{ownership_in}
+use Rattle.machine_theorem.specs.Ownership.{ownership_in}
 use Rattle.closed_machine.proofs.SeatSums.{weigh_more}
 use Rattle.closed_machine.proofs.owners.grants_held.Goals as goal
 

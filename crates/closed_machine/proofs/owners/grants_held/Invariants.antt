@@ -1,6 +1,6 @@
 use Rattle.std.proofs.Common.{◌≡◌, ◌≤◌, take}
 use Rattle.machine_theorem.specs.Bags.{weigh}
-use Rattle.seat_rule.specs.Ownership.{ownership_in}
+use Rattle.machine_theorem.specs.Ownership.{ownership_in}
 use Rattle.closed_machine.proofs.owners.grants_held.Given as goal
 
 -- the grants and returns among the messages so far are counted

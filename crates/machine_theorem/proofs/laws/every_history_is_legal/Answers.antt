@@ -3,7 +3,7 @@ use Rattle.machine_table.specs.Runs.{after_all}
 use Rattle.machine_theorem.proofs.Consistency.{consistent}
 use Rattle.machine_theorem.proofs.Found.{delivery_found}
 use Rattle.machine_theorem.proofs.FoundCases.{messages_find_cases}
-use Rattle.machine_theorem.proofs.History.{invariant}
+use Rattle.machine_theorem.proofs.Events.{invariant}
 use Rattle.machine_theorem.proofs.SetUps.{after_all_same}
 use Rattle.machine_theorem.proofs.laws.every_history_is_legal.Goals as goal
 

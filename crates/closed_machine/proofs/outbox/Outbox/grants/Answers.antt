@@ -1,6 +1,6 @@
 use Rattle.std.proofs.Common.{◌<◌, length, option_to_list, sym, ap, ◌∙◌, arith}
 use Rattle.machine_theorem.specs.Bags.{weigh}
-use Rattle.seat_rule.specs.Ownership.{ownership_in}
+use Rattle.machine_theorem.specs.Ownership.{ownership_in}
 use Rattle.inbox.specs.Queues.{values_of, IsAfter}
 use Rattle.closed_machine.proofs.Outboxes.{walked_all}
 use Rattle.closed_machine.proofs.SeatSums.{weigh_more}

@@ -1,7 +1,7 @@
 use Rattle.std.proofs.Common.{◌≡◌, ◌≤◌, drop, take}
 use Rattle.line_arena.specs.CellLists.{first_cell}
 use Rattle.machine_theorem.specs.Bags.{weigh}
-use Rattle.seat_rule.specs.Ownership.{ownership_in}
+use Rattle.machine_theorem.specs.Ownership.{ownership_in}
 use Rattle.inbox.specs.Queues.{values_of}
 use Rattle.closed_machine.proofs.outbox.Outbox.grants.Given as goal
 

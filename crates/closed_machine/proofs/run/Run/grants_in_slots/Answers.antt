@@ -1,6 +1,6 @@
 use Rattle.std.proofs.Common.{◌≡◌, ◌<◌, option_to_list, ap, ◌∙◌, arith}
 use Rattle.machine_theorem.specs.Bags.{weigh}
-use Rattle.seat_rule.specs.Ownership.{ownership_in}
+use Rattle.machine_theorem.specs.Ownership.{ownership_in}
 use Rattle.seat_views.specs.Seated.{over}
 use Rattle.seat_rule.specs.Rule.{content, slot_count}
 use Rattle.closed_machine.proofs.SeatSums.{found_content, over_more}

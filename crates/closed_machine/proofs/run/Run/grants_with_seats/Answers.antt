@@ -1,6 +1,6 @@
 use Rattle.std.proofs.Common.{◌≡◌, ap, ◌∙◌, arith}
 use Rattle.machine_theorem.specs.Bags.{weigh}
-use Rattle.seat_rule.specs.Ownership.{ownership_in}
+use Rattle.machine_theorem.specs.Ownership.{ownership_in}
 use Rattle.seat_views.specs.Seated.{over}
 use Rattle.seat_rule.specs.Rule.{bag_of_hold, seat_count}
 use Rattle.closed_machine.proofs.SeatSums.{left_messages, over_more}

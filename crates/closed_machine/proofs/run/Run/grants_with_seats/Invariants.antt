@@ -1,6 +1,6 @@
 use Rattle.std.proofs.Common.{◌≡◌, ◌*◌, ◌≤◌}
 use Rattle.machine_theorem.specs.Bags.{weigh}
-use Rattle.seat_rule.specs.Ownership.{ownership_in}
+use Rattle.machine_theorem.specs.Ownership.{ownership_in}
 use Rattle.seat_views.specs.Seated.{over}
 use Rattle.seat_rule.specs.Rule.{bag_of_hold}
 use Rattle.closed_machine.specs.RunParts.{Parts}

@@ -23,7 +23,7 @@ attempt-answer-requires-clause-number c =
     let m : Machine = the_view c.self.inside in
     let here = slice_get_read c.self.inside.cores.items (length c.self.inside.cores.items) c.args.core
     c.index_mut.result.now refl (omega (arith, c.if-at-len.false, c.len.ensures)) c.index_mut.ensures.value in
-    let below = core_below m (subst Invariant (sym c.self.view_is) c.requires).whole c.args.core
+    let below = core_below m (subst Invariant (sym c.self.view_is) c.requires) c.args.core
     c.index_mut.result.now here in
     omega (arith, below, c.self.invariant.cores_are)
 
@@ -32,7 +32,7 @@ attempt-answer-requires-clause-banks c =
     let m : Machine = the_view c.self.inside in
     let here = slice_get_read c.self.inside.cores.items (length c.self.inside.cores.items) c.args.core
     c.index_mut.result.now refl (omega (arith, c.if-at-len.false, c.len.ensures)) c.index_mut.ensures.value in
-    core_banks m (subst Invariant (sym c.self.view_is) c.requires).whole c.args.core c.index_mut.result.now here
+    core_banks m (subst Invariant (sym c.self.view_is) c.requires) c.args.core c.index_mut.result.now here
     ∙ sym c.self.invariant.banks_are
 
 pub keep-requires : goal.keep-requires

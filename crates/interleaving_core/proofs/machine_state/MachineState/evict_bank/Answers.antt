@@ -21,7 +21,7 @@ evict_entry-plain-requires c =
     record {
       endpoints = fitted_ends m.config c.self.inside.flight c.self.inside.cores.items c.self.inside.records.items _
           c.self.invariant (λ a b. EvictedHasEndpoints a b (bank_table.evict part c.args.line).0)
-          (evicted_endpoints m (subst Invariant (sym c.self.view_is) c.requires).whole c.args.bank
+          (evicted_endpoints m (subst Invariant (sym c.self.view_is) c.requires) c.args.bank
           part here c.args.line);
     }
 

@@ -27,7 +27,7 @@ evict_copy-plain-requires c =
     record {
       endpoints = fitted_ends m.config c.self.inside.flight c.self.inside.cores.items c.self.inside.records.items _
           c.self.invariant (λ a b. BackHasEndpoints a b (core_table.evict part c.args.line).0)
-          (back_endpoints m (subst Invariant (sym c.self.view_is) c.requires).whole c.args.core
+          (back_endpoints m (subst Invariant (sym c.self.view_is) c.requires) c.args.core
           part here c.args.line);
     }
 

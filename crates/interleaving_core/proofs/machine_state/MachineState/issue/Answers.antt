@@ -13,7 +13,7 @@ use Rattle.interleaving_core.proofs.machine_state.MachineState.issue.Goals as go
 
 pub index_mut-requires : goal.index_mut-requires
 index_mut-requires c =
-    let shape = (subst Invariant (sym c.self.view_is) c.requires).whole in
+    let shape = (subst Invariant (sym c.self.view_is) c.requires) in
     omega (arith, shape.lists, shape.core_count, c.if-at-len.false, c.len.ensures)
 
 pub returns-in_err-reserve-clause-wanted : goal.returns-in_err-reserve-clause-wanted
@@ -70,7 +70,7 @@ returns-clause-done c =
     c.index-2.ensures here) in
     let few = lt-ltb c.index_mut-2.result.now.issued 4294967295
     (omega (arith, number, c.issued.ensures, c.if-issued-ge4294967295.false)) in
-    let shape = (subst Invariant (sym c.self.view_is) c.requires).whole in
+    let shape = (subst Invariant (sym c.self.view_is) c.requires) in
     let lists = slice_get_read c.self.inside.issued.items (length c.self.inside.issued.items) c.args.core
     c.index_mut.result.now refl (omega (arith, within, shape.lists, shape.core_count))
     c.index_mut.ensures.value in

@@ -1,0 +1,40 @@
+-- A state in lists, with its messages numbered, is a machine that keeps the invariant.
+use Rattle.std.proofs.Common.{ℕ, [], refl, sym}
+use Rattle.std.specs.Ordering.{nat_cmp}
+use Rattle.std.specs.FinMap.{FinMap, entries}
+use Rattle.core_pts.specs.CoreTable.{opened}
+use Rattle.llc_bank.specs.BankTable.{empty_bank}
+use Rattle.machine_table.specs.declared.config.Config.{Config}
+use Rattle.machine_table.specs.Machine.{Machine}
+use Rattle.machine_table.specs.Opening.{core_config, bank_config, geometry, dram_of}
+use Rattle.machine_theorem.specs.States.{State, Same, seen, numbered}
+use Rattle.machine_theorem.specs.Events.{Shows}
+use Rattle.machine_theorem.specs.Kept.{IsKept, Invariant}
+use Rattle.machine_theorem.proofs.Bags.{kept_bag}
+use Rattle.machine_theorem.proofs.Lists.{length-first, first_listed}
+use Rattle.machine_theorem.proofs.KeptSteps.{kept_same}
+use Rattle.machine_theorem.proofs.ByParts.{same_by}
+
+module _ (config : Config) (opening : FinMap nat_cmp ℕ) (a : State) (s : IsKept config opening a) where
+  abbrev m : Machine
+  m = numbered config opening a
+
+  pub numbered_same : Same a (seen m)
+  numbered_same = same_by
+      (first_listed a.cores (λ c. opened (core_config config c) (geometry config)) config.cores s.shape.cores_beyond)
+      (first_listed a.banks (λ b. empty_bank (bank_config config b)) config.banks s.shape.banks_beyond)
+      (first_listed a.drams (λ b. dram_of config b (entries opening)) config.banks s.shape.drams_beyond)
+      (λ h. sym (kept_bag 0 a.bag h)) (first_listed a.issued (λ c. []) config.cores s.shape.lists_beyond) refl
+      refl
+
+  pub numbered_shows : Shows config opening a m
+  numbered_shows = record { set_up = refl; opened = refl; same = numbered_same; runs = refl }
+
+  pub numbered_invariant : Invariant m
+  numbered_invariant = record {
+    core_count = length-first a.cores config.cores;
+    bank_count = length-first a.banks config.banks;
+    dram_count = length-first a.drams config.banks;
+    lists = length-first a.issued config.cores;
+    kept = kept_same config opening a (seen m) numbered_same s;
+  }

@@ -1,5 +1,0 @@
-use Rattle.seat_rule.proofs.move_laws.events_are_moves.Goals as goal
-use Rattle.seat_rule.proofs.EventMoves.{transition_goes}
-
-pub returns : goal.returns
-returns c = λ m event invariant. transition_goes m invariant event

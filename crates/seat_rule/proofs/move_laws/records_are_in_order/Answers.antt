@@ -1,5 +1,0 @@
-use Rattle.seat_rule.proofs.move_laws.records_are_in_order.Goals as goal
-use Rattle.seat_rule.proofs.ReachedParts.{records_in_order}
-
-pub returns : goal.returns
-returns c = λ config opening a reached k done is. records_in_order config opening a reached k done is

@@ -1,5 +1,0 @@
-use Rattle.seat_rule.proofs.StayingParts.{bank_holds, bank_drops, dram_answers}
-use Rattle.seat_rule.proofs.move_laws.waiting_banks_stay.Goals as goal
-
-pub returns : goal.returns
-returns c = record { held = bank_holds; dropped = bank_drops; answered = dram_answers }

@@ -1,6 +1,7 @@
 //! The machine that options ask for, and how far a run of it goes.
 ghost use Rattle.std.specs.Prelude.{◌≡◌, ◌<◌, ◌≤◌, ◌^◌, false, true, IfSome, None};
 ghost use Rattle.machine_table.specs.SetUp.{is_good};
+ghost use Rattle.run_options.specs.declared.options.Schedule.TheVariants.{Round};
 ghost use Rattle.worker_driver.specs.SetUp.{config_of, has_small_parts, limit_of, policy_of, workers_by};
 
 use machine_table::Config;
@@ -47,7 +48,9 @@ fn fits(options: &MachineOptions) -> bool
 
 /// The most turns of a run: as many as its options allow, and at most 4,294,967,295.
 pub fn limit_of(options: &RunOptions) -> u32
-    ensures { result ≡ limit_of options.now }
+    ensures limit { result ≡ limit_of options.now }
+    ensures whole { options.now.limit ≤ 4294967295 → result ≡ options.now.limit }
+    ensures most { 4294967295 ≤ options.now.limit → result ≡ 4294967295 }
 {
     options.limit.min(u64::from(u32::MAX)) as u32
 }
@@ -68,6 +71,7 @@ pub fn policy_of(options: &RunOptions) -> Option<Policy>
 pub fn workers_of(options: &RunOptions) -> u32
     ensures number { result ≡ workers_by options.now.schedule options.now.workers }
     ensures few { (0 < result) × (result ≤ 16) }
+    ensures rounds { options.now.schedule ≡ Round → result ≡ 1 }
 {
     match options.schedule {
         Schedule::Round => 1,

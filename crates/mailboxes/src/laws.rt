@@ -1,12 +1,17 @@
 //! Laws of looks and of sending, for callers. The functions do nothing: their contracts are the laws.
-ghost use Rattle.std.specs.Prelude.{◌≡◌, ◌≢◌, ℕ, ◌<◌, ◌≤◌, true, false, AllPairs, List, Some, length, slice_get};
+ghost use Rattle.std.specs.Prelude.{◌≡◌, ◌≢◌, ℕ, ◌<◌, ◌≤◌, true, false, AllPairs, Err, List, None, Some};
+ghost use Rattle.std.specs.Prelude.{length, slice_get};
+ghost use Rattle.physiological_order.specs.declared.operation.Op.{Op};
 ghost use Rattle.network.specs.declared.message.Message.{Message};
+ghost use Rattle.core_pts.specs.CoreTable.{CoreState, issue};
+ghost use Rattle.machine_table.specs.declared.event.Refusal.TheVariants.{Busy, TooMany};
 ghost use Rattle.machine_table.specs.SetUp.{is_good};
 ghost use Rattle.seat_rule.specs.declared.views.SetUp.{SetUp};
 ghost use Rattle.mailboxes.specs.Places.{AllFoundEmpty, AllFoundFull};
 ghost use Rattle.mailboxes.specs.Places.{found_empty, found_full, incoming_count, link_to};
 ghost use Rattle.mailboxes.specs.declared.mailbox.Mailbox.{Mailbox};
 ghost use Rattle.mailboxes.specs.BoxMoves.{Puts};
+ghost use Rattle.mailboxes.specs.CoreCalls.{issue_answer};
 ghost use Rattle.closed_machine.specs.Sending.{OutboxState, can_still_send, can_send_out};
 
 /// A seat that takes nothing has looked at each slot that comes in to it: the slots that it looks at, from the cursor
@@ -45,4 +50,13 @@ pub fn seats_send_up_to_the_last_number()
     ensures sends_out { (o : OutboxState) → length o.messages < 256 →
         o.sent < 18446744073709551615 → can_send_out o ≡ true }
     ensures is_full { (o : OutboxState) → 256 ≤ length o.messages → can_send_out o ≡ false }
+{}
+
+/// A seat that isn't stopped answers an issue Busy while an operation is open, however many its core was issued. After
+/// 4,294,967,295 of them it answers TooMany.
+pub fn seats_take_operations_up_to_the_last()
+    ensures busy { (core : CoreState) (op other : Op) → core.open_op ≡ Some other →
+        issue_answer false (issue core op).0 ≡ Err Busy }
+    ensures many { (core : CoreState) (op : Op) → core.open_op ≡ None → core.issued ≡ 4294967295 →
+        issue_answer false (issue core op).0 ≡ Err TooMany }
 {}

@@ -12,8 +12,8 @@ ghost use Rattle.closed_machine.specs.RunParts.{Parts, state_of_run};
 use crate::numbered::find;
 use crate::run::Run;
 use crate::values::{value_left, values_left};
-use physiological_order::{Op, Record, WordAddr};
 use machine_theorem::move_laws::{places_count_records, records_are_in_order};
+use physiological_order::{Op, Record, WordAddr};
 use std::alloc::{AllocError, Global};
 
 impl Run {

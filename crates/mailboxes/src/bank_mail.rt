@@ -16,8 +16,8 @@ use crate::part_serving::serve_part;
 use crate::sending::SendingBank;
 use inbox::Served;
 use machine_table::Refusal;
-use network::LineNo;
 use machine_theorem::move_laws::waiting_banks_stay;
+use network::LineNo;
 use seat_rule::parts::{messages_of_seats_find_their_parts, parts_of_seats_have_their_shape};
 
 impl Mailbox {

@@ -19,8 +19,8 @@ use crate::part_serving::serve_part;
 use crate::sending::SendingCore;
 use inbox::Served;
 use machine_table::Refusal;
-use physiological_order::Op;
 use machine_theorem::move_laws::waiting_cores_stay;
+use physiological_order::Op;
 use seat_rule::parts::messages_of_seats_find_their_parts;
 
 impl Mailbox {

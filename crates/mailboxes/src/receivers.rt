@@ -2,8 +2,8 @@
 use crate::part_serving::react;
 use crate::sending::{SendingBank, SendingCore};
 use inbox::{Answer, Receiver};
-use network::{Message, Node};
 use machine_theorem::move_laws::{waiting_banks_stay, waiting_cores_stay};
+use network::{Message, Node};
 
 impl Receiver<Message> for SendingCore {
     ghost use Rattle.mailboxes.specs.CoreServing.{sending_core_has_case, sending_core_table};

@@ -19,8 +19,8 @@ ghost use Rattle.thread_driver.specs.ThreadRuns.{machine_of};
 ghost use Rattle.thread_driver.specs.Turns.{BankHadTurn, CoreHadTurn};
 
 use machine_theorem::laws::machines_with_the_invariant_are_consistent;
-use programs::program::Program;
 use machine_theorem::move_laws::reached_states_have_the_invariant;
+use programs::program::Program;
 
 /// The seats of a machine that has just opened are in order, and no core has an open operation: so they can be driven.
 pub fn new_seats_can_be_driven()

@@ -96,7 +96,8 @@ added items item = if list_any (λ other. same_name other.name item.name) items 
 -- after an item: whether a further one may follow
 abbrev pub separator : Piece → Verdict Bool
 separator (Word w) = Refuses BadInitial
-separator (Sign b) = if b == SEMICOLON then Takes true else if b == CLOSING_BRACE then Takes false else Refuses BadInitial
+separator (Sign b) =
+    if b == SEMICOLON then Takes true else if b == CLOSING_BRACE then Takes false else Refuses BadInitial
 separator LineEnd = Refuses BadInitial
 
 unfoldable pub whole_item : List Item → Opening × Names → Form (Bool × Block)

@@ -9,7 +9,8 @@ ghost use Rattle.piece_forms.specs.Forms.{one, here, turn, many};
 ghost use Rattle.piece_forms.specs.Reading.{reads};
 ghost use Rattle.litmus_parser.specs.Keywords.{quantifier_of};
 ghost use Rattle.litmus_parser.specs.Verdicts.{bases_of};
-ghost use Rattle.litmus_parser.specs.Table.{heading, another, further_heading, header, is_absent, absent_line, next_row};
+ghost use Rattle.litmus_parser.specs.Table.{heading, another, further_heading, header, is_absent, absent_line};
+ghost use Rattle.litmus_parser.specs.Table.{next_row};
 ghost use Rattle.litmus_parser.specs.Table.{row_or_condition, counted_row, rows, table};
 
 use crate::cells::row;

@@ -122,7 +122,8 @@ refuses (InOrder f g) line pieces e h =
 
 -- ---- what stands in a form stands in no other way with other pieces behind it
 
-record Stood {A : Type 0} (f : Form A) (line : ℕ) (pieces : List Piece) (x : A) (n : ℕ) (rest : List Piece) : Type 0 where
+record Stood {A : Type 0} (f : Form A) (line : ℕ) (pieces : List Piece) (x : A) (n : ℕ)
+    (rest : List Piece) : Type 0 where
   front : List Piece
   split : pieces ≡ front ++ rest
   firm : (u : List Piece) → first_piece rest ≡ first_piece u → (y : A) (m : ℕ) (r : List Piece) →

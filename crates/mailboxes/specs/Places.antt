@@ -23,6 +23,10 @@ StartsAt z link number = (4 * link + 4 ≤ slot_count z) × (slot_count z ≤ 40
 abbrev pub EndsAt : SetUp → ℕ → ℕ → Type 0
 EndsAt z slot number = (slot < slot_count z) × (to_of z slot ≡ number)
 
+-- how far the first slots of two links are apart that come in to a seat one after the other
+abbrev pub incoming_stride : ℕ → ℕ → ℕ → ℕ
+incoming_stride cores banks number = 4 * cond (nat_lt number cores) cores banks
+
 -- whether there is a link from the seat of a number to a node: cores have links to banks, and banks to cores
 abbrev pub has_link_to : ℕ → ℕ → ℕ → Node → Bool
 has_link_to cores banks number (Core c) = nat_le cores number && nat_lt c cores

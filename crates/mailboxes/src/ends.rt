@@ -1,10 +1,10 @@
 //! The links of a seat: which one goes to a node, and which slots come in.
-ghost use Rattle.std.specs.Prelude.{◌≡◌, ◌+◌, ◌*◌, ◌≤◌, ◌<◌, true, cond, nat_lt};
+ghost use Rattle.std.specs.Prelude.{◌≡◌, ◌+◌, ◌*◌, ◌≤◌, ◌<◌, true};
 ghost use Rattle.machine_table.specs.SetUp.{is_good};
 ghost use Rattle.seat_rule.specs.declared.views.SetUp.{SetUp};
 ghost use Rattle.seat_rule.specs.Rule.{slot_count, source, target, node_of, to_of};
 ghost use Rattle.mailboxes.specs.Places.{end_of, has_link_to, link_to, incoming};
-ghost use Rattle.mailboxes.specs.Places.{incoming_count, incoming_link};
+ghost use Rattle.mailboxes.specs.Places.{incoming_count, incoming_link, incoming_stride};
 
 use machine_table::Config;
 use network::Node;
@@ -59,7 +59,7 @@ pub fn incoming_count(config: &Config, number: u32) -> usize
 /// How far the first slots of two links are apart that come in to a seat one after the other.
 pub fn incoming_stride(config: &Config, number: u32) -> usize
     requires { is_good config.now ≡ true }
-    ensures stride { result ≡ 4 * cond (nat_lt number config.now.cores) config.now.cores config.now.banks }
+    ensures stride { result ≡ incoming_stride config.now.cores config.now.banks number }
     ensures within { (4 ≤ result) × (result ≤ 256) }
 {
     let ends = if number < config.cores {

@@ -1,5 +1,5 @@
 //! Laws of looks and of sending, for callers. The functions do nothing: their contracts are the laws.
-ghost use Rattle.std.specs.Prelude.{◌≡◌, ◌≢◌, ℕ, ◌<◌, ◌≤◌, true, false, AllPairs, Err, List, None, Some};
+ghost use Rattle.std.specs.Prelude.{◌≡◌, ◌≢◌, ℕ, ◌<◌, ◌≤◌, true, false, AllPairs, Err, List, None, Ok, Some};
 ghost use Rattle.std.specs.Prelude.{length, slice_get};
 ghost use Rattle.physiological_order.specs.declared.operation.Op.{Op};
 ghost use Rattle.network.specs.declared.message.Message.{Message};
@@ -52,9 +52,11 @@ pub fn seats_send_up_to_the_last_number()
     ensures is_full { (o : OutboxState) → 256 ≤ length o.messages → can_send_out o ≡ false }
 {}
 
-/// A seat that isn't stopped answers an issue Busy while an operation is open, however many its core was issued. After
-/// 4,294,967,295 of them it answers TooMany.
+/// A seat that isn't stopped takes an operation if none is open and its core was issued fewer than 4,294,967,295. It
+/// answers Busy while one is open, however many its core was issued, and TooMany after 4,294,967,295 of them.
 pub fn seats_take_operations_up_to_the_last()
+    ensures takes { (core : CoreState) (op : Op) → core.open_op ≡ None → core.issued < 4294967295 →
+        issue_answer false (issue core op).0 ≡ Ok tt }
     ensures busy { (core : CoreState) (op other : Op) → core.open_op ≡ Some other →
         issue_answer false (issue core op).0 ≡ Err Busy }
     ensures many { (core : CoreState) (op : Op) → core.open_op ≡ None → core.issued ≡ 4294967295 →

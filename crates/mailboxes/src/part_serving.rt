@@ -87,8 +87,7 @@ fn answered(is_core: bool, outbox: &mut Outbox, reaction: Reaction) -> Answer<Me
     }
 }
 
-// Whether whatever a part would send, and the delivered message, find their places: they want two of the held list at
-// most.
+// Whether anything that a part may send, and the delivered message, find places: two of the held list are enough.
 fn is_roomy(outbox: &Outbox, places: u32) -> bool
     ensures { result ≡ true → (is_core : Bool) (sends : Option (Node × Bool)) →
         finds_places is_core outbox.now places sends ≡ true }

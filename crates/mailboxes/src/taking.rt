@@ -1,7 +1,7 @@
 //! A seat takes messages out of slots.
-ghost use Rattle.std.specs.Prelude.{◌≡◌, ℕ, ◌+◌, ◌*◌, ◌%◌, ◌<◌, ◌≤◌, [], false, cond, nat_lt, IfSome, MatchOption};
+ghost use Rattle.std.specs.Prelude.{◌≡◌, ℕ, ◌+◌, ◌*◌, ◌%◌, ◌<◌, ◌≤◌, [], false, IfSome, MatchOption};
 ghost use Rattle.seat_rule.specs.declared.views.Stage.TheVariants.{Idle};
-ghost use Rattle.mailboxes.specs.Places.{incoming, incoming_count};
+ghost use Rattle.mailboxes.specs.Places.{incoming, incoming_count, incoming_stride};
 ghost use Rattle.mailboxes.specs.BoxMoves.{FindsFull, FindsNone, IsAt, Stands, Stays, Takes, hold};
 
 use crate::ends::{incoming, incoming_count, incoming_stride};
@@ -26,7 +26,7 @@ fn next_link(place: usize, slot: usize, count: usize, first: usize, stride: usiz
     requires { (place + 4 ≤ count) × (count ≤ 256) × (slot < 4096) × (stride ≤ 256) }
     ensures { (cores banks number : ℕ) → count ≡ incoming_count cores banks number →
         first ≡ incoming cores banks number 0 →
-        stride ≡ 4 * cond (nat_lt number cores) cores banks →
+        stride ≡ incoming_stride cores banks number →
         slot ≡ incoming cores banks number place → place % 4 ≡ 0 →
         (result.0 ≡ (place + 4) % count) × (result.1 ≡ incoming cores banks number result.0) ×
         (result.0 % 4 ≡ 0) }

@@ -10,8 +10,8 @@ use std::test::Fail;
 use std::thread;
 use std::thread::Threads;
 
-// Each job gives the number of jobs that its worker did before it, or 1,000 if the gate doesn't have it under way. So
-// many states that are asked for first are refused.
+// Each job gives the number of jobs that its worker did before it, or the greatest number if the gate doesn't have it
+// under way. So many states that are asked for first are refused.
 #[derive(Drop)]
 struct Counts<'a> {
     gate: &'a TurnCounts,
@@ -35,7 +35,7 @@ impl<'a> Jobs<u64, u64> for Counts<'a> {
         let before = if self.gate.is_under_way(number as usize) {
             state
         } else {
-            1_000
+            u64::MAX
         };
         Ok((before, state.saturating_add(1)))
     }

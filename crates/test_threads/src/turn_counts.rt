@@ -88,7 +88,7 @@ impl TurnCounts {
         }
     }
 
-    /// Counts a wrong turn, if this one is.
+    /// Counts something as wrong, unless it is right.
     pub(crate) fn tell(&self, is_right: bool) {
         if !is_right {
             self.wrong.fetch_add(1, Ordering::SeqCst);

@@ -70,9 +70,9 @@ const NO_LEASE: Case = Case {
 /// have, and how many of two first turns see the other.
 ///
 /// A worker alone sees at once that programs without steps are all done, and that a store is done after its seventh
-/// turn. A seat that stops ends the pass: those after it have a turn less. A bank has loaded a line after three turns,
-/// and would grant it in its fourth. Two workers give turns at the same time. One gives one turn after the other, so
-/// the first one looks in vain.
+/// turn. Each of the 999 operations behind it, on the line that the core owns, takes one turn more. A seat that stops
+/// ends the pass: those after it have a turn less. A bank has loaded a line after three turns, and would grant it in its
+/// fourth. Two workers give turns at the same time. One gives one turn after the other, so the first one looks in vain.
 const GIVEN: &[(Case, u32, u32, End, [u64; 3], u64)] = &[
     (NO_TURN, 1, 0, End::TurnsUsed, [0, 0, 0], 0),
     (NO_TURN, 2, 0, End::TurnsUsed, [0, 0, 0], 0),

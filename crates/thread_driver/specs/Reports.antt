@@ -26,7 +26,7 @@ abbrev pub Moved : Result Turn Refusal → Type 0
 Moved (Ok turn) = (0 < turn.put) ⊎ ((turn.served ≢ served.Held) × (turn.served ≢ served.Nothing))
 Moved (Err r) = ⊥
 
--- a seat has stopped that was stopped or not before and after
+-- a seat stopped: it wasn't stopped before, and is after
 abbrev pub Stopped : Bool → Bool → Type 0
 Stopped before after = (before ≡ false) × (after ≡ true)
 
@@ -62,7 +62,8 @@ module _ {P : Type 0} (acts : Acts P) (m : Machine) where
   CoreStopped x told y is = Stopped x.0.is_stopped y.0.is_stopped
 
   module _ {Many : ℕ → Type 0} {cores cores' : List CoreSeat} {banks banks' : List BankSeat}
-      {programs programs' : List P} {told : Told} (given : SeatsGiven acts m Many cores banks programs told cores' banks' programs') where
+      {programs programs' : List P} {told : Told}
+      (given : SeatsGiven acts m Many cores banks programs told cores' banks' programs') where
     -- a call of some seat's turn was refused memory; and some seat stopped in a turn
     abbrev pub SomeLacked : Type 0
     SomeLacked = OneOfAll CoreLacked given.of_cores ⊎ OneOfAll (BankLacked m) given.of_banks

@@ -39,9 +39,9 @@ pub fn stopped_seats_stay_stopped<P: Program>()
         TurnsGiven (IsBankTurn m) p n told q → p.is_stopped ≡ true → q.is_stopped ≡ true }
 {}
 
-/// A turn reports what its calls answered: no memory exactly if one of them was refused it, a stop exactly if the seat
-/// stopped in the turn, and progress exactly if a step of the program was done, or messages were put or served. The
-/// program goes on exactly if its step was done, so an eviction alone is no progress.
+/// A turn reports what its calls answered: no memory exactly if one of them was refused it, and a stop exactly if the
+/// seat stopped in the turn. It reports progress exactly if a step of the program was done, or messages were put or
+/// served. The program goes on exactly if its step was done, so an eviction alone is no progress.
 pub fn turns_report_what_calls_answered<P: Program>()
     ensures cores { (m : Machine) (p q : CoreSeat) (before after : P) (told : Told)
         (turn : CoreHadTurn P.acts m p before told q after) → IsReport told
@@ -66,7 +66,7 @@ pub fn turns_decide_the_end<P: Program>()
 
 /// The machine that a closed one shows is consistent, as are those that events lead to: its records are a legal
 /// history of the opening memory and of what its cores were issued, a line has at most one owner, and a word's coherent
-/// value is the one that the records leave.
+/// value is the one that the records leave. Words that lines don't have are 0.
 pub fn closed_machines_are_consistent()
     ensures { (run : Run) (parts : Parts run) → IsConsistent (machine_of run parts) }
 {

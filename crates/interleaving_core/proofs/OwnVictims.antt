@@ -9,6 +9,7 @@ use Rattle.core_pts.specs.CoreTable.{CoreState}
 use Rattle.core_pts.specs.OpenCopy.{open_victim}
 use Rattle.machine_table.specs.Machine.{Machine}
 use Rattle.machine_theorem.specs.Kept.{Invariant}
+use Rattle.machine_theorem.proofs.Lemmas.{core_shape}
 use Rattle.interleaving_core.specs.LookUps.{victim_for_core, victim_of}
 
 -- a core has lines of the machine's words
@@ -17,5 +18,5 @@ pub own_victim :
     open_victim core op ≡ victim_for_core m n (option_map (λ op. (op, core.is_out)) op)
 own_victim m kept n core None there = refl
 own_victim m kept n core (Some op) there =
-    ap (λ words. victim_for core.cache (address op / words)) (kept.whole.each_core n core there).line_words
+    ap (λ words. victim_for core.cache (address op / words)) (core_shape m kept n core there).line_words
     ∙ ap (victim_of (address op / m.config.line_words)) (sym there)

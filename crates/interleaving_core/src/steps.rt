@@ -1,5 +1,5 @@
 //! One event of the machine.
-ghost use Rattle.std.specs.Prelude.{◌≡◌, ◌≢◌, ℕ, IfOk, IsTrue, OnErr, slice_get};
+ghost use Rattle.std.specs.Prelude.{◌≡◌, ◌<◌, IfOk, IsTrue, None, OnErr, length, slice_get};
 ghost use Rattle.network.specs.NumberedMessages.{at_number};
 ghost use Rattle.machine_table.specs.Transition.{advance_at, attempt_at, deliver_message, evict_copy};
 ghost use Rattle.machine_table.specs.Transition.{evict_entry, issue_at, transition};
@@ -49,8 +49,9 @@ impl MachineState {
     // last one.
     fn attempt(&mut self, core: u32) -> Option<PlainAnswer>
         requires { Invariant self.old }
-        ensures { (answer_in self.new.records result, self.new) ≡ attempt_at self.old core
+        ensures tried { (answer_in self.new.records result, self.new) ≡ attempt_at self.old core
             (slice_get self.old.cores core) }
+        ensures completed { result ≡ None → 0 < length self.new.records }
     {
         let at = core as usize;
         if at >= self.cores.len() {
@@ -68,8 +69,9 @@ impl MachineState {
     #[inline(always)]
     fn try_core(&mut self, core: u32) -> Option<PlainAnswer>
         requires { Invariant self.old }
-        ensures { (answer_in self.new.records result, self.new) ≡ attempt_at self.old core
+        ensures tried { (answer_in self.new.records result, self.new) ≡ attempt_at self.old core
             (slice_get self.old.cores core) }
+        ensures completed { result ≡ None → 0 < length self.new.records }
     {
         if let Some(own) = self.core(core) {
             if own.is_waiting() {
@@ -161,6 +163,7 @@ impl MachineState {
         ensures refused { OnErr result (self.new ≡ self.old) }
         ensures wanted { OnErr result (TakesMemory self.old (transition self.old event)) }
         ensures memory { OnErr result (IsTrue (asks_memory self.old event)) }
+        ensures completed { IfOk result (λ plain. plain ≡ None → 0 < length self.new.records) }
     {
         if self.is_stopped {
             return Ok(Some(PlainAnswer::Refused(Refusal::Stopped)));
@@ -184,6 +187,7 @@ impl MachineState {
         ensures stepped { Stepped self.old event (answer_in self.new.records result) self.new }
         ensures memory { answer_in self.new.records result ≡ Answer.Refused Refusal.NoMemory →
             IsTrue (asks_memory self.old event) }
+        ensures completed { result ≡ None → 0 < length self.new.records }
     {
         match self.answer(event) {
             Ok(plain) => plain,

@@ -1,6 +1,6 @@
 //! The machine that users drive, and what is always true of it.
 ghost use Rattle.std.specs.Prelude.{◌≡◌, ◌≢◌, ◌≤◌, ◌<◌, ◌++◌, ◌∷◌, vec_capacity, [], false, true, IfOk, IfErr};
-ghost use Rattle.std.specs.Prelude.{IfSome, IsSome, IsTrue, OnErr, OnOk, length, map};
+ghost use Rattle.std.specs.Prelude.{IfSome, IsSome, IsTrue, None, OnErr, OnOk, length, map};
 ghost use Rattle.std.specs.Prelude.{option_copied, slice_get, slice_index_or, List, Some, ℕ};
 ghost use Rattle.physiological_order.specs.Order.{flat, Legal, Arrangement, of_core, replay_end};
 ghost use Rattle.physiological_order.specs.StaleHits.{RisesByNumber};
@@ -121,11 +121,12 @@ impl System {
         answer_in(self.state.records(), plain)
     }
 
-    /// One event, as `step` makes it, with its answer in two bytes: `None` if an operation is completed. The last record
-    /// is then its own.
+    /// One event, as `step` makes it, with its answer in two bytes: `None` exactly if an operation is completed. The
+    /// last record is then that of this operation.
     #[inline(always)]
     pub fn step_plain(&mut self, event: Event) -> Option<PlainAnswer>
-        ensures { Stepped self.old event (answer_in self.new.records result) self.new }
+        ensures stepped { Stepped self.old event (answer_in self.new.records result) self.new }
+        ensures completed { result ≡ None → 0 < length self.new.records }
     {
         self.state.step(event)
     }

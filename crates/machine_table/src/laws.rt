@@ -1,6 +1,6 @@
 //! What every answer says of the machine afterwards, and what a machine opens with. The functions do nothing: their
 //! contracts are the laws.
-ghost use Rattle.std.specs.Prelude.{◌≡◌, ◌<◌, ℕ, true, length, slice_get, Some};
+ghost use Rattle.std.specs.Prelude.{◌≡◌, ◌<◌, ℕ, [], false, true, length, replicate, slice_get, Some};
 ghost use Rattle.std.specs.Ordering.{nat_cmp};
 ghost use Rattle.std.specs.FinMap.{FinMap};
 ghost use Rattle.machine_table.specs.declared.config.Config.{Config};
@@ -25,7 +25,7 @@ pub fn every_answer_keeps_its_word()
 
 /// A machine opens with as many cores, banks and DRAMs as its configuration asks for. Each core and each bank has its
 /// number; its sets and ways, its lease, its time and the rest of its set-up are those of the configuration, value by
-/// value.
+/// value. Nothing is in flight, issued or completed, and the machine runs.
 pub fn machines_open_as_configured()
     ensures set_up { (config : Config) (opening : FinMap nat_cmp ℕ) →
         let m = at_start config opening in
@@ -40,4 +40,8 @@ pub fn machines_open_as_configured()
     ensures banks { (config : Config) (opening : FinMap nat_cmp ℕ) (bank : ℕ) →
         bank < config.banks →
         slice_get (at_start config opening).banks bank ≡ Some (open_bank config bank) }
+    ensures rest { (config : Config) (opening : FinMap nat_cmp ℕ) →
+        let m = at_start config opening in
+        (m.mail.messages ≡ []) × (m.mail.next ≡ 0) × (m.issued ≡ replicate config.cores []) ×
+        (m.records ≡ []) × (m.is_stopped ≡ false) }
 {}

@@ -24,5 +24,6 @@ pub record IsConsistent (m : Machine) : Type 0 where
       coherent m word ≡ replay_end (flat m.opening) (map (λ r. r.op) arranged) word
   -- the part that a message in flight goes to has a case for it, with a place for the line that it brings
   pub cases : AllByRecursion (λ message. has_case m message.1 ≡ true) m.mail.messages
-  -- where lines have one word, the others are 0, in every copy, entry, message and DRAM
+  -- where lines have one word, the others are 0, in every copy and message, and in the entry and the DRAM of the
+  -- line's bank
   pub zeros : (line : ℕ) → HasZeros m.config.line_words (line_in m line)

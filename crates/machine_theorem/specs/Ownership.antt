@@ -17,6 +17,7 @@ ownership_in line message = if is_ownership_of line message then 1 else 0
 abbrev pub owners : Config → State → ℕ → ℕ
 owners config a line = by_line.owners config.cores (line_seen config a line)
 
--- the coherent value of a word, by lines
+-- the coherent value of a word, by lines: with the line's owner, or in a grant or return in flight, or else in the
+-- bank's Shared entry, in a store on its way to DRAM, in DRAM
 abbrev pub coherent : Config → FinMap nat_cmp ℕ → State → ℕ → ℕ
 coherent config opening a word = by_line.coherent (set_up config opening) config.cores (view config a) word

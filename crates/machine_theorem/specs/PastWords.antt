@@ -29,7 +29,7 @@ pub record HasZeros (n : ℕ) (line : Line) : Type 0 where
   pub messages : AllByRecursion (MessageEnds n) line.messages
   pub dram : ZerosFrom n line.dram
 
--- the protocol reaches the machine from a DRAM in which all words are 0 that lines don't have
+-- the protocol reaches the machine, and each word that its lines don't have is 0, wherever it stands
 pub record IsReached (config : Config) (machine : Machine) : Type 0 where
   pub some_words : 0 < config.line_words
   pub reachable : Reachable config machine

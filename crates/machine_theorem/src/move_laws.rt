@@ -88,6 +88,9 @@ pub fn owners_and_values_are_of_states()
         machine.coherent m word ≡ coherent m.config m.opening (seen m) word }
     ensures numbered { (config : Config) (opening : FinMap nat_cmp ℕ) (a : State) (line : ℕ) →
         machine.owners (numbered config opening a) line ≡ owners config a line }
+    ensures numbered_values { (config : Config) (opening : FinMap nat_cmp ℕ) (a : State) →
+        is_good config ≡ true → Reached config opening a → (word : ℕ) →
+        machine.coherent (numbered config opening a) word ≡ coherent config opening a word }
     ensures owners { (config : Config) (a b : State) → Same a b → (line : ℕ) →
         owners config a line ≡ owners config b line }
     ensures coherent { (config : Config) (opening : FinMap nat_cmp ℕ) (a b : State) →

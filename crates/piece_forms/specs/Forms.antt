@@ -44,7 +44,7 @@ Passes place (Leaves y) line pieces x n rest =
     (y ≡ x) × (line_of place line pieces ≡ n) × (from place pieces ≡ rest)
 Passes place (Refuses kind) line pieces x n rest = ⊥
 
--- pieces that begin in this line stand in a form, which Gives x, and the rest follows in line n
+-- pieces that begin in this line stand in a form, which gives x, and the rest follows in line n
 abbrev pub Stands : {A : Type 0} → Form A → ℕ → List Piece → A → ℕ → List Piece → Type 0
 Stands (Gives y) line pieces x n rest = (y ≡ x) × (line ≡ n) × (pieces ≡ rest)
 Stands (At place look end) line pieces x n rest =

@@ -68,8 +68,8 @@ invariant_of-self c =
     (c.note_attempt.ensures c.self.inside.cores.items c.index_mut.result.now c.attempt-answer.new.core here stands
     c.self.invariant.masked)
 
-pub returns : goal.returns
-returns c =
+pub returns-clause-tried : goal.returns-clause-tried
+returns-clause-tried c =
     let m : Machine = the_view c.self.inside in
     let core = c.index_mut.result.now in
     let here = slice_get_read c.self.inside.cores.items (length c.self.inside.cores.items) c.args.core

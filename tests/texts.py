@@ -302,6 +302,8 @@ def past_limits():
     yield "line 3: 2 TooLarge", "RISCV A\n{ }\n" + THREADS.replace(";\n", "|P16")
     yield "line 1028: 2 TooLarge", FRONT + " li x5,1 ;\n" * 1025 + "exists (x=0)\n"
     yield "line 1028: 2 TooLarge", FRONT + " ;\n" * 1025
+    yield "line 1028: 2 TooLarge", FRONT + " ;\n" * 1024 + "x"
+    yield "line 3: 7 BadTable", "RISCV A\n{ }\n" + THREADS.replace(";", "|P17;") + "exists (x=0)\n"
     items = "".join(f"v{number}=0;\n" for number in range(64))
     yield "line 67: 2 TooLarge", "RISCV A\n{\n" + items + "w=0;\n}\n P0 ;\nexists (w=0)\n"
     yield "line 69: 2 TooLarge", "RISCV A\n{\n" + items + "}\n P0 ;\nexists (w=0)"

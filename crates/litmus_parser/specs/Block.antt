@@ -115,7 +115,7 @@ unfoldable pub entry : Block → Form (Bool × Block)
 entry block = one (item_or_brace block.1) >>= item_or_end block
 
 -- block := "{" { item ; } [ item ] "}"
--- and the end of the line
+-- and the end of the line; a text has fewer items than bytes, so the steps end with }
 unfoldable pub block : Names → Form Block
 block names = do
   _ ← one (sign BadInitial OPENING_BRACE)

@@ -110,7 +110,7 @@ further connective left = perhaps (λ w. bytes_eq w (sign_of connective))
 abbrev pub joined : Connective → PartForm → Tree × Sight → Form (Tree × Sight)
 joined connective part left = part left.1 >>= λ right. Gives (join_of connective left.0 right.0, right.1)
 
--- parts with the connective's sign between each two
+-- parts with the connective's sign between each two; each has an atom, so the one too many is refused first
 abbrev pub chain : Connective → PartForm → PartForm
 chain connective part sight = part sight >>=
     many (further connective) (joined connective part) MOST_ATOMS

@@ -46,6 +46,7 @@ abbrev pub further_heading : ℕ → Form ℕ
 further_heading threads = here BadTable (heading threads) >>= λ _. Gives (threads + 1)
 
 -- header := P0 { "|" PT } ;
+-- and the end of the line; the heading of thread 16 is refused, so the steps end with ;
 unfoldable pub header : Form ℕ
 header = do
   _ ← one (heading 0)
@@ -121,7 +122,7 @@ abbrev pub always : ℕ × Rows → Form Bool
 always c = Gives true
 
 -- row := cell { "|" cell } ;
--- its shape is tested before its cells
+-- and the end of the line; its shape is tested before its cells
 unfoldable pub row : Bases → ℕ → Rows → Form Rows
 row bases threads rows = do
   _ ← Test (has_shape (threads - 1)) BadTable
@@ -146,7 +147,7 @@ unfoldable pub counted_row : Bases → ℕ → ℕ × Rows → Form (ℕ × Rows
 counted_row bases threads t = row bases threads t.1 >>= λ rows. Gives (t.0 + 1, rows)
 
 -- rows := { row }
--- up to the condition
+-- up to the condition; row 1,025 is refused, so the steps end with a keyword
 unfoldable pub rows : Bases → ℕ → Form (List Cell)
 rows bases threads =
     many next_row (counted_row bases threads) (MOST_ROWS + 1) (0, ([], None)) >>= λ t. Gives t.1.0

@@ -1,4 +1,4 @@
--- Why pieces don't stand in a form: the first piece that is refused, and in which line it stands.
+-- Why pieces don't stand in a form: the place that refuses what comes next, or all that follows, or has a known fault.
 use Rattle.std.specs.Prelude.{◌≡◌, ℕ, ◌⊎◌, Bool, true, false, List, ◌++◌, Err}
 use Rattle.litmus_lexer.specs.Pieces.{Piece}
 use Rattle.litmus_lexer.specs.declared.errors.Kind.{Kind}

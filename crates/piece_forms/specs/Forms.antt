@@ -116,7 +116,8 @@ either f g false = g
 abbrev pub turn : {A : Type 0} → (A → Form Bool) → (A → Form A) → A → Form (Bool × A)
 turn one_more step x = one_more x >>= either (step x >>= λ y. Gives (true, y)) (Gives (false, x))
 
--- steps until one says that it is the last, at most so many
+-- steps until one says that it is the last, at most so many; after these the form stands with what they gave, so a
+-- grammar allows more steps than its texts can have
 unfoldable pub until : {A : Type 0} → (A → Form (Bool × A)) → ℕ → A → Form A
 until step zero x = Gives x
 until step (suc k) x = step x >>= λ r. either (until step k r.1) (Gives r.1) r.0

@@ -1,4 +1,4 @@
-//! Looks at the next piece. Line ends count as blanks.
+//! Looks at the next piece, behind line ends or in the line.
 
 ghost use Rattle.std.specs.Prelude.{◌≡◌, ◌≢◌, ◌+◌, option_map, Ok, IfErr};
 ghost use Rattle.litmus_lexer.specs.declared.errors.ReadError.TheVariants.{Memory};

@@ -7,7 +7,7 @@ allocation answered by `?` or by an arm such as `Err(AllocError) => ..`.
 
 No contract can say that an allocation really failed. So a place that answers so by itself needs a reason, which the
 table has. A place that isn't there might be one that gives up past some size. So might one that asks for an amount that
-a condition or a greatest number makes: it is listed, too.
+a condition, a product or a greatest number makes: it is listed, too.
 """
 import re
 import sys
@@ -20,7 +20,7 @@ NOT_PRODUCTION = ("test_", "bench", "play_", "event_text", "guide_uses")
 WANT = r"(?:\bAllocError\b|\b(?:ReadError::Memory|Stop::Refused|[A-Z]\w*::NoMemory)\b|\bErr\(NoMemory\)|= NoMemory;)"
 PASSED_ON = re.compile(r"\s*(?:Err\()?(?:AllocError|(?:\w+::)+(?:NoMemory|Memory))\)?\s*")
 SKIPPED = re.compile(r"\s*(ghost |ensures\b|requires\b|impl\b|\) ->|[^=]*[≡≢])")
-AMOUNT = re.compile(r"\b(?:reserve|with_capacity|from_elem)\w*\(.*(?:\bMAX\b|\bif\b|<<)")
+AMOUNT = re.compile(r"\b(?:reserve|with_capacity|from_elem)\w*\(.*(?:\bMAX\b|\bif\b|<<|\*|_mul|_pow)")
 IMPORT = re.compile(r"\s*(pub )?use ")
 FUNCTION = re.compile(r"\s*(?:pub(?:\(crate\))? )?(?:const )?fn (\w+)")
 TYPES = re.compile(r"Result<[^;{]*?AllocError>|#\[.*\]")

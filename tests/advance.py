@@ -10,9 +10,14 @@ from pathlib import Path
 
 from texts import TOP, Tester
 
+sys.path.insert(0, str(TOP / "scripts"))
+import advance  # noqa: E402
+
 FLAG = "0 R 0x0\n0 R 0x0\n"
 # The words, the trace, and the trace that must be written.
 CASES = [
+    ("--whole-words 0", "0 R 0x0:9999\n", "".join(f"0 R {8 * k:#x}\n" for k in range(1250))),
+    ("--whole-words 0", "0 R 0x1:1000\n", "".join(f"0 R {8 * k:#x}\n" for k in range(126))),
     ("1", FLAG, "trace 2\n0 R 0x0\n0 A\n0 R 0x0\n0 A\n"),
     ("2", FLAG, "trace 2\n0 R 0x0\n0 R 0x0\n0 A\n"),
     ("3", FLAG, "trace 2\n" + FLAG),
@@ -40,6 +45,7 @@ CASES = [
 HINT = " (--whole-words rounds addresses)"
 # The words, the trace, and what standard error says behind the trace's name.
 FAULTS = [
+    ("--whole-words 0", "0 R 0x0:10000\n", "line 1: 6 BadAddress"),
     ("1", "0 R 0x0\n0 R 0x4\n", f"line 2: 6 BadAddress{HINT}"),
     ("1", "0 R 0x8:4\n", f"line 1: 6 BadAddress{HINT}"),
     ("1", "0 R 0x0\n16 R 0x0\n", "line 2: 4 BadCore"),
@@ -73,6 +79,18 @@ def spinning(tester, program, path):
     tester.expect("\nstale-hits 0\n" not in report, f"the store comes after all loads: {report}")
 
 
+def long_traces(tester, path):
+    """A trace gets no more lines than may be: three here, with the one that names its form."""
+    advance.LINES = 3
+    for text, good in ((b"0 R 0x0\n", True), (b"0 R 0x0\n0 R 0x0\n", False)):  # 3 lines, and 5
+        path.write_bytes(text)
+        try:
+            came = advance.new_trace(str(path), 1).count(b"\n") == 3
+        except advance.Bad:
+            came = False
+        tester.expect(came == good, f"{text}: the limit of lines")
+
+
 def main(program):
     tester = Tester(str(TOP / "scripts/advance.py"))
     for words, text, wanted in CASES:
@@ -90,6 +108,7 @@ def main(program):
         tester.expect((status, out, error.count("\n")) == (2, "", 1), f"{words}: {status} {out!r} {error!r}")
     with tempfile.TemporaryDirectory() as folder:
         spinning(tester, program, Path(folder, "spin.trace"))
+        long_traces(tester, Path(folder, "long.trace"))
     print(f"{tester.tried} tried, {tester.wrong} wrong")
     return int(tester.wrong > 0)
 

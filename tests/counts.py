@@ -183,6 +183,10 @@ def quick_reading(tester):
         fast += plain is not None
         tester.expect(plain in (None, wanted), f"{text[:80]}: {plain}, wanted {wanted}")
     tester.expect(fast > 40, f"only {fast} of {len(texts)} traces are read fast")
+    kept, counts.MOST_LINES = counts.MOST_LINES, 2
+    tester.expect(counts.plain_programs(b"0 R 0x0\n" * 2) is not None and
+                  counts.plain_programs(b"0 R 0x0\n" * 3) is None, "a line too many is read fast")
+    counts.MOST_LINES = kept
 
 
 def plainly(step):
@@ -207,6 +211,10 @@ def refusals(tester):
     heads = [line.split()[1:] for line in out.splitlines() if line.split()[:1] in (["cores"], ["banks"], ["messages"])]
     wanted = [["all", "core", "1"], ["all", "bank", "0"], ["all", "core", "1", "bank", "0"]]
     tester.expect(heads == wanted, f"--cores 1: {heads}")
+    five = tester.file("".join(f"{core} R 0x0\n" for core in range(5)))
+    _, out, _ = tester.run(*played, "--cores", "0,2-3", str(five))
+    named = out.split("\n\n")[1].split()[2:8]
+    tester.expect(named == ["core", "0", "core", "2", "core", "3"], f"--cores 0,2-3: {out}")
 
 
 def main(player):

@@ -164,6 +164,9 @@ def others(tester):
     for words in ([], ["--nothing"], ["none.trace"], ["none.trace", "none.records"], [tester.folder]):
         status, out, error = tester.run(*words)
         tester.expect((status, out, error.count("\n")) == (2, "", 1), f"{words}: {status} {out} {error}")
+    records = [f"0 {k} R 0x0 {int(k == 20)} 0 {k}" for k in range(40)]
+    out = tester.tells(["wrong value 20"], b"0 R 0x0\n" * 40, "\n".join(records).encode())
+    tester.expect([out.count(f"line {k}:") for k in (17, 18, 24, 25)] == [0, 2, 2, 0], f"three around it: {out}")
     status, out, error = tester.run("--help")
     tester.expect((status, error) == (0, "") and "TRACE RECORDS" in out, f"--help: {status} {error}")
 

@@ -30,7 +30,8 @@ CELLS = [("lwu x7,0(x6)", LOAD), ("lw.aq.rl t2 , ( x6 )", LOAD), ("sw.rl x5,0(t1
          ("fence", "fence rw,rw"), ("fence.tso", "fence rw,rw"),
          ("fence iorw,ow", "fence rw,w"), ("fence i,o", None), ("fence.i", None), ("nop", None),
          ("(* nothing *)", None), ("li x7,0x10", "li x7,16"), ("li x7,010", "li x7,10"),
-         ("ori x7,x0,2", "ori x7,x0,2"), ("ori x7,x5,2", "li x7,3"), ("mv x7,x5", "li x7,1"),
+         ("ori x7,x0,2", "ori x7,x0,2"), ("ori x7,x0,2047", "ori x7,x0,2047"), ("ori x7,x0,2048", "li x7,2048"),
+         ("ori x7,x5,2", "li x7,3"), ("mv x7,x5", "li x7,1"),
          ("addi x7,x5,5", "li x7,6"), ("xori x7,x5,3", "li x7,2"), ("andi x7,x5,3", "li x7,1"),
          ("li x9,3|sub x7,x9,x5", "li x7,2"), ("lwu x7,0(x6)|mv x9,x5", "li x9,1"), ("xor x7,x5,x5", "li x7,0"),
          ("andi x7,x5,0", "li x7,0"), ("add x7,x6,x0", None),
@@ -45,7 +46,9 @@ NO_CELLS = ["lr.w x7,(x6)", "sc.w x7,x5,(x6)", "amoadd.w x7,x5,(x6)", "lw x7,4(x
 END = "exists (x=1)\n"
 ROW = " sw x5,0(x6) | ;\n"
 # Texts that are refused, with the line.
-NO_TEXTS = [("AArch64 T\n{ }\n P0 ;\n" + END, 1), ("RISCV T\n(* no end\n{ }\n P0 ;\n" + END, 2), ("RISCV T\n\n*)\n", 3),
+NO_TEXTS = [("RISCV " + "T" * 122 + OPENING[7:] + ROW + "filter (x=1)\n" + END, 1),
+            ("RISCV T\n{ " + "y" * 33 + "=1; }\n P0 ;\n" + END, 2),
+            ("AArch64 T\n{ }\n P0 ;\n" + END, 1), ("RISCV T\n(* no end\n{ }\n P0 ;\n" + END, 2), ("RISCV T\n\n*)\n", 3),
             ("RISCV T\n{ [x]=-1; }\n P0 ;\n" + END, 2), ("RISCV T\n{\n x=y; }\n P0 ;\n" + END, 3),
             ("RISCV T\n{\n\nint x[2]; }\n P0 ;\n" + END, 4), ("RISCV T\n{ x=1; [x]=1; }\n P0 ;\n" + END, 2),
             ("RISCV T\n{ 0:q1=1; }\n P0 ;\n" + END, 2), ("RISCV T\n{ 0:x0=1; }\n P0 ;\n" + END, 2),

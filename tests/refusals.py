@@ -205,6 +205,16 @@ def commands(folder):
     ]
 
 
+def few_calls(tester, folder):
+    """70,000 bytes come in few reads, and a text goes in one write."""
+    trace = Path(folder, "long.trace")
+    trace.write_text("0 R 0x0\n" * 8750)
+    ran = tester.run(["check", trace, "/dev/null"], read="20:error")
+    tester.expect(ran.answer() == (0, "legal\n", ""), f"more than 19 reads: {ran.answer()}")
+    ran = tester.run(["trace", "--records", "--limit", 4294967295, trace], write="2:error")
+    tester.expect(ran.status == 0 and ran.out.count("\n") == 8750, f"more than one write: {ran.status} {ran.error}")
+
+
 def devices(tester):
     """A read that fails: status 4 and nothing written. A write that fails, or takes nothing: a beginning is written.
 
@@ -216,6 +226,7 @@ def devices(tester):
             device(tester, words, usual)
             behind_each_byte(tester, words, usual)
         device(tester, *commands(folder)[-1])
+        few_calls(tester, folder)
 
 
 def device(tester, words, usual):

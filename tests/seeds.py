@@ -48,9 +48,10 @@ def wholes(tester, program):
 
 
 def parts_of_many(tester):
-    """A part has at most 1,000,000 seeds, however few processors there are."""
-    count = seeds.Parts(SimpleNamespace(FIRST=0, RUNS=5_000_001, TEST=TEST, parts=None, jobs=2)).count
-    tester.expect(count == 6, f"5,000,001 seeds in {count} parts")
+    """There are as many parts as processors, of at most 1,000,000 seeds each, and at most 1,000,000 parts."""
+    for runs, jobs, wanted in ((5_000_001, 2, 6), (2000, 8, 8), (2 ** 64, 2, 1_000_000)):
+        count = seeds.Parts(SimpleNamespace(FIRST=0, RUNS=runs, TEST=TEST, parts=None, jobs=jobs)).count
+        tester.expect(count == wanted, f"{runs} seeds by {jobs}: {count} parts")
 
 
 def put_parts(tester, folder, parts=PARTS, runs=RUNS, first=0, test=TEST, options=(), only=None):
@@ -76,6 +77,10 @@ def made(tester, program, folder):
             "range": {"first": LAST - 30, "runs": RUNS, "part": part, "parts": 4}, "options": ["--limit", "90"],
             "test": {"path": TEST, "sha256": sum_of(TEST)}, "program": {"path": program, "sha256": sum_of(program)}},
             f"part {part}: {said}")
+    words = ["--schedule", "seed", "--seed", str(LAST - 30), "--runs", str(RUNS), "--limit", "90", TEST]
+    status, whole, _ = Tester(program).run("litmus", *words)
+    got = Tester(str(TOP / "examples/merge.py")).run(*sorted(map(str, Path(folder).glob("*.report"))))
+    tester.expect(got == (0, whole, ""), f"parts past the last seed: {got}")
 
 
 def bad_reports(tester):

@@ -13,6 +13,9 @@ from pathlib import Path
 
 from texts import TOP, Tester, oracle
 
+sys.path.insert(0, str(TOP / "scripts"))
+import sweep  # noqa: E402
+
 # Two loads of a word, with three advances between them. The second load, at time 3, asks anew if the lease is below 3.
 RENEWED, ALONE = "trace 2\n0 R 0x0\n0 A\n0 A\n0 A\n0 R 0x0\n", "0 W 0x0 1\n"
 # With lease 1 and an advance after each, the loads are at the times 0 to 3, and the one at time 2 asks anew.
@@ -219,6 +222,13 @@ def refusals(tester):
     tester.refused("TRACE")
 
 
+def large(tester):
+    """Thirty lines of a picture, and a scale up to 10 ^ 19."""
+    lines = list(sweep.picture({f"l{k}": [(0, 1), (2 ** 64 - 1, 2 ** 64 - 1)] for k in range(30)}, "x", "y"))
+    tester.expect('height="570"' in lines[0] and sum("<polyline" in line for line in lines) == 30, lines[0])
+    tester.expect(list(sweep.ticks(10 ** 19)) == [k * 2 * 10 ** 18 for k in range(6)], "ticks of 64 bits")
+
+
 def main(program, player):
     os.environ["TARDIS"] = os.path.abspath(program)
     tester = Sweeper(os.path.abspath(player))
@@ -227,7 +237,8 @@ def main(program, player):
         Path("line").write_text("no table")
         for name, text in (("renewed", RENEWED), ("alone", ALONE), ("loads", LOADS), ("bad", "x\n")):
             Path(f"{name}.trace").write_text(text)
-        for part in (by_hand, advances, names, goes_on, plot, passed_on, compared, traces_apart, by_the_second, refusals):
+        for part in (by_hand, advances, names, goes_on, plot, passed_on, compared, traces_apart, by_the_second, refusals,
+                     large):
             part(tester)
         os.chdir(TOP)
     print(f"{tester.tried} tried, {tester.wrong} wrong")

@@ -88,11 +88,19 @@ static void checks(void) {
     MUST(check(TRACE, "\n0 0 W 0x1", 1000) == TARDIS_BAD_LINE && has("tardis: line 2: 6 BadAddress\n"));
     MUST(check(TRACE, RECORDS, 6) == TARDIS_DONE && has("legal\n"));
     MUST(check(TRACE, RECORDS, 5) == TARDIS_SHORT_BUFFER && length == 6 && (length = 0, has("")));
+    MUST(check(TRACE, "7 0 R 0x0 0 1 1\n", 12) == TARDIS_SHORT_BUFFER && length == 13 && (length = 0, has("")));
     MUST(check("0 X\n", RECORDS, 30) == TARDIS_BAD_LINE && length == 31 && (length = 0, has("")));
     /* Only the bytes up to the length are the text: the rest of the line isn't read. */
     MUST(tardis_check("0 W 0x0 12", 9, RECORDS, 16, buffer, 1000, &length) == TARDIS_DONE && has("legal\n"));
     MUST(tardis_check(NULL, 0, NULL, 0, buffer, 1000, &length) == TARDIS_DONE && has("legal\n"));
     MUST(tardis_check(NULL, 0, NULL, 0, NULL, 0, &length) == TARDIS_SHORT_BUFFER && length == 6);
+    {
+        struct tardis_options options;
+        tardis_defaults(&options);
+        MUST(tardis_run_litmus(NULL, 0, &options, NULL, 0, &length) == TARDIS_BAD_TEST && length == 28);
+        options.records = 1;
+        MUST(tardis_run_trace(NULL, 0, &options, NULL, 0, &length) == TARDIS_DONE && length == 0);
+    }
 }
 
 static void runs(void) {
@@ -105,6 +113,20 @@ static void runs(void) {
     options.records = 1;
     MUST(trace("0 R 0x0\n", &options, 1000) == TARDIS_DONE && has("0 0 R 0x0 0 0 0\n"));
     MUST(trace("0 R 0x0\n", &options, 15) == TARDIS_SHORT_BUFFER && length == 16 && (length = 0, has("")));
+    options.records = 4294967296; /* any number but 0 sets a flag */
+    MUST(trace("0 R 0x0\n", &options, 1000) == TARDIS_DONE && has("0 0 R 0x0 0 0 0\n"));
+    options.private_write = 4294967296;
+    MUST(trace("0 W 0x0 1\n0 W 0x0 2\n", &options, 1000) == TARDIS_DONE);
+    MUST(has("0 0 W 0x0 1 1 0\n0 1 W 0x0 2 1 1\n"));
+    options.private_write = 0;
+    options.by_seed = 4294967296; /* by rounds the load takes six turns, by the seed 6 nine */
+    options.seed = 6;
+    options.limit = 8;
+    MUST(trace("0 R 0x0\n", &options, 1000) == TARDIS_NOT_DONE && has(""));
+    options.limit = 9;
+    MUST(trace("0 R 0x0\n", &options, 1000) == TARDIS_DONE && has("0 0 R 0x0 0 1 0\n"));
+    tardis_defaults(&options);
+    options.records = 1;
     options.limit = 0;
     MUST(trace("0 R 0x0\n", &options, 1000) == TARDIS_NOT_DONE && has(""));
     MUST(trace("", &options, 1000) == TARDIS_DONE && has(""));
@@ -183,14 +205,24 @@ static void arrays(void) {
     MUST(answers(issued, 3, done, 2, TARDIS_NOT_DONE, TARDIS_MISSING_NUMBER, 1));
     done[0].received = 1;
     MUST(answers(issued, 3, done, 3, TARDIS_NOT_DONE, TARDIS_WRONG_VALUE, 2));
+    done[0].place = 4294967295; /* the greatest that may be */
+    MUST(answers(issued, 3, done, 3, TARDIS_NOT_DONE, TARDIS_OUT_OF_PROGRAM_ORDER, 2));
     done[0].place = 4294967296;
     MUST(answers(issued, 3, done, 3, TARDIS_BAD_RECORD, TARDIS_BAD_PLACE, 0));
-    done[0].place = 1;
     done[2].operation.core = 64;
     done[2].operation.kind = 3;
+    done[2].operation.address = 4;
+    done[2].place = 4294967296;
+    MUST(answers(issued, 3, done, 3, TARDIS_BAD_RECORD, TARDIS_BAD_PLACE, 0)); /* of the first of two */
+    done[0].place = 1;
     MUST(answers(issued, 3, done, 3, TARDIS_BAD_RECORD, TARDIS_BAD_CORE, 2));
     done[2].operation.core = 1;
     MUST(answers(issued, 3, done, 3, TARDIS_BAD_RECORD, TARDIS_BAD_KIND, 2));
+    done[2].operation.kind = TARDIS_SWAP;
+    MUST(answers(issued, 3, done, 3, TARDIS_BAD_RECORD, TARDIS_BAD_ADDRESS, 2));
+    done[2].operation.kind = 3;
+    done[2].operation.address = 0xfffffffffffffff8;
+    done[2].place = 0;
     issued[1].address = 4;
     MUST(answers(issued, 3, done, 3, TARDIS_BAD_OPERATION, TARDIS_BAD_ADDRESS, 1));
     MUST(answers(issued, 1, done + 1, 1, TARDIS_DONE, TARDIS_LEGAL, 0));

@@ -7,6 +7,7 @@ ghost use Rattle.machine_theorem.specs.Coherence.{coherent};
 
 use interleaving_core::System;
 use machine_table::Counts;
+use machine_theorem::move_laws::owners_and_values_are_of_states;
 use mailboxes::Run;
 use physiological_order::{Op, Record, WordAddr};
 use std::alloc::{AllocError, Global};
@@ -95,6 +96,7 @@ impl Finished for Run {
     }
 
     fn values(&self, alloc: Global, words: &[WordAddr]) -> Result<Vec<u64>, AllocError> {
+        owners_and_values_are_of_states();
         Run::values(self, alloc, words)
     }
 }

@@ -87,7 +87,7 @@ module _ (options : LitmusOptions) (text : List ℕ) (error : LitmusError) where
 -- nothing is no test
 some_test : (text : List ℕ) (test : Litmus) → IsTest text test → 0 < length text
 some_test [] test is =
-    let title = is.title in
+    let title = is.opens.0.0 in
     let count : 0 ≡ length (title.front ++ (codes "RISCV" ++ (title.gap ++ (test.name ++ title.back)))) =
     ap length title.spelled in
     let front = length-append title.front (codes "RISCV" ++ (title.gap ++ (test.name ++ title.back))) in

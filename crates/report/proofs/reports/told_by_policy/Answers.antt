@@ -20,7 +20,7 @@ returns c =
     let ran = c.in_ok-ran.ran in
     let run = subst (λ (k : Config). IsTraceRun (Some c.args.policy) (limit_of options.run) k lanes ran.end ran.machine)
     c.requires.config
-    (subst (λ n. IsTraceRun (Some c.args.policy) n c.args.config lanes ran.end ran.machine) c.limit_of.ensures
+    (subst (λ n. IsTraceRun (Some c.args.policy) n c.args.config lanes ran.end ran.machine) c.limit_of.ensures.limit
     c.in_ok-ran.ensures) in
     IfOk-weaker c.report_on.result _ _ (λ report told. record {
       good = subst (λ (config : Config). is_good config ≡ true) c.requires.config c.requires.good;

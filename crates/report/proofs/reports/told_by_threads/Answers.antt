@@ -22,7 +22,7 @@ returns g c =
     let parts = c.in_ok-ran.ensures.0 in
     let m = machine_of ran.machine parts in
     let run = subst (λ (k : Config). IsTraceRun None (limit_of options.run) k lanes ran.end m) c.requires.config
-    (subst (λ n. IsTraceRun None n c.args.config lanes ran.end m) c.limit_of-limit.ensures c.in_ok-ran.ensures.1) in
+    (subst (λ n. IsTraceRun None n c.args.config lanes ran.end m) c.limit_of-limit.ensures.limit c.in_ok-ran.ensures.1) in
     IfOk-weaker c.report_on.result _ _ (λ report told. record {
       good = subst (λ (config : Config). is_good config ≡ true) c.requires.config c.requires.good;
       end = ran.end;

@@ -166,7 +166,8 @@ impl Core {
         self.cache.victim(line)
     }
 
-    /// The copy to evict to make room for the line of the open operation; `None` without one. Nothing is looked for.
+    /// The copy to evict to make room for the line of the open operation: `None` if no operation is open, if its line
+    /// has a copy, or if there is a place for the line. The call doesn't look for the copy.
     #[inline(always)]
     pub fn open_victim(&self) -> Option<LineNo>
         ensures { result ≡ open_victim self.now self.now.open_op }

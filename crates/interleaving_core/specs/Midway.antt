@@ -10,9 +10,9 @@ use Rattle.interleaving_core.specs.SentMessages.{AreCounted, all_sent}
 use Rattle.interleaving_core.specs.StepAnswers.{Ran}
 
 -- the machine after the first k events of a run, from which the others lead to its end: it has the set-up that it had
--- at first and is consistent (its records are legal, no line has more than one owner, and each word has the coherent
--- value that the records leave); its cores were issued the operations of these events that were answered Issued, and
--- its counts rose by the messages that they sent
+-- at first and is consistent (its records are legal, no line has more than one owner, each word has the coherent value
+-- that the records leave, and the words that its lines don't have are 0); its cores were issued the operations of these
+-- events that were answered Issued, and its counts rose by the messages that they sent
 pub record IsMidway (m : Machine) (events : List Event) (answers : List Answer) (after : Machine)
     (k : ℕ) : Type 0 where
   pub mid : Machine

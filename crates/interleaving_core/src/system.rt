@@ -132,9 +132,10 @@ impl System {
     }
 
     /// A list of events, one after the other, with their answers. After each beginning of the list the records are a
-    /// legal history, a line has at most one owner, and each word's coherent value is what the records leave; each
-    /// core was issued the operations of its Issue events that were answered Issued, in order, and the counts rose by
-    /// the messages that were sent. Memory for all answers is reserved first: if that fails, no event happens.
+    /// legal history, a line has at most one owner, each word's coherent value is what the records leave, and words
+    /// that the lines don't have are 0; each core was issued the operations of its Issue events that were answered
+    /// Issued, in order, and the counts rose by the messages that were sent. Memory for all answers is reserved first:
+    /// if that fails, no event happens.
     pub fn run(&mut self, events: &[Event]) -> Result<Vec<Answer>, AllocError>
         ensures ran { IfOk result (λ answers. Ran self.old events.now answers.items self.new) }
         ensures throughout { IfOk result (λ answers. (k : ℕ) → IsMidway self.old events.now

@@ -1,7 +1,6 @@
 //! The times and numbers of records, by which a check arranges them.
-ghost use Rattle.std.specs.Prelude.{◌≡◌, ◌↔◌, IsTrue};
-ghost use Rattle.physiological_order.specs.Order.{Before};
-ghost use Rattle.physiological_order.specs.Picking.{stamp_of, stamped};
+ghost use Rattle.std.specs.Prelude.{◌≡◌};
+ghost use Rattle.physiological_order.specs.Picking.{stamp_of};
 
 use crate::operation::Record;
 
@@ -21,12 +20,5 @@ impl Stamp {
             ts: stamped.ts,
             number: stamped.number,
         }
-    }
-
-    /// Whether its record comes before another's, by time and then by number.
-    pub(crate) fn comes_before(self, other: Stamp) -> bool
-        ensures { IsTrue result ↔ Before (stamped self) (stamped other) }
-    {
-        self.ts < other.ts || (self.ts == other.ts && self.number < other.number)
     }
 }

@@ -265,7 +265,7 @@ impl Cache {
         Some(LineNo(oldest))
     }
 
-    /// The same for a line without a copy, which is not looked for.
+    /// The copy to evict to make room for a line that has no copy here. The call doesn't look for one.
     #[inline(always)]
     pub fn victim_of_absent(&self, line: LineNo) -> Option<LineNo>
         requires { copy_of self.now line ≡ None }
@@ -275,10 +275,8 @@ impl Cache {
         if self.table.has_room(set) {
             return None;
         }
-        match self.table.oldest(set) {
-            Some(oldest) => Some(LineNo(oldest)),
-            None => None,
-        }
+        let oldest = self.table.oldest(set)?;
+        Some(LineNo(oldest))
     }
 
     /// The lines of all copies, in rising order.

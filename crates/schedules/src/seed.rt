@@ -205,8 +205,9 @@ fn line_count<H: Holder>(system: &System, counts: &mut [usize]) -> u128
     total
 }
 
-// A line that is drawn, with its holder. Each holder is asked once how many it has; there are at most 64 cores and eight
-// banks. From the first time on the machine keeps lines in rising order, so that a line is found without a list of them.
+// A line that is drawn, with its holder. Each holder is asked once how many it has; there are at most 64 cores and
+// eight banks. From the first time on the machine keeps lines in rising order, so that a line is found without a list
+// of them.
 fn drawn_line<H: Holder>(system: &mut System, b: u32) -> Result<Option<(u32, LineNo)>, AllocError>
     ensures machine { system.new ≡ system.old }
     ensures found { IsLine H.eviction (choice_at

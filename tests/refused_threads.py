@@ -32,6 +32,7 @@ OPERATIONS = 4
 WORKERS = 2
 LIMITS = (100_000, 5_000_000, 200_000_000)
 MOST_TURNS = 4_294_967_295
+LAST_TIME = 2**64 - 1  # at this time no lease fits, and a run is exhausted
 PASSES = 200  # after so many of one worker alone nothing in these runs goes on any more
 SCHEDULE = ["--schedule", "threads", "--workers", WORKERS]
 
@@ -231,6 +232,7 @@ def are_started(tester, *words):
 
 def refused_threads(tester):
     are_started(tester, "litmus", "--schedule", "threads", LITMUS)
+    are_started(tester, "litmus", "--schedule", "threads", "--time", LAST_TIME, LITMUS)
     are_started(tester, "trace", "--schedule", "threads", TRACE)
     with tempfile.TemporaryDirectory() as folder:
         cases = {"three runs of SB by threads": Litmus(), f"{TRACE.name} by threads": Trace(),

@@ -61,11 +61,6 @@ upgraded rts copy = record copy { state = Exclusive; rts = rts; written = false 
 abbrev pub downgraded : ℕ → LineCopy → LineCopy
 downgraded rts copy = record copy { state = Shared; rts = rts; written = false }
 
--- an operation leaves this copy, with the copy of the line that was there
-abbrev pub completed : Sets LineCopy → ℕ → LineCopy → Option LineCopy → Result (Unit {0}) CacheError × Sets LineCopy
-completed cache line after None = (Err NotHere, cache)
-completed cache line after (Some copy) = (Ok tt, with_used cache line after)
-
 -- the line is the pinned one
 abbrev pub is_pinned : Option ℕ → ℕ → Bool
 is_pinned None line = false

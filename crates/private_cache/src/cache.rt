@@ -72,7 +72,7 @@ impl Model for Cache {
 }
 
 impl Cache {
-    ghost use Rattle.private_cache.specs.CopyTable.{copy_changed, completed, copy_of, downgraded, evicted, filled};
+    ghost use Rattle.private_cache.specs.CopyTable.{copy_changed, copy_of, downgraded, evicted, filled};
     ghost use Rattle.private_cache.specs.CopyTable.{place_for, renewed, set_of, upgraded, victim_for, with_changed};
     ghost use Rattle.private_cache.specs.CopyTable.{with_used, without_copy};
 
@@ -216,18 +216,6 @@ impl Cache {
     {
         let set = self.set_of(line);
         self.table.replace(set, line.0, copy);
-    }
-
-    /// Leaves this copy of a line after an operation on it, and makes it the most recently used of its set. NotHere
-    /// exactly when there is no copy.
-    pub fn complete(&mut self, line: LineNo, after: LineCopy) -> Result<(), CacheError>
-        ensures { (result, self.new) ≡ completed self.old line after (copy_of self.old line) }
-    {
-        if self.find(line).is_none() {
-            return Err(CacheError::NotHere);
-        }
-        self.put(line, after);
-        Ok(())
     }
 
     /// Takes out the copy of a line and gives it. NotHere exactly when there is no copy; else Pinned exactly when the

@@ -1,15 +1,16 @@
 //! Laws of legal histories of performed threads: each states what is proved, and has no code.
-ghost use Rattle.std.specs.Prelude.{◌≡◌, ◌<◌, ℕ, List, [], ◌∷◌, length, map, None, Some, slice_get};
+ghost use Rattle.std.specs.Prelude.{◌≡◌, ◌≢◌, ◌<◌, ℕ, List, [], ◌∷◌, length, map, None, Some, slice_get};
 ghost use Rattle.physiological_order.specs.declared.operation.Op.{Op};
 ghost use Rattle.physiological_order.specs.declared.operation.Record.{Record};
 ghost use Rattle.physiological_order.specs.Order.{Legal, Arrangement, flat_after, flat_received, replay_end};
+ghost use Rattle.litmus_parser.specs.declared.syntax.Cell.{Cell};
 ghost use Rattle.litmus_reader.specs.Litmus.{Litmus};
 ghost use Rattle.litmus_reader.specs.Grammar.{IsTest};
 ghost use Rattle.litmus_reader.specs.ThreadSteps.{Thread, done_with, next_operation, settled_thread};
 ghost use Rattle.litmus_reader.specs.Truth.{end_value};
 ghost use Rattle.sequential_machine.specs.SequentialMachine.{SequentialState, cells_of, memory_opened};
 ghost use Rattle.sequential_machine.specs.SequentialMachine.{registers_opened};
-ghost use Rattle.sequential_machine.specs.SequentialMachine.{IsOutcome};
+ghost use Rattle.sequential_machine.specs.SequentialMachine.{IsOutcome, Step};
 ghost use Rattle.sequential_machine.specs.Threads.{Goes, ThreadIsAt};
 ghost use Rattle.sequential_machine.specs.Performed.{ArePerformed};
 ghost use Rattle.sequential_machine.specs.Openings.{OpensAsSet};
@@ -19,6 +20,13 @@ ghost use Rattle.sequential_machine.specs.Example.{store_buffering};
 /// block sets it, and so does a location's word; all other registers and words are 0.
 pub fn tests_open_as_set()
     ensures { (text : List ℕ) (test : Litmus) → IsTest text test → OpensAsSet test }
+{}
+
+/// A step does one instruction of one thread, and all of it: the first that the thread has left. So no other thread has
+/// a turn within a swap.
+pub fn steps_do_one_instruction()
+    ensures { (s u : SequentialState) → Step s u → (t : ℕ) × (cell : Cell) ×
+        (s.left t ≡ cell ∷ u.left t) × ((v : ℕ) → v ≢ t → u.left v ≡ s.left v) }
 {}
 
 /// A thread of a litmus test, taken as a program, is a thread of the machine. From its initial state, steps of its own

@@ -1,9 +1,10 @@
 //! Cases that no machine brings a part to: messages from or to nodes of another kind, one line more than a set has
-//! room for, and a message in the hand that is delivered and sends one to its own held list.
+//! room for, calls of a cache that a core has no use for, and a message in the hand that is delivered and sends one to
+//! its own held list.
 use crate::clerks::Clerk;
 use inbox::{Inbox, Served};
 use network::{Body, LineNo, Message, Node, TimedLine, Words, has_endpoints};
-use private_cache::{Cache, CacheError, CopyState, Geometry};
+use private_cache::{Cache, CacheError, CopyState, Geometry, LineCopy};
 use std::alloc::{AllocError, Global};
 
 const CORE: Node = Node::Core(1);
@@ -72,6 +73,43 @@ fn is_full(alloc: Global) -> Result<bool, AllocError> {
 #[test]
 fn a_full_set_takes_no_line(rt: HostRuntime) {
     assert_eq!(rt; is_full(rt.alloc()), Ok(true));
+}
+
+/// Whether a copy that was written is leased up to 20, upgraded with 25 and downgraded with 30, and keeps all else; and
+/// whether each is refused for a line without a copy.
+fn is_changed(alloc: Global) -> Result<bool, AllocError> {
+    let mut cache = Cache::new(alloc, Geometry { sets: 1, ways: 2 })?;
+    let (line, other) = (LineNo(3), LineNo(8));
+    let timed = TimedLine {
+        wts: 4,
+        rts: 11,
+        words: Words::zeros(),
+    };
+    let arrived = LineCopy::arrived(CopyState::Shared, timed);
+    let written = LineCopy {
+        written: true,
+        ..arrived
+    };
+    let mut is_right = cache.renew(other, 20) == Err(CacheError::NotHere)
+        && cache.upgrade(other, 20) == Err(CacheError::NotHere)
+        && cache.downgrade(other, 20) == Err(CacheError::NotHere);
+    cache.put(line, written);
+    is_right &= cache.renew(line, 20) == Ok(());
+    is_right &= cache.find(line).copied() == Some(LineCopy { rts: 20, ..written });
+    is_right &= cache.upgrade(line, 25) == Ok(());
+    let upgraded = LineCopy {
+        state: CopyState::Exclusive,
+        rts: 25,
+        ..arrived
+    };
+    is_right &= cache.find(line).copied() == Some(upgraded);
+    is_right &= cache.downgrade(line, 30) == Ok(());
+    Ok(is_right && cache.find(line).copied() == Some(LineCopy { rts: 30, ..arrived }))
+}
+
+#[test]
+fn copies_change_as_asked(rt: HostRuntime) {
+    assert_eq!(rt; is_changed(rt.alloc()), Ok(true));
 }
 
 /// Whether the message 7 in the hand is delivered past these waiting ones, and the 6 that it sends is held after them.

@@ -14,7 +14,8 @@ forall flag_1=0 /\\ (data=1 \\/ 1:x7=3)
 
 const GREATEST: u64 = 18446744073709551615;
 
-// Each sum has three times 2^64 - 1, but for those of messages: three times 2^128 - 1, and three times 8.
+// Completed operations, write-backs and stale hits: three times 2^64 - 1 each; renewals three times 2^128 - 1, upgrades
+// three times 8, and flushes three times 2^63.
 const REPORT: &[u8] = b"test L
 threads 2
 runs 3
@@ -30,8 +31,8 @@ verdict yes
 completed 55340232221128654845
 renewals 340282366920938463463374607431768211455
 upgrades 24
-flushes 0
-write-backs 0
+flushes 27670116110564327424
+write-backs 55340232221128654845
 stale-hits 55340232221128654845
 ";
 
@@ -46,8 +47,8 @@ fn runs(alloc: Global) -> Result<Vec<RunEnd>, AllocError> {
             counts: Counts {
                 renewals: 340282366920938463463374607431768211455,
                 upgrades: 8,
-                flushes: 0,
-                write_backs: 0,
+                flushes: 9223372036854775808,
+                write_backs: 18446744073709551615,
             },
         })?;
     }

@@ -1,15 +1,22 @@
 //! Laws of histories: their proofs are their contracts, and their bodies are empty.
-ghost use Rattle.std.specs.Prelude.{◌≡◌, ◌<◌, ◌≤◌, ℕ, List, [], ◌∷◌, ◌++◌, map, true};
+ghost use Rattle.std.specs.Prelude.{◌≡◌, ◌<◌, ◌≤◌, ◌+◌, ℕ, List, [], ◌∷◌, ◌++◌, map, true};
 ghost use Rattle.std.specs.List.{AllByRecursion as Each};
 ghost use Rattle.physiological_order.specs.declared.operation.Op.{Op};
 ghost use Rattle.physiological_order.specs.declared.operation.Op.TheVariants.{Load};
 ghost use Rattle.physiological_order.specs.declared.operation.Record.{Record};
 ghost use Rattle.physiological_order.specs.declared.verdict.Verdict.{Verdict};
 ghost use Rattle.physiological_order.specs.Order.{Memory, Arrangement, Legal, address, flat_after, replay_end};
+ghost use Rattle.physiological_order.specs.Counting.{after_steps};
 ghost use Rattle.physiological_order.specs.Completion.{Kept, Fits, placed, arranged, memory_at, Ascends};
 ghost use Rattle.physiological_order.specs.Example.{two_records, two_issued};
 ghost use Rattle.physiological_order.specs.Faults.{IsVerdict};
 ghost use Rattle.physiological_order.specs.StaleHits.{is_stale_load};
+
+/// Steps are counted one by one, up to the greatest number of 128 bits.
+pub fn steps_are_counted_up_to_the_last()
+    ensures { (made more : ℕ) → made + more < 340282366920938463463374607431768211456 →
+        after_steps made more ≡ made + more }
+{}
 
 /// Records have one arrangement.
 pub fn one_arrangement()

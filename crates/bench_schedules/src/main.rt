@@ -4,7 +4,7 @@
 //! The words are `round`, `seed`, `large_seed`, `round_events` and `seed_events`, and three numbers follow each: cores,
 //! words, and operations of a core. Several may stand one after the other. Each prints how many operations were
 //! completed; the last two keep the events and print how many there were. The caches and banks of `large_seed` are the
-//! largest that there may be.
+//! largest that there may be, and the banks the most.
 #![tactic(auto)]
 
 ghost use Rattle.std.specs.Prelude.{◌≡◌, length};
@@ -35,8 +35,9 @@ const ONE_CORE: Config = Config {
     private_write: false,
 };
 
-/// The same with the most places in caches and banks.
+/// The same with the most banks, and the most places in caches and banks.
 const LARGE: Config = Config {
+    banks: 8,
     sets: 1024,
     ways: 16,
     bank_sets: 1024,

@@ -2,3 +2,10 @@
 
 -- Each case of the table keeps what its answer says.
 pub use Rattle.machine_table.proofs.Cases.{every_answer}
+
+-- What each event comes to.
+pub use Rattle.machine_table.proofs.Outcomes.{IsGiven, Outcome, refuses, issues, completes, core_steps, bank_steps}
+pub use Rattle.machine_table.proofs.Outcomes.{dram_steps, outcome, transition_outcome}
+
+-- How many cores, banks and DRAMs a machine opens with.
+pub use Rattle.machine_table.proofs.Openings.{cores_many, banks_many, drams_many}

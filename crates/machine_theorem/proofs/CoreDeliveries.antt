@@ -23,7 +23,7 @@ use Rattle.llc_bank.specs.BankTable.{core_of}
 use Rattle.machine_table.specs.declared.config.Config.{Config}
 use Rattle.machine_table.specs.Step.{reacted}
 use Rattle.protocol.specs.Machine as by_line
-use Rattle.protocol.specs.Machine.{Copy, Line, with_at, IsPinned, Answers, answer}
+use Rattle.protocol.specs.Machine.{Line, with_at, IsPinned, Answers, answer}
 use Rattle.machine_theorem.proofs.PastWords.{goes_on}
 use Rattle.machine_theorem.specs.States.{State}
 use Rattle.machine_theorem.specs.Moves.{with_core, with_answer}

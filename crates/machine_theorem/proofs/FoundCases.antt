@@ -18,7 +18,7 @@ use Rattle.private_cache.specs.declared.line_copy.LineCopy.{LineCopy}
 use Rattle.private_cache.specs.CopyTable.{copy_of, place_for}
 use Rattle.core_pts.specs.CoreTable as core_table
 use Rattle.core_pts.specs.CoreTable.{CoreState, opened, line_of_open, is_pinned, waits_for, is_shared_copy}
-use Rattle.core_pts.specs.CoreTable.{is_this_core, comes_to_core, core_has_case}
+use Rattle.core_pts.specs.CoreTable.{is_this_core, comes_to_core}
 use Rattle.llc_bank.specs.declared.entry.Entry.{Entry}
 use Rattle.llc_bank.specs.declared.entry.Entry.TheVariants as entry
 use Rattle.llc_bank.specs.BankTable.{BankState, empty_bank, core_of, entry_of, is_core, is_owned, is_loading}

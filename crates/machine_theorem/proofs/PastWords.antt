@@ -8,7 +8,7 @@ use Rattle.std.proofs.lemmas.List.Sorted.{All-permutation}
 use Rattle.std.proofs.lemmas.List.Elements.{All-from_recursion, recursion_from_All}
 use Rattle.physiological_order.specs.declared.operation.Op.{Op}
 use Rattle.physiological_order.specs.Order.{address}
-use Rattle.protocol.specs.Machine.{Config, Timed, Copy, Entry, Shared, Message, Line, Machine, with_at, line_of}
+use Rattle.protocol.specs.Machine.{Config, Timed, Copy, Shared, Message, Line, Machine, with_at, line_of}
 use Rattle.protocol.specs.Machine.{LineTransition, evict_shared, evict_exclusive, dropped, wb_dropped, flushed}
 use Rattle.protocol.specs.Machine.{written_back, load_starts, renewed, leased, upgraded, granted, wb_starts}
 use Rattle.protocol.specs.Machine.{flush_starts, flush_returns, wb_returns, loaded, stored, evict_clean, evict_dirty}

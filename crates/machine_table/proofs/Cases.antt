@@ -39,7 +39,7 @@ module _ (m : Machine) where
       (did_answer did, record (put part) { mail = posted m.mail n consumes sends }) (refused m refusal.NetworkFull)
       (λ o. Answered m o.0 o.1) (λ e. did_holds did _ (goes_on _ (same part) (runs part))) (λ e. refl)
 
-  holds : (event : Event) (o : Answer × Machine) → Outcome m event o → Answered m o.0 o.1
+  pub holds : (event : Event) (o : Answer × Machine) → Outcome m event o → Answered m o.0 o.1
   holds event o (refuses why so) = so
   holds event o (issues c op core after at is) = goes_on _ refl refl
   holds event o (completes c op received ts core after at is) = record { records = refl; number = refl; runs = refl }

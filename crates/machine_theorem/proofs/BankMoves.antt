@@ -223,8 +223,8 @@ module _ (config : Config) (opening : FinMap nat_cmp ℕ) (before : State) (mess
       (sym ends.from_core) (down config opening a s l ends.core ends.some_core) in
       let some : core_of message.from < config.cores =
       subst (λ (k : ℕ). k < config.cores) (sym (ap core_of ends.from_core)) ends.some_core in
-      step_sent config opening a s l here.mts (with_used here l e).table (Some e) rest (from_bank here l message.from sent)
-      refl
+      step_sent config opening a s l here.mts (with_used here l e).table (Some e) rest
+      (from_bank here l message.from sent) refl
       (home config opening a s l message.from sent goes_home.0
       (goes config.cores config.banks (node.Bank here.number) message.from ∙ route))
       (put_now place here.table.sets of.sets l e) (for_below config.cores (core_of message.from) some e own) others

@@ -10,13 +10,13 @@ use Rattle.network.specs.declared.message.Node.TheVariants as node
 use Rattle.network.specs.declared.message.Message.{Message}
 use Rattle.core_pts.specs.CoreTable as core_table
 use Rattle.core_pts.specs.CoreTable.{CoreState, core_has_case}
-use Rattle.llc_bank.specs.BankTable.{bank_has_case, empty_bank}
+use Rattle.llc_bank.specs.BankTable.{bank_has_case}
 use Rattle.dram_mts.specs.Table.{dram_has_case}
 use Rattle.machine_table.specs.declared.event.Answer.{Answer}
 use Rattle.machine_table.specs.declared.event.Event.{Event}
 use Rattle.machine_table.specs.declared.event.Refusal.TheVariants as refusal
 use Rattle.machine_table.specs.Machine.{Machine, with_core, with_bank, with_dram}
-use Rattle.machine_table.specs.Opening.{bank_config, dram_of}
+use Rattle.machine_table.specs.Opening.{dram_of, open_bank}
 use Rattle.machine_table.specs.Posted.{can_post, left, posted}
 use Rattle.machine_table.specs.Step as step
 use Rattle.machine_table.specs.Step.{Did, Kept, Step, Completes, core_step, bank_step, dram_step, did_answer}
@@ -127,7 +127,7 @@ module _ (m : Machine) (s : Invariant m) where
       (beside (node.Core c) core_has_case (a.cores c) core e (message_of act) n given)
       (ap (λ x. core_step x act) e ∙ is))
   goes event o (outcome.bank_steps b bank act n done at given is) =
-      let e = get_or_from_slice_get m.banks b bank (empty_bank (bank_config m.config b)) at in
+      let e = get_or_from_slice_get m.banks b bank (open_bank m.config b) at in
       let listed = slice_get_within m.banks b bank at in
       step_goes n (with_bank m b) (moves.with_bank a b) (λ part. bank_put a m unchanged b part listed)
       (λ part. refl) done

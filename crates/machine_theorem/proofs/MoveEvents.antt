@@ -1,7 +1,6 @@
 -- Every move of a state is an event of a machine in the state.
 use Rattle.std.proofs.Common.{◌≡◌, ◌≢◌, ℕ, suc, ◌-◌, ◌^◌, ◌<◌, Bool, true, false, cond, List, ◌∷◌, length}
 use Rattle.std.proofs.Common.{Option, Some, None, refl, sym, ap, ◌∙◌, subst, arith}
-use Rattle.std.specs.List.{slice_get}
 use Rattle.std.specs.Ordering.{nat_cmp}
 use Rattle.std.specs.FinMap.{FinMap}
 use Rattle.std.proofs.lemmas.Bool.{cond-true, lt-ltb}
@@ -9,24 +8,20 @@ use Rattle.network.specs.declared.message.Node.{Node}
 use Rattle.network.specs.declared.message.Node.TheVariants as node
 use Rattle.network.specs.declared.message.Message.{Message}
 use Rattle.network.specs.Mail.{Mail, has_capacity}
-use Rattle.network.specs.NumberedMessages.{at_number}
 use Rattle.core_pts.specs.CoreTable as core_table
-use Rattle.core_pts.specs.CoreTable.{CoreState, core_has_case}
+use Rattle.core_pts.specs.CoreTable.{core_has_case}
 use Rattle.llc_bank.specs.BankTable.{BankState, bank_has_case}
 use Rattle.dram_mts.specs.Table.{dram_has_case}
 use Rattle.machine_table.specs.declared.config.Config.{Config}
 use Rattle.machine_table.specs.declared.event.Answer.{Answer}
-use Rattle.machine_table.specs.declared.event.Event.{Event}
 use Rattle.machine_table.specs.declared.event.Event.TheVariants as event
 use Rattle.machine_table.specs.declared.event.Refusal.TheVariants as refusal
 use Rattle.machine_table.specs.Machine.{Machine, with_core, with_bank, with_dram}
 use Rattle.machine_table.specs.Posted.{can_post, left}
 use Rattle.machine_table.specs.Step as step
-use Rattle.machine_table.specs.Step.{Act, Step, Tried, Completes, Does, bank_step, core_step, dram_step, message_of}
-use Rattle.machine_table.specs.Transition.{refused, changed, issued, issue_at, attempt_at, deliver_core, deliver_bank}
-use Rattle.machine_table.specs.Transition.{deliver_dram, deliver_to, deliver_message, evict_copy, evict_entry}
-use Rattle.machine_table.specs.Transition.{advance_at, on_event, tried}
-use Rattle.machine_table.proofs.Lemmas.{IsGiven}
+use Rattle.machine_table.specs.Step.{Step, core_step, message_of}
+use Rattle.machine_table.specs.Transition.{changed, issued, tried}
+use Rattle.machine_table.proofs.Lemmas.{Happens, IsGiven, bank_acts, core_acts, dram_acts, finds}
 use Rattle.machine_theorem.specs.Bags.{weigh, SameBag, bag_of}
 use Rattle.machine_theorem.specs.States.{State, Same, seen, first, numbered_from, numbered}
 use Rattle.machine_theorem.specs.Moves as moves
@@ -42,64 +37,6 @@ use Rattle.machine_theorem.proofs.Renumberings.{renumbered}
 use Rattle.machine_theorem.proofs.Routes.{both}
 use Rattle.machine_theorem.proofs.SetUps.{transition_same}
 use Rattle.machine_theorem.proofs.ByParts.{same_by}
-
--- the step that is taken where no operation is completed
-abbrev done_in : Tried → Step CoreState
-done_in (Completes op received ts core) = step.Exhausts
-done_in (Does done) = done
-
--- The events at which the parts of a machine take their steps
-module _ (m : Machine) where
-  abbrev Happens : Answer × Machine → Type 0
-  Happens o = (event : Event) × (on_event m event ≡ o)
-
-  delivered : (n : ℕ) (message : Message) (to : Node) → at_number n m.mail.messages ≡ Some message →
-      message.to ≡ to → on_event m (event.Deliver n) ≡ deliver_to m n message to
-  delivered n message to found is = ap (deliver_message m n) found ∙ ap (deliver_to m n message) is
-
-  core_acts : (c : ℕ) (core : CoreState) → slice_get m.cores c ≡ Some core → (act : Act) (n : Option ℕ)
-      (done : Step CoreState) → IsGiven m (node.Core c) (core_has_case core) (message_of act) n →
-      core_step core act ≡ Does done → Happens (changed m (with_core m c) n done)
-  core_acts c core at step.Attempting None done given is =
-      (event.Attempt c, ap (attempt_at m c) at ∙ ap (tried m c core) is)
-  core_acts c core at (step.Getting message) (Some n) done given is = (
-    event.Deliver n,
-    delivered n message (node.Core c) given.0 given.1 ∙ ap (deliver_core m n message c) at
-        ∙ cond-true (core_has_case core message) (changed m (with_core m c) (Some n)
-        (step.reacted (core_table.core_table core message))) (refused m refusal.NoSuch) given.2
-        ∙ ap (λ t. changed m (with_core m c) (Some n) (done_in t)) is,
-  )
-  core_acts c core at (step.Evicting line) None done given is =
-      (event.EvictCache c line, ap (evict_copy m c line) at ∙ ap (λ t. changed m (with_core m c) None (done_in t)) is)
-  core_acts c core at step.Advancing None done given is =
-      (event.Advance c, ap (advance_at m c) at ∙ ap (λ t. changed m (with_core m c) None (done_in t)) is)
-  core_acts c core at _ _ done given is = absurd given
-
-  bank_acts : (i : ℕ) (bank : BankState) → slice_get m.banks i ≡ Some bank → (act : Act) (n : Option ℕ) →
-      IsGiven m (node.Bank i) (bank_has_case bank) (message_of act) n → (bank_step bank act ≢ step.Keeps step.Idles) →
-      Happens (changed m (with_bank m i) n (bank_step bank act))
-  bank_acts i bank at (step.Getting message) (Some n) given does = (
-    event.Deliver n,
-    delivered n message (node.Bank i) given.0 given.1 ∙ ap (deliver_bank m n message i) at
-        ∙ cond-true (bank_has_case bank message) (changed m (with_bank m i) (Some n)
-        (bank_step bank (step.Getting message))) (refused m refusal.NoSuch) given.2,
-  )
-  bank_acts i bank at (step.Evicting line) None given does = (event.EvictBank i line, ap (evict_entry m i line) at)
-  bank_acts i bank at step.Attempting n given does = absurd (does refl)
-  bank_acts i bank at step.Advancing n given does = absurd (does refl)
-  bank_acts i bank at _ _ given does = absurd given
-
-  dram_acts : (i : ℕ) (lines : FinMap nat_cmp (List ℕ)) → slice_get m.drams i ≡ Some lines → (act : Act)
-      (n : Option ℕ) → IsGiven m (node.Dram i) (dram_has_case lines) (message_of act) n →
-      (dram_step lines act ≢ step.Keeps step.Idles) → Happens (changed m (with_dram m i) n (dram_step lines act))
-  dram_acts i lines at (step.Getting message) (Some n) given does = (
-    event.Deliver n,
-    delivered n message (node.Dram i) given.0 given.1 ∙ ap (deliver_dram m n message i) at
-        ∙ cond-true (dram_has_case lines message) (changed m (with_dram m i) (Some n)
-        (dram_step lines (step.Getting message))) (refused m refusal.NoSuch) given.2,
-  )
-  dram_acts i lines at (step.Getting message) None given does = absurd given
-  dram_acts i lines at _ n given does = absurd (does refl)
 
 module _ (config : Config) (opening : FinMap nat_cmp ℕ) (a : State) (s : IsKept config opening a)
     (some : length a.bag < 2 ^ 64 - 1) where
@@ -220,13 +157,15 @@ module _ (config : Config) (opening : FinMap nat_cmp ℕ) (a : State) (s : IsKep
         issue_put a m (same a.bag bag) c op core (listed a.cores config.cores c lt)
             (listed a.issued config.cores c lt),
         refl,
-      ) (event.Issue c op, ap (issue_at m c op) (first_at a.cores config.cores c lt) ∙ ap (issued m c op) is)
+      ) (event.Issue c op, finds m (λ x. issued m c op (core_table.issue x op)) (first_at a.cores config.cores c lt)
+      ∙ ap (issued m c op) is)
   move_event b (completes c op received ts core lt is) =
       let bag : SameBag a.bag a.bag = λ h. refl in
       let m = ready a.bag bag in
       leads a.bag bag b _
       (completion_put a m (same a.bag bag) c op received ts (a.cores c) core (listed a.cores config.cores c lt), refl)
-      (event.Attempt c, ap (attempt_at m c) (first_at a.cores config.cores c lt) ∙ ap (tried m c (a.cores c)) is)
+      (event.Attempt c, finds m (λ x. tried m c x (core_step x step.Attempting)) (first_at a.cores config.cores c lt)
+      ∙ ap (tried m c (a.cores c)) is)
   move_event b (core_steps c act rest done lt beside is to) =
       let g = given_so (node.Core c) (core_has_case (a.cores c)) (message_of act) rest beside in
       let m = ready g.xs g.bag in

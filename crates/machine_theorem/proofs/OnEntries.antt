@@ -72,8 +72,8 @@ module _ (lease : ℕ) (pinned : ℕ → Type 0) (t : ℕ) (x : Line) (rest : Li
     load_goes false absent = waits
 
     -- a reader of a line is given a lease
-    lease_goes : (pts : ℕ) (version : Option ℕ) (dirty : Bool) (line : TimedLine) → Up → x.entry ≡ Shared dirty (timed line) → IsPermutation x.messages (ShReq c pts version ∷ rest) →
-        (b : Bool) → is_version line.wts version ≡ b →
+    lease_goes : (pts : ℕ) (version : Option ℕ) (dirty : Bool) (line : TimedLine) → Up →
+        x.entry ≡ Shared dirty (timed line) → IsPermutation x.messages (ShReq c pts version ∷ rest) → (b : Bool) → is_version line.wts version ≡ b →
         P (after_decision bank m
         (on_entry.leased dirty line (Some (max (max line.rts (line.wts + lease)) (pts + lease), b))))
     lease_goes pts None dirty line up at p true v = absurd (let z : false ≡ true = v in cc)
@@ -83,8 +83,8 @@ module _ (lease : ℕ) (pinned : ℕ → Type 0) (t : ℕ) (x : Line) (rest : Li
     lease_goes pts version dirty line up at p false v =
         grants _ _ (λ cs bs f g. refl) tt up (leased c pts version dirty (timed line) rest at p)
 
-    leases_go : (pts : ℕ) (version : Option ℕ) (dirty : Bool) (line : TimedLine) → Up → x.entry ≡ Shared dirty (timed line) → IsPermutation x.messages (ShReq c pts version ∷ rest) →
-        (b : Bool) →
+    leases_go : (pts : ℕ) (version : Option ℕ) (dirty : Bool) (line : TimedLine) → Up →
+        x.entry ≡ Shared dirty (timed line) → IsPermutation x.messages (ShReq c pts version ∷ rest) → (b : Bool) →
         P (after_decision bank m
         (on_entry.leased dirty line
         (cond b (Some (max (max line.rts (line.wts + lease)) (pts + lease), is_version line.wts version)) None)))
@@ -101,7 +101,6 @@ module _ (lease : ℕ) (pinned : ℕ → Type 0) (t : ℕ) (x : Line) (rest : Li
         entry_of bank m.line ≡ e → IsPermutation x.messages (ShReq c pts v ∷ rest) →
         P (after_decision bank m (on_entry.shared_request lease room pts v e))
     shared_goes room pts v None up at p = load_goes room (is _ at)
-    shared_goes room pts v (Some entry.Loading) up at p = waits
     shared_goes room pts v (Some (entry.Shared dirty line)) up at p =
         leases_go pts v dirty line up (is _ at) p (fits (line.wts + lease) && fits (pts + lease))
     shared_goes room pts v (Some (entry.Exclusive o)) up at p = back_goes o pts at (fits (pts + lease))
@@ -125,13 +124,11 @@ module _ (lease : ℕ) (pinned : ℕ → Type 0) (t : ℕ) (x : Line) (rest : Li
         entry_of bank m.line ≡ e → IsPermutation x.messages (ExReq c v ∷ rest) →
         P (after_decision bank m (on_entry.exclusive_request room c v e))
     exclusive_goes room v None up at p = load_goes room (is _ at)
-    exclusive_goes room v (Some entry.Loading) up at p = waits
     exclusive_goes room v (Some (entry.Shared dirty line)) up at p =
         grant_goes v dirty line up (is _ at) p (is_version line.wts v) refl
     exclusive_goes room v (Some (entry.Exclusive o)) up at p =
         recalls o _ (λ cs bs f g. refl) at (flush_starts o (is _ at))
-    exclusive_goes room v (Some (entry.Recalling o)) up at p = waits
-    exclusive_goes room v (Some entry.Storing) up at p = waits
+    exclusive_goes room v _ up at p = waits
 
     returns_go : (line : TimedLine) (e : Option Entry) → entry_of bank m.line ≡ e → is_owned e ≡ true →
         LineTransition lease pinned t x t (record x { entry = Shared true (timed line); messages = rest }) →

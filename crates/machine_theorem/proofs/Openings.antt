@@ -11,10 +11,10 @@ use Rattle.line_sets.specs.Order.{find}
 use Rattle.dram_mts.specs.Lines.{words_of}
 use Rattle.core_pts.specs.CoreTable.{opened}
 use Rattle.llc_bank.specs.declared.entry.Entry.{Entry}
-use Rattle.llc_bank.specs.BankTable.{empty_bank, entry_of}
+use Rattle.llc_bank.specs.BankTable.{entry_of}
 use Rattle.machine_table.specs.declared.config.Config.{Config}
 use Rattle.machine_table.specs.SetUp.{is_within, is_good}
-use Rattle.machine_table.specs.Opening.{core_config, geometry, bank_config, dram_of}
+use Rattle.machine_table.specs.Opening.{dram_of, open_bank, open_core}
 use Rattle.machine_table.specs.Opening.{at_start}
 use Rattle.machine_table.proofs.Lemmas.{cores_many, banks_many, drams_many}
 use Rattle.protocol.specs.Machine as by_line
@@ -74,10 +74,10 @@ fair c good =
         (left_of a b n, ownership_of a b n, ownership_of (a && b) d l, ownership_of (a && b && d) e k)
 
 module _ (c : Config) where
-  pub no_copy : (i l : ℕ) → copy_in (opened (core_config c i) (geometry c)) l ≡ None
+  pub no_copy : (i l : ℕ) → copy_in (open_core c i) l ≡ None
   no_copy i l = ap (λ ps. copy_or_none (find ps l)) (get_replicate c.sets (l % length (replicate c.sets [])) [])
 
-  pub no_entry : (i l : ℕ) → entry_of (empty_bank (bank_config c i)) l ≡ None
+  pub no_entry : (i l : ℕ) → entry_of (open_bank c i) l ≡ None
   no_entry i l =
       ap (λ ps. find ps l) (get_replicate c.bank_sets ((l / c.banks) % length (replicate c.bank_sets [])) [])
 

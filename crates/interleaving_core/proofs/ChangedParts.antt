@@ -8,7 +8,6 @@ use Rattle.std.specs.FinMap.{FinMap}
 use Rattle.physiological_order.specs.declared.operation.Record.{Record}
 use Rattle.network.specs.declared.part.Reaction.{Reaction}
 use Rattle.network.specs.Mail.{Mail}
-use Rattle.network.specs.NumberedMessages.{at_number}
 use Rattle.core_pts.specs.CoreTable.{CoreState}
 use Rattle.llc_bank.specs.BankTable.{BankState}
 use Rattle.machine_table.specs.declared.event.Answer.{Answer}
@@ -19,7 +18,8 @@ use Rattle.machine_table.specs.Machine.{Machine}
 use Rattle.machine_table.specs.Posted.{can_post, left, posted}
 use Rattle.machine_table.specs.Step as step
 use Rattle.machine_table.specs.Step.{Did, Step, Tried, did_answer, kept_answer}
-use Rattle.machine_table.specs.Transition.{changed, deliver_message, refused, tried}
+use Rattle.machine_table.specs.declared.event.Event.TheVariants.{Deliver}
+use Rattle.machine_table.specs.Transition.{changed, on_event, refused, tried}
 use Rattle.interleaving_core.specs.PartChanges.{applied, applied_attempt, concluded, responded, stops, with_record}
 use Rattle.interleaving_core.specs.StepAnswers.{TakesMemory}
 use Rattle.interleaving_core.proofs.Only.{did_plain, kept_plain}
@@ -152,28 +152,28 @@ module _ {S : Type 0} (m : Machine) (cores : S → List CoreState) (banks : S �
   -- so of a message that is delivered to the part, whose reaction this is
   module _ (n : ℕ) (reaction : Option (Reaction × S)) (capacity : ℕ) (same_capacity : capacity ≡ m.config.messages)
       (seen : Machine) (is_view : m ≡ seen) (delivers : changed m put (Some n) (step.reacted reaction) ≡
-      deliver_message m n (at_number n m.mail.messages)) where
+      on_event m (Deliver n)) where
     pub delivered : (answer : Answer) (response : Result Reaction Refusal) (new : S) (mail : Mail) (stopped : Bool) →
         (answer, mail) ≡ concluded m.mail n response →
         responded m.mail n response new ≡ applied capacity part m.mail (Some n) (step.reacted reaction) →
         stopped ≡ (stops answer || m.is_stopped) →
-        (answer, record (put new) { mail = mail; is_stopped = stopped }) ≡ deliver_message seen n
-        (at_number n seen.mail.messages)
+        (answer, record (put new) { mail = mail; is_stopped = stopped }) ≡
+        on_event seen (Deliver n)
     delivered answer response new mail stopped concludes responds stop =
         event_done (Some n) (step.reacted reaction) capacity same_capacity seen is_view
-        (λ x. deliver_message x n (at_number n x.mail.messages)) delivers answer new mail
+        (λ x. on_event x (Deliver n)) delivers answer new mail
         stopped (ap (λ (x : Answer × Mail). (x.0, new, x.1)) concludes ∙ responds) stop
 
     -- it takes memory if a message is sent
     pub delivery_wanted : {X E : Type 0} (result : Result X E) →
         m.mail.next < (applied capacity part m.mail (Some n) (step.reacted reaction)).2.next →
-        OnErr result (TakesMemory seen (deliver_message seen n (at_number n seen.mail.messages)))
+        OnErr result (TakesMemory seen (on_event seen (Deliver n)))
     delivery_wanted (Ok x) sends = tt
     delivery_wanted (Err e) sends =
         let more : m.mail.next < (applied m.config.messages part m.mail (Some n) (step.reacted reaction)).2.next =
         subst (λ (k : ℕ). m.mail.next < (applied k part m.mail (Some n) (step.reacted reaction)).2.next) same_capacity
         sends in
-        subst (λ (x : Machine). TakesMemory x (deliver_message x n (at_number n x.mail.messages))) is_view
+        subst (λ (x : Machine). TakesMemory x (on_event x (Deliver n))) is_view
         (subst (λ (x : Answer × Machine). TakesMemory m x) delivers
         (inr (subst (λ (x : Answer × Machine). m.mail.next < x.1.mail.next)
         (is_changed (Some n) (step.reacted reaction)) more)))

@@ -35,11 +35,11 @@ use Rattle.machine_table.specs.declared.config.Config.{Config}
 use Rattle.machine_table.specs.Machine.{Machine, with_core, with_bank, with_dram}
 use Rattle.machine_table.specs.Posted.{can_send}
 use Rattle.machine_table.specs.Step.{reacted}
-use Rattle.machine_table.specs.Transition.{changed, refused, deliver_core, deliver_bank, deliver_dram}
-use Rattle.machine_table.specs.Transition.{deliver_message, deliver_to}
+use Rattle.machine_table.specs.Transition.{changed, on_event, refused}
+use Rattle.machine_table.proofs.Lemmas.{delivers}
 use Rattle.machine_table.specs.declared.event.Answer.TheVariants.{Delivered, Started}
 use Rattle.machine_table.specs.declared.event.Refusal.TheVariants.{NetworkFull}
-use Rattle.machine_theorem.specs.Cases.{core_case, bank_case, dram_takes, has_case_at, has_case}
+use Rattle.machine_theorem.specs.Cases.{takes, has_case_at, has_case}
 use Rattle.machine_theorem.specs.Bags.{bag_of}
 use Rattle.machine_theorem.specs.Shape.{GoesHome, IsOwnedBelow}
 use Rattle.machine_theorem.specs.Kept.{Invariant}
@@ -56,11 +56,6 @@ each_last : (P : Message → Type 0) (xs : List (ℕ × Message)) (x : ℕ × Me
     P x.1
 each_last P [] x each = each.0
 each_last P (y ∷ ys) x each = each_last P ys x each.1
-
--- a test that is known to hold
-pub with_case : {X : Type 0} (b : Bool) (x y : X) → b ≡ true → cond b x y ≡ x
-with_case true x y is = refl
-with_case false x y is = cc
 
 -- a part that was read at its place among parts of its kind, where one is there that has a case
 found_here : {S : Type 0} (parts : List S) (k : ℕ) (case : Option S → Bool) → case None ≡ false →
@@ -132,17 +127,12 @@ module _ (m seen : Machine) (is_view : m ≡ seen) (holds : Invariant seen) (n :
   invariant : Invariant m
   invariant = subst Invariant (sym is_view) holds
 
-  found : at_number n m.mail.messages ≡ Some message
-  found = sym there
+  number : at_number n m.mail.messages ≡ Some message
+  number = sym there
 
   found_case : has_case m message ≡ true
-  found_case = each_at_number (λ x. has_case m x.1 ≡ true) n m.mail.messages message found
+  found_case = each_at_number (λ x. has_case m x.1 ≡ true) n m.mail.messages message number
       (messages_find_cases m invariant) (λ k p. p)
-
-  -- it is delivered to the node that it goes to
-  delivers_there : (k : Node) → message.to ≡ k → deliver_to m n message k ≡ deliver_message m n
-      (at_number n m.mail.messages)
-  delivers_there k to = sym (ap (deliver_message m n) found ∙ ap (deliver_to m n message) to)
 
   -- the part that it goes to has a case for it
   case_at : (k : Node) → message.to ≡ k → has_case_at m message k ≡ true
@@ -151,16 +141,16 @@ module _ (m seen : Machine) (is_view : m ≡ seen) (holds : Invariant seen) (n :
   -- a message that goes to a core, which was read where it is
   module _ (c : ℕ) (to : message.to ≡ node.Core c) (core : CoreState) (read : core ≡ get_or m.cores c core) where
     pub core_here : slice_get m.cores c ≡ Some core
-    core_here = found_here m.cores c (λ o. core_case o message) refl (case_at (node.Core c) to) core read
+    core_here = found_here m.cores c (λ o. takes core_table.core_has_case o message) refl
+        (case_at (node.Core c) to) core read
 
     pub core_has : core_table.core_has_case core message ≡ true
-    core_has = subst (λ o. core_case o message ≡ true) core_here (case_at (node.Core c) to)
+    core_has = subst (λ o. takes core_table.core_has_case o message ≡ true) core_here (case_at (node.Core c) to)
 
     pub core_delivers : changed m (with_core m c) (Some n) (reacted (core_table.core_table core message)) ≡
-        deliver_message m n (at_number n m.mail.messages)
-    core_delivers = sym (with_case (core_table.core_has_case core message) _ _ core_has)
-        ∙ ap (deliver_core m n message c) (sym core_here)
-        ∙ delivers_there (node.Core c) to
+        on_event m (Deliver n)
+    core_delivers = sym (delivers m n message (node.Core c) number to (with_core m c) (slice_get m.cores c) core
+        core_here core_table.core_has_case core_table.core_table core_has refl)
 
     pub core_endpoints : can_send m.config.messages m.mail (sent_by (core_table.core_table core message)) ≡ true →
         ReactionHasEndpoints m.config.cores m.config.banks (core_table.core_table core message)
@@ -170,16 +160,16 @@ module _ (m seen : Machine) (is_view : m ≡ seen) (holds : Invariant seen) (n :
   -- so a bank
   module _ (b : ℕ) (to : message.to ≡ node.Bank b) (bank : BankState) (read : bank ≡ get_or m.banks b bank) where
     pub bank_here : slice_get m.banks b ≡ Some bank
-    bank_here = found_here m.banks b (λ o. bank_case o message) refl (case_at (node.Bank b) to) bank read
+    bank_here = found_here m.banks b (λ o. takes bank_table.bank_has_case o message) refl
+        (case_at (node.Bank b) to) bank read
 
     pub bank_has : bank_table.bank_has_case bank message ≡ true
-    bank_has = subst (λ o. bank_case o message ≡ true) bank_here (case_at (node.Bank b) to)
+    bank_has = subst (λ o. takes bank_table.bank_has_case o message ≡ true) bank_here (case_at (node.Bank b) to)
 
     pub bank_delivers : changed m (with_bank m b) (Some n) (reacted (bank_table.bank_table bank message)) ≡
-        deliver_message m n (at_number n m.mail.messages)
-    bank_delivers = sym (with_case (bank_table.bank_has_case bank message) _ _ bank_has)
-        ∙ ap (deliver_bank m n message b) (sym bank_here)
-        ∙ delivers_there (node.Bank b) to
+        on_event m (Deliver n)
+    bank_delivers = sym (delivers m n message (node.Bank b) number to (with_bank m b) (slice_get m.banks b) bank
+        bank_here bank_table.bank_has_case bank_table.bank_table bank_has refl)
 
     pub bank_endpoints : can_send m.config.messages m.mail (sent_by (bank_table.bank_table bank message)) ≡ true →
         ReactionHasEndpoints m.config.cores m.config.banks (bank_table.bank_table bank message)
@@ -190,16 +180,15 @@ module _ (m seen : Machine) (is_view : m ≡ seen) (holds : Invariant seen) (n :
   module _ (b : ℕ) (to : message.to ≡ node.Dram b) (lines : FinMap nat_cmp (List ℕ))
       (read : lines ≡ get_or m.drams b lines) where
     pub dram_here : slice_get m.drams b ≡ Some lines
-    dram_here = found_here m.drams b (λ o. dram_takes o message) refl (case_at (node.Dram b) to) lines read
+    dram_here = found_here m.drams b (λ o. takes dram_has_case o message) refl (case_at (node.Dram b) to) lines read
 
     dram_has : dram_has_case lines message ≡ true
-    dram_has = subst (λ o. dram_takes o message ≡ true) dram_here (case_at (node.Dram b) to)
+    dram_has = subst (λ o. takes dram_has_case o message ≡ true) dram_here (case_at (node.Dram b) to)
 
     pub dram_delivers : changed m (with_dram m b) (Some n) (reacted (dram_table lines message)) ≡
-        deliver_message m n (at_number n m.mail.messages)
-    dram_delivers = sym (with_case (dram_has_case lines message) _ _ dram_has)
-        ∙ ap (deliver_dram m n message b) (sym dram_here)
-        ∙ delivers_there (node.Dram b) to
+        on_event m (Deliver n)
+    dram_delivers = sym (delivers m n message (node.Dram b) number to (with_dram m b) (slice_get m.drams b) lines
+        dram_here dram_has_case dram_table dram_has refl)
 
     -- a store of a line that the DRAM doesn't have yet asks for memory
     pub dram_asks : {X E : Type 0} (result : Result X E) → needs_memory lines message ≡ true →

@@ -13,7 +13,9 @@ use Rattle.core_pts.specs.CoreTable.{CoreState}
 use Rattle.machine_table.specs.declared.event.Answer.{Answer}
 use Rattle.machine_table.specs.declared.event.Answer.TheVariants as answer
 use Rattle.machine_table.specs.Machine.{Machine, with_core}
-use Rattle.machine_table.specs.Transition.{issued, issue_at}
+use Rattle.machine_table.specs.declared.event.Event.TheVariants.{Issue}
+use Rattle.machine_table.specs.Transition.{issued, on_event}
+use Rattle.machine_table.proofs.Lemmas.{finds}
 use Rattle.interleaving_core.specs.StepAnswers.{TakesMemory}
 use Rattle.interleaving_core.proofs.OpenCounts.{no_open}
 
@@ -34,8 +36,8 @@ issue_changes : (m : Machine) (c : ℕ) (core : CoreState) → slice_get m.cores
     (op : Op) (after : CoreState) (result : Result (Unit {0}) IssueError) (ops : List Op) →
     core.open_op ≡ None → nat_lt core.issued (2 ^ 32 - 1) ≡ true → (result, after) ≡ core_table.issue core op →
     ops ≡ get_or m.issued c [] ++ op ∷ [] →
-    (answer.Issued, record (with_core m c after) { issued = set m.issued c ops }) ≡ issue_at m c op
-    (slice_get m.cores c)
+    (answer.Issued, record (with_core m c after) { issued = set m.issued c ops }) ≡
+    on_event m (Issue c op)
 issue_changes m c core here op after result ops free few is longer =
     let opened : CoreState = record core { open_op = Some op; issued = core.issued + 1 } in
     let done : core_table.issue core op ≡ (Ok tt, opened) =
@@ -44,7 +46,7 @@ issue_changes m c core here op after result ops free few is longer =
     ap (λ (x : CoreState). (answer.Issued, record (with_core m c x) { issued = set m.issued c ops })) changed_to
     ∙ ap (λ (os : List Op). (answer.Issued, record (with_core m c opened) { issued = set m.issued c os })) longer
     ∙ sym (ap (issued m c op) done)
-    ∙ ap (issue_at m c op) (sym here)
+    ∙ sym (finds m (λ x. issued m c op (core_table.issue x op)) here)
 
 -- the machine is seen as a model
 pub issue_done : (m seen : Machine) → m ≡ seen → (c : ℕ) (core : CoreState) → slice_get m.cores c ≡ Some core →
@@ -57,7 +59,7 @@ pub issue_done : (m seen : Machine) → m ≡ seen → (c : ℕ) (core : CoreSta
         issued = set m.issued c ops;
         records = records;
       },
-    ) ≡ issue_at seen c op (slice_get seen.cores c)
+    ) ≡ on_event seen (Issue c op)
 issue_done m seen is_view c core here op after result ops records free few is longer same =
     ap (λ (rs : List Record). (
       answer.Issued,
@@ -68,12 +70,12 @@ issue_done m seen is_view c core here op after result ops records free few is lo
       },
     )) same
     ∙ issue_changes m c core here op after result ops free few is longer
-    ∙ ap (λ (n : Machine). issue_at n c op (slice_get n.cores c)) is_view
+    ∙ ap (λ (n : Machine). on_event n (Issue c op)) is_view
 
 -- memory is wanted where the table opens the operation
 pub issue_wanted : (m seen : Machine) → m ≡ seen → (c : ℕ) (core : CoreState) → slice_get m.cores c ≡ Some core →
     (op : Op) → core.open_op ≡ None → nat_lt core.issued (2 ^ 32 - 1) ≡ true → {X E : Type 0} (result : Result X E) →
-    OnErr result (TakesMemory seen (issue_at seen c op (slice_get seen.cores c)))
+    OnErr result (TakesMemory seen (on_event seen (Issue c op)))
 issue_wanted m seen is_view c core here op free few (Ok x) = tt
 issue_wanted m seen is_view c core here op free few (Err e) =
     inl (sym (ap (λ (x : Answer × Machine). x.0) (issue_done m seen is_view c core here op

@@ -1,8 +1,7 @@
 //! One event of the machine.
-ghost use Rattle.std.specs.Prelude.{◌≡◌, ◌<◌, IfOk, IsTrue, None, OnErr, length, slice_get};
+ghost use Rattle.std.specs.Prelude.{◌≡◌, ◌<◌, IfOk, IsTrue, None, OnErr, length};
 ghost use Rattle.network.specs.NumberedMessages.{at_number};
-ghost use Rattle.machine_table.specs.Transition.{advance_at, attempt_at, deliver_message, evict_copy};
-ghost use Rattle.machine_table.specs.Transition.{evict_entry, issue_at, transition};
+ghost use Rattle.machine_table.specs.Transition.{on_event, transition};
 ghost use Rattle.machine_theorem.specs.Kept.{Invariant};
 ghost use Rattle.interleaving_core.specs.PartChanges.{answer_in, answer_of};
 ghost use Rattle.interleaving_core.specs.StepAnswers.{Stepped, TakesMemory, asks_memory, delivery_asks};
@@ -22,11 +21,11 @@ impl MachineState {
     // An operation is opened at a core. Capacity for its record is reserved here.
     fn issue(&mut self, core: u32, op: Op) -> Result<PlainAnswer, AllocError>
         requires { Invariant self.old }
-        ensures done { IfOk result (λ plain. (answer_of plain, self.new) ≡ issue_at self.old core op
-            (slice_get self.old.cores core)) }
+        ensures done { IfOk result (λ plain. (answer_of plain, self.new) ≡
+            on_event self.old (Event.Issue core op)) }
         ensures refused { OnErr result (self.new ≡ self.old) }
         ensures wanted { OnErr result
-            (TakesMemory self.old (issue_at self.old core op (slice_get self.old.cores core))) }
+            (TakesMemory self.old (on_event self.old (Event.Issue core op))) }
     {
         let at = core as usize;
         if at >= self.cores.len() {
@@ -49,8 +48,8 @@ impl MachineState {
     // last one.
     fn attempt(&mut self, core: u32) -> Option<PlainAnswer>
         requires { Invariant self.old }
-        ensures tried { (answer_in self.new.records result, self.new) ≡ attempt_at self.old core
-            (slice_get self.old.cores core) }
+        ensures tried { (answer_in self.new.records result, self.new) ≡
+            on_event self.old (Event.Attempt core) }
         ensures completed { result ≡ None → 0 < length self.new.records }
     {
         let at = core as usize;
@@ -69,8 +68,8 @@ impl MachineState {
     #[inline(always)]
     fn try_core(&mut self, core: u32) -> Option<PlainAnswer>
         requires { Invariant self.old }
-        ensures tried { (answer_in self.new.records result, self.new) ≡ attempt_at self.old core
-            (slice_get self.old.cores core) }
+        ensures tried { (answer_in self.new.records result, self.new) ≡
+            on_event self.old (Event.Attempt core) }
         ensures completed { result ≡ None → 0 < length self.new.records }
     {
         if let Some(own) = self.core(core) {
@@ -84,8 +83,7 @@ impl MachineState {
     // A core's time goes on by one.
     #[inline(always)]
     fn advance(&mut self, core: u32) -> PlainAnswer
-        ensures { (answer_of result, self.new) ≡ advance_at self.old core
-            (slice_get self.old.cores core) }
+        ensures { (answer_of result, self.new) ≡ on_event self.old (Event.Advance core) }
     {
         let at = core as usize;
         if at >= self.cores.len() {
@@ -99,8 +97,8 @@ impl MachineState {
     // A copy of a line leaves a core's cache.
     fn evict_cache(&mut self, core: u32, line: LineNo) -> PlainAnswer
         requires { Invariant self.old }
-        ensures { (answer_of result, self.new) ≡ evict_copy self.old core line
-            (slice_get self.old.cores core) }
+        ensures { (answer_of result, self.new) ≡
+            on_event self.old (Event.EvictCache core line) }
     {
         let at = core as usize;
         if at >= self.cores.len() {
@@ -114,8 +112,8 @@ impl MachineState {
     // A line leaves a bank, or is recalled for that.
     fn evict_bank(&mut self, bank: u32, line: LineNo) -> PlainAnswer
         requires { Invariant self.old }
-        ensures { (answer_of result, self.new) ≡ evict_entry self.old bank line
-            (slice_get self.old.banks bank) }
+        ensures { (answer_of result, self.new) ≡
+            on_event self.old (Event.EvictBank bank line) }
     {
         let at = bank as usize;
         if at >= self.banks.len() {
@@ -130,11 +128,10 @@ impl MachineState {
     fn deliver(&mut self, number: MsgNo) -> Result<PlainAnswer, AllocError>
         requires { Invariant self.old }
         ensures done { IfOk result (λ plain. (answer_of plain, self.new) ≡
-            deliver_message self.old number (at_number number self.old.mail.messages)) }
+            on_event self.old (Event.Deliver number)) }
         ensures refused { OnErr result (self.new ≡ self.old) }
         ensures wanted { OnErr result
-            (TakesMemory self.old (deliver_message self.old number
-            (at_number number self.old.mail.messages))) }
+            (TakesMemory self.old (on_event self.old (Event.Deliver number))) }
         ensures store { OnErr result
             (IsTrue (delivery_asks self.old (at_number number self.old.mail.messages))) }
     {

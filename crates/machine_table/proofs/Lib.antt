@@ -1,3 +1,4 @@
 mod Cases
 mod Openings
+mod Outcomes
 pub mod Lemmas

@@ -2,8 +2,7 @@
 use Rattle.std.proofs.Common.{◌≡◌, ℕ, zero, suc, ◌+◌, ◌<◌, List, length, Some, refl, ap, arith}
 use Rattle.std.specs.Prelude.{slice_get}
 use Rattle.machine_table.specs.declared.config.Config.{Config}
-use Rattle.machine_table.specs.Opened.{open_bank, open_core}
-use Rattle.machine_table.specs.Opening.{banks_from, cores_from, drams_from}
+use Rattle.machine_table.specs.Opening.{banks_from, cores_from, drams_from, open_bank, open_core}
 
 module _ (c : Config) where
   pub core_from : (first n i k : ℕ) → i < n → first + i ≡ k → slice_get (cores_from c first n) i ≡ Some (open_core c k)

@@ -1,7 +1,6 @@
 pub mod Answered
 pub mod Machine
 pub mod OpenNumbers
-pub mod Opened
 pub mod Opening
 pub mod Posted
 pub mod RefusalNumbers

@@ -1,13 +1,13 @@
 -- The machine as it opens.
-use Rattle.std.specs.Prelude.{ℕ, zero, suc, ◌+◌, ◌/◌, ◌%◌, ◌==◌, false, List, [], ◌∷◌, replicate, if◌then◌else◌}
+use Rattle.std.specs.Prelude.{ℕ, zero, suc, ◌+◌, ◌/◌, ◌%◌, ◌==◌, false, List, [], ◌∷◌, None, replicate, if◌then◌else◌}
 use Rattle.std.specs.Prelude.{slice_set}
 use Rattle.std.specs.Ordering.{nat_cmp}
 use Rattle.std.specs.FinMap.{FinMap, empty, insert, entries}
 use Rattle.private_cache.specs.declared.cache.Geometry.{Geometry}
 use Rattle.core_pts.specs.declared.config.CoreConfig.{CoreConfig}
-use Rattle.core_pts.specs.CoreTable.{CoreState, opened}
+use Rattle.core_pts.specs.CoreTable.{CoreState}
 use Rattle.llc_bank.specs.declared.config.BankConfig.{BankConfig}
-use Rattle.llc_bank.specs.BankTable.{BankState, empty_bank}
+use Rattle.llc_bank.specs.BankTable.{BankState}
 use Rattle.dram_mts.specs.Lines.{words_of}
 use Rattle.machine_table.specs.declared.config.Config.{Config}
 use Rattle.network.specs.Mail.{no_mail}
@@ -39,14 +39,39 @@ bank_config c number = record {
   opening_time = c.opening_time;
 }
 
+-- the core of a number, with an empty cache
+abbrev pub open_core : Config → ℕ → CoreState
+open_core c number = record {
+  number = number;
+  banks = c.banks;
+  line_words = c.line_words;
+  lease = c.lease;
+  private_write = c.private_write;
+  pts = c.opening_time;
+  cache = record { ways = c.ways; sets = replicate c.sets [] };
+  open_op = None;
+  is_out = false;
+  issued = 0;
+}
+
+-- the bank of a number, without lines
+abbrev pub open_bank : Config → ℕ → BankState
+open_bank c number = record {
+  number = number;
+  banks = c.banks;
+  lease = c.lease;
+  mts = c.opening_time;
+  table = record { ways = c.bank_ways; sets = replicate c.bank_sets [] };
+}
+
 -- n cores from this number on, and n banks
 abbrev pub cores_from : Config → ℕ → ℕ → List CoreState
 cores_from c number zero = []
-cores_from c number (suc n) = opened (core_config c number) (geometry c) ∷ cores_from c (number + 1) n
+cores_from c number (suc n) = open_core c number ∷ cores_from c (number + 1) n
 
 abbrev pub banks_from : Config → ℕ → ℕ → List BankState
 banks_from c number zero = []
-banks_from c number (suc n) = empty_bank (bank_config c number) ∷ banks_from c (number + 1) n
+banks_from c number (suc n) = open_bank c number ∷ banks_from c (number + 1) n
 
 -- the lines of a DRAM with one word set
 abbrev pub with_word : FinMap nat_cmp (List ℕ) → ℕ → ℕ → ℕ → FinMap nat_cmp (List ℕ)

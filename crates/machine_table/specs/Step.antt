@@ -11,7 +11,7 @@ use Rattle.network.specs.declared.message.Message.{Message}
 use Rattle.network.specs.declared.part.Reaction.{Reaction}
 use Rattle.network.specs.declared.part.Reaction.TheVariants.{Done, Dropped, Held, HeldAfter}
 use Rattle.private_cache.specs.declared.cache.CacheError.{CacheError}
-use Rattle.private_cache.specs.declared.cache.CacheError.TheVariants.{NoRoom, NotHere, Pinned}
+use Rattle.private_cache.specs.declared.cache.CacheError.TheVariants.{Pinned}
 use Rattle.core_pts.specs.declared.attempt.Attempt.{Attempt}
 use Rattle.core_pts.specs.declared.attempt.Attempt.TheVariants as tries
 use Rattle.core_pts.specs.CoreTable as core_table
@@ -112,16 +112,14 @@ reacted (Some (HeldAfter started, part)) = Makes Starts false (Some started) par
 
 -- a copy of a line leaves a core's cache: one that is owned is sent back
 abbrev pub copy_evicted : Result (Option Message) CacheError × CoreState → Step CoreState
-copy_evicted (Err NotHere, core) = Keeps HasNone
-copy_evicted (Err NoRoom, core) = Keeps HasNone
 copy_evicted (Err Pinned, core) = Keeps IsPinned
+copy_evicted (Err _, core) = Keeps HasNone
 copy_evicted (Ok back, core) = Makes Evicts false back core
 
 -- a line leaves a bank, or is recalled for that
 abbrev pub became : Evict → Did
-became Clean = Evicts
-became (Stored store) = Evicts
 became (Recalled recall) = Recalls
+became _ = Evicts
 
 abbrev pub sent_by_eviction : Evict → Option Message
 sent_by_eviction Clean = None
@@ -147,10 +145,8 @@ pub data Act : Type 0 where
 
 -- the message that is delivered, if any
 abbrev pub message_of : Act → Option Message
-message_of Attempting = None
 message_of (Getting message) = Some message
-message_of (Evicting line) = None
-message_of Advancing = None
+message_of _ = None
 
 abbrev pub core_step : CoreState → Act → Tried
 core_step core Attempting = attempt_open core core.open_op
@@ -159,13 +155,10 @@ core_step core (Evicting line) = Does (copy_evicted (core_table.evict core line)
 core_step core Advancing = Does (advanced (core_table.advance core))
 
 abbrev pub bank_step : BankState → Act → Step BankState
-bank_step bank Attempting = Keeps Idles
 bank_step bank (Getting message) = reacted (bank_table.bank_table bank message)
 bank_step bank (Evicting line) = entry_evicted (bank_table.evict bank line)
-bank_step bank Advancing = Keeps Idles
+bank_step bank _ = Keeps Idles
 
 abbrev pub dram_step : FinMap nat_cmp (List ℕ) → Act → Step (FinMap nat_cmp (List ℕ))
-dram_step lines Attempting = Keeps Idles
 dram_step lines (Getting message) = reacted (dram_table lines message)
-dram_step lines (Evicting line) = Keeps Idles
-dram_step lines Advancing = Keeps Idles
+dram_step lines _ = Keeps Idles

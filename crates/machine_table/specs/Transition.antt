@@ -1,20 +1,19 @@
 -- What each event makes of the machine: the answer and the machine afterwards. Stopped takes precedence over all else,
 -- then NoSuch; every refusal but Exhausted leaves the machine unchanged, and Exhausted only stops it.
-use Rattle.std.specs.Prelude.{ℕ, true, List, [], ◌∷◌, ◌++◌, length, Option, Some, None, Result, Ok, Err}
+use Rattle.std.specs.Prelude.{ℕ, Bool, true, [], ◌∷◌, ◌++◌, length, Option, Some, None, Result, Ok, Err}
 use Rattle.std.specs.Prelude.{if◌then◌else◌, slice_get, slice_set, slice_index_or}
-use Rattle.std.specs.Ordering.{nat_cmp}
-use Rattle.std.specs.FinMap.{FinMap}
 use Rattle.physiological_order.specs.declared.operation.Op.{Op}
 use Rattle.network.specs.declared.message.Node.{Node}
 use Rattle.network.specs.declared.message.Node.TheVariants.{Core, Bank, Dram}
 use Rattle.network.specs.declared.message.Message.{Message}
 use Rattle.network.specs.NumberedMessages.{at_number}
+use Rattle.network.specs.declared.part.Reaction.{Reaction}
 use Rattle.core_pts.specs.declared.attempt.IssueError.{IssueError}
 use Rattle.core_pts.specs.declared.attempt.IssueError.TheVariants as not_issued
 use Rattle.core_pts.specs.CoreTable as core_table
-use Rattle.core_pts.specs.CoreTable.{CoreState}
+use Rattle.core_pts.specs.CoreTable.{CoreState, core_has_case}
 use Rattle.llc_bank.specs.BankTable as bank_table
-use Rattle.llc_bank.specs.BankTable.{BankState}
+use Rattle.llc_bank.specs.BankTable.{bank_has_case}
 use Rattle.dram_mts.specs.Table.{dram_table, dram_has_case}
 use Rattle.machine_table.specs.declared.event.Event.{Event}
 use Rattle.machine_table.specs.declared.event.Event.TheVariants.{Issue, Attempt, Deliver, EvictCache, EvictBank}
@@ -50,78 +49,41 @@ tried m c core (Completes op received ts after) =
     (Completed done, record (with_core m c after) { records = m.records ++ done ∷ [] })
 tried m c core (Does step) = changed m (with_core m c) None step
 
--- Issue: the operation is opened and added to the core's list
+-- an operation is opened and added to the core's list
 abbrev pub issued : Machine → ℕ → Op → Result (Unit {0}) IssueError × CoreState → Answer × Machine
 issued m c op (Err not_issued.Busy, core) = refused m refusal.Busy
 issued m c op (Err not_issued.TooMany, core) = refused m refusal.TooMany
 issued m c op (Ok done, core) =
     (Issued, record (with_core m c core) { issued = slice_set m.issued c (slice_index_or m.issued c [] ++ op ∷ []) })
 
-abbrev pub issue_at : Machine → ℕ → Op → Option CoreState → Answer × Machine
-issue_at m c op None = refused m refusal.NoSuch
-issue_at m c op (Some core) = issued m c op (core_table.issue core op)
+-- what is there does this; if it isn't there, the event is refused
+abbrev pub found : {X : Type 0} → Machine → Option X → (X → Answer × Machine) → Answer × Machine
+found m None does = refused m refusal.NoSuch
+found m (Some x) does = does x
 
--- Attempt
-abbrev pub attempt_at : Machine → ℕ → Option CoreState → Answer × Machine
-attempt_at m c None = refused m refusal.NoSuch
-attempt_at m c (Some core) =
-    tried m c core (attempt_open core core.open_op)
-
--- Deliver: to a core, a bank, or the DRAM behind a bank
-abbrev pub deliver_core : Machine → ℕ → Message → ℕ → Option CoreState → Answer × Machine
-deliver_core m n message c None = refused m refusal.NoSuch
-deliver_core m n message c (Some core) =
-    if core_table.core_has_case core message
-    then changed m (with_core m c) (Some n) (reacted (core_table.core_table core message))
-    else refused m refusal.NoSuch
-
-abbrev pub deliver_bank : Machine → ℕ → Message → ℕ → Option BankState → Answer × Machine
-deliver_bank m n message b None = refused m refusal.NoSuch
-deliver_bank m n message b (Some bank) =
-    if bank_table.bank_has_case bank message
-    then changed m (with_bank m b) (Some n) (reacted (bank_table.bank_table bank message))
-    else refused m refusal.NoSuch
-
-abbrev pub deliver_dram : Machine → ℕ → Message → ℕ → Option (FinMap nat_cmp (List ℕ)) → Answer × Machine
-deliver_dram m n message b None = refused m refusal.NoSuch
-deliver_dram m n message b (Some dram) =
-    if dram_has_case dram message
-    then changed m (with_dram m b) (Some n) (reacted (dram_table dram message))
-    else refused m refusal.NoSuch
+-- a part gets the message of this number, if it has a case for it
+abbrev pub gets : {S : Type 0} → Machine → (S → Machine) → ℕ → Bool → Option (Reaction × S) → Answer × Machine
+gets m put n has_case reaction =
+    if has_case then changed m put (Some n) (reacted reaction) else refused m refusal.NoSuch
 
 abbrev pub deliver_to : Machine → ℕ → Message → Node → Answer × Machine
-deliver_to m n message (Core c) = deliver_core m n message c (slice_get m.cores c)
-deliver_to m n message (Bank b) = deliver_bank m n message b (slice_get m.banks b)
-deliver_to m n message (Dram b) = deliver_dram m n message b (slice_get m.drams b)
-
-abbrev pub deliver_message : Machine → ℕ → Option Message → Answer × Machine
-deliver_message m n None = refused m refusal.NoSuch
-deliver_message m n (Some message) = deliver_to m n message message.to
-
--- EvictCache
-abbrev pub evict_copy : Machine → ℕ → ℕ → Option CoreState → Answer × Machine
-evict_copy m c line None = refused m refusal.NoSuch
-evict_copy m c line (Some core) =
-    changed m (with_core m c) None (copy_evicted (core_table.evict core line))
-
--- EvictBank
-abbrev pub evict_entry : Machine → ℕ → ℕ → Option BankState → Answer × Machine
-evict_entry m b line None = refused m refusal.NoSuch
-evict_entry m b line (Some bank) =
-    changed m (with_bank m b) None (entry_evicted (bank_table.evict bank line))
-
--- Advance
-abbrev pub advance_at : Machine → ℕ → Option CoreState → Answer × Machine
-advance_at m c None = refused m refusal.NoSuch
-advance_at m c (Some core) = changed m (with_core m c) None (advanced (core_table.advance core))
+deliver_to m n message (Core c) = found m (slice_get m.cores c)
+    (λ core. gets m (with_core m c) n (core_has_case core message) (core_table.core_table core message))
+deliver_to m n message (Bank b) = found m (slice_get m.banks b)
+    (λ bank. gets m (with_bank m b) n (bank_has_case bank message) (bank_table.bank_table bank message))
+deliver_to m n message (Dram b) = found m (slice_get m.drams b)
+    (λ dram. gets m (with_dram m b) n (dram_has_case dram message) (dram_table dram message))
 
 abbrev pub on_event : Machine → Event → Answer × Machine
-on_event m (Issue c op) = issue_at m c op (slice_get m.cores c)
-on_event m (Attempt c) = attempt_at m c (slice_get m.cores c)
-on_event m (Deliver n) = deliver_message m n (at_number n m.mail.messages)
-on_event m (EvictCache c line) = evict_copy m c line (slice_get m.cores c)
-on_event m (EvictBank b line) = evict_entry m b line (slice_get m.banks b)
-on_event m (Advance c) = advance_at m c (slice_get m.cores c)
+on_event m (Issue c op) = found m (slice_get m.cores c) (λ core. issued m c op (core_table.issue core op))
+on_event m (Attempt c) = found m (slice_get m.cores c) (λ core. tried m c core (attempt_open core core.open_op))
+on_event m (Deliver n) = found m (at_number n m.mail.messages) (λ message. deliver_to m n message message.to)
+on_event m (EvictCache c line) = found m (slice_get m.cores c)
+    (λ core. changed m (with_core m c) None (copy_evicted (core_table.evict core line)))
+on_event m (EvictBank b line) = found m (slice_get m.banks b)
+    (λ bank. changed m (with_bank m b) None (entry_evicted (bank_table.evict bank line)))
+on_event m (Advance c) = found m (slice_get m.cores c)
+    (λ core. changed m (with_core m c) None (advanced (core_table.advance core)))
 
 -- the answer to an event, and the machine after it
 abbrev pub transition : Machine → Event → Answer × Machine

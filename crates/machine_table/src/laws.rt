@@ -6,8 +6,7 @@ ghost use Rattle.std.specs.FinMap.{FinMap};
 ghost use Rattle.machine_table.specs.declared.config.Config.{Config};
 ghost use Rattle.machine_table.specs.declared.event.Event.{Event};
 ghost use Rattle.machine_table.specs.Machine.{Machine};
-ghost use Rattle.machine_table.specs.Opened.{open_bank, open_core};
-ghost use Rattle.machine_table.specs.Opening.{at_start};
+ghost use Rattle.machine_table.specs.Opening.{at_start, open_bank, open_core};
 ghost use Rattle.machine_table.specs.Transition.{transition};
 ghost use Rattle.machine_table.specs.Answered.{Answered};
 

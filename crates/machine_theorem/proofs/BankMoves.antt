@@ -1,5 +1,5 @@
 -- The moves of a bank and of a DRAM keep the invariant.
-use Rattle.std.proofs.Common.{◌≡◌, ◌≢◌, ℕ, ◌%◌, ◌/◌, ◌<◌, ◌≤◌, max, Bool, true, false, List, ◌∷◌, length, Option}
+use Rattle.std.proofs.Common.{◌≡◌, ◌≢◌, ℕ, ◌%◌, ◌/◌, ◌<◌, ◌≤◌, max, Bool, true, false, List, ◌∷◌, Option}
 use Rattle.std.proofs.Common.{Some, None, refl, sym, ap, ◌∙◌, subst, arith, ⊎_elim}
 use Rattle.std.specs.Ordering.{nat_cmp}
 use Rattle.std.specs.FinMap.{FinMap, insert}
@@ -19,7 +19,7 @@ use Rattle.network.specs.declared.part.Reaction.{Reaction}
 use Rattle.network.specs.declared.part.Reaction.TheVariants.{Done, HeldAfter}
 use Rattle.network.specs.Mail.{counted}
 use Rattle.network.specs.Routes.{is_core_to_bank, is_bank_to_dram, has_route}
-use Rattle.line_sets.specs.SetTable.{has_room}
+use Rattle.line_sets.specs.SetTable.{Sets, has_room}
 use Rattle.llc_bank.specs.declared.entry.Entry.{Entry}
 use Rattle.llc_bank.specs.declared.entry.Entry.TheVariants as entry
 use Rattle.llc_bank.specs.OnEntry as on_entry
@@ -41,11 +41,10 @@ use Rattle.machine_theorem.specs.View.{timed, entry_seen, body_seen, message_see
 use Rattle.machine_theorem.specs.Shape.{IsBank, IsHome, GoesHome, IsOwnedBelow}
 use Rattle.machine_theorem.specs.Kept.{IsKept}
 use Rattle.machine_theorem.proofs.KeptSteps.{Goes}
-use Rattle.machine_theorem.proofs.Lookups.{put_here, put_there, put_sets, change_here, change_there, change_sets}
-use Rattle.machine_theorem.proofs.Lookups.{drop_here, drop_there, drop_sets, messages_here, messages_there}
+use Rattle.machine_theorem.proofs.Lookups.{IsNow, put_now, change_now, drop_now, messages_here, messages_there}
 use Rattle.machine_theorem.proofs.Turns as turns
 use Rattle.machine_theorem.proofs.Routes.{GoesDown, ownership_of, both, core_and_bank, up_ends}
-use Rattle.machine_theorem.proofs.OnEntries.{IsFor, bank_goes}
+use Rattle.machine_theorem.proofs.OnEntries.{AtRequest, IsFor, bank_goes}
 use Rattle.machine_theorem.proofs.DramWords.{words-insert_same, words-insert_other}
 use Rattle.machine_theorem.proofs.ByParts.{bank_by, shape_by}
 
@@ -89,48 +88,50 @@ module _ (config : Config) (opening : FinMap nat_cmp ℕ) (a : State) (s : IsKep
       (node.Bank bank.number) ≡ true
   down owner lt = core_and_bank config.cores config.banks owner bank.number lt below
 
+  abbrev own_set : ℕ → ℕ
+  own_set k = k / bank.banks
+
   -- the bank, its entry of the line, and the messages, after a transition
-  step : (new : BankState) (o : Option Entry) (front : List by_line.Message) (bag : List Message) (counts : Counts) →
-      new.number ≡ bank.number → new.banks ≡ bank.banks → new.lease ≡ bank.lease → 0 < length new.table.sets →
-      entry_of new l ≡ o → IsOwnedIf config.cores o → ((k : ℕ) → k ≢ l → entry_of new k ≡ entry_of bank k) →
+  step : (time : ℕ) (table : Sets Entry) (o : Option Entry) (front : List by_line.Message) (bag : List Message)
+      (counts : Counts) → IsNow own_set bank.table.sets table.sets l o → IsOwnedIf config.cores o →
       front ≡ messages_of bag l → ((k : ℕ) → k ≢ l → messages_of a.bag k ≡ messages_of bag k) →
       Each (GoesHome config) bag →
-      turns.Moves config opening a l new.mts (record (line_seen config a l) { entry = entry_seen o; messages = front })
-      → IsKept config opening (record a { banks = with_at a.banks b new; bag = bag; counts = counts })
-  step new o front bag counts number banks lease sets here owned there bags others each move =
+      turns.Moves config opening a l time (record (line_seen config a l) { entry = entry_seen o; messages = front }) →
+      IsKept config opening (record a {
+        banks = with_at a.banks b (record bank { mts = time; table = table });
+        bag = bag;
+        counts = counts;
+      })
+  step time table o front bag counts now owned bags others each move =
+      let new : BankState = record bank { mts = time; table = table } in
       record {
         shape = shape_by s.shape.some_words s.shape.some_banks s.shape.each_core
             (with_at_cases (λ j y. IsBank config j y) a.banks b new
-            (bank_by (number ∙ is.numbered) (banks ∙ is.banks) (lease ∙ is.lease) sets
-            (λ k ne. there k (λ q. ne (ap (λ (j : ℕ). j % config.banks) q)) ∙ is.own k ne)
+            (bank_by is.numbered is.banks is.lease now.some
+            (λ k ne. now.there k (λ q. ne (ap (λ (j : ℕ). j % config.banks) q)) ∙ is.own k ne)
             (λ k y i. ⊎_elim
             (λ (q : k ≡ l). subst (IsOwnedIf config.cores)
-            (sym here ∙ subst (λ (j : ℕ). entry_of new j ≡ Some y) q i) owned)
-            (λ (ne : k ≡ l → ⊥). is.owners k y (sym (there k ne) ∙ i))
+            (sym now.here ∙ subst (λ (j : ℕ). entry_of new j ≡ Some y) q i) owned)
+            (λ (ne : k ≡ l → ⊥). is.owners k y (sym (now.there k ne) ∙ i))
             (cases_eq k l)))
             (λ j ne. s.shape.each_bank j))
             each s.shape.cores_beyond
             (λ j le. with_at_other a.banks b new j (apart j le) ∙ s.shape.banks_beyond j le)
             s.shape.drams_beyond s.shape.lists_beyond;
-        reached = turns.bank_turn config opening a new l (entry_seen o) front bag (sym (ap entry_seen here)) bags there
-            others move s.reached;
+        reached = turns.bank_turn config opening a new l (entry_seen o) front bag (sym (ap entry_seen now.here)) bags
+            now.there others move s.reached;
       }
 
-  abbrev own_set : ℕ → ℕ
-  own_set k = k / bank.banks
-
   -- a message is sent, with these in flight before it
-  step_sent : (new : BankState) (o : Option Entry) (bag : List Message) (q : Message) → q.line ≡ l →
-      GoesHome config q → new.number ≡ bank.number → new.banks ≡ bank.banks →
-      new.lease ≡ bank.lease → 0 < length new.table.sets →
-      entry_of new l ≡ o → IsOwnedIf config.cores o → ((k : ℕ) → k ≢ l → entry_of new k ≡ entry_of bank k) →
+  step_sent : (time : ℕ) (table : Sets Entry) (o : Option Entry) (bag : List Message) (q : Message) → q.line ≡ l →
+      GoesHome config q → IsNow own_set bank.table.sets table.sets l o → IsOwnedIf config.cores o →
       ((k : ℕ) → k ≢ l → messages_of a.bag k ≡ messages_of bag k) → Each (GoesHome config) bag →
-      turns.Moves config opening a l new.mts
+      turns.Moves config opening a l time
       (record (line_seen config a l) { entry = entry_seen o; messages = message_seen q ∷ messages_of bag l }) →
-      IsKept config opening (with_answer (with_bank a b new) bag (Some q))
-  step_sent new o bag q line goes number banks lease sets here owned there others each =
-      step new o (message_seen q ∷ messages_of bag l) (q ∷ bag) (counted a.counts q.body) number banks lease sets here
-      owned there (subst (λ (k : ℕ). message_seen q ∷ messages_of bag k ≡ messages_of (q ∷ bag) k) line
+      IsKept config opening (with_answer (with_bank a b (record bank { mts = time; table = table })) bag (Some q))
+  step_sent time table o bag q line goes now owned others each =
+      step time table o (message_seen q ∷ messages_of bag l) (q ∷ bag) (counted a.counts q.body) now owned
+      (subst (λ (k : ℕ). message_seen q ∷ messages_of bag k ≡ messages_of (q ∷ bag) k) line
       (sym (messages_here q bag)))
       (λ k ne. others k ne ∙ messages_there q bag k (λ w. ne (w ∙ line))) (goes, each)
 
@@ -139,28 +140,21 @@ module _ (config : Config) (opening : FinMap nat_cmp ℕ) (a : State) (s : IsKep
       Goes config opening a (with_bank a b) a.bag (entry_evicted (after_eviction bank l (on_entry.evicted o)))
   entry_goes None e = tt
   entry_goes (Some (entry.Shared false line)) e =
-      let new : BankState = record (without_entry bank l) { mts = max bank.mts line.rts } in
-      step new None (messages_of a.bag l) a.bag a.counts refl refl refl
-      (drop_sets own_set bank.table.sets is.sets l) (drop_here own_set bank.table.sets is.sets l) tt
-      (drop_there own_set bank.table.sets is.sets l) refl (λ k ne. refl) s.shape.each_message
+      step (max bank.mts line.rts) (without_entry bank l).table None (messages_of a.bag l) a.bag a.counts
+      (drop_now own_set bank.table.sets is.sets l) tt refl (λ k ne. refl) s.shape.each_message
       (evict_clean (timed line) (ap entry_seen e))
   entry_goes (Some (entry.Shared true line)) e =
-      let new : BankState = record (with_changed bank l entry.Storing) { mts = max bank.mts line.rts } in
-      step_sent new (Some entry.Storing) a.bag (to_dram bank l (body.DramSt line.words)) refl
-      (home (node.Dram bank.number) (body.DramSt line.words) is.numbered back) refl refl refl
-      (change_sets own_set bank.table.sets is.sets l entry.Storing)
-      (change_here own_set bank.table.sets is.sets l entry.Storing (entry.Shared true line) e) tt
-      (change_there own_set bank.table.sets is.sets l entry.Storing) (λ k ne. refl) s.shape.each_message
-      (evict_dirty (timed line) (ap entry_seen e))
+      step_sent (max bank.mts line.rts) (with_changed bank l entry.Storing).table (Some entry.Storing) a.bag
+      (to_dram bank l (body.DramSt line.words)) refl
+      (home (node.Dram bank.number) (body.DramSt line.words) is.numbered back)
+      (change_now own_set bank.table.sets is.sets l entry.Storing (entry.Shared true line) e) tt (λ k ne. refl)
+      s.shape.each_message (evict_dirty (timed line) (ap entry_seen e))
   entry_goes (Some (entry.Exclusive o)) e =
       let owned = is.owners l (entry.Exclusive o) e in
-      step_sent (with_changed bank l (entry.Recalling o)) (Some (entry.Recalling o)) a.bag
-      (from_bank bank l (node.Core o) body.FlushReq) refl
-      (home (node.Core o) body.FlushReq tt (down o owned)) refl refl
-      refl (change_sets own_set bank.table.sets is.sets l (entry.Recalling o))
-      (change_here own_set bank.table.sets is.sets l (entry.Recalling o) (entry.Exclusive o) e)
-      owned (change_there own_set bank.table.sets is.sets l (entry.Recalling o))
-      (λ k ne. refl) s.shape.each_message (flush_starts o (ap entry_seen e))
+      step_sent bank.mts (with_changed bank l (entry.Recalling o)).table (Some (entry.Recalling o)) a.bag
+      (from_bank bank l (node.Core o) body.FlushReq) refl (home (node.Core o) body.FlushReq tt (down o owned))
+      (change_now own_set bank.table.sets is.sets l (entry.Recalling o) (entry.Exclusive o) e) owned (λ k ne. refl)
+      s.shape.each_message (flush_starts o (ap entry_seen e))
   entry_goes _ e = tt
 
 -- a message is delivered that comes first in the bag
@@ -200,26 +194,23 @@ module _ (config : Config) (opening : FinMap nat_cmp ℕ) (before : State) (mess
   loads : Leads Loading (DramLd ∷ messages_of a.bag l) →
       Reacts (Some (HeldAfter (to_dram here l body.DramLd), with_used here l entry.Loading))
   loads =
-      step_sent config opening a s l (with_used here l entry.Loading) (Some entry.Loading) a.bag
+      step_sent config opening a s l here.mts (with_used here l entry.Loading).table (Some entry.Loading) a.bag
       (to_dram here l body.DramLd) refl
       (home config opening a s l (node.Dram here.number) body.DramLd of.numbered (back config opening a s l))
-      refl refl refl (put_sets place here.table.sets of.sets l entry.Loading)
-      (put_here place here.table.sets of.sets l entry.Loading) tt
-      (put_there place here.table.sets of.sets l entry.Loading) (λ k ne. refl) s.shape.each_message
+      (put_now place here.table.sets of.sets l entry.Loading) tt (λ k ne. refl) s.shape.each_message
 
   recalls : (owner : ℕ) (sent : Body) → GoesDown sent → entry_of here l ≡ Some (entry.Exclusive owner) →
       Leads (Recalling owner) (body_seen 0 owner sent ∷ messages_of a.bag l) →
       Reacts (Some (HeldAfter (from_bank here l (node.Core owner) sent), with_changed here l (entry.Recalling owner)))
   recalls owner sent goes there =
       let owned = of.owners l (entry.Exclusive owner) there in
-      step_sent config opening a s l (with_changed here l (entry.Recalling owner)) (Some (entry.Recalling owner)) a.bag
-      (from_bank here l (node.Core owner) sent) refl
+      step_sent config opening a s l here.mts (with_changed here l (entry.Recalling owner)).table
+      (Some (entry.Recalling owner)) a.bag (from_bank here l (node.Core owner) sent) refl
       (home config opening a s l (node.Core owner) sent tt
       (goes config.cores config.banks (node.Bank here.number) (node.Core owner)
-      ∙ down config opening a s l owner owned)) refl refl
-      refl (change_sets place here.table.sets of.sets l (entry.Recalling owner))
-      (change_here place here.table.sets of.sets l (entry.Recalling owner) (entry.Exclusive owner) there) owned
-      (change_there place here.table.sets of.sets l (entry.Recalling owner)) (λ k ne. refl) s.shape.each_message
+      ∙ down config opening a s l owner owned))
+      (change_now place here.table.sets of.sets l (entry.Recalling owner) (entry.Exclusive owner) there) owned
+      (λ k ne. refl) s.shape.each_message
 
   grants : (e : Entry) (sent : Body) → GoesDown sent → IsFor (core_of message.from) e →
       is_core_to_bank config.cores config.banks message.from message.to ≡ true → Leads (entry_seen (Some e))
@@ -232,28 +223,26 @@ module _ (config : Config) (opening : FinMap nat_cmp ℕ) (before : State) (mess
       (sym ends.from_core) (down config opening a s l ends.core ends.some_core) in
       let some : core_of message.from < config.cores =
       subst (λ (k : ℕ). k < config.cores) (sym (ap core_of ends.from_core)) ends.some_core in
-      step_sent config opening a s l (with_used here l e) (Some e) rest (from_bank here l message.from sent) refl
+      step_sent config opening a s l here.mts (with_used here l e).table (Some e) rest
+      (from_bank here l message.from sent) refl
       (home config opening a s l message.from sent goes_home.0
-      (goes config.cores config.banks (node.Bank here.number) message.from ∙ route)) refl refl refl
-      (put_sets place here.table.sets of.sets l e)
-      (put_here place here.table.sets of.sets l e) (for_below config.cores (core_of message.from) some e own)
-      (put_there place here.table.sets of.sets l e) others s.shape.each_message.1
+      (goes config.cores config.banks (node.Bank here.number) message.from ∙ route))
+      (put_now place here.table.sets of.sets l e) (for_below config.cores (core_of message.from) some e own) others
+      s.shape.each_message.1
 
   becomes : (dirty : Bool) (line : TimedLine) (old : Entry) → entry_of here l ≡ Some old →
       Leads (Shared dirty (timed line)) (messages_of rest l) →
       Reacts (Some (Done None, with_changed here l (entry.Shared dirty line)))
   becomes dirty line old there =
-      step config opening a s l (with_changed here l (entry.Shared dirty line)) (Some (entry.Shared dirty line))
-      (messages_of rest l) rest a.counts refl refl refl
-      (change_sets place here.table.sets of.sets l (entry.Shared dirty line))
-      (change_here place here.table.sets of.sets l (entry.Shared dirty line) old there) tt
-      (change_there place here.table.sets of.sets l (entry.Shared dirty line)) refl others s.shape.each_message.1
+      step config opening a s l here.mts (with_changed here l (entry.Shared dirty line)).table
+      (Some (entry.Shared dirty line)) (messages_of rest l) rest a.counts
+      (change_now place here.table.sets of.sets l (entry.Shared dirty line) old there) tt refl others
+      s.shape.each_message.1
 
   leaves : Leads Absent (messages_of rest l) → Reacts (Some (Done None, without_entry here l))
   leaves =
-      step config opening a s l (without_entry here l) None (messages_of rest l) rest a.counts refl refl refl
-      (drop_sets place here.table.sets of.sets l) (drop_here place here.table.sets of.sets l) tt
-      (drop_there place here.table.sets of.sets l) refl others s.shape.each_message.1
+      step config opening a s l here.mts (without_entry here l).table None (messages_of rest l) rest a.counts
+      (drop_now place here.table.sets of.sets l) tt refl others s.shape.each_message.1
 
   came : IsPermutation (messages_of a.bag l)
       (body_seen (core_of message.from) (core_of message.to) message.body ∷ messages_of rest l)
@@ -265,6 +254,14 @@ module _ (config : Config) (opening : FinMap nat_cmp ℕ) (before : State) (mess
   came_as c e = subst (λ (d : Body). IsPermutation (messages_of a.bag l)
       (body_seen (core_of message.from) (core_of message.to) d ∷ messages_of rest l)) e came
 
+  abbrev Up : Type 0
+  Up = is_core_to_bank config.cores config.banks message.from message.to ≡ true
+
+  up : (c : Body) → has_route config.cores config.banks message.from message.to c ≡ true → AtRequest Up c
+  up (body.ShReq pts version) route = route
+  up (body.ExReq version) route = route
+  up _ route = tt
+
   -- to the bank of its line
   pub bank_delivery : core_of message.to ≡ 0 → bank_has_case here message ≡ true →
       Reacts (bank_table.bank_table here message)
@@ -273,10 +270,10 @@ module _ (config : Config) (opening : FinMap nat_cmp ℕ) (before : State) (mess
       subst (λ (k : ℕ). Reacts (after_decision here message (on_entry.at_bank k here.mts room (core_of message.from)
       (entry_of here l) message.body))) (sym of.lease)
       (bank_goes config.lease (IsPinned (set_up config opening) (view config a).cores l) here.mts
-      (line_seen config a l) (messages_of rest l) (core_of message.from) here message config.cores config.banks Reacts
+      (line_seen config a l) (messages_of rest l) (core_of message.from) here message Up Reacts
       refl tt tt loads recalls grants becomes leaves room message.body
       (ownership_of (is_this_bank here.number message.to)
-      (comes_to_bank message.from (entry_of here l) message.body) has) goes_home.2
+      (comes_to_bank message.from (entry_of here l) message.body) has) (up message.body goes_home.2)
       (subst (λ (k : ℕ). IsPermutation (messages_of a.bag l)
       (body_seen (core_of message.from) k message.body ∷ messages_of rest l)) to came))
 

@@ -12,13 +12,13 @@ use Rattle.network.specs.Search as right
 use Rattle.network.specs.Search.{is_ownership_of, is_store_of, first_message, count_messages}
 use Rattle.private_cache.specs.declared.line_copy.LineCopy.{LineCopy}
 use Rattle.private_cache.specs.CopyTable.{copy_of}
-use Rattle.core_pts.specs.CoreTable.{CoreState, opened}
+use Rattle.core_pts.specs.CoreTable.{CoreState}
 use Rattle.core_pts.specs.OnCopy.{is_exclusive}
 use Rattle.llc_bank.specs.declared.entry.Entry.{Entry}
 use Rattle.llc_bank.specs.declared.entry.Entry.TheVariants as entry
-use Rattle.llc_bank.specs.BankTable.{BankState, core_of, entry_of, empty_bank}
+use Rattle.llc_bank.specs.BankTable.{BankState, core_of, entry_of}
 use Rattle.machine_table.specs.Machine.{Machine}
-use Rattle.machine_table.specs.Opening.{core_config, bank_config, geometry, dram_of}
+use Rattle.machine_table.specs.Opening.{dram_of, open_bank, open_core}
 use Rattle.protocol.specs.Machine as by_line
 use Rattle.protocol.specs.Machine.{Copy, Line, owns, owned_below, owners as line_owners, owners_in, owner_or}
 use Rattle.machine_theorem.specs.View.{copy_or_none, copy_in, entry_seen, entry_in, body_seen, messages_of, line_in}
@@ -251,9 +251,9 @@ module _ (m : Machine) (s : Invariant m) (line : ℕ) where
   listed_is =
       line_same _ _
       (seen_listed (λ b. entry_in b line) (λ o. entry_at o line) (λ b. refl) m.banks home
-      (empty_bank (bank_config m.config home)) (ap entry_seen (no_entry m.config home line)))
+      (open_bank m.config home) (ap entry_seen (no_entry m.config home line)))
       (λ k. seen_listed (λ c. copy_in c line) (λ o. copy_at o line) (λ c. refl) m.cores k
-      (opened (core_config m.config k) (geometry m.config)) (no_copy m.config k line)) refl
+      (open_core m.config k) (no_copy m.config k line)) refl
       (ap (λ o. words_in o line) (sym (slice_get-get_or m.drams home (dram_of m.config home (entries m.opening))
       (let n = s.dram_count in let lt = mod-lt line s.kept.shape.some_banks in omega arith))))
 

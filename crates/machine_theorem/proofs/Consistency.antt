@@ -5,10 +5,10 @@ use Rattle.std.specs.FinMap.{FinMap}
 use Rattle.physiological_order.specs.declared.operation.Record.{Record}
 use Rattle.physiological_order.specs.Order.{flat, Arrangement, replay_end, of_core}
 use Rattle.physiological_order.proofs.Lemmas.{one_arrangement, arrangement_of}
-use Rattle.core_pts.specs.CoreTable.{CoreState, opened}
+use Rattle.core_pts.specs.CoreTable.{CoreState}
 use Rattle.machine_table.specs.declared.config.Config.{Config}
 use Rattle.machine_table.specs.Machine.{Machine, operation_of}
-use Rattle.machine_table.specs.Opening.{core_config, geometry}
+use Rattle.machine_table.specs.Opening.{open_core}
 use Rattle.protocol.specs.Issued.{IsIssued}
 use Rattle.protocol.specs.Machine as by_line
 use Rattle.protocol.proofs.Lemmas.{legal, what_is_issued, reachable_ok, at_most_one, coherent_is}
@@ -67,7 +67,7 @@ module _ (m : Machine) (s : Invariant m) where
     legal = state.legal;
     issued = λ core. subst (IsIssued (get_or m.issued core []) (of_core core m.records))
         (seen_listed (λ (c : CoreState). c.open_op) operation_of (λ c. refl) m.cores core
-        (opened (core_config m.config core) (geometry m.config)) refl)
+        (open_core m.config core) refl)
         (issued_now m.config m.opening (seen m) s.kept core);
     one_owner = one_owner;
     coherent = λ arranged is word. values_of word ∙ state.coherent arranged is word;

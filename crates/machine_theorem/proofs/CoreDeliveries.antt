@@ -1,5 +1,5 @@
 -- A delivery to a core keeps the invariant.
-use Rattle.std.proofs.Common.{◌≡◌, ◌≢◌, ℕ, ◌%◌, ◌<◌, true, false, List, ◌∷◌, length, Option, Some, None}
+use Rattle.std.proofs.Common.{◌≡◌, ◌≢◌, ℕ, ◌%◌, ◌<◌, true, false, List, ◌∷◌, Option, Some, None}
 use Rattle.std.proofs.Common.{refl, sym, ap, ◌∙◌, subst}
 use Rattle.std.specs.Ordering.{nat_cmp}
 use Rattle.std.specs.FinMap.{FinMap}
@@ -23,7 +23,7 @@ use Rattle.llc_bank.specs.BankTable.{core_of}
 use Rattle.machine_table.specs.declared.config.Config.{Config}
 use Rattle.machine_table.specs.Step.{reacted}
 use Rattle.protocol.specs.Machine as by_line
-use Rattle.protocol.specs.Machine.{Copy, Line, with_at, IsPinned, Answers, answer}
+use Rattle.protocol.specs.Machine.{Line, with_at, IsPinned, Answers, answer}
 use Rattle.machine_theorem.proofs.PastWords.{goes_on}
 use Rattle.machine_theorem.specs.States.{State}
 use Rattle.machine_theorem.specs.Moves.{with_core, with_answer}
@@ -32,8 +32,7 @@ use Rattle.machine_theorem.specs.View.{set_up, line_seen, view}
 use Rattle.machine_theorem.specs.Shape.{IsCore}
 use Rattle.machine_theorem.specs.Kept.{IsKept}
 use Rattle.machine_theorem.proofs.KeptSteps.{shape_with, Goes}
-use Rattle.machine_theorem.proofs.Lookups.{put_here, put_there, put_sets, change_here, change_there, change_sets}
-use Rattle.machine_theorem.proofs.Lookups.{drop_here, drop_there, drop_sets, messages_here, messages_there}
+use Rattle.machine_theorem.proofs.Lookups.{IsNow, put_now, change_now, drop_now, messages_here, messages_there}
 use Rattle.machine_theorem.proofs.Turns.{core_turn, core_move, bag_turn}
 use Rattle.machine_theorem.proofs.OnCopies.{CoreFits, core_fits}
 use Rattle.machine_theorem.proofs.Routes.{ownership_of}
@@ -43,13 +42,11 @@ use Rattle.machine_theorem.proofs.CoreMoves as moves
 -- what comes to a core has no sender
 came_to : (core : CoreState) (l from to : ℕ) (b : Body) → comes_to_core core l b ≡ true →
     body_seen from to b ≡ body_seen 0 to b
-came_to core l from to (body.ShRep y) has = refl
-came_to core l from to (body.ExRep y) has = refl
-came_to core l from to (body.RenewRep r) has = refl
-came_to core l from to (body.UpgradeRep r) has = refl
-came_to core l from to body.FlushReq has = refl
-came_to core l from to (body.WbReq r) has = refl
-came_to core l from to _ has = absurd (let z : false ≡ true = has in cc)
+came_to core l from to (body.ShReq pts v) has = absurd (let z : false ≡ true = has in cc)
+came_to core l from to (body.ExReq v) has = absurd (let z : false ≡ true = has in cc)
+came_to core l from to (body.FlushRep y) has = absurd (let z : false ≡ true = has in cc)
+came_to core l from to (body.WbRep y) has = absurd (let z : false ≡ true = has in cc)
+came_to core l from to _ has = refl
 
 -- the message comes first in the bag
 module _ (config : Config) (opening : FinMap nat_cmp ℕ) (before : State) (message : Message) (rest : List Message)
@@ -73,45 +70,35 @@ module _ (config : Config) (opening : FinMap nat_cmp ℕ) (before : State) (mess
   is = moves.is config opening a s c below
 
   -- a reply is taken, and with it a copy
-  replied : (kept : Sets LineCopy) (copy : LineCopy) → 0 < length kept.sets → copy_of kept l ≡ Some copy →
-      ((k : ℕ) → k ≢ l → copy_of kept k ≡ copy_of core.cache k) →
+  replied : (kept : Sets LineCopy) (copy : LineCopy) → IsNow (λ k. k) core.cache.sets kept.sets l (Some copy) →
       Answers c (line_seen config a l) (record (line_seen config a l) {
         copies = with_at (line_seen config a l).copies c (Some (copy_seen copy));
         messages = messages_of rest l;
       }) → IsKept config opening (with_answer (with_core a c (record core { is_out = false; cache = kept })) rest None)
-  replied kept copy some here there answers =
+  replied kept copy now answers =
       let y : Line = record (v.lines l) {
         copies = with_at ((v.lines l).copies) c (Some (copy_seen copy));
         messages = messages_of rest l;
       } in
       record {
-        shape = moves.shape config opening a s c below core.pts core.open_op false kept some
+        shape = moves.shape config opening a s c below core.pts core.open_op false kept now.some
             (λ p o q. absurd (let z : false ≡ true = q in cc)) rest a.records a.counts s.shape.each_message.1;
         reached = core_turn config opening a c (record core { is_out = false; cache = kept }) l y
             (record (core_seen core) { out = false }) rest a.records
             (ap (λ (o : Option LineCopy). record y { copies = with_at ((v.lines l).copies) c (copy_or_none o) })
-            (sym here)) refl (λ k ne. ap copy_or_none (there k ne)) others
+            (sym now.here)) refl (λ k ne. ap copy_or_none (now.there k ne)) others
             (goes_on s.reached (answer {m = v} c l y answers));
       }
 
-  kept_here : (old : LineCopy) → copy_of core.cache l ≡ Some old → (kept : Option LineCopy) →
-      copy_or_none (copy_of (kept_in core l kept) l) ≡ copy_or_none kept
-  kept_here old there None = ap copy_or_none (drop_here (λ k. k) core.cache.sets is.sets l)
-  kept_here old there (Some copy) = ap copy_or_none (change_here (λ k. k) core.cache.sets is.sets l copy old there)
+  kept_now : (old : LineCopy) → copy_of core.cache l ≡ Some old → (kept : Option LineCopy) →
+      IsNow (λ k. k) core.cache.sets (kept_in core l kept).sets l kept
+  kept_now old there None = drop_now (λ k. k) core.cache.sets is.sets l
+  kept_now old there (Some copy) = change_now (λ k. k) core.cache.sets is.sets l copy old there
 
-  kept_there : (kept : Option LineCopy) (k : ℕ) → k ≢ l → copy_or_none (copy_of (kept_in core l kept) k) ≡
-      copy_or_none (copy_of core.cache k)
-  kept_there None k ne = ap copy_or_none (drop_there (λ j. j) core.cache.sets is.sets l k ne)
-  kept_there (Some copy) k ne = ap copy_or_none (change_there (λ j. j) core.cache.sets is.sets l copy k ne)
-
-  kept_sets : (kept : Option LineCopy) → 0 < length (kept_in core l kept).sets
-  kept_sets None = drop_sets (λ k. k) core.cache.sets is.sets l
-  kept_sets (Some copy) = change_sets (λ k. k) core.cache.sets is.sets l copy
-
-  kept_room : (kept : Option LineCopy) (k : ℕ) → k ≢ l → place_for core.cache k ≡ true →
-      place_for (kept_in core l kept) k ≡ true
-  kept_room None k ne place = place-without core.cache is.sets l k ne place
-  kept_room (Some copy) k ne place = place-changed core.cache is.sets l k ne place copy
+  kept_room : (old : LineCopy) → copy_of core.cache l ≡ Some old → (kept : Option LineCopy) (k : ℕ) → k ≢ l →
+      place_for core.cache k ≡ true → place_for (kept_in core l kept) k ≡ true
+  kept_room old there None k ne place = place-without core.cache is.sets l k ne place
+  kept_room old there (Some copy) k ne place = place-changed core.cache is.sets l k ne place copy old there
 
   abbrev Fits : CoreReaction → Type 0
   Fits = CoreFits config.lease (IsPinned (set_up config opening) v.cores l) (v.mts (l % config.banks)) c
@@ -120,23 +107,21 @@ module _ (config : Config) (opening : FinMap nat_cmp ℕ) (before : State) (mess
   reaction_goes : (r : CoreReaction) → Fits r →
       Goes config opening a (with_core a c) rest (reacted (core_table.after_reaction core l r))
   reaction_goes (Arrives copy) fit =
-      let sets = core.cache.sets in
-      replied (with_used core.cache l copy) copy (put_sets (λ k. k) sets is.sets l copy)
-      (put_here (λ k. k) sets is.sets l copy) (put_there (λ j. j) sets is.sets l copy) fit
+      replied (with_used core.cache l copy) copy (put_now (λ k. k) core.cache.sets is.sets l copy) fit
   reaction_goes (Grants copy) fit =
-      let sets = core.cache.sets in
-      replied (with_changed core.cache l copy) copy (change_sets (λ k. k) sets is.sets l copy)
-      (change_here (λ k. k) sets is.sets l copy fit.0.0 fit.0.1) (change_there (λ j. j) sets is.sets l copy) fit.1
+      replied (with_changed core.cache l copy) copy
+      (change_now (λ k. k) core.cache.sets is.sets l copy fit.0.0 fit.0.1) fit.1
   reaction_goes (Returns kept sent) fit =
       let back = to_bank core l sent in
       let new : CoreState = record core { cache = kept_in core l kept } in
+      let now = kept_now fit.0.0 fit.0.1 kept in
       record {
         shape = moves.shape config opening a s c below core.pts core.open_op core.is_out (kept_in core l kept)
-            (kept_sets kept) (λ p o q. kept_room kept (core_table.line_of core p)
+            now.some (λ p o q. kept_room fit.0.0 fit.0.1 kept (core_table.line_of core p)
             (moves.off_line config opening a s c below l fit.1 p o) (is.room p o q)) (back ∷ rest) a.records
             (counted a.counts sent) (moves.home config opening a s c below l sent fit.2, s.shape.each_message.1);
         reached = core_move config opening a c new l (copy_or_none kept) (body_seen c 0 sent ∷ messages_of rest l)
-            (back ∷ rest) refl (sym (kept_here fit.0.0 fit.0.1 kept)) (kept_there kept)
+            (back ∷ rest) refl (sym (ap copy_or_none now.here)) (λ k ne. ap copy_or_none (now.there k ne))
             (moves.sent config opening a s c below l sent rest)
             (λ k ne. others k ne ∙ messages_there back rest k ne) fit.3 s.reached;
       }

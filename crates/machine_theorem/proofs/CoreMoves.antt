@@ -47,8 +47,7 @@ use Rattle.machine_theorem.specs.View.{line_seen, view}
 use Rattle.machine_theorem.specs.Shape.{IsCore, GoesHome, HasShape}
 use Rattle.machine_theorem.specs.Kept.{IsKept}
 use Rattle.machine_theorem.proofs.KeptSteps.{Goes, Tries}
-use Rattle.machine_theorem.proofs.Lookups.{put_here, put_there, put_sets, drop_here, drop_there, drop_sets}
-use Rattle.machine_theorem.proofs.Lookups.{messages_here, messages_there}
+use Rattle.machine_theorem.proofs.Lookups.{IsNow, put_now, drop_now, messages_here, messages_there}
 use Rattle.machine_theorem.proofs.Turns.{line_same, Moves, core_turn, core_alone, core_move}
 use Rattle.machine_theorem.proofs.Routes.{GoesUp, core_and_bank}
 use Rattle.machine_theorem.proofs.Rooms.{place-without, place-there}
@@ -269,20 +268,19 @@ module _ (config : Config) (opening : FinMap nat_cmp ℕ) (a : State) (s : IsKep
         record core { pts = ts; open_op = None; is_out = false; cache = with_used core.cache l used } in
         let y : Line = record (v.lines l) { copies = with_at ((v.lines l).copies) c (Some (copy_seen used)) } in
         let rs = a.records ++ record_of c (length a.records) core op (received_at i op copy) ts ∷ [] in
+        let now = put_now (λ k. k) core.cache.sets is.sets l used in
         let uses : Uses f core.pts (copy_seen copy) op (received_at i op copy) ts (copy_seen used) =
         subst (λ (k : ℕ). Uses f core.pts (copy_seen copy) op (received_at (address op % k) op copy) ts
         (copy_seen (copy_after (address op % k) ts op copy))) (sym is.line_words)
         (serves_uses f core.pts copy op ts can (subst (λ (b : Bool). time_of b core.pts op copy ≡ Some ts)
         is.private_write t)) in
         record {
-          shape = shape ts None false (with_used core.cache l used)
-              (put_sets (λ k. k) core.cache.sets is.sets l used)
+          shape = shape ts None false (with_used core.cache l used) now.some
               (λ p o q. absurd (let z : ◌≡◌ {A = Option Op} None (Some p) = o in cc)) a.bag rs a.counts
               s.shape.each_message;
           reached = core_turn config opening a c new l y (core_seen new) a.bag rs
               (ap (λ (o : Option Copy). record (v.lines l) { copies = with_at ((v.lines l).copies) c o })
-              (sym (ap copy_or_none (put_here (λ k. k) core.cache.sets is.sets l used)))) refl
-              (λ k ne. ap copy_or_none (put_there (λ j. j) core.cache.sets is.sets l used k ne)) (λ k ne. refl)
+              (sym (ap copy_or_none now.here))) refl (λ k ne. ap copy_or_none (now.there k ne)) (λ k ne. refl)
               (complete_at f v c l (core.issued - 1) op (copy_seen copy) (copy_seen used) (received_at i op copy) ts
               on count opens (quiet copy there can) (ap copy_or_none there) uses s.reached);
         }
@@ -372,12 +370,14 @@ module _ (config : Config) (opening : FinMap nat_cmp ℕ) (a : State) (s : IsKep
       new : CoreState
       new = record core { cache = without_copy core.cache l }
 
+      now : IsNow (λ k. k) core.cache.sets (without_copy core.cache l).sets l None
+      now = drop_now (λ k. k) core.cache.sets is.sets l
+
       gone : is_pinned (pinned_line core) l ≡ false → (bag : List Message) (counts : Counts) →
           Each (GoesHome config) bag →
           HasShape config opening (record a { cores = with_at a.cores c new; bag = bag; counts = counts })
       gone off bag counts =
-          shape core.pts core.open_op core.is_out (without_copy core.cache l)
-          (drop_sets (λ k. k) core.cache.sets is.sets l)
+          shape core.pts core.open_op core.is_out (without_copy core.cache l) now.some
           (λ p o q. place-without core.cache is.sets l (core_table.line_of core p) (off_line l off p o)
           (is.room p o q)) bag a.records counts
 
@@ -389,9 +389,8 @@ module _ (config : Config) (opening : FinMap nat_cmp ℕ) (a : State) (s : IsKep
             messages = front;
           }) → IsReached f (view config (record a { cores = with_at a.cores c new; bag = bag }))
       left front bag front_is others move =
-          core_move config opening a c new l None front bag refl
-          (sym (ap copy_or_none (drop_here (λ k. k) core.cache.sets is.sets l)))
-          (λ k ne. ap copy_or_none (drop_there (λ j. j) core.cache.sets is.sets l k ne)) front_is others move s.reached
+          core_move config opening a c new l None front bag refl (sym (ap copy_or_none now.here))
+          (λ k ne. ap copy_or_none (now.there k ne)) front_is others move s.reached
 
       by_state : is_pinned (pinned_line core) l ≡ false → (b : Bool) → is_exclusive copy.state ≡ b →
           Goes config opening a (with_core a c) a.bag (step.copy_evicted (

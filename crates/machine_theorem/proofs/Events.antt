@@ -5,22 +5,21 @@ use Rattle.std.specs.FinMap.{FinMap}
 use Rattle.machine_table.specs.declared.config.Config.{Config}
 use Rattle.machine_table.specs.declared.event.Event.{Event}
 use Rattle.machine_table.specs.declared.event.Answer.{Answer}
-use Rattle.machine_table.specs.declared.event.Answer.TheVariants.{Waiting, Idle}
-use Rattle.machine_table.specs.declared.event.Answer.TheVariants.{Held}
-use Rattle.machine_table.specs.declared.event.Answer.TheVariants.{Refused}
+use Rattle.machine_table.specs.declared.event.Answer.TheVariants.{Waiting, Idle, Held, Refused}
 use Rattle.machine_table.specs.Machine.{Machine}
 use Rattle.machine_table.specs.SetUp.{is_good}
 use Rattle.machine_table.specs.Opening.{at_start}
 use Rattle.machine_table.specs.Transition.{transition, on_event}
 use Rattle.machine_table.specs.Runs.{after_all}
+use Rattle.machine_table.proofs.Lemmas.{Outcome, outcome, transition_outcome}
 use Rattle.machine_theorem.specs.States.{Same, seen}
 use Rattle.machine_theorem.specs.Effects.{IsMove, Effect}
 use Rattle.machine_theorem.specs.Kept.{IsKept, Invariant}
-use Rattle.machine_theorem.proofs.EventMoves.{event_goes, transition_goes}
+use Rattle.machine_theorem.proofs.EventMoves.{goes}
 use Rattle.machine_theorem.proofs.KeptMoves.{move_kept}
 use Rattle.machine_theorem.proofs.KeptSteps.{kept_same}
 use Rattle.machine_theorem.proofs.Openings.{fair, at_start_invariant}
-use Rattle.machine_theorem.proofs.SetUps.{HasAsMany, on_event_same, as_many_parts}
+use Rattle.machine_theorem.proofs.SetUps.{HasAsMany, as_many_parts}
 
 -- what is done at a move, and where nothing of the state changes
 pub of_effect : (X : Type 0) (m : Machine) (answer : Answer) (after : Machine) → Effect m answer after →
@@ -48,13 +47,14 @@ effect_kept m s answer after effect many =
           (subst (λ (o : FinMap nat_cmp ℕ). IsKept m.config o (seen after)) (sym many.opening) kept);
     }
 
+outcome_kept : (m : Machine) → Invariant m → (event : Event) (o : Answer × Machine) → Outcome m event o → Invariant o.1
+outcome_kept m s event o is = effect_kept m s o.0 o.1 (goes m s event o is) (as_many_parts m event o is)
+
 pub any_event : (m : Machine) → Invariant m → (event : Event) → Invariant (on_event m event).1
-any_event m s event =
-    effect_kept m s (on_event m event).0 (on_event m event).1 (event_goes m s event) (on_event_same m event)
+any_event m s event = outcome_kept m s event _ (outcome m event)
 
 pub any_transition : (m : Machine) → Invariant m → (event : Event) → Invariant (transition m event).1
-any_transition m s event =
-    effect_kept m s (transition m event).0 (transition m event).1 (transition_goes m s event) (as_many_parts m event)
+any_transition m s event = outcome_kept m s event _ (transition_outcome m event)
 
 pub any_events : (m : Machine) → Invariant m → (events : List Event) → Invariant (after_all m events)
 any_events m s [] = s

@@ -17,16 +17,16 @@ use Rattle.network.specs.Routes.{has_route}
 use Rattle.private_cache.specs.declared.line_copy.LineCopy.{LineCopy}
 use Rattle.private_cache.specs.CopyTable.{copy_of, place_for}
 use Rattle.core_pts.specs.CoreTable as core_table
-use Rattle.core_pts.specs.CoreTable.{CoreState, opened, line_of_open, is_pinned, waits_for, is_shared_copy}
+use Rattle.core_pts.specs.CoreTable.{CoreState, line_of_open, is_pinned, waits_for, is_shared_copy}
 use Rattle.core_pts.specs.CoreTable.{is_this_core, comes_to_core, core_has_case}
 use Rattle.llc_bank.specs.declared.entry.Entry.{Entry}
 use Rattle.llc_bank.specs.declared.entry.Entry.TheVariants as entry
-use Rattle.llc_bank.specs.BankTable.{BankState, empty_bank, core_of, entry_of, is_core, is_owned, is_loading}
-use Rattle.llc_bank.specs.BankTable.{is_storing, is_this_bank, comes_to_bank}
-use Rattle.dram_mts.specs.Table.{is_dram, comes_to_dram}
+use Rattle.llc_bank.specs.BankTable.{BankState, core_of, entry_of, is_core, is_owned, is_loading}
+use Rattle.llc_bank.specs.BankTable.{is_storing, is_this_bank, comes_to_bank, bank_has_case}
+use Rattle.dram_mts.specs.Table.{is_dram, comes_to_dram, dram_has_case}
 use Rattle.machine_table.specs.declared.config.Config.{Config}
 use Rattle.machine_table.specs.Machine.{Machine}
-use Rattle.machine_table.specs.Opening.{core_config, bank_config, geometry, dram_of}
+use Rattle.machine_table.specs.Opening.{dram_of, open_bank, open_core}
 use Rattle.protocol.specs.Machine as by_line
 use Rattle.protocol.specs.Machine.{WaitsFor, IsShared, IsGranted, HasCase}
 use Rattle.protocol.proofs.Lemmas.{messages_have_cases}
@@ -38,7 +38,7 @@ use Rattle.machine_theorem.specs.View.{messages_of, set_up, line_seen, view}
 use Rattle.machine_theorem.specs.Shape.{IsHome, IsCore, GoesHome}
 use Rattle.machine_theorem.specs.Kept.{IsKept, Invariant}
 use Rattle.machine_theorem.proofs.Lookups.{messages_here}
-use Rattle.machine_theorem.specs.Cases.{core_case, bank_case, dram_takes, has_case_at, has_case}
+use Rattle.machine_theorem.specs.Cases.{takes, has_case_at, has_case}
 use Rattle.machine_theorem.proofs.Routes.{both, up_ends, back_ends}
 
 is_granted : (e : Option Entry) → IsGranted (entry_seen e) → is_owned e ≡ true
@@ -201,15 +201,13 @@ pub messages_find_cases : (m : Machine) → Invariant m → Each (λ x. has_case
 messages_find_cases m s = each m.mail.messages (bag_finds m.config m.opening (seen m) s.kept)
   where
     case_at : (x : Message) (to : Node) → FindsCase m.config (seen m) x to → has_case_at m x to ≡ true
-    case_at x (node.Core c) k = subst (λ (o : Option CoreState). core_case o x ≡ true)
-        (sym (slice_get-get_or m.cores c (opened (core_config m.config c) (geometry m.config))
-        (let n = s.core_count in let lt = k.0 in omega arith))) k.1
-    case_at x (node.Bank b) k = subst (λ (o : Option BankState). bank_case o x ≡ true)
-        (sym (slice_get-get_or m.banks b (empty_bank (bank_config m.config b))
-        (let n = s.bank_count in let lt = k.0 in omega arith))) k.1
-    case_at x (node.Dram b) k = subst (λ (o : Option (FinMap nat_cmp (List ℕ))). dram_takes o x ≡ true)
-        (sym (slice_get-get_or m.drams b (dram_of m.config b (entries m.opening))
-        (let n = s.dram_count in let lt = k.0 in omega arith))) k.1
+    case_at x (node.Core c) k = ap (λ o. takes core_has_case o x) (slice_get-get_or m.cores c (open_core m.config c)
+        (let n = s.core_count in let lt = k.0 in omega arith)) ∙ k.1
+    case_at x (node.Bank b) k = ap (λ o. takes bank_has_case o x) (slice_get-get_or m.banks b (open_bank m.config b)
+        (let n = s.bank_count in let lt = k.0 in omega arith)) ∙ k.1
+    case_at x (node.Dram b) k = ap (λ o. takes dram_has_case o x)
+        (slice_get-get_or m.drams b (dram_of m.config b (entries m.opening))
+        (let n = s.dram_count in let lt = k.0 in omega arith)) ∙ k.1
 
     each : (ms : List (ℕ × Message)) → Each (FindsPart m.config (seen m)) (bag_of ms) →
         Each (λ x. has_case m x.1 ≡ true) ms

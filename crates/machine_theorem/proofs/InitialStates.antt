@@ -2,10 +2,8 @@
 use Rattle.std.proofs.Common.{◌≡◌, ℕ, zero, suc, ◌+◌, List, [], ◌∷◌, get_or, replicate, refl, sym, ap, ◌∙◌, arith}
 use Rattle.std.specs.Ordering.{nat_cmp}
 use Rattle.std.specs.FinMap.{FinMap, entries}
-use Rattle.core_pts.specs.CoreTable.{opened}
-use Rattle.llc_bank.specs.BankTable.{empty_bank}
 use Rattle.machine_table.specs.declared.config.Config.{Config}
-use Rattle.machine_table.specs.Opening.{core_config, bank_config, geometry, dram_of, cores_from, banks_from}
+use Rattle.machine_table.specs.Opening.{dram_of, cores_from, banks_from, open_bank, open_core}
 use Rattle.machine_table.specs.Opening.{drams_from, at_start}
 use Rattle.machine_theorem.specs.States.{Same, seen, initial_state}
 use Rattle.machine_theorem.proofs.ByParts.{same_by}
@@ -36,9 +34,8 @@ pub opening_same : (config : Config) (opening : FinMap nat_cmp ℕ) →
     Same (initial_state config opening) (seen (at_start config opening))
 opening_same config opening =
     same_by
-    (parts_at (λ c. opened (core_config config c) (geometry config)) (cores_from config) (λ k. refl) (λ k n. refl)
-    config.cores)
-    (parts_at (λ b. empty_bank (bank_config config b)) (banks_from config) (λ k. refl) (λ k n. refl) config.banks)
+    (parts_at (open_core config) (cores_from config) (λ k. refl) (λ k n. refl) config.cores)
+    (parts_at (open_bank config) (banks_from config) (λ k. refl) (λ k n. refl) config.banks)
     (parts_at (λ b. dram_of config b (entries opening)) (drams_from config (entries opening)) (λ k. refl)
     (λ k n. refl) config.banks)
     (λ h. refl) (none_issued config.cores) refl refl

@@ -18,7 +18,7 @@ use Rattle.llc_bank.specs.BankTable.{core_of, entry_of, bank_has_case, after_evi
 use Rattle.dram_mts.specs.Table.{dram_has_case}
 use Rattle.machine_table.specs.declared.config.Config.{Config}
 use Rattle.machine_table.specs.Step as step
-use Rattle.machine_table.specs.Step.{Tried, Act, message_of, core_step, bank_step, dram_step}
+use Rattle.machine_table.specs.Step.{Act, message_of, core_step, bank_step, dram_step}
 use Rattle.machine_theorem.specs.Bags.{SameBag}
 use Rattle.machine_theorem.specs.States.{State}
 use Rattle.machine_theorem.specs.Moves.{AreBeside, with_core, with_bank, with_dram, Move, issues, completes}

@@ -44,6 +44,12 @@ module _ {X : Type 0} (home : ℕ → ℕ) where
   abbrev pub found : List (List (ℕ × X)) → ℕ → Option X
   found sets line = look sets (home line % length sets) line
 
+  -- what there is of a line is now this, and what there is of the others stays
+  pub record IsNow (sets new : List (List (ℕ × X))) (line : ℕ) (o : Option X) : Type 0 where
+    pub some : 0 < length new
+    pub here : found new line ≡ o
+    pub there : (k : ℕ) → k ≢ line → found new k ≡ found sets k
+
   module _ (sets : List (List (ℕ × X))) (some : 0 < length sets) (line : ℕ) where
     abbrev pub set_of : ℕ
     set_of = home line % length sets
@@ -51,38 +57,26 @@ module _ {X : Type 0} (home : ℕ → ℕ) where
     within : set_of < length sets
     within = mod-lt (home line) some
 
-    pub put_here : (x : X) → found (put sets set_of line x) line ≡ Some x
-    put_here x = ap (λ (n : ℕ). look (put sets set_of line x) (home line % n) line) (length-put sets set_of line x)
-        ∙ look-put_same sets set_of line x within
+    is_now : (new : List (List (ℕ × X))) (o : Option X) → length new ≡ length sets → look new set_of line ≡ o →
+        ((i k : ℕ) → k ≢ line → look new i k ≡ look sets i k) → IsNow sets new line o
+    is_now new o long here there = record {
+      some = subst (λ (n : ℕ). 0 < n) (sym long) some;
+      here = ap (λ (n : ℕ). look new (home line % n) line) long ∙ here;
+      there = λ k ne. there (home k % length new) k ne ∙ ap (λ (n : ℕ). look sets (home k % n) k) long;
+    }
 
-    pub put_there : (x : X) (k : ℕ) → k ≢ line → found (put sets set_of line x) k ≡ found sets k
-    put_there x k ne = look-put_other sets set_of line (home k % length (put sets set_of line x)) k x within ne
-        ∙ ap (λ (n : ℕ). look sets (home k % n) k) (length-put sets set_of line x)
+    pub put_now : (x : X) → IsNow sets (put sets set_of line x) line (Some x)
+    put_now x = is_now _ _ (length-put sets set_of line x) (look-put_same sets set_of line x within)
+        (λ i k ne. look-put_other sets set_of line i k x within ne)
 
-    pub change_here : (x y : X) → found sets line ≡ Some y → found (put_within sets set_of line x) line ≡ Some x
-    change_here x y there = ap (λ (n : ℕ). look (put_within sets set_of line x) (home line % n) line)
-        (length-put_within sets set_of line x) ∙ look-put_within_same sets set_of line x within (ap is_some there)
+    pub change_now : (x y : X) → found sets line ≡ Some y → IsNow sets (put_within sets set_of line x) line (Some x)
+    change_now x y there = is_now _ _ (length-put_within sets set_of line x)
+        (look-put_within_same sets set_of line x within (ap is_some there))
+        (λ i k ne. look-put_within_other sets set_of line i k x within ne)
 
-    pub change_there : (x : X) (k : ℕ) → k ≢ line → found (put_within sets set_of line x) k ≡ found sets k
-    change_there x k ne = look-put_within_other sets set_of line (home k % length (put_within sets set_of line x)) k x
-        within ne ∙ ap (λ (n : ℕ). look sets (home k % n) k) (length-put_within sets set_of line x)
-
-    pub drop_here : found (drop_line sets set_of line) line ≡ None
-    drop_here = ap (λ (n : ℕ). look (drop_line sets set_of line) (home line % n) line)
-        (length-drop_line sets set_of line) ∙ look-drop_line_same sets set_of line within
-
-    pub drop_there : (k : ℕ) → k ≢ line → found (drop_line sets set_of line) k ≡ found sets k
-    drop_there k ne = look-drop_line_other sets set_of line (home k % length (drop_line sets set_of line)) k within ne
-        ∙ ap (λ (n : ℕ). look sets (home k % n) k) (length-drop_line sets set_of line)
-
-    pub put_sets : (x : X) → 0 < length (put sets set_of line x)
-    put_sets x = subst (λ (n : ℕ). 0 < n) (sym (length-put sets set_of line x)) some
-
-    pub change_sets : (x : X) → 0 < length (put_within sets set_of line x)
-    change_sets x = subst (λ (n : ℕ). 0 < n) (sym (length-put_within sets set_of line x)) some
-
-    pub drop_sets : 0 < length (drop_line sets set_of line)
-    drop_sets = subst (λ (n : ℕ). 0 < n) (sym (length-drop_line sets set_of line)) some
+    pub drop_now : IsNow sets (drop_line sets set_of line) line None
+    drop_now = is_now _ _ (length-drop_line sets set_of line) (look-drop_line_same sets set_of line within)
+        (λ i k ne. look-drop_line_other sets set_of line i k within ne)
 
 -- the messages of a line, after one more
 pub messages_here : (q : Message) (bag : List Message) →

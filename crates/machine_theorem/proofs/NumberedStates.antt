@@ -3,10 +3,9 @@ use Rattle.std.proofs.Common.{ℕ, [], refl, sym}
 use Rattle.std.specs.Ordering.{nat_cmp}
 use Rattle.std.specs.FinMap.{FinMap, entries}
 use Rattle.core_pts.specs.CoreTable.{opened}
-use Rattle.llc_bank.specs.BankTable.{empty_bank}
 use Rattle.machine_table.specs.declared.config.Config.{Config}
 use Rattle.machine_table.specs.Machine.{Machine}
-use Rattle.machine_table.specs.Opening.{core_config, bank_config, geometry, dram_of}
+use Rattle.machine_table.specs.Opening.{dram_of, open_bank, open_core}
 use Rattle.machine_theorem.specs.States.{State, Same, seen, numbered}
 use Rattle.machine_theorem.specs.Events.{Shows}
 use Rattle.machine_theorem.specs.Kept.{IsKept, Invariant}
@@ -21,8 +20,8 @@ module _ (config : Config) (opening : FinMap nat_cmp ℕ) (a : State) (s : IsKep
 
   pub numbered_same : Same a (seen m)
   numbered_same = same_by
-      (first_listed a.cores (λ c. opened (core_config config c) (geometry config)) config.cores s.shape.cores_beyond)
-      (first_listed a.banks (λ b. empty_bank (bank_config config b)) config.banks s.shape.banks_beyond)
+      (first_listed a.cores (open_core config) config.cores s.shape.cores_beyond)
+      (first_listed a.banks (open_bank config) config.banks s.shape.banks_beyond)
       (first_listed a.drams (λ b. dram_of config b (entries opening)) config.banks s.shape.drams_beyond)
       (λ h. sym (kept_bag 0 a.bag h)) (first_listed a.issued (λ c. []) config.cores s.shape.lists_beyond) refl
       refl

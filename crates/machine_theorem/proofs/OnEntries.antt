@@ -19,7 +19,6 @@ use Rattle.llc_bank.specs.BankTable.{after_decision, comes_to_bank, is_owned, is
 use Rattle.protocol.specs.Machine.{Message, Absent, Loading, Shared, Recalling, ShReq, ExReq, DramLd, DramLdRep}
 use Rattle.protocol.specs.Machine.{DramStRep, Line, LineTransition, load_starts, renewed, leased, upgraded, granted}
 use Rattle.protocol.specs.Machine.{wb_starts, flush_starts, flush_returns, wb_returns, loaded, stored}
-use Rattle.network.specs.Routes.{is_core_to_bank, has_route}
 use Rattle.machine_theorem.proofs.Routes.{GoesDown}
 use Rattle.machine_theorem.specs.View.{timed, entry_seen, body_seen}
 
@@ -29,10 +28,16 @@ IsFor c (entry.Exclusive owner) = owner ≡ c
 IsFor c (entry.Recalling owner) = owner ≡ c
 IsFor c _ = Unit {0}
 
+-- what is known of requests
+abbrev pub AtRequest : Type 0 → Body → Type 0
+AtRequest Known (body.ShReq pts version) = Known
+AtRequest Known (body.ExReq version) = Known
+AtRequest Known _ = Unit {0}
+
 -- whatever holds after each move that a bank may decide on, holds after its table: rest are the messages of the line
 -- but the delivered one, c the core that this is from
 module _ (lease : ℕ) (pinned : ℕ → Type 0) (t : ℕ) (x : Line) (rest : List Message) (c : ℕ) (bank : BankState)
-    (m : network.Message) (cores banks : ℕ) (P : Option (Reaction × BankState) → Type 0)
+    (m : network.Message) (Up : Type 0) (P : Option (Reaction × BankState) → Type 0)
     (seen : x.entry ≡ entry_seen (entry_of bank m.line))
     (waits : P (Some (Held, bank)))
     (late : P None)
@@ -45,7 +50,7 @@ module _ (lease : ℕ) (pinned : ℕ → Type 0) (t : ℕ) (x : Line) (rest : Li
           body_seen 0 owner sent ∷ x.messages;
     }) →
     P (Some (HeldAfter (from_bank bank m.line (Core owner) sent), with_changed bank m.line (entry.Recalling owner))))
-    (grants : (e : Entry) (sent : Body) → GoesDown sent → IsFor c e → is_core_to_bank cores banks m.from m.to ≡ true →
+    (grants : (e : Entry) (sent : Body) → GoesDown sent → IsFor c e → Up →
     LineTransition lease pinned t x t (record x {
       entry = entry_seen (Some e);
       messages =
@@ -67,9 +72,8 @@ module _ (lease : ℕ) (pinned : ℕ → Type 0) (t : ℕ) (x : Line) (rest : Li
     load_goes false absent = waits
 
     -- a reader of a line is given a lease
-    lease_goes : (pts : ℕ) (version : Option ℕ) (dirty : Bool) (line : TimedLine) → is_core_to_bank cores banks m.from
-        m.to ≡ true → x.entry ≡ Shared dirty (timed line) → IsPermutation x.messages (ShReq c pts version ∷ rest) →
-        (b : Bool) → is_version line.wts version ≡ b →
+    lease_goes : (pts : ℕ) (version : Option ℕ) (dirty : Bool) (line : TimedLine) → Up →
+        x.entry ≡ Shared dirty (timed line) → IsPermutation x.messages (ShReq c pts version ∷ rest) → (b : Bool) → is_version line.wts version ≡ b →
         P (after_decision bank m
         (on_entry.leased dirty line (Some (max (max line.rts (line.wts + lease)) (pts + lease), b))))
     lease_goes pts None dirty line up at p true v = absurd (let z : false ≡ true = v in cc)
@@ -79,9 +83,8 @@ module _ (lease : ℕ) (pinned : ℕ → Type 0) (t : ℕ) (x : Line) (rest : Li
     lease_goes pts version dirty line up at p false v =
         grants _ _ (λ cs bs f g. refl) tt up (leased c pts version dirty (timed line) rest at p)
 
-    leases_go : (pts : ℕ) (version : Option ℕ) (dirty : Bool) (line : TimedLine) → is_core_to_bank cores banks m.from
-        m.to ≡ true → x.entry ≡ Shared dirty (timed line) → IsPermutation x.messages (ShReq c pts version ∷ rest) →
-        (b : Bool) →
+    leases_go : (pts : ℕ) (version : Option ℕ) (dirty : Bool) (line : TimedLine) → Up →
+        x.entry ≡ Shared dirty (timed line) → IsPermutation x.messages (ShReq c pts version ∷ rest) → (b : Bool) →
         P (after_decision bank m
         (on_entry.leased dirty line
         (cond b (Some (max (max line.rts (line.wts + lease)) (pts + lease), is_version line.wts version)) None)))
@@ -94,17 +97,16 @@ module _ (lease : ℕ) (pinned : ℕ → Type 0) (t : ℕ) (x : Line) (rest : Li
     back_goes owner pts at true = recalls owner _ (λ cs bs f g. refl) at (wb_starts owner (pts + lease) (is _ at))
     back_goes owner pts at false = late
 
-    shared_goes : (room : Bool) (pts : ℕ) (v : Option ℕ) (e : Option Entry) → is_core_to_bank cores banks m.from
-        m.to ≡ true → entry_of bank m.line ≡ e → IsPermutation x.messages (ShReq c pts v ∷ rest) →
+    shared_goes : (room : Bool) (pts : ℕ) (v : Option ℕ) (e : Option Entry) → Up →
+        entry_of bank m.line ≡ e → IsPermutation x.messages (ShReq c pts v ∷ rest) →
         P (after_decision bank m (on_entry.shared_request lease room pts v e))
     shared_goes room pts v None up at p = load_goes room (is _ at)
-    shared_goes room pts v (Some entry.Loading) up at p = waits
     shared_goes room pts v (Some (entry.Shared dirty line)) up at p =
         leases_go pts v dirty line up (is _ at) p (fits (line.wts + lease) && fits (pts + lease))
     shared_goes room pts v (Some (entry.Exclusive o)) up at p = back_goes o pts at (fits (pts + lease))
     shared_goes room pts v _ up at p = waits
 
-    grant_goes : (v : Option ℕ) (dirty : Bool) (line : TimedLine) → is_core_to_bank cores banks m.from m.to ≡ true →
+    grant_goes : (v : Option ℕ) (dirty : Bool) (line : TimedLine) → Up →
         x.entry ≡ Shared dirty (timed line) → IsPermutation x.messages (ExReq c v ∷ rest) →
         (b : Bool) → is_version line.wts v ≡ b →
         P (Some (
@@ -118,17 +120,15 @@ module _ (lease : ℕ) (pinned : ℕ → Type 0) (t : ℕ) (x : Line) (rest : Li
     grant_goes version dirty line up at p false v =
         grants _ _ (λ cs bs f g. refl) refl up (granted c version dirty (timed line) rest at p)
 
-    exclusive_goes : (room : Bool) (v : Option ℕ) (e : Option Entry) → is_core_to_bank cores banks m.from m.to ≡
-        true → entry_of bank m.line ≡ e → IsPermutation x.messages (ExReq c v ∷ rest) →
+    exclusive_goes : (room : Bool) (v : Option ℕ) (e : Option Entry) → Up →
+        entry_of bank m.line ≡ e → IsPermutation x.messages (ExReq c v ∷ rest) →
         P (after_decision bank m (on_entry.exclusive_request room c v e))
     exclusive_goes room v None up at p = load_goes room (is _ at)
-    exclusive_goes room v (Some entry.Loading) up at p = waits
     exclusive_goes room v (Some (entry.Shared dirty line)) up at p =
         grant_goes v dirty line up (is _ at) p (is_version line.wts v) refl
     exclusive_goes room v (Some (entry.Exclusive o)) up at p =
         recalls o _ (λ cs bs f g. refl) at (flush_starts o (is _ at))
-    exclusive_goes room v (Some (entry.Recalling o)) up at p = waits
-    exclusive_goes room v (Some entry.Storing) up at p = waits
+    exclusive_goes room v _ up at p = waits
 
     returns_go : (line : TimedLine) (e : Option Entry) → entry_of bank m.line ≡ e → is_owned e ≡ true →
         LineTransition lease pinned t x t (record x { entry = Shared true (timed line); messages = rest }) →
@@ -148,7 +148,7 @@ module _ (lease : ℕ) (pinned : ℕ → Type 0) (t : ℕ) (x : Line) (rest : Li
     stored_goes _ h p = absurd (let z : false ≡ true = h in cc)
 
     pub bank_goes : (room : Bool) (b : Body) → comes_to_bank m.from (entry_of bank m.line) b ≡ true →
-        has_route cores banks m.from m.to b ≡ true → IsPermutation x.messages (body_seen c 0 b ∷ rest) →
+        AtRequest Up b → IsPermutation x.messages (body_seen c 0 b ∷ rest) →
         P (after_decision bank m (on_entry.at_bank lease t room c (entry_of bank m.line) b))
     bank_goes room (body.ShReq pts v) has up p = shared_goes room pts v _ up refl p
     bank_goes room (body.ExReq v) has up p = exclusive_goes room v _ up refl p

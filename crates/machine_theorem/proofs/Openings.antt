@@ -1,5 +1,5 @@
 -- The invariant holds of the initial state and of a machine as it opens.
-use Rattle.std.proofs.Common.{◌≡◌, ℕ, zero, suc, ◌+◌, ◌/◌, ◌%◌, ◌<◌, ◌≤◌, Bool, true, false, ◌&&◌, ◌||◌, eqb, leb}
+use Rattle.std.proofs.Common.{◌≡◌, ℕ, ◌/◌, ◌%◌, ◌<◌, ◌≤◌, Bool, true, false, ◌&&◌, ◌||◌, eqb, leb}
 use Rattle.std.proofs.Common.{List, [], length, replicate, Option, Some, None, refl, sym, ap, ◌∙◌, subst}
 use Rattle.std.proofs.Common.{arith}
 use Rattle.std.specs.Prelude.{unwrap_or}
@@ -11,11 +11,12 @@ use Rattle.line_sets.specs.Order.{find}
 use Rattle.dram_mts.specs.Lines.{words_of}
 use Rattle.core_pts.specs.CoreTable.{opened}
 use Rattle.llc_bank.specs.declared.entry.Entry.{Entry}
-use Rattle.llc_bank.specs.BankTable.{empty_bank, entry_of}
+use Rattle.llc_bank.specs.BankTable.{entry_of}
 use Rattle.machine_table.specs.declared.config.Config.{Config}
 use Rattle.machine_table.specs.SetUp.{is_within, is_good}
-use Rattle.machine_table.specs.Opening.{core_config, geometry, bank_config, cores_from, banks_from, dram_of}
-use Rattle.machine_table.specs.Opening.{drams_from, at_start}
+use Rattle.machine_table.specs.Opening.{dram_of, open_bank, open_core}
+use Rattle.machine_table.specs.Opening.{at_start}
+use Rattle.machine_table.proofs.Lemmas.{cores_many, banks_many, drams_many}
 use Rattle.protocol.specs.Machine as by_line
 use Rattle.protocol.specs.Machine.{OpensWith, at_first}
 use Rattle.machine_theorem.specs.PastWords.{IsReached}
@@ -73,22 +74,10 @@ fair c good =
         (left_of a b n, ownership_of a b n, ownership_of (a && b) d l, ownership_of (a && b && d) e k)
 
 module _ (c : Config) where
-  length-cores_from : (number n : ℕ) → length (cores_from c number n) ≡ n
-  length-cores_from number zero = refl
-  length-cores_from number (suc n) = ap suc (length-cores_from (number + 1) n)
-
-  length-banks_from : (number n : ℕ) → length (banks_from c number n) ≡ n
-  length-banks_from number zero = refl
-  length-banks_from number (suc n) = ap suc (length-banks_from (number + 1) n)
-
-  length-drams_from : (es : List (ℕ × ℕ)) (number n : ℕ) → length (drams_from c es number n) ≡ n
-  length-drams_from es number zero = refl
-  length-drams_from es number (suc n) = ap suc (length-drams_from es (number + 1) n)
-
-  pub no_copy : (i l : ℕ) → copy_in (opened (core_config c i) (geometry c)) l ≡ None
+  pub no_copy : (i l : ℕ) → copy_in (open_core c i) l ≡ None
   no_copy i l = ap (λ ps. copy_or_none (find ps l)) (get_replicate c.sets (l % length (replicate c.sets [])) [])
 
-  pub no_entry : (i l : ℕ) → entry_of (empty_bank (bank_config c i)) l ≡ None
+  pub no_entry : (i l : ℕ) → entry_of (open_bank c i) l ≡ None
   no_entry i l =
       ap (λ ps. find ps l) (get_replicate c.bank_sets ((l / c.banks) % length (replicate c.bank_sets [])) [])
 
@@ -138,9 +127,9 @@ module _ (c : Config) where
 
     pub at_start_invariant : Invariant (at_start c opening)
     at_start_invariant = record {
-      core_count = length-cores_from 0 c.cores;
-      bank_count = length-banks_from 0 c.banks;
-      dram_count = length-drams_from (entries opening) 0 c.banks;
+      core_count = cores_many c 0 c.cores;
+      bank_count = banks_many c 0 c.banks;
+      dram_count = drams_many c (entries opening) 0 c.banks;
       lists = length-replicate c.cores [];
       kept = kept_same c opening a (seen (at_start c opening)) (opening_same c opening) initial_kept;
     }

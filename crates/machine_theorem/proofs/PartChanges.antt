@@ -8,13 +8,13 @@ use Rattle.physiological_order.specs.declared.operation.Op.{Op}
 use Rattle.network.specs.declared.counts.Counts.{Counts}
 use Rattle.network.specs.declared.message.Message.{Message}
 use Rattle.network.specs.Mail.{Mail, counted, sent}
-use Rattle.core_pts.specs.CoreTable.{CoreState, opened}
-use Rattle.llc_bank.specs.BankTable.{BankState, empty_bank}
+use Rattle.core_pts.specs.CoreTable.{CoreState}
+use Rattle.llc_bank.specs.BankTable.{BankState}
 use Rattle.machine_table.specs.Machine as table
 use Rattle.machine_table.specs.Machine.{Machine}
 use Rattle.machine_table.specs.Step.{record_of}
 use Rattle.machine_table.specs.Posted.{left, posted}
-use Rattle.machine_table.specs.Opening.{core_config, bank_config, geometry, dram_of}
+use Rattle.machine_table.specs.Opening.{dram_of, open_bank, open_core}
 use Rattle.machine_theorem.specs.Bags.{SameBag, bag_of}
 use Rattle.protocol.specs.Machine.{with_at}
 use Rattle.machine_theorem.specs.States.{State, Same, seen}
@@ -32,14 +32,14 @@ module _ (a : State) (m : Machine) (k : Same a (seen m)) where
       Same (with_core a c core) (seen (table.with_core m c core))
   core_put c core lt =
       same_by
-      (part_put a.cores m.cores (λ j. opened (core_config m.config j) (geometry m.config)) c core core k.cores refl lt)
+      (part_put a.cores m.cores (open_core m.config) c core core k.cores refl lt)
       k.banks k.drams k.bag k.issued k.records k.counts
 
   pub bank_put : (b : ℕ) (bank : BankState) → b < length m.banks →
       Same (with_bank a b bank) (seen (table.with_bank m b bank))
   bank_put b bank lt =
       same_by k.cores
-      (part_put a.banks m.banks (λ j. empty_bank (bank_config m.config j)) b bank bank k.banks refl lt)
+      (part_put a.banks m.banks (open_bank m.config) b bank bank k.banks refl lt)
       k.drams k.bag k.issued k.records k.counts
 
   pub dram_put : (b : ℕ) (lines : FinMap nat_cmp (List ℕ)) → b < length m.drams →

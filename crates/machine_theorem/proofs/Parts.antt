@@ -2,10 +2,10 @@
 use Rattle.std.proofs.Common.{◌≡◌, ℕ, [], get_or, Some, subst}
 use Rattle.std.specs.List.{slice_get}
 use Rattle.std.proofs.lemmas.Option.{get_or_from_slice_get}
-use Rattle.core_pts.specs.CoreTable.{CoreState, opened}
-use Rattle.llc_bank.specs.BankTable.{BankState, empty_bank}
+use Rattle.core_pts.specs.CoreTable.{CoreState}
+use Rattle.llc_bank.specs.BankTable.{BankState}
 use Rattle.machine_table.specs.Machine.{Machine}
-use Rattle.machine_table.specs.Opening.{core_config, bank_config, geometry}
+use Rattle.machine_table.specs.Opening.{open_bank, open_core}
 use Rattle.machine_theorem.specs.Shape.{IsCore, IsBank}
 use Rattle.machine_theorem.specs.Kept.{Invariant}
 
@@ -13,11 +13,11 @@ pub core_shape : (m : Machine) → Invariant m → (c : ℕ) (core : CoreState) 
     IsCore m.config c (get_or m.issued c []) core
 core_shape m s c core at =
     subst (λ (x : CoreState). IsCore m.config c (get_or m.issued c []) x)
-    (get_or_from_slice_get m.cores c core (opened (core_config m.config c) (geometry m.config)) at)
+    (get_or_from_slice_get m.cores c core (open_core m.config c) at)
     (s.kept.shape.each_core c)
 
 pub bank_shape : (m : Machine) → Invariant m → (b : ℕ) (bank : BankState) → slice_get m.banks b ≡ Some bank →
     IsBank m.config b bank
 bank_shape m s b bank at =
     subst (λ (x : BankState). IsBank m.config b x)
-    (get_or_from_slice_get m.banks b bank (empty_bank (bank_config m.config b)) at) (s.kept.shape.each_bank b)
+    (get_or_from_slice_get m.banks b bank (open_bank m.config b) at) (s.kept.shape.each_bank b)

@@ -8,10 +8,10 @@ use Rattle.std.proofs.lemmas.List.Sorted.{All-permutation}
 use Rattle.std.proofs.lemmas.List.Elements.{All-from_recursion, recursion_from_All}
 use Rattle.physiological_order.specs.declared.operation.Op.{Op}
 use Rattle.physiological_order.specs.Order.{address}
-use Rattle.protocol.specs.Machine.{Config, Timed, Copy, Entry, Shared, Message, Line, Machine, with_at, line_of}
+use Rattle.protocol.specs.Machine.{Config, Timed, Copy, Shared, Message, Line, Machine, with_at, line_of}
 use Rattle.protocol.specs.Machine.{LineTransition, evict_shared, evict_exclusive, dropped, wb_dropped, flushed}
-use Rattle.protocol.specs.Machine.{written_back, load_starts, renewed, leased, upgraded, granted, wb_starts}
-use Rattle.protocol.specs.Machine.{flush_starts, flush_returns, wb_returns, loaded, stored, evict_clean, evict_dirty}
+use Rattle.protocol.specs.Machine.{written_back, renewed, leased, upgraded, granted}
+use Rattle.protocol.specs.Machine.{flush_returns, wb_returns, loaded, stored, evict_clean, evict_dirty}
 use Rattle.protocol.specs.Machine.{shuffled, dram_loads, dram_stores, Answers, shared, exclusive, renews, upgrades}
 use Rattle.protocol.specs.Machine.{Asks, to_read, to_write, Uses, load_hit, load_own, store_own, swap_own}
 use Rattle.protocol.specs.Machine.{Transition, issue, advance, ask, answer, complete, line_changes}
@@ -63,8 +63,6 @@ module _ (n : ℕ) where
   moved lease pinned t u x y (written_back c until rest copy p un is ex) k =
       zeros_by (copied x c _ (k.copies c copy is) k) k.entry (k.copies c copy is, (taken _ _ p k.messages).1)
       k.dram
-  moved lease pinned t u x y (load_starts is) k =
-      zeros_by k.copies tt (tt, k.messages) k.dram
   moved lease pinned t u x y (renewed c pts dirty line rest is p) k =
       zeros_by k.copies (entered x dirty line is k) (tt, (taken _ _ p k.messages).1) k.dram
   moved lease pinned t u x y (leased c pts version dirty line rest is p) k =
@@ -74,10 +72,6 @@ module _ (n : ℕ) where
       zeros_by k.copies tt (tt, (taken _ _ p k.messages).1) k.dram
   moved lease pinned t u x y (granted c version dirty line rest is p) k =
       zeros_by k.copies tt (entered x dirty line is k, (taken _ _ p k.messages).1) k.dram
-  moved lease pinned t u x y (wb_starts owner until is) k =
-      zeros_by k.copies tt (tt, k.messages) k.dram
-  moved lease pinned t u x y (flush_starts owner is) k =
-      zeros_by k.copies tt (tt, k.messages) k.dram
   moved lease pinned t u x y (flush_returns c line rest p) k =
       let each = taken _ _ p k.messages in
       zeros_by k.copies each.0 each.1 k.dram
@@ -100,6 +94,7 @@ module _ (n : ℕ) where
   moved lease pinned t u x y (dram_stores words rest p) k =
       let each = taken _ _ p k.messages in
       zeros_by k.copies k.entry (tt, each.1) each.0
+  moved lease pinned t u x y _ k = zeros_by k.copies tt (tt, k.messages) k.dram
 
   answered : (c : ℕ) (x y : Line) → Answers c x y → HasZeros n x → HasZeros n y
   answered c x y (shared line rest p) k =

@@ -1,16 +1,15 @@
 -- A place for a line stays where other lines of a cache are changed or leave.
-use Rattle.std.proofs.Common.{◌≡◌, ◌≢◌, ℕ, ◌%◌, ◌<◌, ◌≤◌, Bool, true, false, ◌||◌, ltb, List, length, set, Some, sym}
-use Rattle.std.proofs.Common.{ap, ◌∙◌, subst, arith, ⊎_elim}
+use Rattle.std.proofs.Common.{◌≡◌, ◌≢◌, ℕ, ◌%◌, ◌<◌, ◌≤◌, Bool, true, false, ◌||◌, ltb, List, length, length-set, set}
+use Rattle.std.proofs.Common.{Some, sym, ap, ◌∙◌, subst, arith, ⊎_elim}
 use Rattle.std.specs.Option.{is_some}
 use Rattle.std.proofs.Math.Nat.{mod-lt}
 use Rattle.std.proofs.lemmas.Bool.{cases_eq, cases_Bool, lt-ltb, ltb-true}
 use Rattle.line_sets.specs.Order.{without, put_in_place}
 use Rattle.line_sets.specs.SetTable.{Sets, set_at}
 use Rattle.line_sets.proofs.Lemmas.{length-without_le, length-put_in_place, set_at-set_same, set_at-set_other}
-use Rattle.line_sets.proofs.Lemmas.{length-put_within, length-drop_line}
 use Rattle.private_cache.specs.declared.line_copy.LineCopy.{LineCopy}
 use Rattle.private_cache.specs.CopyTable.{set_of, copy_of, place_for, with_changed, without_copy}
-use Rattle.machine_theorem.proofs.Lookups.{change_there, drop_there}
+use Rattle.machine_theorem.proofs.Lookups.{change_now, drop_now}
 
 or_keeps : (ways n k : ℕ) (p q : Bool) → q ≡ p → k ≤ n → (p || ltb n ways) ≡ true → (q || ltb k ways) ≡ true
 or_keeps ways n k p q same le h =
@@ -34,30 +33,31 @@ set_le sets i j ps within le =
 
 module _ (cache : Sets LineCopy) (some : 0 < length cache.sets) (line k : ℕ) (other : k ≢ line)
     (place : place_for cache k ≡ true) where
-  pub place-changed : (copy : LineCopy) → place_for (with_changed cache line copy) k ≡ true
-  place-changed copy =
-      let new = with_changed cache line copy in
+  -- the line's set is written with no more lines than it had, and the copy of the other line stays
+  place-kept : (ps : List (ℕ × LineCopy)) → length ps ≤ length (set_at cache.sets (set_of cache line)) →
+      let new = record cache { sets = set cache.sets (set_of cache line) ps } in
+      copy_of new k ≡ copy_of cache k → place_for new k ≡ true
+  place-kept ps le same =
+      let new : Sets LineCopy = record cache { sets = set cache.sets (set_of cache line) ps } in
       or_keeps cache.ways (length (set_at cache.sets (set_of cache k))) (length (set_at new.sets (set_of new k)))
-      (is_some (copy_of cache k)) (is_some (copy_of new k))
-      (ap is_some (change_there (λ j. j) cache.sets some line copy k other))
+      (is_some (copy_of cache k)) (is_some (copy_of new k)) (ap is_some same)
       (subst (λ (n : ℕ). length (set_at new.sets (k % n)) ≤ length (set_at cache.sets (set_of cache k)))
-      (sym (length-put_within cache.sets (set_of cache line) line copy))
-      (set_le cache.sets (set_of cache line) (set_of cache k) (put_in_place (set_at cache.sets (set_of cache line))
-      line copy) (mod-lt line some) (let n =
-      length-put_in_place (set_at cache.sets (set_of cache line)) line copy in omega arith)))
+      (sym (length-set cache.sets (set_of cache line) ps))
+      (set_le cache.sets (set_of cache line) (set_of cache k) ps (mod-lt line some) le))
       place
+
+  pub place-changed : (copy old : LineCopy) → copy_of cache line ≡ Some old →
+      place_for (with_changed cache line copy) k ≡ true
+  place-changed copy old there =
+      place-kept (put_in_place (set_at cache.sets (set_of cache line)) line copy)
+      (let n = length-put_in_place (set_at cache.sets (set_of cache line)) line copy in omega arith)
+      ((change_now (λ j. j) cache.sets some line copy old there).there k other)
 
   pub place-without : place_for (without_copy cache line) k ≡ true
   place-without =
-      let new = without_copy cache line in
-      or_keeps cache.ways (length (set_at cache.sets (set_of cache k))) (length (set_at new.sets (set_of new k)))
-      (is_some (copy_of cache k)) (is_some (copy_of new k))
-      (ap is_some (drop_there (λ j. j) cache.sets some line k other))
-      (subst (λ (n : ℕ). length (set_at new.sets (k % n)) ≤ length (set_at cache.sets (set_of cache k)))
-      (sym (length-drop_line cache.sets (set_of cache line) line))
-      (set_le cache.sets (set_of cache line) (set_of cache k) (without (set_at cache.sets (set_of cache line)) line)
-      (mod-lt line some) (length-without_le (set_at cache.sets (set_of cache line)) line)))
-      place
+      place-kept (without (set_at cache.sets (set_of cache line)) line)
+      (length-without_le (set_at cache.sets (set_of cache line)) line)
+      ((drop_now (λ j. j) cache.sets some line).there k other)
 
 -- a copy is its own place
 pub place-there : (cache : Sets LineCopy) (line : ℕ) (copy : LineCopy) → copy_of cache line ≡ Some copy →

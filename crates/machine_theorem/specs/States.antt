@@ -9,11 +9,11 @@ use Rattle.physiological_order.specs.declared.operation.Record.{Record}
 use Rattle.network.specs.declared.counts.Counts.{Counts}
 use Rattle.network.specs.declared.message.Message.{Message}
 use Rattle.network.specs.Mail.{no_mail}
-use Rattle.core_pts.specs.CoreTable.{CoreState, opened}
-use Rattle.llc_bank.specs.BankTable.{BankState, empty_bank}
+use Rattle.core_pts.specs.CoreTable.{CoreState}
+use Rattle.llc_bank.specs.BankTable.{BankState}
 use Rattle.machine_table.specs.declared.config.Config.{Config}
 use Rattle.machine_table.specs.Machine.{Machine}
-use Rattle.machine_table.specs.Opening.{core_config, bank_config, geometry, dram_of}
+use Rattle.machine_table.specs.Opening.{dram_of, open_bank, open_core}
 use Rattle.machine_theorem.specs.Bags.{bag_of, SameBag}
 
 pub record State : Type 0 where
@@ -41,8 +41,8 @@ pub record Same (a b : State) : Type 0 where
 -- the state of a machine. A part that there isn't is as a part of that number is initially
 abbrev pub seen : Machine → State
 seen m = record {
-  cores = λ c. slice_index_or m.cores c (opened (core_config m.config c) (geometry m.config));
-  banks = λ b. slice_index_or m.banks b (empty_bank (bank_config m.config b));
+  cores = λ c. slice_index_or m.cores c (open_core m.config c);
+  banks = λ b. slice_index_or m.banks b (open_bank m.config b);
   drams = λ b. slice_index_or m.drams b (dram_of m.config b (entries m.opening));
   bag = bag_of m.mail.messages;
   issued = λ c. slice_index_or m.issued c [];
@@ -53,8 +53,8 @@ seen m = record {
 -- the initial state
 abbrev pub initial_state : Config → FinMap nat_cmp ℕ → State
 initial_state config opening = record {
-  cores = λ c. opened (core_config config c) (geometry config);
-  banks = λ b. empty_bank (bank_config config b);
+  cores = λ c. open_core config c;
+  banks = λ b. open_bank config b;
   drams = λ b. dram_of config b (entries opening);
   bag = [];
   issued = λ c. [];

@@ -1,6 +1,6 @@
 use Rattle.std.proofs.Common.{◌≡◌, ◌≢◌, ℕ, ◌+◌, true, false, Option, Some, None, refl, sym, ◌∙◌, subst, arith}
 use Rattle.physiological_order.specs.declared.operation.Op.{Op}
-use Rattle.physiological_order.specs.declared.operation.Op.TheVariants.{Load, Store, Swap}
+use Rattle.physiological_order.specs.declared.operation.Op.TheVariants.{Load}
 use Rattle.physiological_order.specs.Order.{address}
 use Rattle.protocol.specs.Machine.{Config, Copy, Line, Core, Machine, line_of, with_at, IsPast, CannotUse}
 use Rattle.protocol.specs.Machine.{LineTransition, evict_shared, evict_exclusive, flushed, written_back, Answers}
@@ -10,10 +10,10 @@ use Rattle.protocol.proofs.Lines.{with_at_same, with_at_other, with_at_cases}
 use Rattle.protocol.proofs.Cores.{Some_injective}
 
 -- a core with a request out can't use what it has, and one without an operation has none out
-pub record BlockedOk (f : Config) (m : Machine) : Type 0 where
-  pub idle : (c : ℕ) → (m.cores c).open_op ≡ None → (m.cores c).out ≡ false
-  pub blocked : (c : ℕ) (op : Op) → (m.cores c).open_op ≡ Some op → (m.cores c).out ≡ true →
-      CannotUse op (m.cores c).pts ((m.lines (line_of f (address op))).copies c)
+pub record BlockedOk (f : Config) (cores : ℕ → Core) (lines : ℕ → Line) : Type 0 where
+  pub idle : (c : ℕ) → (cores c).open_op ≡ None → (cores c).out ≡ false
+  pub blocked : (c : ℕ) (op : Op) → (cores c).open_op ≡ Some op → (cores c).out ≡ true →
+      CannotUse op (cores c).pts ((lines (line_of f (address op))).copies c)
 
 -- no move changes a copy of a core that is pinned on the line
 moves_pinned : (lease : ℕ) (pinned : ℕ → Type 0) (t u : ℕ) (x y : Line) → LineTransition lease pinned t x u y →
@@ -44,88 +44,68 @@ answers_copies c x y (upgrades rts copy rest p is) d ne = with_at_other x.copies
 
 past_later : (op : Op) (pts rts : ℕ) → IsPast op pts rts → IsPast op (pts + 1) rts
 past_later (Load a) pts rts h = omega arith
-past_later (Store a v) pts rts h = tt
-past_later (Swap a v) pts rts h = tt
+past_later _ pts rts h = tt
 
 blocked_later : (op : Op) (pts : ℕ) (y : Option Copy) → CannotUse op pts y → CannotUse op (pts + 1) y
 blocked_later op pts None k = tt
 blocked_later op pts (Some copy) k = (k.0, past_later op pts copy.line.rts k.1)
 
--- the copies of a core on the lines where it waits stay as they were
-stays : (f : Config) (m : Machine) (lines : ℕ → Line) (d : ℕ) → ((op : Op) → (m.cores d).open_op ≡ Some op →
-    (m.lines (line_of f (address op))).copies d ≡ (lines (line_of f (address op))).copies d) → BlockedOk f m →
-    (op : Op) → (m.cores d).open_op ≡ Some op → (m.cores d).out ≡ true → CannotUse op (m.cores d).pts
-    ((lines (line_of f (address op))).copies d)
-stays f m lines d same k op e q = subst (CannotUse op (m.cores d).pts) (same op e) (k.blocked d op e q)
+-- a core changes, and the copies of the others stay
+core_changes : {f : Config} {cores : ℕ → Core} {lines : ℕ → Line} → BlockedOk f cores lines → (c : ℕ) (core : Core)
+    (new : ℕ → Line) → (core.open_op ≡ None → core.out ≡ false) →
+    ((o : Op) → core.open_op ≡ Some o → core.out ≡ true →
+    CannotUse o core.pts ((new (line_of f (address o))).copies c)) →
+    ((d : ℕ) → d ≢ c → (l : ℕ) → (lines l).copies d ≡ (new l).copies d) → BlockedOk f (with_at cores c core) new
+core_changes {f} {cores} {lines} k c core new idle blocked same =
+    record {
+      idle = with_at_cases (λ d (x : Core). x.open_op ≡ None → x.out ≡ false) cores c core idle (λ d ne. k.idle d);
+      blocked = with_at_cases (λ d (x : Core). (o : Op) → x.open_op ≡ Some o → x.out ≡ true →
+          CannotUse o x.pts ((new (line_of f (address o))).copies d)) cores c core blocked
+          (λ d ne o e q. subst (CannotUse o (cores d).pts) (same d ne (line_of f (address o))) (k.blocked d o e q));
+    }
 
-transition_blocked : (f : Config) (m n : Machine) → Transition f m n → BlockedOk f m → BlockedOk f n
+-- and so they do where one line changes
+copies_stay : (lines : ℕ → Line) (l : ℕ) (y : Line) (d : ℕ) → y.copies d ≡ (lines l).copies d → (i : ℕ) →
+    (lines i).copies d ≡ (with_at lines l y i).copies d
+copies_stay lines l y d same =
+    with_at_cases (λ i (x : Line). (lines i).copies d ≡ x.copies d) lines l y (sym same) (λ i ne. refl)
+
+transition_blocked : (f : Config) (m n : Machine) → Transition f m n → BlockedOk f m.cores m.lines →
+    BlockedOk f n.cores n.lines
 transition_blocked f m n (issue c op none) k =
-    record {
-      idle = with_at_cases (λ d (x : Core). x.open_op ≡ None → x.out ≡ false) m.cores c _ (λ e. k.idle c none)
-          (λ d ne. k.idle d);
-      blocked = with_at_cases (λ d (x : Core). (o : Op) → x.open_op ≡ Some o → x.out ≡ true →
-          CannotUse o x.pts ((m.lines (line_of f (address o))).copies d)) m.cores c _
-          (λ o e q. absurd (let z : false ≡ true = sym (k.idle c none) ∙ q in cc)) (λ d ne. k.blocked d);
-    }
+    core_changes k c (record (m.cores c) { open_op = Some op }) m.lines (λ e. k.idle c none)
+    (λ o e q. absurd (let z : false ≡ true = sym (k.idle c none) ∙ q in cc)) (λ d ne l. refl)
 transition_blocked f m n (advance c) k =
-    record {
-      idle = with_at_cases (λ d (x : Core). x.open_op ≡ None → x.out ≡ false) m.cores c _ (k.idle c)
-          (λ d ne. k.idle d);
-      blocked = with_at_cases (λ d (x : Core). (o : Op) → x.open_op ≡ Some o → x.out ≡ true →
-          CannotUse o x.pts ((m.lines (line_of f (address o))).copies d)) m.cores c _
-          (λ o e q. blocked_later o _ _ (k.blocked c o e q)) (λ d ne. k.blocked d);
-    }
+    core_changes k c (record (m.cores c) { pts = (m.cores c).pts + 1 }) m.lines (k.idle c)
+    (λ o e q. blocked_later o _ _ (k.blocked c o e q)) (λ d ne l. refl)
 transition_blocked f m n (ask c op y opens quiet a) k =
-    record {
-      idle = with_at_cases (λ d (x : Core). x.open_op ≡ None → x.out ≡ false) m.cores c _
-          (λ e. absurd (let z : Some op ≡ None = sym opens ∙ e in cc)) (λ d ne. k.idle d);
-      blocked = with_at_cases (λ d (x : Core). (o : Op) → x.open_op ≡ Some o → x.out ≡ true →
-          CannotUse o x.pts ((with_at m.lines (line_of f (address op)) y (line_of f (address o))).copies d)) m.cores c
-          _
-          (λ o e q. let same : op ≡ o = Some_injective op o (sym opens ∙ e) in
-          subst (λ (o' : Op). CannotUse o' (m.cores c).pts
-          ((with_at m.lines (line_of f (address op)) y (line_of f (address o'))).copies c)) same
-          (subst (λ (x : Line). CannotUse op (m.cores c).pts (x.copies c))
-          (sym (with_at_same m.lines (line_of f (address op)) y)) (asks_blocked c _ op _ y a)))
-          (λ d ne. stays f m (with_at m.lines (line_of f (address op)) y) d
-          (λ o e. with_at_cases (λ l (x : Line). (m.lines l).copies d ≡ x.copies d) m.lines
-          (line_of f (address op)) y (sym (asks_copies c _ op _ y a d)) (λ l nl. refl) (line_of f (address o)))
-          k);
-    }
+    core_changes k c (record (m.cores c) { out = true }) (with_at m.lines (line_of f (address op)) y)
+    (λ e. absurd (let z : Some op ≡ None = sym opens ∙ e in cc))
+    (λ o e q. let same : op ≡ o = Some_injective op o (sym opens ∙ e) in
+    subst (λ (o' : Op). CannotUse o' (m.cores c).pts
+    ((with_at m.lines (line_of f (address op)) y (line_of f (address o'))).copies c)) same
+    (subst (λ (x : Line). CannotUse op (m.cores c).pts (x.copies c))
+    (sym (with_at_same m.lines (line_of f (address op)) y)) (asks_blocked c _ op _ y a)))
+    (λ d ne. copies_stay m.lines (line_of f (address op)) y d (asks_copies c _ op _ y a d))
 transition_blocked f m n (answer c l y a) k =
-    record {
-      idle = with_at_cases (λ d (x : Core). x.open_op ≡ None → x.out ≡ false) m.cores c _ (λ e. refl)
-          (λ d ne. k.idle d);
-      blocked = with_at_cases (λ d (x : Core). (o : Op) → x.open_op ≡ Some o → x.out ≡ true →
-          CannotUse o x.pts ((with_at m.lines l y (line_of f (address o))).copies d)) m.cores c _
-          (λ o e q. absurd (cc))
-          (λ d ne. stays f m (with_at m.lines l y) d
-          (λ o e. with_at_cases (λ i (x : Line). (m.lines i).copies d ≡ x.copies d) m.lines l y
-          (sym (answers_copies c _ y a d ne)) (λ i nl. refl) (line_of f (address o))) k);
-    }
+    core_changes k c (record (m.cores c) { out = false }) (with_at m.lines l y) (λ e. refl) (λ o e q. absurd (cc))
+    (λ d ne. copies_stay m.lines l y d (answers_copies c _ y a d ne))
 transition_blocked f m n (complete c op copy new received ts opens quiet is used) k =
     let l = line_of f (address op) in
     let y : Line = record (m.lines l) { copies = with_at ((m.lines l).copies) c (Some new) } in
-    record {
-      idle = with_at_cases (λ d (x : Core). x.open_op ≡ None → x.out ≡ false) m.cores c _ (λ e. refl)
-          (λ d ne. k.idle d);
-      blocked = with_at_cases (λ d (x : Core). (o : Op) → x.open_op ≡ Some o → x.out ≡ true →
-          CannotUse o x.pts ((with_at m.lines l y (line_of f (address o))).copies d)) m.cores c _
-          (λ o e q. absurd (cc))
-          (λ d ne. stays f m (with_at m.lines l y) d
-          (λ o e. with_at_cases (λ i (x : Line). (m.lines i).copies d ≡ x.copies d) m.lines l y
-          (sym (with_at_other ((m.lines l).copies) c (Some new) d ne)) (λ i nl. refl) (line_of f (address o))) k);
-    }
+    core_changes k c (record { pts = ts; open_op = None; out = false }) (with_at m.lines l y) (λ e. refl)
+    (λ o e q. absurd (cc))
+    (λ d ne. copies_stay m.lines l y d (with_at_other ((m.lines l).copies) c (Some new) d ne))
 transition_blocked f m n (line_changes l t y mv) k =
     record {
       idle = k.idle;
-      blocked = λ d. stays f m (with_at m.lines l y) d
-          (λ o e. with_at_cases (λ i (x : Line). i ≡ line_of f (address o) → (m.lines i).copies d ≡ x.copies d)
-          m.lines l y
-          (λ q. sym (moves_pinned _ _ _ _ _ y mv d (o, e, sym q))) (λ i nl q. refl) (line_of f (address o)) refl) k;
+      blocked = λ d o e q. subst (CannotUse o (m.cores d).pts)
+          (with_at_cases (λ i (x : Line). i ≡ line_of f (address o) → (m.lines i).copies d ≡ x.copies d) m.lines l y
+          (λ r. sym (moves_pinned _ _ _ _ _ y mv d (o, e, sym r))) (λ i nl r. refl) (line_of f (address o)) refl)
+          (k.blocked d o e q);
     }
 
-pub reachable_blocked : (f : Config) (m : Machine) → Reachable f m → BlockedOk f m
+pub reachable_blocked : (f : Config) (m : Machine) → Reachable f m → BlockedOk f m.cores m.lines
 reachable_blocked f m (at_first pts mts drams at opens) =
     record { idle = λ c e. refl; blocked = λ c op e q. absurd (cc) }
 reachable_blocked f m (goes_on {m = before} r transition) =

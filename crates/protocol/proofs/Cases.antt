@@ -4,9 +4,9 @@ use Rattle.std.specs.List.{AllByRecursion as Each}
 use Rattle.std.proofs.lemmas.Bool.{eqb-true}
 use Rattle.physiological_order.specs.declared.operation.Op.{Op}
 use Rattle.physiological_order.specs.Order.{Memory, address}
-use Rattle.protocol.specs.Machine.{Config, Timed, Copy, Entry, Absent, Loading, Shared, Exclusive, Recalling, Storing}
-use Rattle.protocol.specs.Machine.{Message, ShReq, ExReq, ShRep, ExRep, RenewRep, UpgradeRep, FlushReq, WbReq}
-use Rattle.protocol.specs.Machine.{FlushRep, WbRep, DramLd, DramLdRep, DramSt, DramStRep, Machine, Reachable, line_of}
+use Rattle.protocol.specs.Machine.{Config, Timed, Copy, Entry, Exclusive, Recalling}
+use Rattle.protocol.specs.Machine.{Message, ShRep, ExRep, RenewRep, UpgradeRep}
+use Rattle.protocol.specs.Machine.{FlushRep, WbRep, DramLdRep, DramStRep, Machine, Reachable, line_of}
 use Rattle.protocol.specs.Machine.{waits, WaitsFor, IsShared, IsGranted, HasCase}
 use Rattle.protocol.proofs.Bags.{tally}
 use Rattle.protocol.proofs.Lines.{Holder, Bank, Flying, flying, right, load, store, about, about_itself, loading}
@@ -30,12 +30,9 @@ waiting f m l c le = go (m.cores c).out (m.cores c).open_op refl refl le
     go false p e q h = absurd (omega arith)
 
 granted : (s : Timed) (b : Holder) (t : ℕ) (d : List ℕ) (e : Entry) → EntryOk s b t d e → b ≡ Flying → IsGranted e
-granted s b t d Absent k fl = absurd (let z : Flying ≡ Bank = sym fl ∙ k.0 in cc)
-granted s b t d Loading k fl = absurd (let z : Flying ≡ Bank = sym fl ∙ k.0 in cc)
-granted s b t d (Shared y x) k fl = absurd (let z : Flying ≡ Bank = sym fl ∙ k.0 in cc)
 granted s b t d (Exclusive o) k fl = tt
 granted s b t d (Recalling o) k fl = tt
-granted s b t d Storing k fl = absurd (let z : Flying ≡ Bank = sym fl ∙ k.0 in cc)
+granted s b t d _ k fl = absurd (let z : Flying ≡ Bank = sym fl ∙ k.0 in cc)
 
 is_shared : (y : Option Copy) (P : Timed → Type 0) → HasShared y P → IsShared y
 is_shared y P k = subst IsShared (sym k.1) k.2
@@ -45,22 +42,17 @@ module _ (f : Config) (m : Machine) (h : ℕ → Memory) (l t : ℕ) (s : Timed)
   case_of : (x : Message) → right x ≤ flying b → load x ≤ loading (m.lines l).entry →
       store x ≤ storing (m.lines l).entry → ((c : ℕ) → about c x ≤ busy f m.cores l c) → MessageOk f h l k.top s
       (m.lines l).copies (m.lines l).dram x → HasCase f m l x
-  case_of (ShReq c p v) r d w a q = tt
-  case_of (ExReq c v) r d w a q = tt
   case_of (ShRep c x) r d w a q = waiting f m l c (let i = about_itself c in let z = a c in omega arith)
   case_of (ExRep c x) r d w a q = waiting f m l c (let i = about_itself c in let z = a c in omega arith)
   case_of (RenewRep c n) r d w a q =
       (waiting f m l c (let i = about_itself c in let z = a c in omega arith), is_shared _ _ q)
   case_of (UpgradeRep c n) r d w a q =
       (waiting f m l c (let i = about_itself c in let z = a c in omega arith), is_shared _ _ q)
-  case_of (FlushReq c) r d w a q = tt
-  case_of (WbReq c n) r d w a q = tt
   case_of (FlushRep c x) r d w a q = granted s b t _ _ k.entry (flying_one b (let one = at_most_one b in omega arith))
   case_of (WbRep c x) r d w a q = granted s b t _ _ k.entry (flying_one b (let one = at_most_one b in omega arith))
-  case_of DramLd r d w a q = tt
   case_of (DramLdRep ws) r d w a q = loading_one _ (let one = loads_at_most_one (m.lines l).entry in omega arith)
-  case_of (DramSt ws) r d w a q = tt
   case_of DramStRep r d w a q = storing_one _ (let one = stores_at_most_one (m.lines l).entry in omega arith)
+  case_of _ r d w a q = tt
 
   cases_of : (xs : List Message) → tally right xs ≤ flying b → tally load xs ≤ loading (m.lines l).entry →
       tally store xs ≤ storing (m.lines l).entry → ((c : ℕ) → tally (about c) xs ≤ busy f m.cores l c) →

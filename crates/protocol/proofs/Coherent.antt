@@ -89,12 +89,8 @@ module _ (f : Config) (h : ℕ → Memory) (l : ℕ) (records : List Record) (bu
   stored_none (_ ∷ ms) e n i = stored_none ms e.1 n (omega arith)
 
   entry_tells : (e : Entry) → EntryOk s b t x.dram e → IfSome (entry_words e) (λ w. w ≡ s.words)
-  entry_tells Absent q = tt
-  entry_tells Loading q = tt
   entry_tells (Shared d y) q = ap (λ (z : Timed). z.words) q.1
-  entry_tells (Exclusive o) q = tt
-  entry_tells (Recalling o) q = tt
-  entry_tells Storing q = tt
+  entry_tells _ q = tt
 
   in_dram : (e : Entry) → x.entry ≡ e → EntryOk s b t x.dram e → b ≡ Bank → entry_words e ≡ None →
       stored_words x.messages ≡ None → x.dram ≡ s.words

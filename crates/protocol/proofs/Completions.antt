@@ -185,12 +185,6 @@ module _ (f : Config) (good : 0 < f.line_words) (records : List Record) (sorted 
   record_of op received ts =
       record { core = c; place = place; op = op; received = received; ts = ts; number = number }
 
-  -- no record of the word stands behind a write above all records of its line
-  none_behind : (l a ts : ℕ) (s : Timed) → line_of f a ≡ l → s.rts ≤ ts → Current f (values f records) records l s →
-      Each (λ q. address q.op ≡ a → q.ts ≤ ts) records
-  none_behind l a ts s on up k =
-      each_weaker (λ q w e. le_trans (w (ap (line_of f) e ∙ on)) (omega arith)) records k.past
-
   -- a write's time is above all leases, and not below what came before
   write_late : (copy : Copy) → (copy.line.rts ≤ write_time f pts copy) × (pts ≤ write_time f pts copy) ×
       ((top : ℕ) → top ≤ copy.line.rts → copy.line.wts ≤ copy.line.rts → (copy.written ≡ true → top < copy.line.wts) →
@@ -207,13 +201,14 @@ module _ (f : Config) (good : 0 < f.line_words) (records : List Record) (sorted 
       go true false e = (omega arith, omega arith, λ top le order below. omega arith)
       go false w e = (omega arith, omega arith, λ top le order below. omega arith)
 
-  writes_ok : (l a v : ℕ) (op : Op) (received : Option ℕ) (copy : Copy) → line_of f a ≡ l → address op ≡ a →
+  writes_ok : (a v : ℕ) (op : Op) (received : Option ℕ) (copy : Copy) → address op ≡ a →
       ((n : Memory) → flat_after n op a ≡ v) →
-      x.copies c ≡ Some copy → copy.exclusive ≡ true →
-      Goes f (values f records) l records busy t x →
       let ts = write_time f pts copy in
-      Goes f (values f (records ++ record_of op received ts ∷ [])) l (records ++ record_of op received ts ∷ []) busy t
-      (record x {
+      (Current f (values f records) records (line_of f a) copy.line → copy.line.wts ≤ ts →
+      received ≡ flat_received (values f records ts) op) →
+      (Each (λ q. address q.op ≡ a → q.ts ≤ ts) (arranged records) → Undisturbed op ts (arranged records)) →
+      x.copies c ≡ Some copy → copy.exclusive ≡ true → Goes f (values f records) (line_of f a) records busy t x →
+      Completes f (line_of f a) records busy t pts (record x {
         copies =
             with_at x.copies c
             (Some (record copy {
@@ -225,27 +220,34 @@ module _ (f : Config) (good : 0 < f.line_words) (records : List Record) (sorted 
                     slice_set copy.line.words (a % f.line_words) v;
               };
             }));
-      })
-  writes_ok l a v op received copy on at w is ex k =
+      }) (record_of op received ts)
+  writes_ok a v op received copy at w receives fits is ex k =
       let ts = write_time f pts copy in
       let r = record_of op received ts in
       let u : Timed = record { wts = ts; rts = ts; words = slice_set copy.line.words (a % f.line_words) v } in
       let own = (k.2.copies c copy is).0 ex in
-      let invariant = subst (Current f (values f records) records l) (sym own.1) k.2.current in
+      let invariant = subst (Current f (values f records) records (line_of f a)) (sym own.1) k.2.current in
       let late = write_late copy in
-      let past = none_behind l a ts copy.line on late.0 invariant in (
-        u,
-        k.1,
-        ok_own f (values f records) (values f (records ++ r ∷ [])) l records r busy t x k.0 k.1 c copy
-            (record copy { written = true; line = u }) free is ex ex
-            (λ top le below. let lt = late.2 top le invariant.order below in
-            (λ d b on_b to. values-before f records r d b (lt_of_le_of_lt to lt), λ z. lt)) late.0
-            (Current-write f (values f records) (values f (records ++ r ∷ [])) l records r copy.line a
-            v good on late.0 at
-            (λ d b ne. values-other f records r d b (λ e. ne (e ∙ at)))
-            (λ d le. values-written f records r d a v sorted past w le))
-            k.2,
-      )
+      let past : Each (λ q. address q.op ≡ a → q.ts ≤ ts) records =
+      each_weaker (λ q w e. le_trans (w (ap (line_of f) e)) late.0) records invariant.past in
+      record {
+        line = (
+          u,
+          k.1,
+          ok_own f (values f records) (values f (records ++ r ∷ [])) (line_of f a) records r busy t x k.0 k.1 c copy
+              (record copy { written = true; line = u }) free is ex ex
+              (λ top le below. let lt = late.2 top le invariant.order below in
+              (λ d b on_b to. values-before f records r d b (lt_of_le_of_lt to lt), λ z. lt)) late.0
+              (Current-write f (values f records) (values f (records ++ r ∷ [])) (line_of f a) records r copy.line a
+              v good refl late.0 at
+              (λ d b ne. values-other f records r d b (λ e. ne (e ∙ at)))
+              (λ d le. values-written f records r d a v sorted past w le))
+              k.2,
+        );
+        value = receives invariant (le_trans invariant.order late.0);
+        undisturbed = fits (each_arranged (λ q. address q.op ≡ a → q.ts ≤ ts) records past);
+        later = late.1;
+      }
 
   -- every completed operation keeps its line, and its record fits
   pub uses_keep : (op : Op) (copy : Copy) (received : Option ℕ) (ts : ℕ) (new : Copy) → x.copies c ≡ Some copy →
@@ -296,27 +298,7 @@ module _ (f : Config) (good : 0 < f.line_words) (records : List Record) (sorted 
         later = omega arith;
       }
   uses_keep op copy received ts new is (store_own a v ex) k =
-      let l = line_of f a in
-      let own = (k.2.copies c copy is).0 ex in
-      let invariant = subst (Current f (values f records) records l) (sym own.1) k.2.current in
-      let late = write_late copy in
-      record {
-        line = writes_ok l a v (Store a v) None copy refl refl (λ n. with_at_same n a v) is ex k;
-        value = refl;
-        undisturbed = each_arranged (λ q. address q.op ≡ a → q.ts ≤ write_time f pts copy) records
-            (none_behind l a (write_time f pts copy) copy.line refl late.0 invariant);
-        later = late.1;
-      }
+      writes_ok a v (Store a v) None copy refl (λ n. with_at_same n a v) (λ st le. refl) (λ e. e) is ex k
   uses_keep op copy received ts new is (swap_own a v ex) k =
-      let l = line_of f a in
-      let own = (k.2.copies c copy is).0 ex in
-      let invariant = subst (Current f (values f records) records l) (sym own.1) k.2.current in
-      let late = write_late copy in
-      record {
-        line = writes_ok l a v (Swap a v) (Some (word_at f copy.line.words a)) copy refl refl
-            (λ n. with_at_same n a v) is ex k;
-        value = ap Some (sym (invariant.value (write_time f pts copy) a refl (le_trans invariant.order late.0)));
-        undisturbed = each_arranged (λ q. address q.op ≡ a → q.ts ≤ write_time f pts copy) records
-            (none_behind l a (write_time f pts copy) copy.line refl late.0 invariant);
-        later = late.1;
-      }
+      writes_ok a v (Swap a v) (Some (word_at f copy.line.words a)) copy refl (λ n. with_at_same n a v)
+      (λ st le. ap Some (sym (st.value (write_time f pts copy) a refl le))) (λ e. e) is ex k

@@ -9,12 +9,13 @@ use Rattle.physiological_order.specs.Order.{Memory}
 use Rattle.protocol.specs.Machine.{Config, Timed, Copy, Message, ShReq, ExReq, ShRep, ExRep, RenewRep, UpgradeRep}
 use Rattle.protocol.specs.Machine.{Line, with_at, version_of, CannotUse, Answers, shared, exclusive, renews, upgrades}
 use Rattle.protocol.specs.Machine.{Asks, to_read, to_write}
-use Rattle.protocol.proofs.Bags.{tally, tally-taken, each_taken}
+use Rattle.protocol.proofs.Bags.{tally}
 use Rattle.protocol.proofs.Lease.{Leased}
 use Rattle.protocol.proofs.Lines.{Holder, Bank, At, Flying, right, load, store, about, one_if, about_itself}
 use Rattle.protocol.proofs.Lines.{HasShared, NotOwned, MessageOk, CopyOk, LineOk, with_at_same, with_at_other}
-use Rattle.protocol.proofs.Lines.{with_at_cases, copy_keeps}
+use Rattle.protocol.proofs.Lines.{with_at_cases, with_bag, copy_keeps, flying, loading, storing}
 use Rattle.protocol.proofs.LineChanges.{At≢Bank, At_injective, flying_one, at_most_one, owned, keep, lost, Goes}
+use Rattle.protocol.proofs.LineChanges.{ok_shuffled}
 
 pub Some_injective : {X : Type 0} (x y : X) → Some x ≡ Some y → x ≡ y
 Some_injective x y e = cc
@@ -22,24 +23,19 @@ Some_injective x y e = cc
 module _ (f : Config) (h : ℕ → Memory) (l : ℕ) (records : List Record) where
   -- a reply that gives a core a Shared copy
   ok_shared : (busy : ℕ → ℕ) (t : ℕ) (x : Line) (s : Timed) (b : Holder) (c : ℕ) (new : Copy) (m : Message)
-      (rest : List Message) → IsPermutation x.messages (m ∷ rest) → busy c ≤ 1 →
+      (rest : List Message) → busy c ≤ 1 →
       right m ≡ 0 → load m ≡ 0 → store m ≡ 0 → about c m ≡ 1 → ((d : ℕ) → d ≢ c → about d m ≡ 0) →
       new.exclusive ≡ false →
       ((top : ℕ) → MessageOk f h l top s x.copies x.dram m → NotOwned (x.copies c) × Leased f h l top new.line) →
-      LineOk f h l records busy t x s b → LineOk f h l records (with_at busy c 0) t
+      LineOk f h l records busy t (record x { messages = m ∷ rest }) s b → LineOk f h l records (with_at busy c 0) t
       (record x { copies = with_at x.copies c (Some new); messages = rest }) s b
-  ok_shared busy t x s b c new m rest p one rm dm wm am others sh tells k =
-      let e_owners = tally-taken right x.messages (m ∷ rest) p in
-      let e_loads = tally-taken load x.messages (m ∷ rest) p in
-      let e_stores = tally-taken store x.messages (m ∷ rest) p in
-      let e_asks = tally-taken (about c) x.messages (m ∷ rest) p in
-      let owner_count = k.owner_count in
-      let loads = k.loads in
-      let stores = k.stores in
-      let asks = k.asks c in
+  ok_shared busy t x s b c new m rest one rm dm wm am others sh tells k =
+      let owner_count : right m + tally right rest ≡ flying b = k.owner_count in
+      let loads : load m + tally load rest ≡ loading x.entry = k.loads in
+      let stores : store m + tally store rest ≡ storing x.entry = k.stores in
+      let asks : about c m + tally (about c) rest ≡ busy c = k.asks c in
       let no_asks : tally (about c) rest ≡ 0 = omega arith in
-      let each = each_taken (MessageOk f h l k.top s x.copies x.dram) x.messages (m ∷ rest) p k.messages in
-      let told = tells k.top each.0 in
+      let told = tells k.top k.messages.0 in
       record {
         current = k.current;
         top = k.top;
@@ -54,37 +50,31 @@ module _ (f : Config) (h : ℕ → Memory) (l : ℕ) (records : List Record) whe
             let r = own.2 in cc in
             (own.0, with_at_other x.copies c (Some new) d ne ∙ own.1, own.2);
         messages = keep f h l records busy k.top s x (with_at x.copies c (Some new)) rest
-            (lost f h l records busy x rest c (Some new) no_asks) each.1;
+            (lost f h l records busy x rest c (Some new) no_asks) k.messages.1;
         owner_count = omega arith;
         loads = omega arith;
         stores = omega arith;
         asks = with_at_cases (λ d n. tally (about d) rest ≡ n) busy c 0 no_asks
-            (λ d ne. let q = tally-taken (about d) x.messages (m ∷ rest) p in let z = others d ne in
-            let r = k.asks d in omega arith);
+            (λ d ne. let z = others d ne in let r = k.asks d in omega arith);
         entry = k.entry;
       }
 
   -- a reply that gives a core the right
   ok_owner : (busy : ℕ → ℕ) (t : ℕ) (x : Line) (s : Timed) (b : Holder) (c : ℕ) (new : Copy) (m : Message)
-      (rest : List Message) → IsPermutation x.messages (m ∷ rest) → busy c ≤ 1 →
+      (rest : List Message) → busy c ≤ 1 →
       right m ≡ 1 → load m ≡ 0 → store m ≡ 0 → about c m ≡ 1 → ((d : ℕ) → d ≢ c → about d m ≡ 0) →
       new.exclusive ≡ true →
       new.written ≡ false → ((top : ℕ) → MessageOk f h l top s x.copies x.dram m → new.line ≡ s) →
-      LineOk f h l records busy t x s b → LineOk f h l records (with_at busy c 0) t
+      LineOk f h l records busy t (record x { messages = m ∷ rest }) s b → LineOk f h l records (with_at busy c 0) t
       (record x { copies = with_at x.copies c (Some new); messages = rest }) s (At c)
-  ok_owner busy t x s b c new m rest p one rm dm wm am others ex nw tells k =
-      let e_owners = tally-taken right x.messages (m ∷ rest) p in
-      let e_loads = tally-taken load x.messages (m ∷ rest) p in
-      let e_stores = tally-taken store x.messages (m ∷ rest) p in
-      let e_asks = tally-taken (about c) x.messages (m ∷ rest) p in
-      let owner_count = k.owner_count in
-      let loads = k.loads in
-      let stores = k.stores in
-      let asks = k.asks c in
+  ok_owner busy t x s b c new m rest one rm dm wm am others ex nw tells k =
+      let owner_count : right m + tally right rest ≡ flying b = k.owner_count in
+      let loads : load m + tally load rest ≡ loading x.entry = k.loads in
+      let stores : store m + tally store rest ≡ storing x.entry = k.stores in
+      let asks : about c m + tally (about c) rest ≡ busy c = k.asks c in
       let most = at_most_one b in
       let fl : b ≡ Flying = flying_one b (omega arith) in
       let no_asks : tally (about c) rest ≡ 0 = omega arith in
-      let each = each_taken (MessageOk f h l k.top s x.copies x.dram) x.messages (m ∷ rest) p k.messages in
       let e = owned f h l records busy s b t x.dram x.entry k.entry (λ q. let z : Flying ≡ Bank = sym fl ∙ q in cc) in
       record {
         current = k.current;
@@ -93,7 +83,7 @@ module _ (f : Config) (h : ℕ → Memory) (l : ℕ) (records : List Record) whe
         copies = with_at_cases (λ d y. (cp : Copy) → y ≡ Some cp → CopyOk f h l k.top s (At c) d cp)
             x.copies c (Some new)
             (λ cp q. subst (λ (y : Copy). CopyOk f h l k.top s (At c) c y) (Some_injective new cp q) (
-              λ z. (refl, tells k.top each.0, λ w. absurd (let y : false ≡ true = sym nw ∙ w in cc)),
+              λ z. (refl, tells k.top k.messages.0, λ w. absurd (let y : false ≡ true = sym nw ∙ w in cc)),
               λ z.
                   absurd (cc),
             ))
@@ -106,60 +96,66 @@ module _ (f : Config) (h : ℕ → Memory) (l : ℕ) (records : List Record) whe
           ex,
         );
         messages = keep f h l records busy k.top s x (with_at x.copies c (Some new)) rest
-            (lost f h l records busy x rest c (Some new) no_asks) each.1;
+            (lost f h l records busy x rest c (Some new) no_asks) k.messages.1;
         owner_count = omega arith;
         loads = omega arith;
         stores = omega arith;
         asks = with_at_cases (λ d n. tally (about d) rest ≡ n) busy c 0 no_asks
-            (λ d ne. let q = tally-taken (about d) x.messages (m ∷ rest) p in let z = others d ne in
-            let r = k.asks d in omega arith);
+            (λ d ne. let z = others d ne in let r = k.asks d in omega arith);
         entry = e.2 s (At c) (λ q. At≢Bank c q);
       }
 
   about_other : (c d : ℕ) → d ≢ c → one_if (eqb c d) ≡ 0
   about_other c d ne = ap one_if (ne_eqb c d (λ e. ne (sym e)))
 
-  same_copy : (x : Line) (c : ℕ) (P : Timed → Type 0) (copy : Copy) (k : HasShared (x.copies c) P) →
-      x.copies c ≡ Some copy → k.0 ≡ copy
-  same_copy x c P copy k is = Some_injective k.0 copy (sym k.1 ∙ is)
-
   -- every reply keeps the line
   pub answers_keep : (busy : ℕ → ℕ) (t c : ℕ) → busy c ≤ 1 → (x y : Line) → Answers c x y → Goes f h l records busy t
       x → Goes f h l records (with_at busy c 0) t y
-  answers_keep busy t c one x y (shared line rest p) k = (
-    k.0,
-    k.1,
-    ok_shared busy t x k.0 k.1 c (record { exclusive = false; written = false; line = line })
-        (ShRep c line) rest p one refl refl refl (about_itself c) (about_other c) refl (λ n q. q) k.2,
-  )
-  answers_keep busy t c one x y (exclusive line rest p) k = (
-    k.0,
-    At c,
-    ok_owner busy t x k.0 k.1 c (record { exclusive = true; written = false; line = line })
-        (ExRep c line) rest p one refl refl refl (about_itself c) (about_other c) refl refl (λ n q. q) k.2,
-  )
-  answers_keep busy t c one x y (renews rts copy rest p is) k =
-      let m = (each_taken (MessageOk f h l k.2.top k.0 x.copies x.dram) x.messages (RenewRep c rts ∷ rest)
-      p k.2.messages).0 in
-      let e : m.0 ≡ copy = Some_injective m.0 copy (sym m.1 ∙ is) in
-      let sh : copy.exclusive ≡ false = sym (ap (λ (y : Copy). y.exclusive) e) ∙ m.2 in (
+  answers_keep busy t c one x y answers k = by_answer y answers
+    where
+      has : (m : Message) (rest : List Message) → IsPermutation x.messages (m ∷ rest) →
+          LineOk f h l records busy t (record x { messages = m ∷ rest }) k.0 k.1
+      has m rest p = ok_shuffled f h l records busy t x k.0 k.1 (m ∷ rest) p k.2
+
+      by_answer : (y : Line) → Answers c x y → Goes f h l records (with_at busy c 0) t y
+      by_answer y (shared line rest p) = (
         k.0,
         k.1,
-        ok_shared busy t x k.0 k.1 c (record copy { line = record (copy.line) { rts = rts } }) (RenewRep c rts) rest p
-            one refl refl refl (about_itself c) (about_other c) sh
-            (λ n q. (
-              λ z w. ap (λ (y : Copy). y.exclusive) (sym (Some_injective copy z (sym is ∙ w)))
-                  ∙ sh,
-              subst (λ (y : Copy). Leased f h l n (record (y.line) { rts = rts }))
-                  (Some_injective q.0 copy (sym q.1 ∙ is)) q.3,
-            )) k.2,
+        ok_shared busy t x k.0 k.1 c (record { exclusive = false; written = false; line = line }) (ShRep c line) rest
+            one refl refl refl (about_itself c) (about_other c) refl (λ n q. q) (has _ rest p),
       )
-  answers_keep busy t c one x y (upgrades rts copy rest p is) k = (
-    k.0,
-    At c,
-    ok_owner busy t x k.0 k.1 c (record { exclusive = true; written = false; line = record (copy.line) { rts = rts } }) (UpgradeRep c rts) rest p one refl refl refl (about_itself c) (about_other c) refl refl
-        (λ n q. ap (λ (y : Copy). record (y.line) { rts = rts }) (Some_injective copy q.0 (sym is ∙ q.1)) ∙ q.3) k.2,
-  )
+      by_answer y (exclusive line rest p) = (
+        k.0,
+        At c,
+        ok_owner busy t x k.0 k.1 c (record { exclusive = true; written = false; line = line }) (ExRep c line) rest
+            one refl refl refl (about_itself c) (about_other c) refl refl (λ n q. q) (has _ rest p),
+      )
+      by_answer y (renews rts copy rest p is) =
+          let taken = has (RenewRep c rts) rest p in
+          let m = taken.messages.0 in
+          let sh : copy.exclusive ≡ false =
+          sym (ap (λ (y : Copy). y.exclusive) (Some_injective m.0 copy (sym m.1 ∙ is))) ∙ m.2 in (
+            k.0,
+            k.1,
+            ok_shared busy t x k.0 k.1 c (record copy { line = record (copy.line) { rts = rts } }) (RenewRep c rts) rest
+                one refl refl refl (about_itself c) (about_other c) sh
+                (λ n q. (
+                  λ z w. ap (λ (y : Copy). y.exclusive) (sym (Some_injective copy z (sym is ∙ w)))
+                      ∙ sh,
+                  subst (λ (y : Copy). Leased f h l n (record (y.line) { rts = rts }))
+                      (Some_injective q.0 copy (sym q.1 ∙ is)) q.3,
+                )) taken,
+          )
+      by_answer y (upgrades rts copy rest p is) =
+          let u : Timed = record (copy.line) { rts = rts } in (
+            k.0,
+            At c,
+            ok_owner busy t x k.0 k.1 c (record { exclusive = true; written = false; line = u }) (UpgradeRep c rts) rest
+                one refl refl refl (about_itself c) (about_other c) refl refl
+                (λ n q. ap (λ (y : Copy). record (y.line) { rts = rts })
+                (Some_injective copy q.0 (sym is ∙ q.1)) ∙ q.3)
+                (has _ rest p),
+          )
 
   -- what is asked with
   wants_shared : (op : Op) (pts : ℕ) (y : Option Copy) → CannotUse op pts y → NotOwned y ×
@@ -173,24 +169,10 @@ module _ (f : Config) (h : ℕ → Memory) (l : ℕ) (records : List Record) whe
       ((top : ℕ) → MessageOk f h l top s x.copies x.dram m) → LineOk f h l records busy t x s b →
       LineOk f h l records (with_at busy c 1) t (record x { messages = m ∷ x.messages }) s b
   ok_asks busy t x s b c m free rm dm wm am others fine k =
-      let owner_count = k.owner_count in
-      let loads = k.loads in
-      let stores = k.stores in
-      let asks = k.asks c in
-      record {
-        current = k.current;
-        top = k.top;
-        within = k.within;
-        copies = k.copies;
-        held = k.held;
-        messages = (fine k.top, k.messages);
-        owner_count = omega arith;
-        loads = omega arith;
-        stores = omega arith;
-        asks = with_at_cases (λ d n. about d m + tally (about d) x.messages ≡ n) busy c 1 (omega arith)
-            (λ d ne. let z = others d ne in let r = k.asks d in omega arith);
-        entry = k.entry;
-      }
+      with_bag f h l k x.entry (m ∷ x.messages) x.dram (fine k.top, k.messages) (let q = k.owner_count in omega arith)
+      (let q = k.loads in omega arith) (let q = k.stores in omega arith)
+      (with_at_cases (λ d n. about d m + tally (about d) x.messages ≡ n) busy c 1 (let q = k.asks c in omega arith)
+      (λ d ne. let z = others d ne in let r = k.asks d in omega arith)) k.entry
 
   -- every request keeps the line
   pub asks_keep : (busy : ℕ → ℕ) (t c pts : ℕ) (op : Op) → busy c ≡ 0 → (x y : Line) → Asks c pts op x y →

@@ -1,8 +1,7 @@
-use Rattle.std.proofs.Common.{◌≡◌, ◌≢◌, ℕ, zero, suc, ◌+◌, ◌*◌, ◌%◌, ◌<◌, ◌≤◌, Bool, true, false, cond, eqb, List, []}
-use Rattle.std.proofs.Common.{◌∷◌, ◌++◌, length, get_or, Option, Some, None, refl, sym, ap, ◌∙◌, subst, arith}
+use Rattle.std.proofs.Common.{◌≡◌, ◌≢◌, ℕ, ◌+◌, ◌%◌, ◌<◌, ◌≤◌, Bool, true, false, cond, eqb, List, []}
+use Rattle.std.proofs.Common.{◌∷◌, ◌++◌, length, Option, Some, None, refl, sym, ap, ◌∙◌, subst, arith}
 use Rattle.std.proofs.Common.{le_trans, le_refl, ⊎_elim, append-nil, length-append}
 use Rattle.std.specs.Prelude.{slice_get}
-use Rattle.std.proofs.Math.Nat.{mod-lt, div-add-mod'}
 use Rattle.std.proofs.Math.Seq.{get_or-append_seam}
 use Rattle.std.proofs.lemmas.Option.{slice_get-get_or}
 use Rattle.std.proofs.lemmas.List.Elements.{filter-append}
@@ -13,7 +12,7 @@ use Rattle.physiological_order.specs.declared.operation.Record.{Record}
 use Rattle.physiological_order.specs.Order.{Memory, address, of_core, Legal}
 use Rattle.physiological_order.proofs.Lemmas.{each_push, Sorted-from_Ascends, Kept-none, Kept-issue, Kept-push}
 use Rattle.physiological_order.proofs.Lemmas.{Legal-from_Kept}
-use Rattle.protocol.specs.Machine.{Config, Timed, Copy, Entry, Absent, Loading, Shared, Exclusive, Recalling, Storing}
+use Rattle.protocol.specs.Machine.{Config, Timed, Copy, Entry, Absent, Loading, Storing}
 use Rattle.protocol.specs.Machine.{Line, Core, Machine, line_of, with_at, word_at, waits, OpensWith, opened, IsPinned}
 use Rattle.protocol.specs.Machine.{LineTransition, evict_clean, evict_dirty, Answers, shared, exclusive, renews}
 use Rattle.protocol.specs.Machine.{upgrades, Asks, Uses, Transition, issue, advance, ask, answer, complete}
@@ -21,7 +20,7 @@ use Rattle.protocol.specs.Machine.{line_changes}
 use Rattle.protocol.specs.Machine.{Reachable, at_first, goes_on}
 use Rattle.protocol.proofs.Bags.{tally-taken, each_map}
 use Rattle.protocol.proofs.Lines.{Holder, Bank, about, about_itself, EntryOk, with_at_same, with_at_other}
-use Rattle.protocol.proofs.Lines.{with_at_cases}
+use Rattle.protocol.proofs.Lines.{with_at_cases, with_bag}
 use Rattle.protocol.proofs.LineChanges.{Goes, moves_keep}
 use Rattle.protocol.proofs.Cores.{answers_keep, asks_keep}
 use Rattle.protocol.proofs.Completions.{values, values-other, ok_beside, uses_keep}
@@ -92,57 +91,29 @@ waits_elsewhere f l k true (Some op) h ne =
 waits_elsewhere f l k false p h ne = refl
 
 -- a line under the same waits, and at a later time of its bank
-busy_same : (f : Config) (h : ℕ → Memory) (l : ℕ) (records : List Record) (p q : ℕ → ℕ) (t : ℕ) (x : Line) →
+busy_same : {f : Config} {h : ℕ → Memory} {l : ℕ} {records : List Record} {p q : ℕ → ℕ} {t : ℕ} {x : Line} →
     ((c : ℕ) → p c ≡ q c) → Goes f h l records p t x → Goes f h l records q t x
-busy_same f h l records p q t x same k = (
+busy_same {f} {h} {l} {records} {p} {q} {t} {x} same k = (
   k.0,
   k.1,
-  record {
-    current = k.2.current;
-    top = k.2.top;
-    within = k.2.within;
-    copies = k.2.copies;
-    held =
-        k.2.held;
-    messages = k.2.messages;
-    owner_count = k.2.owner_count;
-    loads = k.2.loads;
-    stores = k.2.stores;
-    asks =
-        λ c. k.2.asks c ∙ same c;
-    entry = k.2.entry;
-  },
+  with_bag f h l k.2 x.entry x.messages x.dram k.2.messages k.2.owner_count k.2.loads k.2.stores
+      (λ c. k.2.asks c ∙ same c) k.2.entry,
 )
 
 entry_later : (s : Timed) (b : Holder) (t u : ℕ) (d : List ℕ) (e : Entry) → t ≤ u →
     EntryOk s b t d e → EntryOk s b u d e
 entry_later s b t u d Absent le k = (k.0, le_trans k.1 le, k.2)
 entry_later s b t u d Loading le k = (k.0, le_trans k.1 le, k.2)
-entry_later s b t u d (Shared z x) le k = k
-entry_later s b t u d (Exclusive o) le k = k
-entry_later s b t u d (Recalling o) le k = k
 entry_later s b t u d Storing le k = (k.0, le_trans k.1 le)
+entry_later s b t u d _ le k = k
 
-goes_later : (f : Config) (h : ℕ → Memory) (l : ℕ) (records : List Record) (p : ℕ → ℕ) (t u : ℕ) (x : Line) → t ≤ u →
+goes_later : {f : Config} {h : ℕ → Memory} {l : ℕ} {records : List Record} {p : ℕ → ℕ} {t u : ℕ} {x : Line} → t ≤ u →
     Goes f h l records p t x → Goes f h l records p u x
-goes_later f h l records p t u x le k = (
+goes_later {f} {h} {l} {records} {p} {t} {u} {x} le k = (
   k.0,
   k.1,
-  record {
-    current = k.2.current;
-    top = k.2.top;
-    within = k.2.within;
-    copies = k.2.copies;
-    held =
-        k.2.held;
-    messages = k.2.messages;
-    owner_count = k.2.owner_count;
-    loads = k.2.loads;
-    stores = k.2.stores;
-    asks =
-        k.2.asks;
-    entry = entry_later k.0 k.1 t u x.dram x.entry le k.2.entry;
-  },
+  with_bag f h l k.2 x.entry x.messages x.dram k.2.messages k.2.owner_count k.2.loads k.2.stores k.2.asks
+      (entry_later k.0 k.1 t u x.dram x.entry le k.2.entry),
 )
 
 -- a reply comes only to a core that waits for it
@@ -214,8 +185,7 @@ issue_ok f m c op none k =
       kept = Kept-issue f.opening m.issued (with_at m.issued c (m.issued c ++ op ∷ [])) m.records
           (with_at_cases (λ d ops. (more : List Op) × (ops ≡ m.issued d ++ more)) m.issued c (m.issued c ++ op ∷ [])
           (op ∷ [], refl) (λ d ne. ([], sym (append-nil (m.issued d))))) k.kept;
-      lines = λ l. busy_same f (values f m.records) l m.records (busy f m.cores l) (busy f (with_at m.cores c core) l)
-          (m.mts (l % f.banks)) (m.lines l)
+      lines = λ l. busy_same
           (with_at_cases (λ d y. busy f m.cores l d ≡ waits f l y.out y.open_op) m.cores c core
           (waits_none f l (m.cores c).out (m.cores c).open_op idle
           ∙ sym (waits_none f l (m.cores c).out (Some op) idle)) (λ d ne. refl)) (k.lines l);
@@ -240,8 +210,7 @@ advance_ok f m c k =
     let core : Core = record (m.cores c) { pts = (m.cores c).pts + 1 } in
     record {
       kept = k.kept;
-      lines = λ l. busy_same f (values f m.records) l m.records (busy f m.cores l) (busy f (with_at m.cores c core) l)
-          (m.mts (l % f.banks)) (m.lines l)
+      lines = λ l. busy_same
           (with_at_cases (λ d y. busy f m.cores l d ≡ waits f l y.out y.open_op) m.cores c core refl (λ d ne. refl))
           (k.lines l);
       cores = with_at_cases (λ d y. CoreOk d y (m.issued d) m.records) m.cores c core
@@ -269,15 +238,13 @@ ask_ok f m c op y opens quiet a k =
       kept = k.kept;
       lines = with_at_cases (λ l x. Goes f (values f m.records) l m.records (busy f (with_at m.cores c core) l)
           (m.mts (l % f.banks)) x) m.lines here y
-          (busy_same f (values f m.records) here m.records (with_at (busy f m.cores here) c 1)
-          (busy f (with_at m.cores c core) here) (m.mts (here % f.banks)) y
+          (busy_same
           (with_at_both (λ d n z. n ≡ waits f here z.out z.open_op) (busy f m.cores here) m.cores c 1 core
           (sym (ap (waits f here true) opens ∙ waits_here f op)) (λ d ne. refl))
           (asks_keep f (values f m.records) here m.records (busy f m.cores here) (m.mts (here % f.banks)) c
           (m.cores c).pts op (waits_none f here (m.cores c).out (m.cores c).open_op quiet) (m.lines here)
           y a (k.lines here)))
-          (λ l ne. busy_same f (values f m.records) l m.records (busy f m.cores l) (busy f (with_at m.cores c core) l)
-          (m.mts (l % f.banks)) (m.lines l)
+          (λ l ne. busy_same
           (with_at_cases (λ d z. busy f m.cores l d ≡ waits f l z.out z.open_op) m.cores c core
           (waits_none f l (m.cores c).out (m.cores c).open_op quiet ∙ sym (ap (waits f l true) opens
           ∙ waits_there f l op ne)) (λ d nd. refl)) (k.lines l));
@@ -306,14 +273,12 @@ answer_ok f m c l y a k =
       kept = k.kept;
       lines = with_at_cases (λ i x. Goes f (values f m.records) i m.records (busy f (with_at m.cores c core) i)
           (m.mts (i % f.banks)) x) m.lines l y
-          (busy_same f (values f m.records) l m.records (with_at (busy f m.cores l) c 0)
-          (busy f (with_at m.cores c core) l) (m.mts (l % f.banks)) y
+          (busy_same
           (with_at_both (λ d n z. n ≡ waits f l z.out z.open_op) (busy f m.cores l) m.cores c 0 core
           refl (λ d ne. refl))
           (answers_keep f (values f m.records) l m.records (busy f m.cores l) (m.mts (l % f.banks)) c one
           (m.lines l) y a (k.lines l)))
-          (λ i ne. busy_same f (values f m.records) i m.records (busy f m.cores i) (busy f (with_at m.cores c core) i)
-          (m.mts (i % f.banks)) (m.lines i)
+          (λ i ne. busy_same
           (with_at_cases (λ d z. busy f m.cores i d ≡ waits f i z.out z.open_op) m.cores c core
           (waits_elsewhere f l i (m.cores c).out (m.cores c).open_op waited ne) (λ d nd. refl)) (k.lines i));
       cores = with_at_cases (λ d z. CoreOk d z (m.issued d) m.records) m.cores c core
@@ -337,7 +302,7 @@ move_ok f m l t y mv k =
           t y mv (k.lines l)))
           (λ i ne. with_at_cases (λ b u. b ≡ i % f.banks → Goes f (values f m.records) i m.records (busy f m.cores i)
           u (m.lines i)) m.mts (l % f.banks) t
-          (λ e. goes_later f (values f m.records) i m.records (busy f m.cores i) (m.mts (i % f.banks)) t (m.lines i)
+          (λ e. goes_later
           (subst (λ (b : ℕ). m.mts b ≤ t) e up) (k.lines i))
           (λ b nb e. subst (λ (b' : ℕ). Goes f (values f m.records) i m.records (busy f m.cores i) (m.mts b')
           (m.lines i)) (sym e) (k.lines i))
@@ -345,16 +310,16 @@ move_ok f m l t y mv k =
       cores = k.cores;
     }
 
-of_core_length : (c : ℕ) (records : List Record) (r : Record) → r.core ≡ c → length (of_core c (records ++ r ∷ [])) ≡
-    length (of_core c records) + 1
-of_core_length c records r e =
-    ap length (filter-append (λ (q : Record). eqb q.core c) records (r ∷ []) ∙ ap (λ (b : Bool). of_core c records
-    ++ cond b (r ∷ []) []) (eq-eqb r.core c e))
-    ∙ length-append (of_core c records) (r ∷ []) ∙ omega arith
+-- one more record, of this core or of another
+pub of_core-own : (c : ℕ) (records : List Record) (r : Record) → r.core ≡ c → of_core c (records ++ r ∷ []) ≡ of_core
+    c records ++ r ∷ []
+of_core-own c records r e =
+    filter-append (λ (q : Record). eqb q.core c) records (r ∷ []) ∙ ap (λ (b : Bool). of_core c records
+    ++ cond b (r ∷ []) []) (eq-eqb r.core c e)
 
-of_core_push_other : (c : ℕ) (records : List Record) (r : Record) → r.core ≢ c →
+pub of_core-other : (c : ℕ) (records : List Record) (r : Record) → r.core ≢ c →
     of_core c (records ++ r ∷ []) ≡ of_core c records
-of_core_push_other c records r ne =
+of_core-other c records r ne =
     filter-append (λ (q : Record). eqb q.core c) records (r ∷ []) ∙ ap (λ (b : Bool). of_core c records
     ++ cond b (r ∷ []) []) (ne_eqb r.core c ne) ∙ append-nil (of_core c records)
 
@@ -411,13 +376,10 @@ complete_ok f good m c op copy new received ts opens quiet is used k =
       lines = with_at_cases (λ i x. Goes f (values f (m.records ++ r ∷ [])) i (m.records ++ r ∷ [])
           (busy f (with_at m.cores c core) i) (m.mts (i % f.banks)) x) m.lines here
           (record (m.lines here) { copies = with_at ((m.lines here).copies) c (Some new) })
-          (busy_same f (values f (m.records ++ r ∷ [])) here (m.records ++ r ∷ []) (busy f m.cores here)
-          (busy f (with_at m.cores c core) here) (m.mts (here % f.banks))
-          (record (m.lines here) { copies = with_at ((m.lines here).copies) c (Some new) })
+          (busy_same
           (with_at_cases (λ d z. busy f m.cores here d ≡ waits f here z.out z.open_op) m.cores c core free
           (λ d nd. refl)) done.line)
-          (λ i ne. busy_same f (values f (m.records ++ r ∷ [])) i (m.records ++ r ∷ []) (busy f m.cores i)
-          (busy f (with_at m.cores c core) i) (m.mts (i % f.banks)) (m.lines i)
+          (λ i ne. busy_same
           (with_at_cases (λ d z. busy f m.cores i d ≡ waits f i z.out z.open_op) m.cores c core
           (waits_none f i (m.cores c).out (m.cores c).open_op quiet) (λ d nd. refl)) (
             (k.lines i).0,
@@ -431,14 +393,15 @@ complete_ok f good m c op copy new received ts opens quiet is used k =
           (record {
             pts = each_push (λ q. q.core ≡ c → q.ts ≤ ts) m.records r (each_map (λ q w e. le_trans (w e) done.later)
                 m.records (k.cores c).pts) (λ e. le_refl _);
-            opened = open_is.0 ∙ sym (of_core_length c m.records r refl);
+            opened = open_is.0 ∙ sym (ap length (of_core-own c m.records r refl)
+                ∙ length-append (of_core c m.records) (r ∷ []));
             idle = λ e. refl;
           })
           (λ d ne. record {
             pts = each_push (λ q. q.core ≡ d → q.ts ≤ (m.cores d).pts) m.records r (k.cores d).pts
                 (λ e. absurd (ne (sym e)));
             opened = subst (λ (rs : List Record). Opened (m.issued d) (length rs) (m.cores d).open_op)
-                (sym (of_core_push_other d m.records r (λ e. ne (sym e)))) (k.cores d).opened;
+                (sym (of_core-other d m.records r (λ e. ne (sym e)))) (k.cores d).opened;
             idle = (k.cores d).idle;
           });
     }

@@ -1,10 +1,9 @@
 -- The records of a core, as they complete, are of the operations that it was issued, in their order.
-use Rattle.std.proofs.Common.{◌≡◌, ◌≢◌, ℕ, zero, suc, ◌+◌, ◌<◌, Bool, List, [], ◌∷◌, ◌++◌, length, map, drop, cond}
-use Rattle.std.proofs.Common.{eqb, Option, Some, None, refl, sym, ap, ◌∙◌, subst, arith, ⊎_elim, append-nil}
+use Rattle.std.proofs.Common.{◌≡◌, ℕ, zero, suc, ◌+◌, ◌<◌, List, [], ◌∷◌, ◌++◌, length, map, drop}
+use Rattle.std.proofs.Common.{Option, Some, None, refl, sym, ap, ◌∙◌, subst, arith, ⊎_elim}
 use Rattle.std.specs.Prelude.{slice_get}
-use Rattle.std.proofs.lemmas.Bool.{cases_eq, eq-eqb, ne_eqb}
+use Rattle.std.proofs.lemmas.Bool.{cases_eq}
 use Rattle.std.proofs.Math.Seq.{drop-length}
-use Rattle.std.proofs.lemmas.List.Elements.{filter-append}
 use Rattle.physiological_order.specs.declared.operation.Op.{Op}
 use Rattle.physiological_order.specs.declared.operation.Record.{Record}
 use Rattle.physiological_order.specs.Order.{Follows, of_core}
@@ -13,20 +12,7 @@ use Rattle.protocol.specs.Machine.{Config, Machine, Transition, issue, advance, 
 use Rattle.protocol.specs.Machine.{Reachable, at_first, goes_on}
 use Rattle.protocol.specs.Issued.{listed, IsIssued}
 use Rattle.protocol.proofs.Lines.{with_at_cases}
-use Rattle.protocol.proofs.Headline.{MachineOk, Opened, reachable_ok}
-
--- one more record, of this core or of another
-pub of_core-own : (c : ℕ) (records : List Record) (r : Record) → r.core ≡ c → of_core c (records ++ r ∷ []) ≡ of_core
-    c records ++ r ∷ []
-of_core-own c records r e =
-    filter-append (λ (q : Record). eqb q.core c) records (r ∷ []) ∙ ap (λ (b : Bool). of_core c records
-    ++ cond b (r ∷ []) []) (eq-eqb r.core c e)
-
-pub of_core-other : (c : ℕ) (records : List Record) (r : Record) → r.core ≢ c →
-    of_core c (records ++ r ∷ []) ≡ of_core c records
-of_core-other c records r ne =
-    filter-append (λ (q : Record). eqb q.core c) records (r ∷ []) ∙ ap (λ (b : Bool). of_core c records
-    ++ cond b (r ∷ []) []) (ne_eqb r.core c ne) ∙ append-nil (of_core c records)
+use Rattle.protocol.proofs.Headline.{MachineOk, Opened, of_core-other, of_core-own, reachable_ok}
 
 abbrev InProgram : Machine → Type 0
 InProgram m = (c : ℕ) → Follows 0 (m.issued c) (of_core c m.records)

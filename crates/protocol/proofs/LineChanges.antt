@@ -17,7 +17,7 @@ use Rattle.protocol.proofs.Lease.{Current, Leased, Leased-from_Current, Current-
 use Rattle.protocol.proofs.Lease.{Current-upgrade}
 use Rattle.protocol.proofs.Lines.{Holder, Bank, At, Flying, flying, right, load, store, about, loading, storing}
 use Rattle.protocol.proofs.Lines.{MessageOk, CopyOk, EntryOk, LineOk, with_at_other, with_at_cases, messages_keep}
-use Rattle.protocol.proofs.Lines.{copy_keeps}
+use Rattle.protocol.proofs.Lines.{copy_keeps, with_bag}
 
 -- holders are told apart
 pub At≢Bank : (c : ℕ) → At c ≡ Bank → ⊥
@@ -27,46 +27,28 @@ pub At_injective : (c d : ℕ) → At c ≡ At d → c ≡ d
 At_injective c d e = cc
 
 pub flying_one : (b : Holder) → flying b ≡ 1 → b ≡ Flying
-flying_one Bank e = absurd (omega arith)
-flying_one (At c) e = absurd (omega arith)
 flying_one Flying e = refl
+flying_one _ e = absurd (omega arith)
 
 pub loading_one : (e : Entry) → loading e ≡ 1 → e ≡ Loading
-loading_one Absent h = absurd (omega arith)
 loading_one Loading h = refl
-loading_one (Shared d x) h = absurd (omega arith)
-loading_one (Exclusive o) h = absurd (omega arith)
-loading_one (Recalling o) h = absurd (omega arith)
-loading_one Storing h = absurd (omega arith)
+loading_one _ h = absurd (omega arith)
 
 pub storing_one : (e : Entry) → storing e ≡ 1 → e ≡ Storing
-storing_one Absent h = absurd (omega arith)
-storing_one Loading h = absurd (omega arith)
-storing_one (Shared d x) h = absurd (omega arith)
-storing_one (Exclusive o) h = absurd (omega arith)
-storing_one (Recalling o) h = absurd (omega arith)
 storing_one Storing h = refl
+storing_one _ h = absurd (omega arith)
 
 pub at_most_one : (b : Holder) → flying b ≤ 1
-at_most_one Bank = omega arith
-at_most_one (At c) = omega arith
 at_most_one Flying = omega arith
+at_most_one _ = omega arith
 
 pub loads_at_most_one : (e : Entry) → loading e ≤ 1
-loads_at_most_one Absent = omega arith
 loads_at_most_one Loading = omega arith
-loads_at_most_one (Shared d x) = omega arith
-loads_at_most_one (Exclusive o) = omega arith
-loads_at_most_one (Recalling o) = omega arith
-loads_at_most_one Storing = omega arith
+loads_at_most_one _ = omega arith
 
 pub stores_at_most_one : (e : Entry) → storing e ≤ 1
-stores_at_most_one Absent = omega arith
-stores_at_most_one Loading = omega arith
-stores_at_most_one (Shared d x) = omega arith
-stores_at_most_one (Exclusive o) = omega arith
-stores_at_most_one (Recalling o) = omega arith
 stores_at_most_one Storing = omega arith
+stores_at_most_one _ = omega arith
 
 -- a message that isn't counted
 pub zero_more : (n k : ℕ) → n ≡ k → 0 + n ≡ k
@@ -82,12 +64,9 @@ module _ (f : Config) (h : ℕ → Memory) (l : ℕ) (records : List Record) (bu
   -- where the right isn't at the bank, the entry is Exclusive or Recalling
   pub owned : (s : Timed) (b : Holder) (t : ℕ) (d : List ℕ) (e : Entry) → EntryOk s b t d e → b ≢ Bank →
       (loading e ≡ 0) × (storing e ≡ 0) × ((u : Timed) (b' : Holder) → b' ≢ Bank → EntryOk u b' t d e)
-  owned s b t d Absent k n = absurd (n k.0)
-  owned s b t d Loading k n = absurd (n k.0)
-  owned s b t d (Shared e x) k n = absurd (n k.0)
   owned s b t d (Exclusive o) k n = (refl, refl, λ u b' m. m)
   owned s b t d (Recalling o) k n = (refl, refl, λ u b' m. m)
-  owned s b t d Storing k n = absurd (n k.0)
+  owned s b t d _ k n = absurd (n k.0)
 
   pub keep : (top : ℕ) (s : Timed) (x : Line) (ys : ℕ → Option Copy) (ms : List Message) →
       ((c : ℕ) → (tally (about c) ms ≡ 0) ⊎ (x.copies c ≡ ys c)) → Each (MessageOk f h l top s x.copies x.dram) ms →
@@ -124,25 +103,28 @@ module _ (f : Config) (h : ℕ → Memory) (l : ℕ) (records : List Record) (bu
         entry = k.entry;
       }
 
+  -- messages are a bag
+  pub ok_shuffled : (t : ℕ) (x : Line) (s : Timed) (b : Holder) (ms : List Message) → IsPermutation x.messages ms →
+      Ok t x s b → Ok t (record x { messages = ms }) s b
+  ok_shuffled t x s b ms p k =
+      with_bag f h l k x.entry ms x.dram
+      (each_taken (MessageOk f h l k.top s x.copies x.dram) x.messages ms p k.messages)
+      (sym (tally-taken right x.messages ms p) ∙ k.owner_count) (sym (tally-taken load x.messages ms p) ∙ k.loads)
+      (sym (tally-taken store x.messages ms p) ∙ k.stores)
+      (λ c. sym (tally-taken (about c) x.messages ms p) ∙ k.asks c) k.entry
+
+  -- the message that is taken comes first
+  abbrev Has : ℕ → Line → Message → List Message → Timed → Holder → Type 0
+  Has t x m rest s b = Ok t (record x { messages = m ∷ rest }) s b
+
   -- a message that counts as nothing may go
-  ok_without : (t : ℕ) (x : Line) (s : Timed) (b : Holder) (m : Message) (rest : List Message) →
-      IsPermutation x.messages (m ∷ rest) → right m ≡ 0 → load m ≡ 0 → store m ≡ 0 → ((c : ℕ) → about c m ≡ 0) →
-      Ok t x s b → Ok t (record x { messages = rest }) s b
-  ok_without t x s b m rest p r d w a k =
-      record {
-        current = k.current;
-        top = k.top;
-        within = k.within;
-        copies = k.copies;
-        held = k.held;
-        messages = (each_taken (MessageOk f h l k.top s x.copies x.dram) x.messages (m ∷ rest) p k.messages).1;
-        owner_count = (let e = tally-taken right x.messages (m ∷ rest) p in let q = k.owner_count in omega arith);
-        loads = (let e = tally-taken load x.messages (m ∷ rest) p in let q = k.loads in omega arith);
-        stores = (let e = tally-taken store x.messages (m ∷ rest) p in let q = k.stores in omega arith);
-        asks = λ c. (let e = tally-taken (about c) x.messages (m ∷ rest) p in let q = k.asks c in
-            let z = a c in omega arith);
-        entry = k.entry;
-      }
+  ok_without : (t : ℕ) (x : Line) (s : Timed) (b : Holder) (m : Message) (rest : List Message) → right m ≡ 0 →
+      load m ≡ 0 → store m ≡ 0 → ((c : ℕ) → about c m ≡ 0) → Has t x m rest s b →
+      Ok t (record x { messages = rest }) s b
+  ok_without t x s b m rest r d w a k =
+      with_bag f h l k x.entry rest x.dram k.messages.1 (let q = k.owner_count in omega arith)
+      (let q = k.loads in omega arith) (let q = k.stores in omega arith)
+      (λ c. let q = k.asks c in let z = a c in omega arith) k.entry
 
   -- the owner sends the line back, as it stands or leased longer
   ok_evict_exclusive : (t : ℕ) (x : Line) (s : Timed) (b : Holder) (c : ℕ) (copy : Copy) → busy c ≡ 0 →
@@ -227,36 +209,17 @@ module _ (f : Config) (h : ℕ → Memory) (l : ℕ) (records : List Record) (bu
       ((c : ℕ) → about c m ≡ 0) → Ok t x s b → Ok t (record x { entry = Recalling owner; messages = m ∷ x.messages })
       s b
   ok_recalls t x s b owner m is fine r d w a k =
-      record {
-        current = k.current;
-        top = k.top;
-        within = k.within;
-        copies = k.copies;
-        held = k.held;
-        messages = (fine k.top, k.messages);
-        owner_count = (let q = k.owner_count in omega arith);
-        loads = (let q = k.loads ∙ ap loading is in omega arith);
-        stores = (let q = k.stores ∙ ap storing is in omega arith);
-        asks = λ c. (let q = k.asks c in let z = a c in omega arith);
-        entry = subst (EntryOk s b t x.dram) is k.entry;
-      }
+      with_bag f h l k (Recalling owner) (m ∷ x.messages) x.dram (fine k.top, k.messages)
+      (let q = k.owner_count in omega arith) (let q = k.loads ∙ ap loading is in omega arith)
+      (let q = k.stores ∙ ap storing is in omega arith) (λ c. let q = k.asks c in let z = a c in omega arith)
+      (subst (EntryOk s b t x.dram) is k.entry)
 
   ok_load_starts : (t : ℕ) (x : Line) (s : Timed) (b : Holder) → x.entry ≡ Absent → Ok t x s b →
       Ok t (record x { entry = Loading; messages = DramLd ∷ x.messages }) s b
   ok_load_starts t x s b is k =
-      record {
-        current = k.current;
-        top = k.top;
-        within = k.within;
-        copies = k.copies;
-        held = k.held;
-        messages = (tt, k.messages);
-        owner_count = zero_more _ _ k.owner_count;
-        loads = (let q = k.loads ∙ ap loading is in omega arith);
-        stores = (let q = k.stores ∙ ap storing is in omega arith);
-        asks = λ c. zero_more _ _ (k.asks c);
-        entry = subst (EntryOk s b t x.dram) is k.entry;
-      }
+      with_bag f h l k Loading (DramLd ∷ x.messages) x.dram (tt, k.messages) (zero_more _ _ k.owner_count)
+      (let q = k.loads ∙ ap loading is in omega arith) (let q = k.stores ∙ ap storing is in omega arith)
+      (λ c. zero_more _ _ (k.asks c)) (subst (EntryOk s b t x.dram) is k.entry)
 
   -- at the bank, no core has the right
   at_bank : (s : Timed) (b : Holder) → b ≡ Bank → (c : ℕ) → b ≡ At c → ⊥
@@ -264,26 +227,21 @@ module _ (f : Config) (h : ℕ → Memory) (l : ℕ) (records : List Record) (bu
 
   -- a Shared line is leased longer, whatever reply goes out
   ok_leases : (t : ℕ) (x : Line) (s : Timed) (b : Holder) (dirty : Bool) (line : Timed) (rts : ℕ) (m n : Message)
-      (rest : List Message) → x.entry ≡ Shared dirty line → line.rts ≤ rts →
-      IsPermutation x.messages (m ∷ rest) → right m ≡ 0 → right n ≡ 0 → load m ≡ 0 → load n ≡ 0 → store m ≡ 0 →
-      store n ≡ 0 → ((c : ℕ) → about c m ≡ about c n) →
+      (rest : List Message) → x.entry ≡ Shared dirty line → line.rts ≤ rts → right m ≡ 0 → right n ≡ 0 → load m ≡ 0 →
+      load n ≡ 0 → store m ≡ 0 → store n ≡ 0 → ((c : ℕ) → about c m ≡ about c n) →
       ((top : ℕ) → Current f h records l line → MessageOk f h l top line x.copies x.dram m →
       MessageOk f h l rts (record line { rts = rts }) x.copies x.dram n) →
-      Ok t x s b → Ok t (record x { entry = Shared dirty (record line { rts = rts }); messages = n ∷ rest })
+      Has t x m rest s b → Ok t (record x { entry = Shared dirty (record line { rts = rts }); messages = n ∷ rest })
       (record line { rts = rts }) Bank
-  ok_leases t x s b dirty line rts m n rest is le p rm rn dm dn wm wn a answer k =
+  ok_leases t x s b dirty line rts m n rest is le rm rn dm dn wm wn a answer k =
       let u : Timed = record line { rts = rts } in
       let e : EntryOk s b t x.dram (Shared dirty line) = subst (EntryOk s b t x.dram) is k.entry in
-      let e_owners = tally-taken right x.messages (m ∷ rest) p in
-      let e_loads = tally-taken load x.messages (m ∷ rest) p in
-      let e_stores = tally-taken store x.messages (m ∷ rest) p in
-      let no_owners : tally right x.messages ≡ 0 = k.owner_count ∙ ap flying e.0 in
-      let no_loads : tally load x.messages ≡ 0 = k.loads ∙ ap loading is in
-      let no_stores : tally store x.messages ≡ 0 = k.stores ∙ ap storing is in
+      let no_owners : right m + tally right rest ≡ 0 = k.owner_count ∙ ap flying e.0 in
+      let no_loads : load m + tally load rest ≡ 0 = k.loads ∙ ap loading is in
+      let no_stores : store m + tally store rest ≡ 0 = k.stores ∙ ap storing is in
       let st : Current f h records l line = subst (Current f h records l) (sym e.1) k.current in
       let up : s.rts ≤ rts = subst (λ (y : Timed). y.rts ≤ rts) e.1 le in
       let words : s.words ≡ line.words = sym (ap (λ (y : Timed). y.words) e.1) in
-      let each = each_taken (MessageOk f h l k.top s x.copies x.dram) x.messages (m ∷ rest) p k.messages in
       record {
         current = Current-raise f h records l line rts le st;
         top = rts;
@@ -292,34 +250,29 @@ module _ (f : Config) (h : ℕ → Memory) (l : ℕ) (records : List Record) (bu
             (le_trans k.within up) b Bank c cp (inl (at_bank s b e.0 c)) (k.copies c cp is_cp);
         held = λ c at. absurd (cc);
         messages = (
-          answer k.top st (subst (λ (y : Timed). MessageOk f h l k.top y x.copies x.dram m) (sym e.1) each.0),
+          answer k.top st (subst (λ (y : Timed). MessageOk f h l k.top y x.copies x.dram m) (sym e.1) k.messages.0),
           messages_keep f h h l k.top rts s u x.copies x.copies x.dram x.dram (λ t a on le. refl)
-              (le_trans k.within up) rest (inl (omega arith)) (inr words) (inr (words, refl)) (λ c. inr refl) each.1,
+              (le_trans k.within up) rest (inl (omega arith)) (inr words) (inr (words, refl)) (λ c. inr refl)
+              k.messages.1,
         );
         owner_count = omega arith;
         loads = omega arith;
         stores = omega arith;
-        asks = λ c. (let q = tally-taken (about c) x.messages (m ∷ rest) p in let r = k.asks c in
-            let z = a c in omega arith);
+        asks = λ c. let r = k.asks c in let z = a c in omega arith;
         entry = (refl, refl, λ z. e.2 z ∙ words);
       }
 
   -- the right goes out to a core, with the line or with a word that the core's own copy stands
   ok_grants : (t : ℕ) (x : Line) (s u : Timed) (b : Holder) (owner : ℕ) (dirty : Bool) (line : Timed) (m n : Message)
-      (rest : List Message) → x.entry ≡ Shared dirty line →
-      IsPermutation x.messages (m ∷ rest) → right m ≡ 0 → right n ≡ 1 → load m ≡ 0 → load n ≡ 0 → store m ≡ 0 →
-      store n ≡ 0 → ((c : ℕ) → about c m ≡ about c n) →
+      (rest : List Message) → x.entry ≡ Shared dirty line → right m ≡ 0 → right n ≡ 1 → load m ≡ 0 → load n ≡ 0 →
+      store m ≡ 0 → store n ≡ 0 → ((c : ℕ) → about c m ≡ about c n) →
       Current f h records l u → s.rts ≤ u.rts → MessageOk f h l u.rts u x.copies x.dram n →
-      Ok t x s b → Ok t (record x { entry = Exclusive owner; messages = n ∷ rest }) u Flying
-  ok_grants t x s u b owner dirty line m n rest is p rm rn dm dn wm wn a st up answer k =
+      Has t x m rest s b → Ok t (record x { entry = Exclusive owner; messages = n ∷ rest }) u Flying
+  ok_grants t x s u b owner dirty line m n rest is rm rn dm dn wm wn a st up answer k =
       let e : EntryOk s b t x.dram (Shared dirty line) = subst (EntryOk s b t x.dram) is k.entry in
-      let e_owners = tally-taken right x.messages (m ∷ rest) p in
-      let e_loads = tally-taken load x.messages (m ∷ rest) p in
-      let e_stores = tally-taken store x.messages (m ∷ rest) p in
-      let no_owners : tally right x.messages ≡ 0 = k.owner_count ∙ ap flying e.0 in
-      let no_loads : tally load x.messages ≡ 0 = k.loads ∙ ap loading is in
-      let no_stores : tally store x.messages ≡ 0 = k.stores ∙ ap storing is in
-      let each = each_taken (MessageOk f h l k.top s x.copies x.dram) x.messages (m ∷ rest) p k.messages in
+      let no_owners : right m + tally right rest ≡ 0 = k.owner_count ∙ ap flying e.0 in
+      let no_loads : load m + tally load rest ≡ 0 = k.loads ∙ ap loading is in
+      let no_stores : store m + tally store rest ≡ 0 = k.stores ∙ ap storing is in
       record {
         current = st;
         top = u.rts;
@@ -331,33 +284,27 @@ module _ (f : Config) (h : ℕ → Memory) (l : ℕ) (records : List Record) (bu
           answer,
           messages_keep f h h l k.top u.rts s u x.copies x.copies x.dram x.dram (λ t a on le. refl)
               (le_trans k.within up) rest (inl (omega arith)) (inl (omega arith)) (inl (omega arith))
-              (λ c. inr refl) each.1,
+              (λ c. inr refl) k.messages.1,
         );
         owner_count = omega arith;
         loads = omega arith;
         stores = omega arith;
-        asks = λ c. (let q = tally-taken (about c) x.messages (m ∷ rest) p in let r = k.asks c in
-            let z = a c in omega arith);
+        asks = λ c. let r = k.asks c in let z = a c in omega arith;
         entry = λ z. cc;
       }
 
   -- the right comes back
   ok_returns : (t : ℕ) (x : Line) (s : Timed) (b : Holder) (line : Timed) (m : Message) (rest : List Message) →
-      IsPermutation x.messages (m ∷ rest) →
       right m ≡ 1 → load m ≡ 0 → store m ≡ 0 → ((c : ℕ) → about c m ≡ 0) →
       ((top : ℕ) → MessageOk f h l top s x.copies x.dram m → line ≡ s) →
-      Ok t x s b → Ok t (record x { entry = Shared true line; messages = rest }) s Bank
-  ok_returns t x s b line m rest p r d w a tells k =
-      let e_owners = tally-taken right x.messages (m ∷ rest) p in
-      let e_loads = tally-taken load x.messages (m ∷ rest) p in
-      let e_stores = tally-taken store x.messages (m ∷ rest) p in
+      Has t x m rest s b → Ok t (record x { entry = Shared true line; messages = rest }) s Bank
+  ok_returns t x s b line m rest r d w a tells k =
       let one = at_most_one b in
-      let all = k.owner_count in
+      let all : right m + tally right rest ≡ flying b = k.owner_count in
       let fl : b ≡ Flying = flying_one b (omega arith) in
       let e = owned s b t x.dram x.entry k.entry (λ q. let z : Flying ≡ Bank = sym fl ∙ q in cc) in
-      let no_loads : tally load x.messages ≡ 0 = k.loads ∙ e.0 in
-      let no_stores : tally store x.messages ≡ 0 = k.stores ∙ e.1 in
-      let each = each_taken (MessageOk f h l k.top s x.copies x.dram) x.messages (m ∷ rest) p k.messages in
+      let no_loads : load m + tally load rest ≡ 0 = k.loads ∙ e.0 in
+      let no_stores : store m + tally store rest ≡ 0 = k.stores ∙ e.1 in
       record {
         current = k.current;
         top = k.top;
@@ -365,194 +312,95 @@ module _ (f : Config) (h : ℕ → Memory) (l : ℕ) (records : List Record) (bu
         copies = λ c cp is_cp. copy_keeps f h h l k.top k.top s s x.copies x.copies x.dram x.dram (λ t a on le. refl)
             (le_refl _) b Bank c cp (inl (λ q. let z : Flying ≡ At c = sym fl ∙ q in cc)) (k.copies c cp is_cp);
         held = λ c at. absurd (cc);
-        messages = each.1;
+        messages = k.messages.1;
         owner_count = omega arith;
         loads = omega arith;
         stores = omega arith;
-        asks = λ c. (let q = tally-taken (about c) x.messages (m ∷ rest) p in let r = k.asks c in
-            let z = a c in omega arith);
-        entry = (refl, tells k.top each.0, λ z. cc);
+        asks = λ c. let r = k.asks c in let z = a c in omega arith;
+        entry = (refl, tells k.top k.messages.0, λ z. cc);
       }
 
   -- the words come from DRAM, at the bank's time
   ok_loaded : (t : ℕ) (x : Line) (s : Timed) (b : Holder) (words : List ℕ) (rest : List Message) →
-      IsPermutation x.messages (DramLdRep words ∷ rest) → Ok t x s b →
-      Ok t (record x { entry = Shared false (record { wts = t; rts = t; words = words }); messages = rest }) (record { wts = t; rts = t; words = words }) Bank
-  ok_loaded t x s b words rest p k =
+      Has t x (DramLdRep words) rest s b →
       let u : Timed = record { wts = t; rts = t; words = words } in
-      let e_owners = tally-taken right x.messages (DramLdRep words ∷ rest) p in
-      let e_loads = tally-taken load x.messages (DramLdRep words ∷ rest) p in
-      let e_stores = tally-taken store x.messages (DramLdRep words ∷ rest) p in
+      Ok t (record x { entry = Shared false u; messages = rest }) u Bank
+  ok_loaded t x s b words rest k =
+      let u : Timed = record { wts = t; rts = t; words = words } in
       let one = loads_at_most_one x.entry in
-      let all = k.loads in
+      let all : 1 + tally load rest ≡ loading x.entry = k.loads in
       let is = loading_one x.entry (omega arith) in
       let e : EntryOk s b t x.dram Loading = subst (EntryOk s b t x.dram) is k.entry in
-      let no_owners : tally right x.messages ≡ 0 = k.owner_count ∙ ap flying e.0 in
-      let no_stores : tally store x.messages ≡ 0 = k.stores ∙ ap storing is in
-      let each = each_taken (MessageOk f h l k.top s x.copies x.dram) x.messages
-      (DramLdRep words ∷ rest) p k.messages in
+      let no_owners : 0 + tally right rest ≡ 0 = k.owner_count ∙ ap flying e.0 in
+      let no_stores : 0 + tally store rest ≡ 0 = k.stores ∙ ap storing is in
+      let told = k.messages.0 in
       record {
-        current = Current-fill f h records l s t words e.1 each.0 k.current;
+        current = Current-fill f h records l s t words e.1 told k.current;
         top = k.top;
         within = le_trans k.within e.1;
         copies = λ c cp is_cp. copy_keeps f h h l k.top k.top s u x.copies x.copies x.dram x.dram (λ t a on le. refl)
             (le_refl _) b Bank c cp (inl (at_bank s b e.0 c)) (k.copies c cp is_cp);
         held = λ c at. absurd (cc);
         messages = messages_keep f h h l k.top k.top s u x.copies x.copies x.dram x.dram (λ t a on le. refl)
-            (le_refl _) rest (inl (omega arith)) (inr (sym each.0)) (inr (sym each.0, refl)) (λ c. inr refl) each.1;
+            (le_refl _) rest (inl (omega arith)) (inr (sym told)) (inr (sym told, refl)) (λ c. inr refl) k.messages.1;
         owner_count = omega arith;
         loads = omega arith;
         stores = omega arith;
-        asks = λ c. (let q = tally-taken (about c) x.messages (DramLdRep words ∷ rest) p in
-            let r = k.asks c in omega arith);
-        entry = (refl, refl, λ z. e.2 ∙ sym each.0);
+        asks = λ c. let q = k.asks c in omega arith;
+        entry = (refl, refl, λ z. e.2 ∙ sym told);
       }
 
-  ok_stored : (t : ℕ) (x : Line) (s : Timed) (b : Holder) (rest : List Message) → IsPermutation x.messages
-      (DramStRep ∷ rest) → Ok t x s b → Ok t (record x { entry = Absent; messages = rest }) s b
-  ok_stored t x s b rest p k =
-      let e_owners = tally-taken right x.messages (DramStRep ∷ rest) p in
-      let e_loads = tally-taken load x.messages (DramStRep ∷ rest) p in
-      let e_stores = tally-taken store x.messages (DramStRep ∷ rest) p in
+  ok_stored : (t : ℕ) (x : Line) (s : Timed) (b : Holder) (rest : List Message) → Has t x DramStRep rest s b →
+      Ok t (record x { entry = Absent; messages = rest }) s b
+  ok_stored t x s b rest k =
       let one = stores_at_most_one x.entry in
-      let all = k.stores in
-      let owner_count = k.owner_count in
+      let all : 1 + tally store rest ≡ storing x.entry = k.stores in
       let is = storing_one x.entry (omega arith) in
       let e : EntryOk s b t x.dram Storing = subst (EntryOk s b t x.dram) is k.entry in
-      let no_loads : tally load x.messages ≡ 0 = k.loads ∙ ap loading is in
-      let each = each_taken (MessageOk f h l k.top s x.copies x.dram) x.messages (DramStRep ∷ rest) p k.messages in
-      record {
-        current = k.current;
-        top = k.top;
-        within = k.within;
-        copies = k.copies;
-        held = k.held;
-        messages = each.1;
-        owner_count = omega arith;
-        loads = omega arith;
-        stores = omega arith;
-        asks = λ c. (let q = tally-taken (about c) x.messages (DramStRep ∷ rest) p in
-            let r = k.asks c in omega arith);
-        entry = (e.0, e.1, each.0);
-      }
+      with_bag f h l k Absent rest x.dram k.messages.1 (let q = k.owner_count in omega arith)
+      (let q = k.loads ∙ ap loading is in omega arith) (omega arith) (λ c. let q = k.asks c in omega arith)
+      (e.0, e.1, k.messages.0)
 
   ok_evict_clean : (t : ℕ) (x : Line) (s : Timed) (b : Holder) (line : Timed) → x.entry ≡ Shared false line →
       Ok t x s b → Ok (max t line.rts) (record x { entry = Absent }) s b
   ok_evict_clean t x s b line is k =
       let e : EntryOk s b t x.dram (Shared false line) = subst (EntryOk s b t x.dram) is k.entry in
       let r : line.rts ≡ s.rts = ap (λ (y : Timed). y.rts) e.1 in
-      record {
-        current = k.current;
-        top = k.top;
-        within = k.within;
-        copies = k.copies;
-        held = k.held;
-        messages = k.messages;
-        owner_count = k.owner_count;
-        loads = k.loads ∙ ap loading is;
-        stores = k.stores ∙ ap storing is;
-        asks = k.asks;
-        entry = (e.0, omega arith, e.2 refl);
-      }
+      with_bag f h l k Absent x.messages x.dram k.messages k.owner_count (k.loads ∙ ap loading is)
+      (k.stores ∙ ap storing is) k.asks (e.0, omega arith, e.2 refl)
 
-  ok_evict_dirty : (t : ℕ) (x : Line) (s : Timed) (b : Holder) (line : Timed) → x.entry ≡ Shared true line → Ok t x s b → Ok (max t line.rts) (record x { entry = Storing; messages = DramSt line.words ∷ x.messages }) s b
+  ok_evict_dirty : (t : ℕ) (x : Line) (s : Timed) (b : Holder) (line : Timed) → x.entry ≡ Shared true line →
+      Ok t x s b → Ok (max t line.rts) (record x { entry = Storing; messages = DramSt line.words ∷ x.messages }) s b
   ok_evict_dirty t x s b line is k =
       let e : EntryOk s b t x.dram (Shared true line) = subst (EntryOk s b t x.dram) is k.entry in
       let r : line.rts ≡ s.rts = ap (λ (y : Timed). y.rts) e.1 in
-      record {
-        current = k.current;
-        top = k.top;
-        within = k.within;
-        copies = k.copies;
-        held = k.held;
-        messages = (ap (λ (y : Timed). y.words) e.1, k.messages);
-        owner_count = zero_more _ _ k.owner_count;
-        loads = zero_more _ _ (k.loads ∙ ap loading is);
-        stores = (let q = k.stores ∙ ap storing is in omega arith);
-        asks = λ c. zero_more _ _ (k.asks c);
-        entry = (e.0, omega arith);
-      }
+      with_bag f h l k Storing (DramSt line.words ∷ x.messages) x.dram
+      (ap (λ (y : Timed). y.words) e.1, k.messages) (zero_more _ _ k.owner_count)
+      (zero_more _ _ (k.loads ∙ ap loading is)) (let q = k.stores ∙ ap storing is in omega arith)
+      (λ c. zero_more _ _ (k.asks c)) (e.0, omega arith)
 
-  ok_dram_loads : (t : ℕ) (x : Line) (s : Timed) (b : Holder) (rest : List Message) → IsPermutation x.messages
-      (DramLd ∷ rest) → Ok t x s b → Ok t (record x { messages = DramLdRep x.dram ∷ rest }) s b
-  ok_dram_loads t x s b rest p k =
-      let e_owners = tally-taken right x.messages (DramLd ∷ rest) p in
-      let e_loads = tally-taken load x.messages (DramLd ∷ rest) p in
-      let e_stores = tally-taken store x.messages (DramLd ∷ rest) p in
+  ok_dram_loads : (t : ℕ) (x : Line) (s : Timed) (b : Holder) (rest : List Message) → Has t x DramLd rest s b →
+      Ok t (record x { messages = DramLdRep x.dram ∷ rest }) s b
+  ok_dram_loads t x s b rest k =
       let one = loads_at_most_one x.entry in
-      let all = k.loads in
-      let owner_count = k.owner_count in
-      let stores = k.stores in
+      let all : 1 + tally load rest ≡ loading x.entry = k.loads in
       let is = loading_one x.entry (omega arith) in
       let e : EntryOk s b t x.dram Loading = subst (EntryOk s b t x.dram) is k.entry in
-      let each = each_taken (MessageOk f h l k.top s x.copies x.dram) x.messages (DramLd ∷ rest) p k.messages in
-      record {
-        current = k.current;
-        top = k.top;
-        within = k.within;
-        copies = k.copies;
-        held = k.held;
-        messages = (e.2, each.1);
-        owner_count = omega arith;
-        loads = omega arith;
-        stores = omega arith;
-        asks = λ c. (let q = tally-taken (about c) x.messages (DramLd ∷ rest) p in let r = k.asks c in omega arith);
-        entry = k.entry;
-      }
-
-  storing_entry : (s : Timed) (b : Holder) (t : ℕ) (d d' : List ℕ) (e : Entry) → e ≡ Storing →
-      EntryOk s b t d e → EntryOk s b t d' e
-  storing_entry s b t d d' e is k =
-      subst (EntryOk s b t d') (sym is) (let j : EntryOk s b t d Storing = subst (EntryOk s b t d) is k in j)
+      with_bag f h l k x.entry (DramLdRep x.dram ∷ rest) x.dram (e.2, k.messages.1) k.owner_count k.loads k.stores
+      k.asks k.entry
 
   ok_dram_stores : (t : ℕ) (x : Line) (s : Timed) (b : Holder) (words : List ℕ) (rest : List Message) →
-      IsPermutation x.messages (DramSt words ∷ rest) → Ok t x s b →
-      Ok t (record x { dram = words; messages = DramStRep ∷ rest }) s b
-  ok_dram_stores t x s b words rest p k =
-      let e_owners = tally-taken right x.messages (DramSt words ∷ rest) p in
-      let e_loads = tally-taken load x.messages (DramSt words ∷ rest) p in
-      let e_stores = tally-taken store x.messages (DramSt words ∷ rest) p in
+      Has t x (DramSt words) rest s b → Ok t (record x { dram = words; messages = DramStRep ∷ rest }) s b
+  ok_dram_stores t x s b words rest k =
       let one = stores_at_most_one x.entry in
-      let all = k.stores in
-      let owner_count = k.owner_count in
-      let loads = k.loads in
+      let all : 1 + tally store rest ≡ storing x.entry = k.stores in
       let is = storing_one x.entry (omega arith) in
-      let each = each_taken (MessageOk f h l k.top s x.copies x.dram) x.messages (DramSt words ∷ rest) p k.messages in
-      record {
-        current = k.current;
-        top = k.top;
-        within = k.within;
-        copies = k.copies;
-        held = k.held;
-        messages = (
-          each.0,
-          messages_keep f h h l k.top k.top s s x.copies x.copies x.dram words (λ t a on le. refl)
-              (le_refl _) rest (inr refl) (inr refl) (inl (omega arith)) (λ c. inr refl) each.1,
-        );
-        owner_count = omega arith;
-        loads = omega arith;
-        stores = omega arith;
-        asks = λ c. (let q = tally-taken (about c) x.messages (DramSt words ∷ rest) p in
-            let r = k.asks c in omega arith);
-        entry = storing_entry s b t x.dram words x.entry is k.entry;
-      }
-
-  ok_shuffled : (t : ℕ) (x : Line) (s : Timed) (b : Holder) (ms : List Message) → IsPermutation x.messages ms →
-      Ok t x s b → Ok t (record x { messages = ms }) s b
-  ok_shuffled t x s b ms p k =
-      record {
-        current = k.current;
-        top = k.top;
-        within = k.within;
-        copies = k.copies;
-        held = k.held;
-        messages = each_taken (MessageOk f h l k.top s x.copies x.dram) x.messages ms p k.messages;
-        owner_count = sym (tally-taken right x.messages ms p) ∙ k.owner_count;
-        loads = sym (tally-taken load x.messages ms p) ∙ k.loads;
-        stores = sym (tally-taken store x.messages ms p) ∙ k.stores;
-        asks = λ c. sym (tally-taken (about c) x.messages ms p) ∙ k.asks c;
-        entry = k.entry;
-      }
+      let e : EntryOk s b t x.dram Storing = subst (EntryOk s b t x.dram) is k.entry in
+      with_bag f h l k x.entry (DramStRep ∷ rest) words (
+        k.messages.0,
+        messages_keep f h h l k.top k.top s s x.copies x.copies x.dram words (λ t a on le. refl)
+            (le_refl _) rest (inr refl) (inr refl) (inl (omega arith)) (λ c. inr refl) k.messages.1,
+      ) k.owner_count k.loads k.stores k.asks (subst (EntryOk s b t words) (sym is) e)
 
   -- an equal version is renewed without its words
   renewed_ok : (x : Line) (c pts bound : ℕ) (line : Timed) (rts : ℕ) → line.rts ≤ rts →
@@ -568,16 +416,18 @@ module _ (f : Config) (h : ℕ → Memory) (l : ℕ) (records : List Record) (bu
             (le_trans st.order le),
       )
 
-  ok_upgraded : (t : ℕ) (x : Line) (s : Timed) (b : Holder) (c : ℕ) (dirty : Bool) (line : Timed) (rest : List Message) → x.entry ≡ Shared dirty line → IsPermutation x.messages (ExReq c (Some line.wts) ∷ rest) → Ok t x s b → Goes t (record x { entry = Exclusive c; messages = UpgradeRep c line.rts ∷ rest })
-  ok_upgraded t x s b c dirty line rest is p k =
+  ok_upgraded : (t : ℕ) (x : Line) (s : Timed) (b : Holder) (c : ℕ) (dirty : Bool) (line : Timed)
+      (rest : List Message) → x.entry ≡ Shared dirty line → Has t x (ExReq c (Some line.wts)) rest s b →
+      Goes t (record x { entry = Exclusive c; messages = UpgradeRep c line.rts ∷ rest })
+  ok_upgraded t x s b c dirty line rest is k =
       let e : EntryOk s b t x.dram (Shared dirty line) = subst (EntryOk s b t x.dram) is k.entry in
-      let a = (each_taken (MessageOk f h l k.top s x.copies x.dram) x.messages (ExReq c (Some line.wts) ∷ rest) p k.messages).0 in
+      let a = k.messages.0 in
       let u : Timed = record (a.0.line) { rts = s.rts } in
       let st = Current-upgrade f h records l k.top s (a.0.line) k.current ((k.copies c a.0 a.1).1 a.2)
       (a.3 ∙ ap (λ (y : Timed). y.wts) e.1) in (
         u,
         Flying,
-        ok_grants t x s u b c dirty line (ExReq c (Some line.wts)) (UpgradeRep c line.rts) rest is p refl refl refl
+        ok_grants t x s u b c dirty line (ExReq c (Some line.wts)) (UpgradeRep c line.rts) rest is refl refl refl
             refl refl refl (λ d. refl) st (le_refl _)
             (a.0, a.1, a.2, ap (λ (r : ℕ). record (a.0.line) { rts = r }) (ap (λ (y : Timed). y.rts) e.1)) k,
       )
@@ -585,71 +435,78 @@ module _ (f : Config) (h : ℕ → Memory) (l : ℕ) (records : List Record) (bu
   -- every move of one line keeps it
   pub moves_keep : (lease : ℕ) (pinned : ℕ → Type 0) → ((c : ℕ) → (pinned c → ⊥) → busy c ≡ 0) →
       (t : ℕ) (x : Line) (u : ℕ) (y : Line) → LineTransition lease pinned t x u y → Goes t x → Goes u y
-  moves_keep lease pinned free t x u y (evict_shared c copy un is sh) k =
-      (k.0, k.1, ok_evict_shared t x k.0 k.1 c copy (free c un) is sh k.2)
-  moves_keep lease pinned free t x u y (evict_exclusive c copy un is ex) k =
-      (k.0, Flying, ok_evict_exclusive t x k.0 k.1 c copy (free c un) is ex k.2)
-  moves_keep lease pinned free t x u y (dropped c rest p) k =
-      (k.0, k.1, ok_without t x k.0 k.1 (FlushReq c) rest p refl refl refl (λ d. refl) k.2)
-  moves_keep lease pinned free t x u y (wb_dropped c until rest p) k =
-      (k.0, k.1, ok_without t x k.0 k.1 (WbReq c until) rest p refl refl refl (λ d. refl) k.2)
-  moves_keep lease pinned free t x u y (flushed c rest copy p un is ex) k = (
-    k.0,
-    Flying,
-    ok_evict_exclusive t (record x { messages = rest }) k.0 k.1 c copy (free c un) is ex
-        (ok_without t x k.0 k.1 (FlushReq c) rest p refl refl refl (λ d. refl) k.2),
-  )
-  moves_keep lease pinned free t x u y (written_back c until rest copy p un is ex) k = (
-    _,
-    Flying,
-    ok_written_back t (record x { messages = rest }) k.0 k.1 c
-        (max (max copy.line.rts (copy.line.wts + lease)) until) copy (free c un) is ex (omega arith)
-        (ok_without t x k.0 k.1 (WbReq c until) rest p refl refl refl (λ d. refl) k.2),
-  )
-  moves_keep lease pinned free t x u y (load_starts is) k = (k.0, k.1, ok_load_starts t x k.0 k.1 is k.2)
-  moves_keep lease pinned free t x u y (renewed c pts dirty line rest is p) k =
-      let rts = max (max line.rts (line.wts + lease)) (pts + lease) in (
-        _,
-        Bank,
-        ok_leases t x k.0 k.1 dirty line rts (ShReq c pts (Some line.wts)) (RenewRep c rts) rest is (omega arith) p
-            refl refl refl refl refl refl (λ d. refl)
-            (renewed_ok x c pts k.2.top line rts (omega arith) (λ cp i sh. (k.2.copies c cp i).1 sh)) k.2,
-      )
-  moves_keep lease pinned free t x u y (leased c pts version dirty line rest is p) k =
-      let rts = max (max line.rts (line.wts + lease)) (pts + lease) in
-      let le : line.rts ≤ rts = omega arith in (
-        _,
-        Bank,
-        ok_leases t x k.0 k.1 dirty line rts (ShReq c pts version) (ShRep c (record line { rts = rts })) rest is le p
-            refl refl refl refl refl refl (λ d. refl)
-            (λ top st q. (
-              q.0,
-              Leased-from_Current f h records l (record line { rts = rts })
-                  (Current-raise f h records l line rts le st),
-            )) k.2,
-      )
-  moves_keep lease pinned free t x u y (upgraded c dirty line rest is p) k =
-      ok_upgraded t x k.0 k.1 c dirty line rest is p k.2
-  moves_keep lease pinned free t x u y (granted c version dirty line rest is p) k =
-      let e : EntryOk k.0 k.1 t x.dram (Shared dirty line) = subst (EntryOk k.0 k.1 t x.dram) is k.2.entry in (
+  moves_keep lease pinned free t x u y move k = by_move u y move
+    where
+      -- a message that is taken comes first
+      has : (m : Message) (rest : List Message) → IsPermutation x.messages (m ∷ rest) → Has t x m rest k.0 k.1
+      has m rest p = ok_shuffled t x k.0 k.1 (m ∷ rest) p k.2
+
+      by_move : (u : ℕ) (y : Line) → LineTransition lease pinned t x u y → Goes u y
+      by_move u y (evict_shared c copy un is sh) =
+          (k.0, k.1, ok_evict_shared t x k.0 k.1 c copy (free c un) is sh k.2)
+      by_move u y (evict_exclusive c copy un is ex) =
+          (k.0, Flying, ok_evict_exclusive t x k.0 k.1 c copy (free c un) is ex k.2)
+      by_move u y (dropped c rest p) =
+          (k.0, k.1, ok_without t x k.0 k.1 (FlushReq c) rest refl refl refl (λ d. refl) (has _ rest p))
+      by_move u y (wb_dropped c until rest p) =
+          (k.0, k.1, ok_without t x k.0 k.1 (WbReq c until) rest refl refl refl (λ d. refl) (has _ rest p))
+      by_move u y (flushed c rest copy p un is ex) = (
         k.0,
         Flying,
-        ok_grants t x k.0 k.0 k.1 c dirty line (ExReq c version) (ExRep c line) rest is p refl refl refl
-            refl refl refl (λ d. refl) k.2.current (le_refl _) e.1 k.2,
+        ok_evict_exclusive t (record x { messages = rest }) k.0 k.1 c copy (free c un) is ex
+            (ok_without t x k.0 k.1 (FlushReq c) rest refl refl refl (λ d. refl) (has _ rest p)),
       )
-  moves_keep lease pinned free t x u y (wb_starts owner until is) k =
-      (k.0, k.1, ok_recalls t x k.0 k.1 owner (WbReq owner until) is (λ n. tt) refl refl refl (λ d. refl) k.2)
-  moves_keep lease pinned free t x u y (flush_starts owner is) k =
-      (k.0, k.1, ok_recalls t x k.0 k.1 owner (FlushReq owner) is (λ n. tt) refl refl refl (λ d. refl) k.2)
-  moves_keep lease pinned free t x u y (flush_returns c line rest p) k =
-      (k.0, Bank, ok_returns t x k.0 k.1 line (FlushRep c line) rest p refl refl refl (λ d. refl) (λ n e. e) k.2)
-  moves_keep lease pinned free t x u y (wb_returns c line rest p) k =
-      (k.0, Bank, ok_returns t x k.0 k.1 line (WbRep c line) rest p refl refl refl (λ d. refl) (λ n e. e) k.2)
-  moves_keep lease pinned free t x u y (loaded words rest p) k = (_, Bank, ok_loaded t x k.0 k.1 words rest p k.2)
-  moves_keep lease pinned free t x u y (stored rest p) k = (k.0, k.1, ok_stored t x k.0 k.1 rest p k.2)
-  moves_keep lease pinned free t x u y (evict_clean line is) k = (k.0, k.1, ok_evict_clean t x k.0 k.1 line is k.2)
-  moves_keep lease pinned free t x u y (evict_dirty line is) k = (k.0, k.1, ok_evict_dirty t x k.0 k.1 line is k.2)
-  moves_keep lease pinned free t x u y (shuffled ms p) k = (k.0, k.1, ok_shuffled t x k.0 k.1 ms p k.2)
-  moves_keep lease pinned free t x u y (dram_loads rest p) k = (k.0, k.1, ok_dram_loads t x k.0 k.1 rest p k.2)
-  moves_keep lease pinned free t x u y (dram_stores words rest p) k =
-      (k.0, k.1, ok_dram_stores t x k.0 k.1 words rest p k.2)
+      by_move u y (written_back c until rest copy p un is ex) = (
+        _,
+        Flying,
+        ok_written_back t (record x { messages = rest }) k.0 k.1 c
+            (max (max copy.line.rts (copy.line.wts + lease)) until) copy (free c un) is ex (omega arith)
+            (ok_without t x k.0 k.1 (WbReq c until) rest refl refl refl (λ d. refl) (has _ rest p)),
+      )
+      by_move u y (load_starts is) = (k.0, k.1, ok_load_starts t x k.0 k.1 is k.2)
+      by_move u y (renewed c pts dirty line rest is p) =
+          let rts = max (max line.rts (line.wts + lease)) (pts + lease) in (
+            _,
+            Bank,
+            ok_leases t x k.0 k.1 dirty line rts (ShReq c pts (Some line.wts)) (RenewRep c rts) rest is (omega arith)
+                refl refl refl refl refl refl (λ d. refl)
+                (renewed_ok x c pts k.2.top line rts (omega arith) (λ cp i sh. (k.2.copies c cp i).1 sh))
+                (has _ rest p),
+          )
+      by_move u y (leased c pts version dirty line rest is p) =
+          let rts = max (max line.rts (line.wts + lease)) (pts + lease) in
+          let le : line.rts ≤ rts = omega arith in (
+            _,
+            Bank,
+            ok_leases t x k.0 k.1 dirty line rts (ShReq c pts version) (ShRep c (record line { rts = rts })) rest is le
+                refl refl refl refl refl refl (λ d. refl)
+                (λ top st q. (
+                  q.0,
+                  Leased-from_Current f h records l (record line { rts = rts })
+                      (Current-raise f h records l line rts le st),
+                )) (has _ rest p),
+          )
+      by_move u y (upgraded c dirty line rest is p) = ok_upgraded t x k.0 k.1 c dirty line rest is (has _ rest p)
+      by_move u y (granted c version dirty line rest is p) =
+          let e : EntryOk k.0 k.1 t x.dram (Shared dirty line) = subst (EntryOk k.0 k.1 t x.dram) is k.2.entry in (
+            k.0,
+            Flying,
+            ok_grants t x k.0 k.0 k.1 c dirty line (ExReq c version) (ExRep c line) rest is refl refl refl
+                refl refl refl (λ d. refl) k.2.current (le_refl _) e.1 (has _ rest p),
+          )
+      by_move u y (wb_starts owner until is) =
+          (k.0, k.1, ok_recalls t x k.0 k.1 owner (WbReq owner until) is (λ n. tt) refl refl refl (λ d. refl) k.2)
+      by_move u y (flush_starts owner is) =
+          (k.0, k.1, ok_recalls t x k.0 k.1 owner (FlushReq owner) is (λ n. tt) refl refl refl (λ d. refl) k.2)
+      by_move u y (flush_returns c line rest p) =
+          (k.0, Bank, ok_returns t x k.0 k.1 line _ rest refl refl refl (λ d. refl) (λ n e. e) (has _ rest p))
+      by_move u y (wb_returns c line rest p) =
+          (k.0, Bank, ok_returns t x k.0 k.1 line _ rest refl refl refl (λ d. refl) (λ n e. e) (has _ rest p))
+      by_move u y (loaded words rest p) = (_, Bank, ok_loaded t x k.0 k.1 words rest (has _ rest p))
+      by_move u y (stored rest p) = (k.0, k.1, ok_stored t x k.0 k.1 rest (has _ rest p))
+      by_move u y (evict_clean line is) = (k.0, k.1, ok_evict_clean t x k.0 k.1 line is k.2)
+      by_move u y (evict_dirty line is) = (k.0, k.1, ok_evict_dirty t x k.0 k.1 line is k.2)
+      by_move u y (shuffled ms p) = (k.0, k.1, ok_shuffled t x k.0 k.1 ms p k.2)
+      by_move u y (dram_loads rest p) = (k.0, k.1, ok_dram_loads t x k.0 k.1 rest (has _ rest p))
+      by_move u y (dram_stores words rest p) =
+          (k.0, k.1, ok_dram_stores t x k.0 k.1 words rest (has _ rest p))

@@ -114,6 +114,26 @@ module _ (f : Config) (h : ℕ → Memory) (l : ℕ) where
     pub asks : (c : ℕ) → tally (about c) x.messages ≡ busy c
     pub entry : EntryOk s holder t x.dram x.entry
 
+  -- a line whose owner and copies stay: the messages, the entry, the DRAM, the bank's time and the waiting cores change
+  pub with_bag : {records : List Record} {p q : ℕ → ℕ} {t u : ℕ} {x : Line} {s : Timed} {b : Holder}
+      (k : LineOk records p t x s b) (e : Entry) (ms : List Message) (d : List ℕ) →
+      Each (MessageOk k.top s x.copies d) ms → tally right ms ≡ flying b → tally load ms ≡ loading e →
+      tally store ms ≡ storing e → ((c : ℕ) → tally (about c) ms ≡ q c) → EntryOk s b u d e →
+      LineOk records q u (record x { entry = e; messages = ms; dram = d }) s b
+  with_bag k e ms d each rights loads stores asks entry = record {
+    current = k.current;
+    top = k.top;
+    within = k.within;
+    copies = k.copies;
+    held = k.held;
+    messages = each;
+    owner_count = rights;
+    loads = loads;
+    stores = stores;
+    asks = asks;
+    entry = entry;
+  }
+
 -- a table changed at one place
 pub with_at_same : {X : Type 0} (g : ℕ → X) (i : ℕ) (x : X) → with_at g i x i ≡ x
 with_at_same g i x = cond-true (eqb i i) x (g i) (eq-eqb i i refl)
@@ -158,14 +178,12 @@ module _ (f : Config) (h g : ℕ → Memory) (l top top' : ℕ) (s u : Timed) (x
         (record (k.0.line) { rts = n }) same bound k.3,
   )
   message_keeps (UpgradeRep c n) r d w b k = (k.0, sym (b c (about_itself c)) ∙ k.1, k.2, k.3 ∙ r refl)
-  message_keeps (FlushReq c) r d w b k = tt
-  message_keeps (WbReq c n) r d w b k = tt
   message_keeps (FlushRep c x) r d w b k = k ∙ r refl
   message_keeps (WbRep c x) r d w b k = k ∙ r refl
-  message_keeps DramLd r d w b k = tt
   message_keeps (DramLdRep ws) r d w b k = k ∙ d refl
   message_keeps (DramSt ws) r d w b k = k ∙ (w refl).0
   message_keeps DramStRep r d w b k = (w refl).1 ∙ k ∙ (w refl).0
+  message_keeps _ r d w b k = tt
 
   -- messages stay as they should be where each thing that changes is none of theirs
   pub messages_keep : (ms : List Message) → ((tally right ms ≡ 0) ⊎ (s ≡ u)) →

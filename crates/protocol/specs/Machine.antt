@@ -1,6 +1,6 @@
 -- The protocol by lines: for each line its entry, copies, messages and DRAM, for each core its time and open operation;
 -- every change that the protocol allows, and what is reached from the opening.
-use Rattle.std.specs.Prelude.{◌≡◌, ℕ, zero, suc, ◌+◌, ◌*◌, ◌/◌, ◌%◌, ◌<◌, ◌≤◌, ◌==◌, max, Bool, true, false, ◌&&◌}
+use Rattle.std.specs.Prelude.{◌≡◌, ℕ, zero, suc, ◌+◌, ◌/◌, ◌%◌, ◌<◌, ◌≤◌, ◌==◌, max, Bool, true, false, ◌&&◌}
 use Rattle.std.specs.Prelude.{List, [], ◌∷◌, ◌++◌, length, Option, Some, None, if◌then◌else◌, slice_index, slice_set}
 use Rattle.std.specs.List.Sorted.{IsPermutation}
 use Rattle.physiological_order.specs.declared.operation.Op.{Op}

@@ -1,18 +1,13 @@
 -- What each event that a run makes does to the open operations and the records.
-use Rattle.std.proofs.Common.{◌≡◌, ◌≢◌, ◌⊎◌, ℕ, ◌+◌, ◌-◌, ◌^◌, nat_lt, Bool, true, false, cond, List, [], ◌∷◌, ◌++◌}
+use Rattle.std.proofs.Common.{◌≡◌, ◌≢◌, ◌⊎◌, ℕ, ◌+◌, ◌-◌, ◌^◌, nat_lt, Bool, true, false, [], ◌∷◌, ◌++◌}
 use Rattle.std.proofs.Common.{length, set, Option, Some, None, Result, Ok, Err, inl, inr, refl, sym, ap, ◌∙◌, subst}
 use Rattle.std.proofs.Common.{⊎_elim, arith}
 use Rattle.std.proofs.lemmas.List.{length-append}
 use Rattle.std.specs.Prelude.{slice_get}
-use Rattle.std.specs.Ordering.{nat_cmp}
-use Rattle.std.specs.FinMap.{FinMap}
 use Rattle.std.proofs.lemmas.Bool.{cases_eq, cond_both}
 use Rattle.physiological_order.specs.declared.operation.Op.{Op}
 use Rattle.physiological_order.specs.declared.operation.Record.{Record}
-use Rattle.network.specs.declared.message.Node.{Node}
-use Rattle.network.specs.declared.message.Node.TheVariants.{Core, Bank, Dram}
 use Rattle.network.specs.declared.message.Message.{Message}
-use Rattle.network.specs.NumberedMessages.{at_number}
 use Rattle.timestamp_manager.specs.Lease.{fits}
 use Rattle.line_sets.specs.SetTable.{Sets}
 use Rattle.private_cache.specs.declared.line_copy.LineCopy.{LineCopy}
@@ -23,33 +18,24 @@ use Rattle.core_pts.specs.declared.attempt.Attempt.{Attempt}
 use Rattle.core_pts.specs.declared.attempt.Attempt.TheVariants as attempted
 use Rattle.core_pts.specs.declared.attempt.IssueError.{IssueError}
 use Rattle.core_pts.specs.declared.attempt.IssueError.TheVariants as not_issued
-use Rattle.core_pts.specs.OnCopy.{at_core}
 use Rattle.core_pts.specs.declared.decision.CoreReaction.{CoreReaction}
-use Rattle.core_pts.specs.declared.decision.CoreReaction.TheVariants.{Arrives, Grants, Returns, Drops, Holds, TooLate}
-use Rattle.core_pts.specs.declared.decision.CoreReaction.TheVariants.{NoCase}
+use Rattle.core_pts.specs.declared.decision.CoreReaction.TheVariants.{Arrives, Grants, Returns, Drops}
 use Rattle.core_pts.specs.CoreTable as core_table
-use Rattle.core_pts.specs.CoreTable.{CoreState, after_reaction, is_pinned, pinned_line, sent_back}
-use Rattle.llc_bank.specs.BankTable as bank_table
-use Rattle.llc_bank.specs.BankTable.{BankState}
-use Rattle.dram_mts.specs.Table.{dram_table, dram_has_case}
+use Rattle.core_pts.specs.CoreTable.{CoreState, after_reaction, pinned_line, sent_back}
 use Rattle.machine_table.specs.declared.event.Event.{Event}
 use Rattle.machine_table.specs.declared.event.Event.TheVariants.{Issue, Attempt as AttemptOf, Deliver, EvictCache}
 use Rattle.machine_table.specs.declared.event.Event.TheVariants.{EvictBank, Advance}
 use Rattle.machine_table.specs.declared.event.Answer.{Answer}
 use Rattle.machine_table.specs.declared.event.Answer.TheVariants as answer
 use Rattle.machine_table.specs.declared.event.Refusal.TheVariants as refusal
-use Rattle.network.specs.declared.message.Body.{Body}
-use Rattle.network.specs.Mail.{has_capacity}
 use Rattle.machine_table.specs.Machine.{Machine, operation_of, with_core, with_bank, with_dram}
 use Rattle.machine_table.specs.Posted.{can_post, posted}
 use Rattle.machine_table.specs.Step as step
-use Rattle.machine_table.specs.Step.{Step, did_answer, record_of}
-use Rattle.machine_table.specs.Transition.{advance_at, changed, refused, issued, issue_at, attempt_at, deliver_core}
-use Rattle.machine_table.specs.Transition.{deliver_bank, deliver_dram, deliver_to, deliver_message, evict_copy}
-use Rattle.machine_table.specs.Transition.{evict_entry}
-use Rattle.machine_table.specs.Transition.{on_event, transition, tried}
+use Rattle.machine_table.specs.Step.{Act, Step, Tried, core_step, did_answer, record_of}
+use Rattle.machine_table.specs.Transition.{changed, refused, transition}
 use Rattle.machine_table.specs.Answered.{Answered}
-use Rattle.machine_table.proofs.Lemmas.{every_answer}
+use Rattle.machine_table.proofs.Lemmas.{Outcome, refuses, issues, completes, core_steps, bank_steps, dram_steps}
+use Rattle.machine_table.proofs.Lemmas.{every_answer, holds, transition_outcome}
 use Rattle.machine_theorem.proofs.Lemmas.{get-set_same, get-set_other}
 use Rattle.interleaving_core.proofs.Lemmas.{Closes, attempt_closes}
 
@@ -83,29 +69,18 @@ abbrev pub is_completion : Answer → Bool
 is_completion (answer.Completed done) = true
 is_completion _ = false
 
--- an event that adds no record isn't answered as a completion
+-- an answer that adds no record isn't a completion
+no_record : (m : Machine) (a : Answer) (after : Machine) → Answered m a after → after.records ≡ m.records →
+    is_completion a ≡ false
+no_record m (answer.Completed done) after says same =
+    let more : length m.records ≡ length m.records + 1 =
+    ap length (sym same ∙ says.records) ∙ length-append m.records (done ∷ []) in
+    absurd (omega (arith, more))
+no_record m _ after says same = refl
+
 pub not_completed : (m : Machine) (event : Event) → (transition m event).1.records ≡ m.records →
     is_completion (transition m event).0 ≡ false
-not_completed m event same = by_answer (transition m event).0 (transition m event).1 (every_answer m event) same
-  where
-    by_answer : (a : Answer) (after : Machine) → Answered m a after → after.records ≡ m.records →
-        is_completion a ≡ false
-    by_answer (answer.Completed done) after completes same =
-        let more : length m.records ≡ length m.records + 1 =
-        ap length (sym same ∙ completes.records) ∙ length-append m.records (done ∷ []) in
-        absurd (omega (arith, more))
-    by_answer answer.Issued after says same = refl
-    by_answer answer.Requested after says same = refl
-    by_answer answer.Waiting after says same = refl
-    by_answer answer.Idle after says same = refl
-    by_answer answer.Delivered after says same = refl
-    by_answer answer.Dropped after says same = refl
-    by_answer answer.Held after says same = refl
-    by_answer answer.Started after says same = refl
-    by_answer answer.Evicted after says same = refl
-    by_answer answer.Recalled after says same = refl
-    by_answer answer.Advanced after says same = refl
-    by_answer (answer.Refused why) after says same = refl
+not_completed m event same = no_record m (transition m event).0 (transition m event).1 (every_answer m event) same
 
 -- what an issue and an attempt may come to
 abbrev pub Issues : Machine → ℕ → Op → Answer × Machine → Type 0
@@ -144,22 +119,16 @@ module _ (m : Machine) where
         }
 
   -- what is known of the part that a step makes
-  Part : {S : Type 0} → (S → Type 0) → Step S → Type 0
-  Part K step.Exhausts = Unit {0}
-  Part K (step.Keeps kept) = Unit {0}
-  Part K step.Drops = Unit {0}
+  abbrev Part : {S : Type 0} → (S → Type 0) → Step S → Type 0
   Part K (step.Makes did consumes sends part) = K part
+  Part K _ = Unit {0}
 
   any_part : {S : Type 0} (s : Step S) → Part (λ (part : S). Unit {0}) s
-  unfolding Part
-  any_part step.Exhausts = tt
-  any_part (step.Keeps kept) = tt
-  any_part step.Drops = tt
   any_part (step.Makes did consumes sends part) = tt
+  any_part _ = tt
 
   changed_stays : {S : Type 0} (n : Option ℕ) (put : S → Machine) (K : S → Type 0) →
       ((part : S) → K part → IsQuiet m (put part)) → (s : Step S) → Part K s → Stays (changed m put n s)
-  unfolding Part
   changed_stays n put K puts step.Exhausts is = record { ops = λ core. refl; records = refl }
   changed_stays n put K puts (step.Keeps kept) is = same
   changed_stays n put K puts step.Drops is = record { ops = λ core. refl; records = refl }
@@ -169,188 +138,127 @@ module _ (m : Machine) where
       (refused m refusal.NetworkFull) Stays
       (λ t. record { ops = (puts part is).ops; records = (puts part is).records }) (λ t. same)
 
-  core_changed : (n : Option ℕ) (c : ℕ) (core : CoreState) → slice_get m.cores c ≡ Some core → (s : Step CoreState) →
-      Part (λ new. new.open_op ≡ core.open_op) s → Stays (changed m (with_core m c) n s)
-  core_changed n c core at =
-      changed_stays n (with_core m c) (λ new. new.open_op ≡ core.open_op) (λ new is. kept c core at new is)
+  -- a core's step completes its open operation, or keeps it
+  abbrev Keeps : CoreState → Tried → Type 0
+  Keeps core (step.Completes op received ts new) = (core.open_op ≡ Some op) × (new.open_op ≡ None)
+  Keeps core (step.Does s) = Part (λ new. new.open_op ≡ core.open_op) s
 
-  bank_changed : (n : Option ℕ) (b : ℕ) (s : Step BankState) → Stays (changed m (with_bank m b) n s)
-  bank_changed n b s =
-      changed_stays n (with_bank m b) (λ part. Unit {0}) (λ part is. record { ops = λ core. refl; records = refl }) s
-      (any_part s)
+  attempt_keeps : (core : CoreState) (op : Op) → core.open_op ≡ Some op → (r : Option Attempt × CoreState) →
+      Closes r → Keeps core (step.attempted core op r)
+  attempt_keeps core op opens (None, new) closes = tt
+  attempt_keeps core op opens (Some (attempted.Completed received ts), new) closes = (opens, closes)
+  attempt_keeps core op opens (Some (attempted.NeedShared pts version), new) closes = refl
+  attempt_keeps core op opens (Some (attempted.NeedExclusive version), new) closes = refl
+  attempt_keeps core op opens (Some _, new) closes = tt
 
-  -- a message that has no case is refused
-  if_case : (b : Bool) (o : Answer × Machine) → Stays o → Stays (cond b o (refused m refusal.NoSuch))
-  if_case b o stays = cond_both b o (refused m refusal.NoSuch) Stays (λ t. stays) (λ t. same)
-
-  reaction_part : (core : CoreState) (line : ℕ) (r : CoreReaction) →
+  reaction_keeps : (core : CoreState) (line : ℕ) (r : CoreReaction) →
       Part (λ new. new.open_op ≡ core.open_op) (step.reacted (after_reaction core line r))
-  unfolding Part
-  reaction_part core line (Arrives copy) = refl
-  reaction_part core line (Grants copy) = refl
-  reaction_part core line (Returns copy back) = refl
-  reaction_part core line Drops = tt
-  reaction_part core line Holds = tt
-  reaction_part core line TooLate = tt
-  reaction_part core line NoCase = tt
+  reaction_keeps core line (Arrives copy) = refl
+  reaction_keeps core line (Grants copy) = refl
+  reaction_keeps core line (Returns copy back) = refl
+  reaction_keeps core line _ = tt
 
-  core_stays : (n : ℕ) (message : Message) (c : ℕ) (o : Option CoreState) → slice_get m.cores c ≡ o →
-      Stays (deliver_core m n message c o)
-  core_stays n message c None at = same
-  core_stays n message c (Some core) at =
-      if_case (core_table.core_has_case core message) _
-      (core_changed (Some n) c core at _
-      (reaction_part core message.line (at_core core.lease (is_pinned (pinned_line core) message.line)
-      (copy_of core.cache message.line) message.body)))
-
-  bank_stays : (n : ℕ) (message : Message) (b : ℕ) (o : Option BankState) → Stays (deliver_bank m n message b o)
-  bank_stays n message b None = same
-  bank_stays n message b (Some bank) = if_case (bank_table.bank_has_case bank message) _ (bank_changed (Some n) b _)
-
-  dram_stays : (n : ℕ) (message : Message) (b : ℕ) (o : Option (FinMap nat_cmp (List ℕ))) →
-      Stays (deliver_dram m n message b o)
-  dram_stays n message b None = same
-  dram_stays n message b (Some dram) =
-      if_case (dram_has_case dram message) _
-      (changed_stays (Some n) (with_dram m b) (λ part. Unit {0})
-      (λ part is. record { ops = λ core. refl; records = refl }) _ (any_part (step.reacted (dram_table dram message))))
-
-  delivered_stays : (n : ℕ) (o : Option Message) → Stays (deliver_message m n o)
-  delivered_stays n None = same
-  delivered_stays n (Some message) = by_node message.to
-    where
-      by_node : (to : Node) → Stays (deliver_to m n message to)
-      by_node (Core c) = core_stays n message c (slice_get m.cores c) refl
-      by_node (Bank b) = bank_stays n message b (slice_get m.banks b)
-      by_node (Dram b) = dram_stays n message b (slice_get m.drams b)
-
-  copy_part : (core : CoreState) (r : Result (Option Message) CacheError × CoreState) →
+  copy_keeps : (core : CoreState) (r : Result (Option Message) CacheError × CoreState) →
       r.1.open_op ≡ core.open_op → Part (λ new. new.open_op ≡ core.open_op) (step.copy_evicted r)
-  unfolding Part
-  copy_part core (Err NotHere, new) is = tt
-  copy_part core (Err NoRoom, new) is = tt
-  copy_part core (Err Pinned, new) is = tt
-  copy_part core (Ok back, new) is = is
+  copy_keeps core (Err NotHere, new) is = tt
+  copy_keeps core (Err NoRoom, new) is = tt
+  copy_keeps core (Err Pinned, new) is = tt
+  copy_keeps core (Ok back, new) is = is
 
   sent_back_kept : (core : CoreState) (line : ℕ) (r : Result LineCopy CacheError × Sets LineCopy) →
       (sent_back core line r).1.open_op ≡ core.open_op
   sent_back_kept core line (Err e, cache) = refl
   sent_back_kept core line (Ok copy, cache) = refl
 
-  evicted_stays : (c line : ℕ) (o : Option CoreState) → slice_get m.cores c ≡ o → Stays (evict_copy m c line o)
-  evicted_stays c line None at = same
-  evicted_stays c line (Some core) at =
-      core_changed None c core at _
-      (copy_part core (core_table.evict core line)
-      (sent_back_kept core line (evicted core.cache line (pinned_line core) (copy_of core.cache line))))
-
-  entry_evicted_stays : (b line : ℕ) (o : Option BankState) → Stays (evict_entry m b line o)
-  entry_evicted_stays b line None = same
-  entry_evicted_stays b line (Some bank) = bank_changed None b _
+  step_keeps : (core : CoreState) (act : Act) → Keeps core (core_step core act)
+  step_keeps core step.Attempting = by_open core.open_op refl
+    where
+      by_open : (o : Option Op) → core.open_op ≡ o → Keeps core (step.attempt_open core o)
+      by_open None opens = tt
+      by_open (Some op) opens = attempt_keeps core op opens (core_table.attempt core) (attempt_closes core)
+  step_keeps core (step.Getting message) =
+      reaction_keeps core message.line (core_table.decided core message.line message.body)
+  step_keeps core (step.Evicting line) =
+      copy_keeps core (core_table.evict core line)
+      (sent_back_kept core line (evicted core.cache line (pinned_line core) (copy_of core.cache line)))
+  step_keeps core step.Advancing =
+      cond_both (fits (core.pts + 1)) (Some tt, record core { pts = core.pts + 1 }) (None, core)
+      (λ r. Part (λ new. new.open_op ≡ core.open_op) (step.advanced r)) (λ t. refl) (λ t. tt)
 
   -- an issue
-  Ready : Op → Result (Unit {0}) IssueError × CoreState → Type 0
+  abbrev Ready : Op → Result (Unit {0}) IssueError × CoreState → Type 0
   Ready op (Ok done, new) = new.open_op ≡ Some op
   Ready op (Err e, new) = Unit {0}
 
   issue_ready : (core : CoreState) (op : Op) (o : Option Op) → Ready op (core_table.issue_to core op o)
-  unfolding Ready
   issue_ready core op (Some other) = tt
   issue_ready core op None = cond_both (nat_lt core.issued (2 ^ 32 - 1))
       (Ok tt, record core { open_op = Some op; issued = core.issued + 1 }) (Err not_issued.TooMany, core) (Ready op)
       (λ t. refl) (λ t. tt)
 
-  issued_so : (c : ℕ) (core : CoreState) → slice_get m.cores c ≡ Some core →
-      (op : Op) (r : Result (Unit {0}) IssueError × CoreState) → Ready op r → Issues m c op (issued m c op r)
-  unfolding Ready
-  issued_so c core at op (Err not_issued.Busy, new) ready = inl same
-  issued_so c core at op (Err not_issued.TooMany, new) ready = inl same
-  issued_so c core at op (Ok done, new) ready =
-      let is = opened c core at new (Some op) ready in
-      inr (record { opened = record { here = is.here; there = is.there }; records = refl })
+  -- what an event does
+  abbrev Does : Event → Answer × Machine → Type 0
+  Does (Issue c op) o = Issues m c op o
+  Does (AttemptOf c) o = Tries m c o
+  Does _ o = Stays o
 
-  issues : (c : ℕ) (op : Op) (o : Option CoreState) → slice_get m.cores c ≡ o → Issues m c op (issue_at m c op o)
-  issues c op None at = inl same
-  issues c op (Some core) at = issued_so c core at op (core_table.issue core op) (issue_ready core op core.open_op)
+  quiet : (event : Event) (o : Answer × Machine) → Stays o → is_completion o.0 ≡ false → Does event o
+  quiet (Issue c op) o stays not_done = inl stays
+  quiet (AttemptOf c) o stays not_done = inl (not_done, stays)
+  quiet _ o stays not_done = stays
 
-  -- an attempt
-  asked_part : (core : CoreState) (op : Op) (body : Body) → Part (λ new. new.open_op ≡ core.open_op)
-      (step.asks core op body)
-  unfolding Part
-  asked_part core op body = refl
-
-  asks : (c : ℕ) (core : CoreState) → slice_get m.cores c ≡ Some core → (op : Op) (body : Body) →
-      Tries m c (changed m (with_core m c) None (step.asks core op body))
-  asks c core at op body =
-      inl (
-        cond_both (has_capacity m.config.messages m.mail) _ (refused m refusal.NetworkFull)
-            (λ o. is_completion o.0 ≡ false) (λ t. refl) (λ t. refl),
-        core_changed None c core at (step.asks core op body) (asked_part core op body),
-      )
-
-  tried_so : (c : ℕ) (core : CoreState) → slice_get m.cores c ≡ Some core → (op : Op) → core.open_op ≡ Some op →
-      (r : Option Attempt × CoreState) → Closes r →
-      Tries m c (tried m c core (step.attempted core op r))
-  tried_so c core at op opens (None, new) closes = inl (refl, record { ops = λ k. refl; records = refl })
-  tried_so c core at op opens (Some (attempted.Completed received ts), new) closes =
-      let is = opened c core at new None closes in
+  by_outcome : (event : Event) (o : Answer × Machine) → Outcome m event o → (Stays o → is_completion o.0 ≡ false) →
+      Does event o
+  by_outcome event o (refuses why so) not_done = quiet event _ same (not_done same)
+  by_outcome event o (issues c op core after at is) not_done =
+      let open_now = opened c core at after (Some op) (subst (Ready op) is (issue_ready core op core.open_op)) in
+      inr (record { opened = record { here = open_now.here; there = open_now.there }; records = refl })
+  by_outcome event o (completes c op received ts core after at is) not_done =
+      let keeps : (core.open_op ≡ Some op) × (after.open_op ≡ None) =
+      subst (Keeps core) is (step_keeps core step.Attempting) in
+      let closed = opened c core at after None keeps.1 in
       inr (
         record_of c (length m.records) core op received ts,
         refl,
         record {
           core = refl;
-          op = ap operation_of at
-              ∙ opens;
-          closed = record { here = is.here; there = is.there };
+          op = ap operation_of at ∙ keeps.0;
+          closed = record { here = closed.here; there = closed.there };
           records = refl;
         },
       )
-  tried_so c core at op opens (Some (attempted.NeedShared pts version), new) closes = asks c core at op _
-  tried_so c core at op opens (Some (attempted.NeedExclusive version), new) closes = asks c core at op _
-  tried_so c core at op opens (Some attempted.NoRoom, new) closes = inl (refl, same)
-  tried_so c core at op opens (Some attempted.Waiting, new) closes = inl (refl, same)
-  tried_so c core at op opens (Some attempted.Idle, new) closes = inl (refl, same)
+  by_outcome event o (core_steps c core act n s at given is) not_done =
+      let stays = changed_stays n (with_core m c) (λ new. new.open_op ≡ core.open_op) (kept c core at) s
+      (subst (Keeps core) is (step_keeps core act)) in
+      quiet event _ stays (not_done stays)
+  by_outcome event o (bank_steps b bank act n s at given is) not_done =
+      let stays = changed_stays n (with_bank m b) (λ part. Unit {0})
+      (λ part known. record { ops = λ core. refl; records = refl }) s (any_part s) in
+      quiet event _ stays (not_done stays)
+  by_outcome event o (dram_steps b lines act n s at given is) not_done =
+      let stays = changed_stays n (with_dram m b) (λ part. Unit {0})
+      (λ part known. record { ops = λ core. refl; records = refl }) s (any_part s) in
+      quiet event _ stays (not_done stays)
 
-  tries : (c : ℕ) (o : Option CoreState) → slice_get m.cores c ≡ o → Tries m c (attempt_at m c o)
-  tries c None at = inl (refl, same)
-  tries c (Some core) at = by_open core.open_op refl
-    where
-      by_open : (o : Option Op) → core.open_op ≡ o →
-          Tries m c (tried m c core (step.attempt_open core o))
-      by_open None opens = inl (refl, same)
-      by_open (Some op) opens = tried_so c core at op opens (core_table.attempt core) (attempt_closes core)
+  does : (event : Event) → Does event (transition m event)
+  does event =
+      let is = transition_outcome m event in
+      by_outcome event _ is (λ stays. no_record m _ _ (holds m event _ is) stays.records)
 
-  -- a stopped machine refuses them all
   pub issue_does : (c : ℕ) (op : Op) → Issues m c op (transition m (Issue c op))
-  issue_does c op = cond_both m.is_stopped (refused m refusal.Stopped) (on_event m (Issue c op)) (Issues m c op)
-      (λ t. inl same) (λ t. issues c op (slice_get m.cores c) refl)
+  issue_does c op = does (Issue c op)
 
   pub attempt_does : (c : ℕ) → Tries m c (transition m (AttemptOf c))
-  attempt_does c = cond_both m.is_stopped (refused m refusal.Stopped) (on_event m (AttemptOf c)) (Tries m c)
-      (λ t. inl (refl, same)) (λ t. tries c (slice_get m.cores c) refl)
-
-  quiet_unless : (event : Event) → Stays (on_event m event) → Stays (transition m event)
-  quiet_unless event stays =
-      cond_both m.is_stopped (refused m refusal.Stopped) (on_event m event) Stays (λ t. same) (λ t. stays)
-
-  advanced_part : (core : CoreState) →
-      Part (λ new. new.open_op ≡ core.open_op) (step.advanced (core_table.advance core))
-  unfolding Part
-  advanced_part core = cond_both (fits (core.pts + 1)) (Some tt, record core { pts = core.pts + 1 }) (None, core)
-      (λ r. Part (λ new. new.open_op ≡ core.open_op) (step.advanced r)) (λ t. refl) (λ t. tt)
-
-  advanced_stays : (c : ℕ) (o : Option CoreState) → slice_get m.cores c ≡ o → Stays (advance_at m c o)
-  advanced_stays c None at = same
-  advanced_stays c (Some core) at = core_changed None c core at _ (advanced_part core)
+  attempt_does c = does (AttemptOf c)
 
   pub advance_stays : (c : ℕ) → Stays (transition m (Advance c))
-  advance_stays c = quiet_unless (Advance c) (advanced_stays c (slice_get m.cores c) refl)
+  advance_stays c = does (Advance c)
 
   pub delivery_stays : (n : ℕ) → Stays (transition m (Deliver n))
-  delivery_stays n = quiet_unless (Deliver n) (delivered_stays n (at_number n m.mail.messages))
+  delivery_stays n = does (Deliver n)
 
   pub cache_eviction_stays : (c line : ℕ) → Stays (transition m (EvictCache c line))
-  cache_eviction_stays c line = quiet_unless (EvictCache c line) (evicted_stays c line (slice_get m.cores c) refl)
+  cache_eviction_stays c line = does (EvictCache c line)
 
   pub bank_eviction_stays : (b line : ℕ) → Stays (transition m (EvictBank b line))
-  bank_eviction_stays b line = quiet_unless (EvictBank b line) (entry_evicted_stays b line (slice_get m.banks b))
+  bank_eviction_stays b line = does (EvictBank b line)

@@ -14,9 +14,7 @@ use Rattle.network.specs.declared.message.Node.TheVariants.{Core, Bank}
 use Rattle.network.specs.declared.message.Message.{Message}
 use Rattle.network.specs.declared.counts.Counts.{Counts}
 use Rattle.network.specs.Mail.{no_mail}
-use Rattle.core_pts.specs.CoreTable.{opened}
-use Rattle.llc_bank.specs.BankTable.{empty_bank}
-use Rattle.machine_table.specs.Opening.{core_config, bank_config, geometry, dram_of}
+use Rattle.machine_table.specs.Opening.{dram_of, open_bank, open_core}
 use Rattle.machine_theorem.specs.Bags.{weigh}
 use Rattle.machine_theorem.specs.States as moves
 use Rattle.machine_theorem.specs.Moves.{Reached}
@@ -121,8 +119,8 @@ no_counts = no_mail.counts
 -- what the seat of a number holds as the machine opens
 abbrev pub opening_hold : SetUp → ℕ → Hold
 opening_hold z j = record {
-  core = opened (core_config z.config j) (geometry z.config);
-  bank = empty_bank (bank_config z.config (j - z.config.cores));
+  core = open_core z.config j;
+  bank = open_bank z.config (j - z.config.cores);
   dram = dram_of z.config (j - z.config.cores) (entries z.memory);
   issued = [];
   records = [];

@@ -1,10 +1,14 @@
-use Rattle.std.proofs.Common.{None, ap, sym, subst, refl, ◌∙◌, arith, length, slice_get, set}
+use Rattle.std.proofs.Common.{None, ap, sym, subst, refl, ◌∙◌, arith, length, set}
 use Rattle.std.proofs.lemmas.Option.{slice_get_read}
 use Rattle.network.specs.Mail.{Mail}
+use Rattle.core_pts.specs.CoreTable as core_table
 use Rattle.core_pts.specs.CoreTable.{CoreState}
 use Rattle.machine_table.specs.declared.event.Answer.{Answer}
-use Rattle.machine_table.specs.Machine.{Machine}
-use Rattle.machine_table.specs.Transition.{advance_at}
+use Rattle.machine_table.specs.Machine.{Machine, with_core}
+use Rattle.machine_table.specs.declared.event.Event.TheVariants.{Advance}
+use Rattle.machine_table.specs.Step.{advanced}
+use Rattle.machine_table.specs.Transition.{changed, on_event}
+use Rattle.machine_table.proofs.Lemmas.{finds}
 use Rattle.interleaving_core.specs.contracts.machine_state.MachineState.{the_view}
 use Rattle.interleaving_core.specs.PartChanges.{answer_of}
 use Rattle.interleaving_core.proofs.ChangedParts.{made_without, set_same}
@@ -41,5 +45,5 @@ returns c =
     (set_same m.cores c.args.core core here) refl refl
     None _ (answer_of c.advance-plain.result) c.advance-plain.new.core m.mail
     c.stop_after.new.is_stopped (c.advance-plain.ensures m.config.messages m.mail) c.stop_after.ensures
-    ∙ ap (advance_at m c.args.core) (sym here)
-    ∙ ap (λ (n : Machine). advance_at n c.args.core (slice_get n.cores c.args.core)) c.self.view_is
+    ∙ sym (finds m (λ x. changed m (with_core m c.args.core) None (advanced (core_table.advance x))) here)
+    ∙ ap (λ (n : Machine). on_event n (Advance c.args.core)) c.self.view_is

@@ -1,11 +1,13 @@
-use Rattle.std.proofs.Common.{◌≡◌, ℕ, ◌+◌, ap, sym, subst, refl, ◌∙◌, arith, length, set, slice_get}
+use Rattle.std.proofs.Common.{◌≡◌, ℕ, ◌+◌, ap, sym, subst, refl, ◌∙◌, arith, length, set}
 use Rattle.std.proofs.lemmas.Option.{slice_get_read}
 use Rattle.network.specs.Mail.{Mail}
 use Rattle.core_pts.specs.CoreTable.{CoreState}
 use Rattle.machine_table.specs.declared.event.Answer.{Answer}
 use Rattle.machine_table.specs.Machine.{Machine}
 use Rattle.machine_table.specs.Step.{attempt_open}
-use Rattle.machine_table.specs.Transition.{attempt_at, tried}
+use Rattle.machine_table.specs.declared.event.Event.TheVariants.{Attempt}
+use Rattle.machine_table.specs.Transition.{on_event, tried}
+use Rattle.machine_table.proofs.Lemmas.{finds}
 use Rattle.machine_theorem.specs.Kept.{Invariant}
 use Rattle.interleaving_core.specs.contracts.machine_state.MachineState.{the_view}
 use Rattle.interleaving_core.specs.PartChanges.{StandsAfter, applied_attempt, with_record}
@@ -89,5 +91,5 @@ returns-clause-tried c =
     c.attempt-answer.result c.attempt-answer.new.core c.attempt-answer.new.flight.mail
     c.keep.new.records.items c.stop.new.is_stopped
     done c.keep.ensures.records c.stop.ensures
-    ∙ ap (attempt_at m c.args.core) (sym here)
-    ∙ ap (λ (n : Machine). attempt_at n c.args.core (slice_get n.cores c.args.core)) c.self.view_is)
+    ∙ sym (finds m (λ x. tried m c.args.core x (attempt_open x x.open_op)) here)
+    ∙ ap (λ (n : Machine). on_event n (Attempt c.args.core)) c.self.view_is)

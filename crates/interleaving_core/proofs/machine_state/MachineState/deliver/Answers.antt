@@ -5,13 +5,13 @@ use Rattle.std.proofs.lemmas.Option.{slice_get_within}
 use Rattle.std.specs.Vec.{vec_capacity}
 use Rattle.network.specs.Flight.{SameNetwork}
 use Rattle.network.specs.Mail.{Mail}
-use Rattle.network.specs.NumberedMessages.{at_number}
 use Rattle.core_pts.specs.CoreTable.{CoreState, core_table}
 use Rattle.llc_bank.specs.BankTable.{bank_table}
 use Rattle.dram_mts.specs.Table.{dram_table}
 use Rattle.machine_table.specs.declared.event.Answer.{Answer}
 use Rattle.machine_table.specs.Machine.{Machine}
-use Rattle.machine_table.specs.Transition.{deliver_message}
+use Rattle.machine_table.specs.declared.event.Event.TheVariants.{Deliver}
+use Rattle.machine_table.specs.Transition.{on_event}
 use Rattle.interleaving_core.specs.contracts.machine_state.MachineState.{the_view}
 use Rattle.interleaving_core.specs.declared.machine_state.MachineState.TheInside.{Inside}
 use Rattle.interleaving_core.specs.declared.core_masks.CoreMasks.{CoreMasks}
@@ -149,7 +149,7 @@ returns-clause-done c =
     stopped ≡ (stops told || i.is_stopped) →
     ◌≡◌ {A = Answer × Machine}
     (told, the_view (record i { flight = c.conclude.new.flight; is_stopped = stopped }))
-    (deliver_message c.args.self.now n (at_number n c.args.self.now.mail.messages)) in
+    (on_event c.args.self.now (Deliver n)) in
     let made : Made c.match-message.self-inside = elim c.match-message.branch [
       | in-Core w ↦
           let k = w.in-Core.core in

@@ -1,9 +1,11 @@
-use Rattle.std.proofs.Common.{None, ap, sym, subst, refl, arith, length, set, slice_get}
+use Rattle.std.proofs.Common.{None, sym, subst, refl, arith, length, set}
 use Rattle.std.proofs.lemmas.Option.{slice_get_read}
 use Rattle.llc_bank.specs.BankTable as bank_table
-use Rattle.machine_table.specs.Machine.{Machine}
+use Rattle.machine_table.specs.Machine.{Machine, with_bank}
 use Rattle.machine_table.specs.Step.{entry_evicted}
-use Rattle.machine_table.specs.Transition.{evict_entry}
+use Rattle.machine_table.specs.declared.event.Event.TheVariants.{EvictBank}
+use Rattle.machine_table.specs.Transition.{changed, on_event}
+use Rattle.machine_table.proofs.Lemmas.{finds}
 use Rattle.machine_theorem.specs.Kept.{Invariant}
 use Rattle.interleaving_core.specs.contracts.machine_state.MachineState.{the_view}
 use Rattle.interleaving_core.specs.PartChanges.{answer_of}
@@ -35,7 +37,8 @@ returns c =
     (set_same m.banks c.args.bank part here) refl
     None (entry_evicted (bank_table.evict part c.args.line))
     c.self.inside.flight.capacity c.self.invariant.capacity_is _ c.self.view_is
-    (λ n. evict_entry n c.args.bank c.args.line (slice_get n.banks c.args.bank))
-    (ap (evict_entry m c.args.bank c.args.line) (sym here))
+    (λ n. on_event n (EvictBank c.args.bank c.args.line))
+    (sym (finds m (λ x. changed m (with_bank m c.args.bank) None
+    (entry_evicted (bank_table.evict x c.args.line))) here))
     (answer_of c.evict_entry-plain.result) c.evict_entry-plain.new.bank c.evict_entry-plain.new.flight.mail c.stop_after.new.is_stopped
     c.evict_entry-plain.ensures.done c.stop_after.ensures

@@ -1,12 +1,14 @@
-use Rattle.std.proofs.Common.{None, ap, sym, subst, refl, arith, length, set, slice_get}
+use Rattle.std.proofs.Common.{None, sym, subst, refl, arith, length, set}
 use Rattle.std.proofs.lemmas.Option.{slice_get_read}
 use Rattle.network.specs.Mail.{Mail}
 use Rattle.core_pts.specs.CoreTable as core_table
 use Rattle.core_pts.specs.CoreTable.{CoreState}
 use Rattle.machine_table.specs.declared.event.Answer.{Answer}
-use Rattle.machine_table.specs.Machine.{Machine}
+use Rattle.machine_table.specs.Machine.{Machine, with_core}
 use Rattle.machine_table.specs.Step.{copy_evicted}
-use Rattle.machine_table.specs.Transition.{evict_copy}
+use Rattle.machine_table.specs.declared.event.Event.TheVariants.{EvictCache}
+use Rattle.machine_table.specs.Transition.{changed, on_event}
+use Rattle.machine_table.proofs.Lemmas.{finds}
 use Rattle.machine_theorem.specs.Kept.{Invariant}
 use Rattle.interleaving_core.specs.contracts.machine_state.MachineState.{the_view}
 use Rattle.interleaving_core.specs.PartChanges.{answer_of}
@@ -55,7 +57,7 @@ returns c =
     (set_same m.cores c.args.core part here) refl refl
     None (copy_evicted (core_table.evict part c.args.line))
     c.self.inside.flight.capacity c.self.invariant.capacity_is _ c.self.view_is
-    (λ n. evict_copy n c.args.core c.args.line (slice_get n.cores c.args.core))
-    (ap (evict_copy m c.args.core c.args.line) (sym here))
+    (λ n. on_event n (EvictCache c.args.core c.args.line))
+    (sym (finds m (λ x. changed m (with_core m c.args.core) None (copy_evicted (core_table.evict x c.args.line))) here))
     (answer_of c.evict_copy-plain.result) c.evict_copy-plain.new.core c.evict_copy-plain.new.flight.mail c.stop_after.new.is_stopped
     c.evict_copy-plain.ensures.done c.stop_after.ensures

@@ -1,9 +1,8 @@
 use Rattle.std.proofs.Common.{sym, ap, ◌∙◌, length}
 use Rattle.line_sets.specs.SetTable.{all_listed}
 use Rattle.line_sets.specs.Stored.{counts_without, sets_of}
-use Rattle.line_sets.proofs.ListedCounts.{none-listed}
+use Rattle.line_sets.proofs.ListedChanges.{none-anywhere, none-listed}
 use Rattle.line_sets.proofs.StoredSets.{table_of, sets-empty, stored-empty}
-use Rattle.line_sets.proofs.UnlistedCounts.{none-anywhere}
 use Rattle.line_sets.proofs.sets.LineSets.new.Goals as goal
 
 pub returns-in-Ok : goal.returns-in-Ok

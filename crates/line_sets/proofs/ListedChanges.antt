@@ -33,7 +33,8 @@ module _ {X : Type 0} (passes : X → Bool) where
   counted-as line None = refl
   counted-as line (Some x) = refl
 
-  weighed : (c line n : ℕ) (o : Option X) → n ≡ count_of passes o → weigh passes (only c) line o ≡ cond (eqb line c) n 0
+  weighed : (c line n : ℕ) (o : Option X) → n ≡ count_of passes o → weigh passes (only c) line o ≡ cond (eqb line c) n
+      0
   weighed c line n o is = grind arith
 
   one-at-most : (x : X) → count_of passes (Some x) ≤ 1
@@ -167,7 +168,8 @@ module _ {X : Type 0} (passes : X → Bool) where
     pub count-at : get_or counts i 0 ≡ failing (set_at (sets_of a.lists) i)
     count-at = ap (λ ns. get_or ns i 0) counted ∙ get_or-map failing (sets_of a.lists) i [] 0 here
 
-  pub can-count : {ways : ℕ} {a : Lists (ℕ × X)} {rows : List (List (ℕ × ℕ))} {counts : List ℕ} {n m : ℕ} {was : Option X}
+  pub can-count : {ways : ℕ} {a : Lists (ℕ × X)} {rows : List (List (ℕ × ℕ))} {counts : List ℕ} {n m : ℕ}
+      {was : Option X}
       (i line : ℕ) → IsStored ways a rows → i < length a.lists → look (sets_of a.lists) i line ≡ was →
       counts ≡ counts_without passes (sets_of a.lists) → n ≡ count_of fails was → m ≤ 1 → CanCount counts i n m
   can-count {a = a} i line stored low old counted went one =

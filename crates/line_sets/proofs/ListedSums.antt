@@ -24,7 +24,8 @@ module _ {X : Type 0} (passes : X → Bool) (w : List ℕ → ℕ) (one : ℕ �
   listed-more p ps = let more = sum.more p.0 (lines_passing passes ps) in grind arith
 
   cut-first : (p : ℕ × X) (ps : List (ℕ × X)) (line : ℕ) →
-      (p.0 ≡ line → without ps line ≡ ps) → listed (without ps line) + weigh passes one line (find ps line) ≡ listed ps →
+      (p.0 ≡ line → without ps line ≡ ps) → listed (without ps line) + weigh passes one line (find ps line) ≡ listed
+      ps →
       listed (without (p ∷ ps) line) + weigh passes one line (find (p ∷ ps) line) ≡ listed (p ∷ ps)
   cut-first p ps line gone rest =
       let after = listed-more p (without ps line) in let before = listed-more p ps in grind arith
@@ -48,7 +49,8 @@ module _ {X : Type 0} (passes : X → Bool) (w : List ℕ → ℕ) (one : ℕ �
       let cut = sum-without ps line once in let after = sum-push (without ps line) line x in omega (arith, cut, after)
 
   put-first : (p : ℕ × X) (ps : List (ℕ × X)) (line : ℕ) (x : X) → (is_there ps line ≡ true →
-      listed (put_in_place ps line x) + weigh passes one line (find ps line) ≡ listed ps + weigh passes one line (Some x))
+      listed (put_in_place ps line x) + weigh passes one line (find ps line) ≡ listed ps + weigh passes one line
+      (Some x))
       → is_there (p ∷ ps) line ≡ true → listed (put_in_place (p ∷ ps) line x) + weigh passes one line
       (find (p ∷ ps) line) ≡ listed (p ∷ ps) + weigh passes one line (Some x)
   put-first p ps line x rest there =
@@ -56,7 +58,8 @@ module _ {X : Type 0} (passes : X → Bool) (w : List ℕ → ℕ) (one : ℕ �
       let before = listed-more p ps in grind arith
 
   sum-put_in_place : (ps : List (ℕ × X)) (line : ℕ) (x : X) → is_there ps line ≡ true →
-      listed (put_in_place ps line x) + weigh passes one line (find ps line) ≡ listed ps + weigh passes one line (Some x)
+      listed (put_in_place ps line x) + weigh passes one line (find ps line) ≡ listed ps + weigh passes one line
+      (Some x)
   sum-put_in_place [] line x there = cc
   sum-put_in_place (p ∷ ps) line x there = put-first p ps line x (sum-put_in_place ps line x) there
 
@@ -71,7 +74,8 @@ module _ {X : Type 0} (passes : X → Bool) (w : List ℕ → ℕ) (one : ℕ �
       w (all_listed passes (set sets i ps)) + listed (set_at sets i) ≡ w (all_listed passes sets) + listed ps
   sum-set [] i ps h = absurd (omega (arith, h))
   sum-set (qs ∷ sets) zero ps h = omega (arith, sum-append)
-  sum-set (qs ∷ sets) (suc i) ps h = let later = sum-set sets i ps (omega (arith, h)) in omega (arith, later, sum-append)
+  sum-set (qs ∷ sets) (suc i) ps h = let later = sum-set sets i ps (omega (arith, h)) in omega
+      (arith, later, sum-append)
 
 -- A set became another: what a line of it weighed went, and what is kept of the line now came.
 pub record IsSwap {X : Type 0} (old new : List (ℕ × X)) (line : ℕ) (now : Option X) : Type 0 where

@@ -181,7 +181,8 @@ pub halfway-last :
     (old new : List (Option ℕ)) (sets : List ℕ) (rows : List (List (ℕ × ℕ))) (at : ℕ) → IsSpread old sets rows →
     IsHalfway at old new → length sets ≤ at → new ≡ replicate (length old) None
 halfway-last old new sets rows at spread half past =
-    ext_get_or None new (replicate (length old) None) (half.many ∙ sym (length-replicate {A = Option ℕ} (length old) None))
+    ext_get_or None new (replicate (length old) None)
+    (half.many ∙ sym (length-replicate {A = Option ℕ} (length old) None))
     (λ i low. no-place (get_or new i None) (λ k e.
     (let was = half.left i k e in let b = spread.below i k was.1 in let l = spread.long in let from = was.0 in
     omega (arith, from, b, l, past)))

@@ -1,7 +1,7 @@
 -- What a table keeps when one cell is put, written, moved or taken off, and what its sets are then.
 use Rattle.std.proofs.Common.{◌≡◌, ◌≢◌, ℕ, zero, suc, ◌*◌, ◌<◌, ◌≤◌, inl, inr, true, List, [], ◌∷◌, ◌++◌, map}
-use Rattle.std.proofs.Common.{length, get_or, set, replicate, Option, Some, None, refl, sym, ap, ◌∙◌, arith, length-set}
-use Rattle.std.proofs.Common.{get_or-set_same, get_or-set_other, sum_by}
+use Rattle.std.proofs.Common.{length, get_or, set, replicate, Option, Some, None, refl, sym, ap, ◌∙◌, arith}
+use Rattle.std.proofs.Common.{length-set, get_or-set_same, get_or-set_other, sum_by}
 use Rattle.std.specs.Prelude.{Result, Ok, Err, IsOk, IsErr, IfOk, IfSome}
 use Rattle.std.specs.Option.{is_some}
 use Rattle.std.proofs.lemmas.Bool.{cases_eq}
@@ -29,7 +29,8 @@ module _ {X : Type 0} where
   length-sets ls = length-map ls entries_of
 
   -- a set of the table is one of the arena's lists
-  pub below : {ways : ℕ} {a : Lists (ℕ × X)} {rows : List (List (ℕ × ℕ))} {now : Sets X} (i : ℕ) → IsStored ways a rows →
+  pub below : {ways : ℕ} {a : Lists (ℕ × X)} {rows : List (List (ℕ × ℕ))} {now : Sets X} (i : ℕ) → IsStored ways a
+      rows →
       table_of ways (sets_of a.lists) ≡ now → i < length now.sets → i < length a.lists
   below {a = a} i stored is h =
       let same = ap (λ t. length t.sets) is in let long = length-sets a.lists in omega (arith, same, long)
@@ -68,7 +69,8 @@ module _ {X : Type 0} where
       i < length now.sets → find (set_at rows i) line ≡ Some c → IsFound ways a rows i line c
   is-found {a = a} {i = i} {line = line} {c = c} stored once laws is h tag =
       let low = below i stored is h in
-      let on = on-line (get_or a.lists i []) line c (apart a.lists i once) (sym ((stored.fits i low).found line) ∙ tag) in
+      let on = on-line (get_or a.lists i []) line c (apart a.lists i once)
+      (sym ((stored.fits i low).found line) ∙ tag) in
       record {
         stored = stored;
         once = once;
@@ -112,7 +114,8 @@ module _ {X : Type 0} where
   in-room table i line absent place = grind arith
 
   pub is-new : {ways : ℕ} {a : Lists (ℕ × X)} {rows : List (List (ℕ × ℕ))} {now : Sets X} {i line : ℕ} →
-      IsStored ways a rows → table_of ways (sets_of a.lists) ≡ now → i < length now.sets → look now.sets i line ≡ None →
+      IsStored ways a rows → table_of ways (sets_of a.lists) ≡ now → i < length now.sets → look now.sets i line ≡ None
+      →
       has_place now i line ≡ true → IsNew ways a rows i line
   is-new {ways} {a} {rows} {now} {i} {line} stored is h absent place =
       let low = below i stored is h in let fits = stored.fits i low in let narrow = stored.narrow in
@@ -133,7 +136,8 @@ module _ {X : Type 0} where
       }
 
   -- what an arena and the rows of a table are after a set became another, and the table with them
-  pub record Becomes (ways : ℕ) (a new : Lists (ℕ × X)) (rows : List (List (ℕ × ℕ))) (i : ℕ) (ps : List (ℕ × X)) (line : ℕ)
+  pub record Becomes (ways : ℕ) (a new : Lists (ℕ × X)) (rows : List (List (ℕ × ℕ))) (i : ℕ) (ps : List (ℕ × X))
+      (line : ℕ)
       (now : Option X) : Type 0 where
     pub stored : IsStored ways new rows
     pub are : sets_of new.lists ≡ set (sets_of a.lists) i ps
@@ -162,7 +166,8 @@ module _ {X : Type 0} where
   -- one list and its row are changed
   becomes : {ways : ℕ} {a b : Lists (ℕ × X)} {rows new : List (List (ℕ × ℕ))} {i line : ℕ} {ps : List (ℕ × X)}
       {now : Option X} (row : List (ℕ × ℕ)) (xs : List (ℕ × (ℕ × X))) → IsStored ways a rows → i < length a.lists →
-      IsSwap (set_at (sets_of a.lists) i) ps line now → b ≡ lists_of (set a.lists i xs) a.cells → new ≡ set rows i row →
+      IsSwap (set_at (sets_of a.lists) i) ps line now → b ≡ lists_of (set a.lists i xs) a.cells → new ≡ set rows i row
+      →
       Fits ways row xs → entries_of xs ≡ ps → Becomes ways a b new i ps line now
   becomes {a = a} {i = i} row xs stored h swap is row_is fits are = record {
     stored = rw (is, row_is) (stored-set i row xs stored h fits);
@@ -180,7 +185,8 @@ module _ {X : Type 0} where
   mapped-none f (xs ∷ ls) h = λ k. h 0 (omega arith) k ∷ mapped-none f ls (λ j lt. h (suc j) (omega (arith, lt))) k
 
   mapped-one : (f : List (ℕ × (ℕ × X)) → List (ℕ × (ℕ × X))) (ls : List (List (ℕ × (ℕ × X)))) (i : ℕ) → i < length ls →
-      ((j : ℕ) → j < length ls → j ≢ i → f (get_or ls j []) ≡ get_or ls j []) → map f ls ≡ set ls i (f (get_or ls i []))
+      ((j : ℕ) → j < length ls → j ≢ i → f (get_or ls j []) ≡ get_or ls j []) → map f ls ≡ set ls i
+      (f (get_or ls i []))
   mapped-one f [] i h same = absurd (omega (arith, h))
   mapped-one f (xs ∷ ls) zero h same =
       ap (λ us. f xs ∷ us) (mapped-none f ls (λ j lt. same (suc j) (omega (arith, lt)) (omega arith)))
@@ -195,7 +201,8 @@ module _ {X : Type 0} where
         | inr some ↦ absurd (ne (found.laws.one a.lists j i c found.once some (ap is_some found.here)))
       ]))
 
-  cut-lists : {ways : ℕ} {a : Lists (ℕ × X)} {rows : List (List (ℕ × ℕ))} {i line c : ℕ} → IsFound ways a rows i line c →
+  cut-lists : {ways : ℕ} {a : Lists (ℕ × X)} {rows : List (List (ℕ × ℕ))} {i line c : ℕ} → IsFound ways a rows i line
+      c →
       WithoutLaws (ℕ × X) → map (cell.without c) a.lists ≡ set a.lists i (cell.without c (get_or a.lists i []))
   cut-lists {a = a} {i = i} {c = c} found laws = mapped-one (cell.without c) a.lists i found.low
       (λ j lt ne. laws.apart a.lists c i j found.once (ap is_some found.here) ne)
@@ -226,7 +233,8 @@ module _ {X : Type 0} where
       let fits = found.stored.fits i found.low in let cells = apart a.lists i found.once in
       becomes (set_at rows i) (cell.without c (get_or a.lists i []) ++ (c, (line, w)) ∷ [])
       found.stored found.low
-      (swap-put_last (set_at (sets_of a.lists) i) line w (distinct-at i found.stored found.low)) is (sym (set-get_or rows i [])) (fits-moved line w fits cells found.tag)
+      (swap-put_last (set_at (sets_of a.lists) i) line w (distinct-at i found.stored found.low)) is
+      (sym (set-get_or rows i [])) (fits-moved line w fits cells found.tag)
       (moved-entries (get_or a.lists i []) line c w cells fits.lines (sym (fits.found line) ∙ found.tag)
       ∙ ap (λ us. put_last us line w) (sym (entries-at a.lists i found.low)))
 
@@ -332,7 +340,8 @@ module _ {X : Type 0} where
   )
 
   -- where a set has room, a cell is free
-  sum-below : (ways : ℕ) (ls : List (List (ℕ × (ℕ × X)))) → ((j : ℕ) → j < length ls → length (get_or ls j []) ≤ ways) →
+  sum-below : (ways : ℕ) (ls : List (List (ℕ × (ℕ × X)))) → ((j : ℕ) → j < length ls → length (get_or ls j []) ≤ ways)
+      →
       sum_by length ls ≤ length ls * ways
   sum-below ways [] all = omega arith
   sum-below ways (xs ∷ ls) all =

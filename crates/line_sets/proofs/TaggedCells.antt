@@ -126,7 +126,8 @@ module _ {X : Type 0} where
       (a.1.0 ≡ line → without (keyed g xs) line ≡ keyed g xs) →
       (find (tags_of xs) line ≡ Some c → keyed g (cell.without c xs) ≡ without (keyed g xs) line) →
       keyed g (cell.without c (a ∷ xs)) ≡ without (keyed g (a ∷ xs)) line
-  cut-first g a xs line c part gone line_gone rest = let mine = part.mine in let not_mine = part.not_mine in grind arith
+  cut-first g a xs line c part gone line_gone rest = let mine = part.mine in let not_mine = part.not_mine in grind
+      arith
 
   cut-line : {Z : Type 0} (g : ℕ × (ℕ × X) → Z) (xs : List (ℕ × (ℕ × X))) (line c : ℕ) → CellsOnce xs →
       IsDistinct (tags_of xs) → find (tags_of xs) line ≡ Some c →
@@ -200,7 +201,8 @@ module _ {X : Type 0} where
       (map_push _ xs (c, (line, v)) ∙ ap (λ us. us ++ (line, c) ∷ []) (sym gone))
       (omega arith) (omega arith)
       (λ j. rw (← row_is) (last-found row (tags_of xs) line c j (fits.found j)))
-      (rw (← row_is) (IsDistinct-put_last row line c fits.distinct)) (IsDistinct-put_last (tags_of xs) line c fits.lines)
+      (rw (← row_is) (IsDistinct-put_last row line c fits.distinct))
+      (IsDistinct-put_last (tags_of xs) line c fits.lines)
 
   pub fits-written : {ways : ℕ} {row : List (ℕ × ℕ)} {xs : List (ℕ × (ℕ × X))} (line : ℕ) {c : ℕ} (w : X) →
       Fits ways row xs → CellsOnce xs → find row line ≡ Some c → Fits ways row (rewritten c (line, w) xs)
@@ -210,7 +212,8 @@ module _ {X : Type 0} where
       (written-tags xs line c w once (sym (fits.found line) ∙ h)) (omega arith) (omega arith) fits.found fits.distinct
       fits.lines
 
-  pub fits-moved : {ways : ℕ} {row : List (ℕ × ℕ)} {xs : List (ℕ × (ℕ × X))} (line : ℕ) {c : ℕ} (w : X) → Fits ways row xs →
+  pub fits-moved : {ways : ℕ} {row : List (ℕ × ℕ)} {xs : List (ℕ × (ℕ × X))} (line : ℕ) {c : ℕ} (w : X) → Fits ways
+      row xs →
       CellsOnce xs → find row line ≡ Some c → Fits ways row (cell.without c xs ++ (c, (line, w)) ∷ [])
   fits-moved {ways} {row} {xs} line {c} w fits once h =
       let tag = sym (fits.found line) ∙ h in

@@ -23,13 +23,15 @@ invariant_of-self g c =
       c.change.ensures.order _ _ c.self.invariant.2 (exchanged g.V.Listed.is_listed new fresh.absent {n = 0} refl is),
       still-room g.V.Listed.is_listed c.self.invariant.0 new.cells c.self.invariant.3
           (λ room. c.change.ensures.kept _ c.self.invariant.2 (λ lt. room)),
-      c.recount.ensures ∙ recounted g.V.Listed.is_listed new fresh.absent refl c.uncount_of.ensures.count c.self.invariant.4,
+      c.recount.ensures ∙ recounted g.V.Listed.is_listed new fresh.absent refl c.uncount_of.ensures.count
+          c.self.invariant.4,
     )
 
 pub recount-requires : goal.recount-requires
 recount-requires g c =
     let fresh = is-new c.self.invariant.0 c.self.view_is c.requires.in_table c.requires.absent c.requires.way in
-    can-count g.V.Listed.is_listed c.args.set c.args.line fresh.stored fresh.low fresh.absent c.self.invariant.4 refl c.uncount_of.ensures.one
+    can-count g.V.Listed.is_listed c.args.set c.args.line fresh.stored fresh.low fresh.absent c.self.invariant.4 refl
+    c.uncount_of.ensures.one
 
 pub returns : goal.returns
 returns g c =
@@ -41,5 +43,6 @@ returns g c =
 
 pub overflow_add-self : goal.overflow_add-self
 overflow_add-self g c =
-    let fits = next-fits g.V.Listed.is_listed c.self.invariant.0 c.args.value c.self.invariant.1 c.count_of-after.ensures.count in
+    let fits = next-fits g.V.Listed.is_listed c.self.invariant.0 c.args.value c.self.invariant.1
+    c.count_of-after.ensures.count in
     omega (arith, fits)

@@ -10,7 +10,8 @@ pub recount-requires : goal.recount-requires
 recount-requires g c =
     let found = is-found c.self.invariant.0 c.lists-lists.ensures.once c.looked_up.ensures c.self.view_is
     c.requires.in_table (sym c.find.ensures ∙ c.in-Some.is) in
-    can-count g.V.Listed.is_listed c.args.set c.args.line found.stored found.low (read-value found c.get.ensures) c.self.invariant.4
+    can-count g.V.Listed.is_listed c.args.set c.args.line found.stored found.low (read-value found c.get.ensures)
+    c.self.invariant.4
     c.uncount_of.ensures.count c.uncount_of-2.ensures.one
 
 pub add-requires-clause-absent : goal.add-requires-clause-absent
@@ -26,7 +27,8 @@ pub move_to_back-requires-clause-cell : goal.move_to_back-requires-clause-cell
 move_to_back-requires-clause-cell g c =
     let found = is-found c.self.invariant.0 c.lists-lists.ensures.once c.looked_up.ensures c.self.view_is
     c.requires.in_table (sym c.find.ensures ∙ c.in-Some.is) in
-    ap is_some (written-there c.in-Some.cell (c.args.line, c.args.value) c.self.inside.arena.lists (ap is_some found.cell))
+    ap is_some (written-there c.in-Some.cell (c.args.line, c.args.value) c.self.inside.arena.lists
+    (ap is_some found.cell))
 
 pub invariant_of-self-2 : goal.invariant_of-self-2
 invariant_of-self-2 g c =
@@ -41,7 +43,8 @@ invariant_of-self-2 g c =
       c.change.ensures.order _ _ c.self.invariant.2 (exchanged g.V.Listed.is_listed new was before after),
       still-room g.V.Listed.is_listed c.self.invariant.0 new.cells c.self.invariant.3
           (λ room. c.change.ensures.kept _ c.self.invariant.2 (λ lt. room)),
-      c.recount.ensures ∙ recounted g.V.Listed.is_listed new was c.uncount_of.ensures.count c.uncount_of-2.ensures.count c.self.invariant.4,
+      c.recount.ensures ∙ recounted g.V.Listed.is_listed new was c.uncount_of.ensures.count
+          c.uncount_of-2.ensures.count c.self.invariant.4,
     )
 
 pub returns : goal.returns
@@ -56,7 +59,8 @@ pub next-requires : goal.next-requires
 next-requires g c =
     let found = is-found c.self.invariant.0 c.lists-lists.ensures.once c.looked_up.ensures c.self.view_is
     c.requires.in_table (sym c.find.ensures ∙ c.in-Some.is) in
-    ap is_some (written-there c.in-Some.cell (c.args.line, c.args.value) c.self.inside.arena.lists (ap is_some found.cell))
+    ap is_some (written-there c.in-Some.cell (c.args.line, c.args.value) c.self.inside.arena.lists
+    (ap is_some found.cell))
 
 pub invariant_of-self : goal.invariant_of-self
 invariant_of-self g c =
@@ -70,7 +74,8 @@ invariant_of-self g c =
       c.change.ensures.order _ _ c.self.invariant.2 (exchanged g.V.Listed.is_listed new was before after),
       still-room g.V.Listed.is_listed c.self.invariant.0 new.cells c.self.invariant.3
           (λ room. c.change.ensures.kept _ c.self.invariant.2 (λ lt. room)),
-      c.recount.ensures ∙ recounted g.V.Listed.is_listed new was c.uncount_of.ensures.count c.uncount_of-2.ensures.count c.self.invariant.4,
+      c.recount.ensures ∙ recounted g.V.Listed.is_listed new was c.uncount_of.ensures.count
+          c.uncount_of-2.ensures.count c.self.invariant.4,
     )
 
 pub returns-then-is_none : goal.returns-then-is_none
@@ -93,5 +98,6 @@ overflow_sub-self g c =
 
 pub overflow_add-self : goal.overflow_add-self
 overflow_add-self g c =
-    let fits = next-fits g.V.Listed.is_listed c.self.invariant.0 c.args.value c.self.invariant.1 c.count_of-after.ensures.count in
+    let fits = next-fits g.V.Listed.is_listed c.self.invariant.0 c.args.value c.self.invariant.1
+    c.count_of-after.ensures.count in
     omega (arith, fits)

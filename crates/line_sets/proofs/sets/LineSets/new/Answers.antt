@@ -19,7 +19,8 @@ invariant_of-result g c = (
       ∙ ap length (none-listed g.V.Listed.is_listed c.args.sets)),
   rw c.none.ensures tt,
   rw c.none.ensures tt,
-  c.in_ok-unlisted.ensures.items_if_clones_equal (λ y e. e) ∙ sym (ap (λ a. counts_without g.V.Listed.is_listed (sets_of a.lists)) c.in-Ok.ensures.made
+  c.in_ok-unlisted.ensures.items_if_clones_equal (λ y e. e) ∙ sym
+      (ap (λ a. counts_without g.V.Listed.is_listed (sets_of a.lists)) c.in-Ok.ensures.made
       ∙ ap (counts_without g.V.Listed.is_listed) (sets-empty c.args.sets)
       ∙ none-anywhere g.V.Listed.is_listed c.args.sets),
 )

@@ -8,7 +8,8 @@ pub recount-requires : goal.recount-requires
 recount-requires g c =
     let found = is-found c.self.invariant.0 c.lists-lists.ensures.once c.looked_up.ensures c.self.view_is c.requires
     (sym c.take.ensures.value ∙ c.in-Some.is) in
-    can-count g.V.Listed.is_listed c.args.set c.args.line found.stored found.low (read-value found c.unlink-line.ensures.value)
+    can-count g.V.Listed.is_listed c.args.set c.args.line found.stored found.low
+    (read-value found c.unlink-line.ensures.value)
     c.self.invariant.4 c.uncount_of.ensures.count (omega arith)
 
 pub invariant_of-self : goal.invariant_of-self

@@ -8,7 +8,8 @@ pub recount-requires : goal.recount-requires
 recount-requires g c =
     let found = is-found c.self.invariant.0 c.lists-lists.ensures.once c.looked_up.ensures c.self.view_is
     c.requires.in_table (sym c.find.ensures ∙ c.in-Some.is) in
-    can-count g.V.Listed.is_listed c.args.set c.args.line found.stored found.low (read-value found c.get.ensures) c.self.invariant.4
+    can-count g.V.Listed.is_listed c.args.set c.args.line found.stored found.low (read-value found c.get.ensures)
+    c.self.invariant.4
     c.uncount_of.ensures.count c.uncount_of-in-Some.ensures.one
 
 pub get_mut-requires : goal.get_mut-requires
@@ -29,7 +30,8 @@ overflow_sub-self g c =
 
 pub overflow_add-self : goal.overflow_add-self
 overflow_add-self g c =
-    let fits = next-fits g.V.Listed.is_listed c.self.invariant.0 c.args.value c.self.invariant.1 c.count_of-after.ensures.count in
+    let fits = next-fits g.V.Listed.is_listed c.self.invariant.0 c.args.value c.self.invariant.1
+    c.count_of-after.ensures.count in
     omega (arith, fits)
 
 pub invariant_of-self : goal.invariant_of-self
@@ -43,7 +45,8 @@ invariant_of-self g c =
       c.change.ensures.order _ _ c.self.invariant.2 (exchanged g.V.Listed.is_listed new was before after),
       still-room g.V.Listed.is_listed c.self.invariant.0 new.cells c.self.invariant.3
           (λ room. c.change.ensures.kept _ c.self.invariant.2 (λ lt. room)),
-      c.recount.ensures ∙ recounted g.V.Listed.is_listed new was c.uncount_of.ensures.count c.uncount_of-in-Some.ensures.count
+      c.recount.ensures ∙ recounted g.V.Listed.is_listed new was c.uncount_of.ensures.count
+          c.uncount_of-in-Some.ensures.count
           c.self.invariant.4,
     )
 

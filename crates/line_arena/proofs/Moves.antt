@@ -73,16 +73,8 @@ module _ {X : Type 0} (cs : List (Option (Node X))) (cap : ℕ) (heads : List He
       (set cs x (Some (node h.last (cap + l) l it))) h.last
       → Result ds (set heads l (record { first = first; last = x; count = h.count + 1 }))
       (set rs l (get_or rs l [] ++ (x, it) ∷ []))
-  attach_made l x it h first ds lt small free eh =
-      let goal = λ (h : Head) (first : ℕ) (ds : List (Option (Node X))).
-      Result ds (set heads l (record { first = first; last = x; count = h.count + 1 }))
-      (set rs l (get_or rs l [] ++ (x, it) ∷ [])) in
-      let first_is = λ (h : Head). if nat_lt h.last cap then h.first else x in
-      let cells_are = λ (h : Head). edit cap (with_next x) (set cs x (Some (node h.last (cap + l) l it))) h.last in
-      subst (λ h. first ≡ first_is h → ds ≡ cells_are h → goal h first ds) (sym eh) (λ ef ed.
-      let g = get_or heads l no_head in
-      subst (λ z. goal g z ds) (sym ef) (subst (λ z. goal g (first_is g) z) (sym ed)
-      (from_tied _ _ _ (attached cs cap heads rs t l x it lt small free))))
+  attach_made l x it h first ds lt small free eh ef ed =
+      rw (ed, ef, eh) (from_tied _ _ _ (attached cs cap heads rs t l x it lt small free))
 
   -- the last cell of a list is a used one
   pub last_near : (l x : ℕ) (h : Head) (n : Node X) → l < length heads → get_or cs x None ≡ None →
@@ -182,24 +174,9 @@ module _ {X : Type 0} (cs : List (Option (Node X))) (cap : ℕ) (heads : List He
         last ≡ (if nat_lt nd.next cap then h.last else nd.prev)
         → ds ≡ edit cap (with_prev nd.prev) (edit cap (with_next nd.next) (set cs x None) nd.prev) nd.next
         → Result ds (set heads l (record { first = first; last = last; count = h.count - 1 })) (map (without x) rs)
-    detach_made h first last ds eh =
-        let goal = λ (h : Head) (first last : ℕ) (ds : List (Option (Node X))).
-        Result ds (set heads l (record { first = first; last = last; count = h.count - 1 }))
-        (map (without x) rs) in
-        let first_is = λ (h : Head) (n : Node X). if nat_lt n.prev cap then h.first else n.next in
-        let last_is = λ (h : Head) (n : Node X). if nat_lt n.next cap then h.last else n.prev in
-        let cells_are = λ (n : Node X). edit cap (with_prev n.prev)
-        (edit cap (with_next n.next) (set cs x None) n.prev) n.next in
-        let g = get_or heads l no_head in
+    detach_made h first last ds eh ef el ed =
         let base = from_tied _ _ _ (detached cs cap heads rs t l x parts.1 parts.0 parts.2 lt parts.3).1 in
-        let n1 = node (last_of (cap + l) parts.0) (first_of parts.2 (cap + l)) l parts.1 in
-        let named : goal g (first_is g n1) (last_is g n1) (cells_are n1) = (base.0, base.1 ∙ lists_without) in
-        let back : goal g (first_is g nd) (last_is g nd) (cells_are nd) =
-        subst (λ (n : Node X). goal g (first_is g n) (last_is g n) (cells_are n)) (sym node_is) named in
-        subst (λ h. first ≡ first_is h nd → last ≡ last_is h nd → ds ≡ cells_are nd → goal h first last ds)
-        (sym eh) (λ ef el ed.
-        subst (λ z. goal g z last ds) (sym ef) (subst (λ z. goal g (first_is g nd) z ds) (sym el)
-        (subst (λ z. goal g (first_is g nd) (last_is g nd) z) (sym ed) back)))
+        rw (ed, el, ef, eh, node_is) (base.0, base.1 ∙ lists_without)
 
 module _ {X : Type 0} where
   -- the cells other than x are used as before

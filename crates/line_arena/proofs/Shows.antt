@@ -6,9 +6,10 @@ use Rattle.std.proofs.lemmas.Bool.{cases_lt, cases_eq}
 use Rattle.std.proofs.lemmas.List.{get_or-map, length-map, length-take, get_or-take, take-set-le}
 use Rattle.line_arena.specs.declared.chains.Chains.{Chains}
 use Rattle.line_arena.specs.Filled.{IsFilled}
-use Rattle.line_arena.specs.CellLists.{without}
+use Rattle.line_arena.specs.CellLists.{without, append_to}
 use Rattle.line_arena.specs.Chains.{total, rings_of, IsTied, SameUse, SameSizes}
-use Rattle.line_arena.specs.Arenas.{with_value, values, AllSome, AllNone, IsArena, Lacks, Suits, shown}
+use Rattle.line_arena.specs.Arenas.{with_value, values, AllSome, AllNone, IsArena, Lacks, Suits, shown, model, pushed}
+use Rattle.line_arena.specs.Arenas.{lists_of}
 use Rattle.line_arena.proofs.Edits.{within}
 
 module _ {X : Type 0} where
@@ -162,6 +163,17 @@ module _ {X : Type 0} where
         | inr ne ↦ ap values (get_or-set_other rs l k new [] ne) ∙ sym (shown_at n rs k (omega arith) le)
             ∙ sym (get_or-set_other old l k put [] ne)
       ])
+
+  -- an arena to one of whose lists a cell with a value was put
+  pub pushed_to : {spare : ℕ} (rs : List (List (ℕ × Option X))) {ls : List (List (ℕ × X))} (d : Chains X)
+      {l x cell : ℕ}
+      (v : X) {cells : ℕ} → spare ≤ length rs → shown spare rs ≡ ls → l < length ls → x ≡ cell →
+      rings_of d ≡ append_to l (x, Some v) rs → d.capacity ≡ cells →
+      model spare d ≡ pushed l (cell, v) (lists_of ls cells)
+  pushed_to {spare} rs {ls} d {l} {x} {cell} v {cells} le same low at is sizes =
+      let long = length-shown spare rs le in let all = ap length same in
+      let lists = ap (shown spare) is ∙ shown_push spare rs l x v (omega arith) le in
+      (λ k. lists_of (lists k) (sizes k)) ∙ (λ k. pushed l (at k, v) (lists_of (same k) cells))
 
   -- what is put on the last list does not show
   pub shown_spare : (n : ℕ) (rs : List (List (ℕ × Option X))) (r : List (ℕ × Option X)) →

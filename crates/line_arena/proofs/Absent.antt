@@ -1,7 +1,7 @@
 -- The free cells are those that occur nowhere.
 use Rattle.std.proofs.Common.{◌≡◌, ℕ, ◌+◌, ◌<◌, zero, suc, inl, inr, Bool, true, false, cond, not, is_some, List, []}
-use Rattle.std.proofs.Common.{◌∷◌, length, get_or, sum_by, nat_eq, if◌then◌else◌, Option, Some, None, refl, sym, ap,
-◌∙◌}
+use Rattle.std.proofs.Common.{◌∷◌, length, get_or, sum_by, nat_eq, if◌then◌else◌, Option, Some, refl, sym, ap}
+use Rattle.std.proofs.Common.{◌∙◌}
 use Rattle.std.proofs.Common.{arith, ne_eqb, eq-eqb}
 use Rattle.std.proofs.lemmas.Bool.{cases_eq}
 use Rattle.std.proofs.lemmas.List.Sums.{sum_by-cons}

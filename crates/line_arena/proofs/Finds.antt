@@ -2,7 +2,7 @@
 use Rattle.std.proofs.Common.{◌≡◌, ◌≢◌, ℕ, zero, suc, ◌<◌, inl, inr, List, [], ◌∷◌, ◌++◌, length, get_or}
 use Rattle.std.proofs.Common.{if◌then◌else◌, Option, Some, None, refl, ap, ◌∙◌, arith, eq-eqb, ne_eqb}
 use Rattle.line_arena.specs.Rings.{Has}
-use Rattle.line_arena.specs.CellLists.{find_cell, first_some, look_up, or_else}
+use Rattle.line_arena.specs.CellLists.{find_cell, first_some, look_up}
 use Rattle.line_arena.specs.Arenas.{cell_in}
 
 module _ {X : Type 0} where

@@ -1,8 +1,8 @@
 -- Laws of lists of pairs: what a look-up finds, and what a list is, after each change.
 use Rattle.std.proofs.Common.{◌≡◌, ◌≢◌, ℕ, zero, suc, ◌+◌, ◌<◌, inl, inr, ◌⊎◌, true, true≢false, List, [], ◌∷◌, ◌++◌}
-use Rattle.std.proofs.Common.{drop, Option, map, length, get_or, nat_eq, if◌then◌else◌, Some, None, is_some, refl,
-sym, ap, ◌∙◌}
-use Rattle.std.proofs.Common.{arith, eq-eqb, ne_eqb, length-set, get_or-set_same, get_or-set_other}
+use Rattle.std.proofs.Common.{drop, map, length, get_or, Some, None, is_some, refl, sym}
+use Rattle.std.proofs.Common.{ap, ◌∙◌}
+use Rattle.std.proofs.Common.{arith, length-set, get_or-set_same, get_or-set_other}
 use Rattle.std.proofs.lemmas.Bool.{cases_eq, cases_lt}
 use Rattle.std.proofs.lemmas.List.{drop-drop, get_or_past, length-map}
 use Rattle.line_arena.specs.CellLists.{find_cell, or_else, look_up, first_cell, next_in, next_cell, append_to}

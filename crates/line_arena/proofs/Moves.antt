@@ -2,7 +2,7 @@
 use Rattle.std.proofs.Common.{◌≡◌, ◌≢◌, ℕ, ◌+◌, ◌-◌, ◌<◌, ◌≤◌, inl, inr, List, [], ◌∷◌, ◌++◌, map, length, get_or}
 use Rattle.std.proofs.Common.{set, nat_lt, if◌then◌else◌, Option, Some, None, option_map, refl, sym, ap, subst, ◌∙◌}
 use Rattle.std.proofs.Common.{arith, length-set, get_or-set_same, get_or-set_other, length-append, ext_get_or}
-use Rattle.std.proofs.lemmas.Bool.{cases_lt, cases_eq}
+use Rattle.std.proofs.lemmas.Bool.{cases_eq}
 use Rattle.std.proofs.lemmas.List.{get_or-map, length-map}
 use Rattle.line_arena.specs.declared.node.Node.{Node}
 use Rattle.line_arena.specs.declared.node.Head.{Head}
@@ -12,7 +12,7 @@ use Rattle.line_arena.specs.Rings.{IsApart, Tied, rings}
 use Rattle.line_arena.specs.CellLists.{without, find_cell, look_up}
 use Rattle.line_arena.proofs.Finds.{find_absent, find_part, look_at_list}
 use Rattle.line_arena.proofs.Links.{has_left, has_right, apart_split, parted}
-use Rattle.line_arena.proofs.Edits.{edit_in, edit_out, edit_other, edit_same, last_in, first_in}
+use Rattle.line_arena.proofs.Edits.{edit_other, edit_same, last_in, first_in}
 use Rattle.line_arena.proofs.Ties.{on_list, one_list, rings_are, attached, detached}
 use Rattle.std.proofs.Common.{eq-eqb, ne_eqb}
 use Rattle.std.proofs.lemmas.List.Sums.{sum_by-set}
@@ -32,15 +32,9 @@ module _ {X : Type 0} where
 
   pub edit_none : (cap : ℕ) (f : Node X → Node X) (cs : List (Option (Node X))) (a y : ℕ) → length cs ≡ cap →
       get_or cs y None ≡ None → get_or (edit cap f cs a) y None ≡ None
-  edit_none cap f cs a y long none = elim (cases_eq y a) [
-    | inr ne ↦ edit_other cap f cs a y ne ∙ none
-    | inl e ↦ elim (cases_lt a cap) [
-      | inr le ↦ ap (λ ds. get_or ds y None) (edit_out cap f cs a le) ∙ none
-      | inl lt ↦ ap (λ z. get_or (edit cap f cs a) z None) e ∙ ap (λ ds. get_or ds a None) (edit_in cap f cs a lt)
-          ∙ get_or-set_same cs a (option_map f (get_or cs a None)) None (omega arith)
-          ∙ ap (option_map f) (subst (λ z. get_or cs z None ≡ None) e none)
-    ]
-  ]
+  edit_none cap f cs a y long none =
+      let case = cases_eq y a in let here = get_or-set_same cs a (option_map f (get_or cs a None)) None in
+      let there = get_or-set_other cs a y (option_map f (get_or cs a None)) None in grind arith
 
   pub without_absent : (x : ℕ) (xs : List (ℕ × Option X)) → (Has xs x → ⊥) → without x xs ≡ xs
   without_absent x [] no_x = refl

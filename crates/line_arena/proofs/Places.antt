@@ -1,14 +1,14 @@
 -- A cell on one of a caller's lists: what its node is, and what the functions on the lists tell of it.
-use Rattle.std.proofs.Common.{◌≡◌, ◌≢◌, ℕ, ◌+◌, ◌<◌, ◌≤◌, zero, suc, inl, inr, List, [], ◌∷◌, ◌++◌, length, get_or}
-use Rattle.std.proofs.Common.{nat_eq, if◌then◌else◌, Option, Some, None, is_some, true, map, refl, sym, ap, subst,
-◌∙◌, arith, ne_eqb}
+use Rattle.std.proofs.Common.{◌≡◌, ◌≢◌, ℕ, ◌+◌, ◌<◌, ◌≤◌, inl, inr, List, [], ◌∷◌, ◌++◌, length, get_or}
+use Rattle.std.proofs.Common.{nat_eq, if◌then◌else◌, Option, Some, None, is_some, true, map, refl, sym, ap, subst, ◌∙◌}
+use Rattle.std.proofs.Common.{arith, ne_eqb}
 use Rattle.std.proofs.Common.{eq-eqb}
 use Rattle.std.proofs.lemmas.Bool.{cases_eq}
 use Rattle.line_arena.specs.declared.node.Node.{Node}
 use Rattle.line_arena.specs.declared.chains.Chains.{Chains}
 use Rattle.line_arena.specs.Rings.{no_head, node, or_blank, first_of, last_of, Has, IsApart}
-use Rattle.line_arena.specs.CellLists.{find_cell, or_else, first_some, look_up, first_cell, next_in, next_cell,
-without}
+use Rattle.line_arena.specs.CellLists.{find_cell, first_some, look_up, first_cell, next_in, next_cell}
+use Rattle.line_arena.specs.CellLists.{without}
 use Rattle.line_arena.specs.Chains.{rings_of}
 use Rattle.line_arena.specs.Arenas.{with_value, values, AllSome, AllNone, Lists, IsArena, shown, model}
 use Rattle.line_arena.proofs.Links.{has_right, apart_split, parted}
@@ -21,31 +21,20 @@ use Rattle.line_arena.proofs.Seen.{same_some, some_of, find_has, here, seen}
 module _ {X : Type 0} where
   find_shown : (x : ℕ) (v : X) (us bs : List (ℕ × Option X)) → (Has us x → ⊥) →
       find_cell x (values (us ++ (x, Some v) ∷ bs)) ≡ Some v
-  find_shown x v [] bs nu = ap (λ b. if b then Some v else find_cell x (values bs)) (eq-eqb x x refl)
-  find_shown x v (a ∷ us) bs nu = let rest =
-      values (us ++ (x, Some v) ∷ bs) in elim a.1 as (λ o. find_cell x (with_value a.0 o rest) ≡ Some v) [
-        | None ↦ find_shown x v us bs (λ w. nu (inr w))
-        | Some w ↦ ap (λ b. if b then Some w else find_cell x rest) (ne_eqb a.0 x (λ e. nu (inl e)))
-            ∙ find_shown x v us bs (λ w. nu (inr w))
-      ]
+  find_shown x v [] bs nu = grind arith
+  find_shown x v (a ∷ us) bs nu = let rest = find_shown x v us bs (λ w. nu (inr w)) in
+      let ne : a.0 ≢ x = λ e. nu (inl e) in grind arith
 
   next_shown : (x : ℕ) (v : X) (us bs : List (ℕ × Option X)) → (Has us x → ⊥) →
       next_in x (values (us ++ (x, Some v) ∷ bs)) ≡ first_cell (values bs)
-  next_shown x v [] bs nu = ap (λ b. if b then first_cell (values bs) else next_in x (values bs)) (eq-eqb x x refl)
-  next_shown x v (a ∷ us) bs nu = let rest = values (us ++ (x, Some v) ∷ bs) in
-      elim a.1 as (λ o. next_in x (with_value a.0 o rest) ≡ first_cell (values bs)) [
-        | None ↦ next_shown x v us bs (λ w. nu (inr w))
-        | Some w ↦ ap (λ b. if b then first_cell rest else next_in x rest) (ne_eqb a.0 x (λ e. nu (inl e)))
-            ∙ next_shown x v us bs (λ w. nu (inr w))
-      ]
+  next_shown x v [] bs nu = grind arith
+  next_shown x v (a ∷ us) bs nu = let rest = next_shown x v us bs (λ w. nu (inr w)) in
+      let ne : a.0 ≢ x = λ e. nu (inl e) in grind arith
 
   next_gone : (x : ℕ) (xs : List (ℕ × Option X)) → (Has xs x → ⊥) → next_in x (values xs) ≡ None
   next_gone x [] no_x = refl
-  next_gone x (a ∷ xs) no_x = elim a.1 as (λ o. next_in x (with_value a.0 o (values xs)) ≡ None) [
-    | None ↦ next_gone x xs (λ w. no_x (inr w))
-    | Some v ↦ ap (λ b. if b then first_cell (values xs) else next_in x (values xs))
-        (ne_eqb a.0 x (λ e. no_x (inl e))) ∙ next_gone x xs (λ w. no_x (inr w))
-  ]
+  next_gone x (a ∷ xs) no_x = let rest = next_gone x xs (λ w. no_x (inr w)) in
+      let ne : a.0 ≢ x = λ e. no_x (inl e) in grind arith
 
   none_part : (us : List (ℕ × Option X)) (a : ℕ × Option X) (bs : List (ℕ × Option X)) →
       AllNone (us ++ a ∷ bs) → a.1 ≡ None

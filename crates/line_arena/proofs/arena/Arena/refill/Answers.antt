@@ -1,4 +1,4 @@
-use Rattle.std.proofs.Common.{length, map, Some, sym, ap, ◌∙◌, arith, is_some}
+use Rattle.std.proofs.Common.{map, Some, sym, ap, ◌∙◌, arith, is_some}
 use Rattle.std.proofs.lemmas.List.{length-map}
 use Rattle.line_arena.specs.CellLists.{without, append_to}
 use Rattle.line_arena.specs.Chains.{rings_of}

@@ -7,7 +7,7 @@ use Rattle.std.specs.List.{find}
 use Rattle.inbox.specs.declared.answer.Answer.{Answer}
 use Rattle.inbox.specs.declared.answer.Answer.TheVariants.{Delivered, Dropped, Started, Held, Refused}
 use Rattle.inbox.specs.declared.answer.Refusal.{Refusal}
-use Rattle.inbox.specs.declared.answer.Refusal.TheVariants.{NoMemory, Full, Exhausted}
+use Rattle.inbox.specs.declared.answer.Refusal.TheVariants.{NoMemory, Full}
 use Rattle.inbox.specs.declared.answer.Served.{Served}
 use Rattle.inbox.specs.Inboxes.{InboxState, inbox}
 use Rattle.inbox.specs.Serving.{Place, in_hand, held_at, held_from, order_of, places, sent_list, fitted, is_passed}
@@ -62,9 +62,7 @@ module _ {T : Type 0} where
       (find s (held_from (n + 1) ms) ≡ Some x → In s (n + 1) ms x) → find s (held_from n (m ∷ ms)) ≡ Some x →
       In s n (m ∷ ms) x
   in-rest s n m ms x true e later f =
-      let first : (held_at n, m) ≡ x =
-      (let now : Some (held_at n, m) ≡ Some x =
-      sym (ap (λ b. cond b (Some (held_at n, m)) (find s (held_from (n + 1) ms))) e) ∙ f in cc) in
+      let first : (held_at n, m) ≡ x = grind arith in
       record {
         at = 0;
         place = sym (ap (λ y. y.0) first) ∙ ap held_at (omega arith);
@@ -72,8 +70,7 @@ module _ {T : Type 0} where
         is = ap s (sym first) ∙ e;
       }
   in-rest s n m ms x false e later f =
-      let rest = later (sym (ap (λ b. cond b (Some (held_at n, m)) (find s (held_from (n + 1) ms))) e) ∙ f) in
-      let k = rest.at in
+      let rest = later (grind arith) in let k = rest.at in
       record { at = suc k; place = rest.place ∙ ap held_at (omega arith); here = rest.here; is = rest.is }
 
   found-in : (s : Place × T → Bool) (n : ℕ) (ms : List T) (x : Place × T) → find s (held_from n ms) ≡ Some x →
@@ -89,15 +86,10 @@ module _ {T : Type 0} where
   in-order : (held : List T) (m : T) (s : Place × T → Bool) (x : Place × T) (b : Bool) → s (in_hand, m) ≡ b →
       find s (order_of (Some m) held) ≡ Some x → LiesAt (inbox (Some m) held) x.0 x.1 × (s x ≡ true)
   in-order held m s x true e f =
-      let first : (in_hand, m) ≡ x =
-      (let now : Some (in_hand, m) ≡ Some x =
-      sym (ap (λ b. cond b (Some (in_hand, m)) (find s (held_from 0 held))) e) ∙ f in cc) in (
-        subst (λ (y : Place × T). LiesAt (inbox (Some m) held) y.0 y.1) first refl,
-        ap s (sym first) ∙ e,
-      )
+      let first : (in_hand, m) ≡ x = grind arith in
+      (subst (λ (y : Place × T). LiesAt (inbox (Some m) held) y.0 y.1) first refl, ap s (sym first) ∙ e)
   in-order held m s x false e f =
-      let found = found-in s 0 held x (sym (ap (λ b. cond b (Some (in_hand, m)) (find s (held_from 0 held))) e) ∙ f) in
-      (lies-in (inbox (Some m) held) s x found, found.is)
+      let found = found-in s 0 held x (grind arith) in (lies-in (inbox (Some m) held) s x found, found.is)
 
   -- what is found in the order of serving lies where it says
   lies : (hand : Option T) (held : List T) (s : Place × T → Bool) (x : Place × T) →
@@ -109,9 +101,7 @@ module _ {T : Type 0} where
   -- What was done
 
   stay-none : (refused : Bool) (held : List T) → is_stay (none_served refused held) ≡ true
-  stay-none true held = refl
-  stay-none false [] = refl
-  stay-none false (m ∷ ms) = refl
+  stay-none refused held = grind arith
 
   -- after a message was consumed, or stays, and another was sent
   sent-after : (xs : List T) (sent : Option T) → SameMessages (xs ++ sent_list sent) (sent_list sent ++ xs)
@@ -221,22 +211,15 @@ module _ {T : Type 0} where
     is-no-memory (Err r) = false
 
     never-none : (refused : Bool) (held : List T) → is-no-memory (none_served refused held) ≡ false
-    never-none true held = refl
-    never-none false [] = refl
-    never-none false (m ∷ ms) = refl
+    never-none refused held = grind arith
 
     never-held : (none : Bool) → is-no-memory (result_of (waits none)) ≡ false
-    never-held true = refl
-    never-held false = refl
+    never-held none = grind arith
 
     never-answer : (n : ℕ) (a : Answer T) → (a ≡ Refused NoMemory → ⊥) → is-no-memory (result_of (fitted n a)) ≡ false
-    never-answer n (Delivered sent) other = refl
-    never-answer n Dropped other = refl
-    never-answer n (Started sent) other = refl
     never-answer n Held other = never-held (nat_eq n 0)
-    never-answer n (Refused Full) other = refl
-    never-answer n (Refused Exhausted) other = refl
     never-answer n (Refused NoMemory) other = absurd (other refl)
+    never-answer n _ other = refl
 
     never-found : (b : InboxState T) (p : P) (refused : Bool) (found : Option (Place × T)) → NeverNoMemory table →
         is-no-memory (serve_by table refused found b p).0 ≡ false

@@ -1,11 +1,12 @@
 -- A walk of the held messages, one message after the other.
-use Rattle.std.proofs.Common.{◌≡◌, ℕ, zero, suc, ◌+◌, ◌-◌, ◌≤◌, ◌||◌, ◌⊎◌, inl, inr, Bool, true, false, not, cond, List}
+use Rattle.std.proofs.Common.{◌≡◌, ℕ, zero, suc, ◌+◌, ◌-◌, ◌≤◌, ◌||◌, ◌⊎◌, inl, inr, Bool, true, false, not, cond}
+use Rattle.std.proofs.Common.{List}
 use Rattle.std.proofs.Common.{[], ◌∷◌, map, drop, length, slice_get, Option, Some, None, Result, refl, sym, ap, ◌∙◌}
 use Rattle.std.proofs.Common.{subst, arith, true≢false, IsTrue}
 use Rattle.std.specs.List.{find}
 use Rattle.line_arena.specs.CellLists.{first_cell}
 use Rattle.inbox.specs.declared.answer.Answer.{Answer}
-use Rattle.inbox.specs.declared.answer.Answer.TheVariants.{Delivered, Dropped, Started, Held, Refused}
+use Rattle.inbox.specs.declared.answer.Answer.TheVariants.{Held, Refused}
 use Rattle.inbox.specs.declared.answer.Refusal.{Refusal}
 use Rattle.inbox.specs.declared.answer.Refusal.TheVariants.{NoMemory}
 use Rattle.inbox.specs.declared.answer.Served.{Served}
@@ -16,8 +17,7 @@ use Rattle.inbox.specs.Serving.{after_held, result_of, serve_by}
 use Rattle.inbox.specs.Walks.{Asks, ServesHeld, Walks}
 
 or-assoc : (a b d : Bool) → ((a || b) || d) ≡ (a || (b || d))
-or-assoc true b d = refl
-or-assoc false b d = refl
+or-assoc a b d = grind arith
 
 module _ {T : Type 0} where
   -- the message of the cell that the walk comes to, and its place in the list
@@ -42,34 +42,26 @@ module _ {T : Type 0} where
 
   -- a message that is passed leaves the part
   pub quiet : (a : Answer T) → (stays_held a || finds_no_place a) ≡ true → is_quiet a ≡ true
-  quiet (Delivered sent) h = h
-  quiet Dropped h = h
-  quiet (Started sent) h = h
   quiet Held h = refl
   quiet (Refused r) h = refl
+  quiet _ h = h
 
   pub quiet-hand : (a : Answer T) → finds_no_place a ≡ true → is_quiet a ≡ true
-  quiet-hand (Delivered sent) h = h
-  quiet-hand Dropped h = h
-  quiet-hand (Started sent) h = h
   quiet-hand Held h = refl
   quiet-hand (Refused r) h = refl
+  quiet-hand _ h = h
 
   -- a message that would be consumed or start something isn't passed
   pub loud : (a : Answer T) (n : ℕ) → is_quiet a ≡ false →
       (stays_held (fitted n a) || finds_no_place (fitted n a)) ≡ false
-  loud (Delivered sent) n h = refl
-  loud Dropped n h = refl
-  loud (Started sent) n h = refl
   loud Held n h = absurd (true≢false h)
   loud (Refused r) n h = absurd (true≢false h)
+  loud _ n h = refl
 
   pub loud-hand : (a : Answer T) (n : ℕ) → is_quiet a ≡ false → finds_no_place (fitted n a) ≡ false
-  loud-hand (Delivered sent) n h = refl
-  loud-hand Dropped n h = refl
-  loud-hand (Started sent) n h = refl
   loud-hand Held n h = absurd (true≢false h)
   loud-hand (Refused r) n h = absurd (true≢false h)
+  loud-hand _ n h = refl
 
   module _ {P : Type 0} (table : P → T → ℕ → Answer T × P) (takes_memory : P → T → Bool) where
     -- the message in the hand is served

@@ -1,12 +1,13 @@
 -- The free cells are those that occur nowhere.
 use Rattle.std.proofs.Common.{◌≡◌, ℕ, ◌+◌, ◌<◌, zero, suc, inl, inr, Bool, true, false, cond, not, is_some, List, []}
-use Rattle.std.proofs.Common.{◌∷◌, length, get_or, sum_by, nat_eq, if◌then◌else◌, Some, None, refl, sym, ap, ◌∙◌}
+use Rattle.std.proofs.Common.{◌∷◌, length, get_or, sum_by, nat_eq, if◌then◌else◌, Option, Some, refl, sym, ap}
+use Rattle.std.proofs.Common.{◌∙◌}
 use Rattle.std.proofs.Common.{arith, ne_eqb, eq-eqb}
 use Rattle.std.proofs.lemmas.Bool.{cases_eq}
 use Rattle.std.proofs.lemmas.List.Sums.{sum_by-cons}
 use Rattle.line_arena.specs.CellLists.{find_cell, or_else, look_up}
 use Rattle.line_arena.specs.Arenas.{Lists, cell_in, IsOnce, AreCells, count_below, free_cells, absent_cells}
-use Rattle.line_arena.proofs.Seen.{look_in}
+use Rattle.line_arena.proofs.Finds.{look_none, nowhere}
 
 both : (p : ℕ → Bool) (n : ℕ) → count_below p n + count_below (λ x. not (p x)) n ≡ n
 both p zero = refl
@@ -42,14 +43,6 @@ one_more a q (suc n) lt no_a = elim (cases_eq a n) [
 ]
 
 module _ {X : Type 0} where
-  find_place : (x : ℕ) (v : X) (xs : List (ℕ × X)) → find_cell x xs ≡ Some v → (i : ℕ) × (cell_in xs i ≡ Some x)
-  find_place x v [] e = cc
-  find_place x v (a ∷ xs) e = elim (cases_eq a.0 x) [
-    | inl i ↦ (0, ap Some i)
-    | inr ne ↦ let q = find_place x v xs (sym (ap (λ b. if b then Some a.1 else find_cell x xs) (ne_eqb a.0 x ne))
-        ∙ e) in (suc q.0, q.1)
-  ]
-
   -- all cells are below n
   abbrev Below : ℕ → List (List (ℕ × X)) → Type 0
   Below n ls = (l i x : ℕ) → cell_in (get_or ls l []) i ≡ Some x → x < n
@@ -74,28 +67,26 @@ module _ {X : Type 0} where
 
   alone : (a : ℕ × X) (r : List (ℕ × X)) (ls : List (List (ℕ × X))) → Once ((a ∷ r) ∷ ls) →
       is_some (look_up a.0 (r ∷ ls)) ≡ false
-  alone a r ls o = elim (look_up a.0 (r ∷ ls)) as (λ z. look_up a.0 (r ∷ ls) ≡ z → is_some z ≡ false) [
-    | None ↦ λ e. refl
-    | Some v ↦ λ e.
-        let q = look_in a.0 v (r ∷ ls) e in let p = find_place a.0 v (get_or (r ∷ ls) q.0 []) q.2 in
-        elim q.0 as (λ l. cell_in (get_or (r ∷ ls) l []) p.0 ≡ Some a.0 → true ≡ false) [
-          | zero ↦ λ f. let w = o 0 0 0 (suc p.0) a.0 refl f in absurd (omega (arith, w.1))
-          | suc l ↦ λ f. let w = o 0 (suc l) 0 p.0 a.0 refl f in absurd (omega (arith, w.0))
-        ] p.1
-  ] refl
+  alone a r ls o = ap is_some (look_none a.0 (r ∷ ls) (λ l lt. nowhere a.0 (get_or (r ∷ ls) l [])
+      (elim l as (λ l. (i : ℕ) → cell_in (get_or (r ∷ ls) l []) i ≡ Some a.0 → ⊥) [
+        | zero ↦ λ i e. let w = o 0 0 0 (suc i) a.0 refl e in absurd (omega (arith, w.1))
+        | suc l ↦ λ i e. let w = o 0 (suc l) 0 i a.0 refl e in absurd (omega (arith, w.0))
+      ])))
+
+  first_or : (a : ℕ × X) (x : ℕ) (r : List (ℕ × X)) (o : Option X) → is_some (or_else (find_cell x (a ∷ r)) o) ≡
+      (if nat_eq a.0 x then true else is_some (or_else (find_cell x r) o))
+  first_or a x r o = grind arith
 
   count_list : (n : ℕ) (r : List (ℕ × X)) (ls : List (List (ℕ × X))) → Counted n ls → Once (r ∷ ls) →
       Below n (r ∷ ls) → Counted n (r ∷ ls)
   count_list n [] ls h o b = h ∙ (let one = sum_by-cons length [] ls in omega (arith, one))
   count_list n (a ∷ r) ls h o b =
       let rest = count_list n r ls h (once_tail a r ls o) (below_tail n a r ls b) in
+      let q : ℕ → Bool = λ x. is_some (look_up x (r ∷ ls)) in
       let step : count_below (λ x. is_some (look_up x ((a ∷ r) ∷ ls))) n ≡ count_below
-      (λ x. if nat_eq a.0 x then true else is_some (look_up x (r ∷ ls))) n =
-      same_below (λ x. is_some (look_up x ((a ∷ r) ∷ ls))) (λ x. if nat_eq a.0 x then true else is_some
-      (look_up x (r ∷ ls))) n (λ x lt.
-      elim (nat_eq a.0 x) as (λ c. is_some (or_else (if c then Some a.1 else find_cell x r) (look_up x ls)) ≡
-      (if c then true else is_some (look_up x (r ∷ ls)))) [ true ↦ refl | false ↦ refl ]) in
-      let more = one_more a.0 (λ x. is_some (look_up x (r ∷ ls))) n (b 0 0 a.0 refl) (alone a r ls o) in
+      (λ x. if nat_eq a.0 x then true else q x) n = same_below _ (λ x. if nat_eq a.0 x then true else q x) n
+      (λ x lt. first_or a x r (look_up x ls)) in
+      let more = one_more a.0 q n (b 0 0 a.0 refl) (alone a r ls o) in
       let one = sum_by-cons length (a ∷ r) ls in let two =
       sum_by-cons length r ls in omega (arith, rest, step, more, one, two)
 

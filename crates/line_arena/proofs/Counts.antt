@@ -1,7 +1,8 @@
 -- A cell that is on no list, and how many there are.
-use Rattle.std.proofs.Common.{◌≡◌, ℕ, ◌+◌, ◌<◌, suc, inl, inr, List, [], ◌∷◌, map, take, drop, length, get_or, sum_by}
-use Rattle.std.proofs.Common.{if◌then◌else◌, Option, Some, None, refl, sym, ap, subst, ◌∙◌, arith, ext_get_or}
-use Rattle.std.proofs.lemmas.List.{get_or-map, length-map, length-take, get_or-take, drop_more, drop_all}
+use Rattle.std.proofs.Common.{◌≡◌, ◌≢◌, ℕ, ◌+◌, ◌<◌, suc, inl, inr, List, [], ◌∷◌, map, take, drop, length, get_or}
+use Rattle.std.proofs.Common.{sum_by}
+use Rattle.std.proofs.Common.{if◌then◌else◌, Option, Some, None, refl, sym, ap, subst, ◌∙◌, arith}
+use Rattle.std.proofs.lemmas.List.{length-take, get_or-take, drop_more, drop_all, map-id}
 use Rattle.std.proofs.lemmas.List.Sums.{sum_by-cons, sum_by-take-drop}
 use Rattle.line_arena.specs.declared.node.Head.{Head}
 use Rattle.line_arena.specs.declared.chains.Chains.{Chains}
@@ -9,12 +10,12 @@ use Rattle.line_arena.specs.Filled.{IsFilled}
 use Rattle.line_arena.specs.Rings.{no_head, node, Has, last_of}
 use Rattle.line_arena.specs.CellLists.{without, find_cell, look_up}
 use Rattle.line_arena.specs.Chains.{rings_of}
-use Rattle.line_arena.specs.Arenas.{with_value, values, AllSome, AllNone, IsArena, Lacks, shown}
+use Rattle.line_arena.specs.Arenas.{values, AllSome, AllNone, IsArena, Lacks, shown}
 use Rattle.line_arena.proofs.Edits.{last_in}
 use Rattle.line_arena.proofs.Ties.{on_list, one_list}
 use Rattle.line_arena.proofs.Moves.{without_absent}
 use Rattle.line_arena.proofs.Finds.{find_absent, look_none, look_at_list}
-use Rattle.line_arena.proofs.Shows.{length-shown, shown_at}
+use Rattle.line_arena.proofs.Shows.{length-shown, shown_at, shown_mapped}
 use Rattle.std.proofs.Common.{eq-eqb, ne_eqb}
 use Rattle.std.proofs.lemmas.Bool.{cases_eq}
 
@@ -32,16 +33,12 @@ sum_same f g (x ∷ xs) (y ∷ ys) d e long h =
 module _ {X : Type 0} where
   pub length-values : (xs : List (ℕ × Option X)) → AllSome xs → length (values xs) ≡ length xs
   length-values [] h = refl
-  length-values (a ∷ xs) h = let rest = length-values xs h.1 in ap (λ o. length (with_value a.0 o (values xs))) h.0.1
-      ∙ (let more : suc (length (values xs)) ≡ suc (length xs) = omega (arith, rest) in more)
+  length-values (a ∷ xs) h = let rest = length-values xs h.1 in let some = h.0.1 in grind arith
 
   pub find_gone : (x : ℕ) (xs : List (ℕ × Option X)) → (Has xs x → ⊥) → find_cell x (values xs) ≡ None
   find_gone x [] no_x = refl
-  find_gone x (a ∷ xs) no_x = elim a.1 as (λ o. find_cell x (with_value a.0 o (values xs)) ≡ None) [
-    | None ↦ find_gone x xs (λ w. no_x (inr w))
-    | Some v ↦ ap (λ b. if b then Some v else find_cell x (values xs)) (ne_eqb a.0 x (λ e. no_x (inl e)))
-        ∙ find_gone x xs (λ w. no_x (inr w))
-  ]
+  find_gone x (a ∷ xs) no_x = let rest = find_gone x xs (λ w. no_x (inr w)) in
+      let ne : a.0 ≢ x = λ e. no_x (inl e) in grind arith
 
   find_none : (x : ℕ) (xs : List (ℕ × Option X)) → AllNone xs → Has xs x → find_cell x xs ≡ Some None
   find_none x [] h w = absurd w
@@ -95,15 +92,11 @@ module _ {X : Type 0} where
     pub shown_same : (x : ℕ) → Has (get_or (rings_of c) spare []) x → shown spare (map (without x) (rings_of c)) ≡
         shown spare (rings_of c)
     shown_same x w =
-        let many = h.many in let n = h.tied.tied.many in let rs = rings_of c in let long =
-        length-map rs (without x) in
-        let left = length-take spare (map (without x) rs) in let right = length-take spare rs in
-        ap (map values) (ext_get_or [] (take spare (map (without x) rs)) (take spare rs) (omega arith) (λ l lt.
-        let low : l < spare = omega arith in
-        get_or-take spare (map (without x) rs) l [] low ∙ get_or-map (without x) rs l [] [] (omega arith)
-        ∙ without_absent x (get_or rs l []) (λ v. one_list c.block c.capacity c.heads.items rs h.tied.tied spare l x x
-        (omega arith) (omega arith) (λ e. absurd (omega arith)) w v refl)
-        ∙ sym (get_or-take spare rs l [] low)))
+        let many = h.many in let n = h.tied.tied.many in let rs = rings_of c in
+        shown_mapped (without x) (λ ys. ys) spare rs (omega arith)
+        (λ l low. ap values (without_absent x (get_or rs l [])
+        (λ v. one_list c.block c.capacity c.heads.items rs h.tied.tied spare l x x (omega arith) (omega arith)
+        (omega arith) w v refl))) ∙ map-id (shown spare rs)
 
     count_is : (l : ℕ) → l < spare → length (values (get_or (rings_of c) l [])) ≡
         (get_or c.heads.items l no_head).count

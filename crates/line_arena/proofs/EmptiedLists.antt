@@ -63,7 +63,8 @@ module _ {X : Type 0} where
     bound = omega arith;
     before = λ y lt. absurd (omega (arith, lt));
     after = λ y le. refl;
-    heads = λ l lt. head_or_cell c l (get_or c.heads.items l no_head) (get_or (rings_of c) l []) (a.tied.tied.ring l lt);
+    heads = λ l lt. head_or_cell c l (get_or c.heads.items l no_head) (get_or (rings_of c) l [])
+        (a.tied.tied.ring l lt);
     many = refl;
     long = refl;
     sizes = (refl, refl);
@@ -85,7 +86,8 @@ module _ {X : Type 0} where
   halfway_at spare k c d a h low =
       let full = halfway_cell spare k c d a h low in let many = h.many in
       let on = halfway_list spare k c d full.0 a h low full.1 in
-      let same : (at d.block k).list ≡ full.0.list = ap (λ o. (or_blank o).list) full.1 in omega (arith, on, same, many)
+      let same : (at d.block k).list ≡ full.0.list = ap (λ o. (or_blank o).list) full.1 in omega
+      (arith, on, same, many)
 
   pub halfway_next : (spare at : ℕ) (n : Node X) (c d e : Chains X) → IsArena spare c → IsHalfway at c d →
       at < d.used → get_or d.block at None ≡ Some n →
@@ -159,11 +161,12 @@ module _ {X : Type 0} where
   -- once all cells were taken out, the lists are as new
   pub halfway_last : (spare k : ℕ) (c d : Chains X) → IsArena spare c → IsHalfway k c d → d.used ≤ k →
       IsEmptied c (unused d)
-  halfway_last spare k c d a h past = let used = h.sizes.1 in let all : c.used ≤ k = omega (arith, past, used) in record {
-    cells = halfway_cells spare k c d a h all;
-    heads = halfway_heads spare k c d a h all;
-    capacity = h.sizes.0;
-  }
+  halfway_last spare k c d a h past = let used = h.sizes.1 in let all : c.used ≤ k = omega (arith, past, used) in
+      record {
+        cells = halfway_cells spare k c d a h all;
+        heads = halfway_heads spare k c d a h all;
+        capacity = h.sizes.0;
+      }
 
   pub emptied_tied : (spare : ℕ) (c d : Chains X) → IsArena spare c → IsEmptied c d →
       (IsTied d × (rings_of d ≡ replicate (length c.heads.items) [])) × (total d.heads.items ≡ 0)

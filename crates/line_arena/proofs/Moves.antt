@@ -2,7 +2,7 @@
 use Rattle.std.proofs.Common.{◌≡◌, ◌≢◌, ℕ, ◌+◌, ◌-◌, ◌<◌, ◌≤◌, inl, inr, List, [], ◌∷◌, ◌++◌, map, length, get_or}
 use Rattle.std.proofs.Common.{set, nat_lt, if◌then◌else◌, Option, Some, None, option_map, refl, sym, ap, subst, ◌∙◌}
 use Rattle.std.proofs.Common.{arith, length-set, get_or-set_same, get_or-set_other, length-append, ext_get_or}
-use Rattle.std.proofs.lemmas.Bool.{cases_lt, cases_eq}
+use Rattle.std.proofs.lemmas.Bool.{cases_eq}
 use Rattle.std.proofs.lemmas.List.{get_or-map, length-map}
 use Rattle.line_arena.specs.declared.node.Node.{Node}
 use Rattle.line_arena.specs.declared.node.Head.{Head}
@@ -12,7 +12,7 @@ use Rattle.line_arena.specs.Rings.{IsApart, Tied, rings}
 use Rattle.line_arena.specs.CellLists.{without, find_cell, look_up}
 use Rattle.line_arena.proofs.Finds.{find_absent, find_part, look_at_list}
 use Rattle.line_arena.proofs.Links.{has_left, has_right, apart_split, parted}
-use Rattle.line_arena.proofs.Edits.{edit_in, edit_out, edit_other, edit_same, last_in, first_in}
+use Rattle.line_arena.proofs.Edits.{edit_other, edit_same, last_in, first_in}
 use Rattle.line_arena.proofs.Ties.{on_list, one_list, rings_are, attached, detached}
 use Rattle.std.proofs.Common.{eq-eqb, ne_eqb}
 use Rattle.std.proofs.lemmas.List.Sums.{sum_by-set}
@@ -32,15 +32,9 @@ module _ {X : Type 0} where
 
   pub edit_none : (cap : ℕ) (f : Node X → Node X) (cs : List (Option (Node X))) (a y : ℕ) → length cs ≡ cap →
       get_or cs y None ≡ None → get_or (edit cap f cs a) y None ≡ None
-  edit_none cap f cs a y long none = elim (cases_eq y a) [
-    | inr ne ↦ edit_other cap f cs a y ne ∙ none
-    | inl e ↦ elim (cases_lt a cap) [
-      | inr le ↦ ap (λ ds. get_or ds y None) (edit_out cap f cs a le) ∙ none
-      | inl lt ↦ ap (λ z. get_or (edit cap f cs a) z None) e ∙ ap (λ ds. get_or ds a None) (edit_in cap f cs a lt)
-          ∙ get_or-set_same cs a (option_map f (get_or cs a None)) None (omega arith)
-          ∙ ap (option_map f) (subst (λ z. get_or cs z None ≡ None) e none)
-    ]
-  ]
+  edit_none cap f cs a y long none =
+      let case = cases_eq y a in let here = get_or-set_same cs a (option_map f (get_or cs a None)) None in
+      let there = get_or-set_other cs a y (option_map f (get_or cs a None)) None in grind arith
 
   pub without_absent : (x : ℕ) (xs : List (ℕ × Option X)) → (Has xs x → ⊥) → without x xs ≡ xs
   without_absent x [] no_x = refl
@@ -73,16 +67,8 @@ module _ {X : Type 0} (cs : List (Option (Node X))) (cap : ℕ) (heads : List He
       (set cs x (Some (node h.last (cap + l) l it))) h.last
       → Result ds (set heads l (record { first = first; last = x; count = h.count + 1 }))
       (set rs l (get_or rs l [] ++ (x, it) ∷ []))
-  attach_made l x it h first ds lt small free eh =
-      let goal = λ (h : Head) (first : ℕ) (ds : List (Option (Node X))).
-      Result ds (set heads l (record { first = first; last = x; count = h.count + 1 }))
-      (set rs l (get_or rs l [] ++ (x, it) ∷ [])) in
-      let first_is = λ (h : Head). if nat_lt h.last cap then h.first else x in
-      let cells_are = λ (h : Head). edit cap (with_next x) (set cs x (Some (node h.last (cap + l) l it))) h.last in
-      subst (λ h. first ≡ first_is h → ds ≡ cells_are h → goal h first ds) (sym eh) (λ ef ed.
-      let g = get_or heads l no_head in
-      subst (λ z. goal g z ds) (sym ef) (subst (λ z. goal g (first_is g) z) (sym ed)
-      (from_tied _ _ _ (attached cs cap heads rs t l x it lt small free))))
+  attach_made l x it h first ds lt small free eh ef ed =
+      rw (ed, ef, eh) (from_tied _ _ _ (attached cs cap heads rs t l x it lt small free))
 
   -- the last cell of a list is a used one
   pub last_near : (l x : ℕ) (h : Head) (n : Node X) → l < length heads → get_or cs x None ≡ None →
@@ -182,24 +168,9 @@ module _ {X : Type 0} (cs : List (Option (Node X))) (cap : ℕ) (heads : List He
         last ≡ (if nat_lt nd.next cap then h.last else nd.prev)
         → ds ≡ edit cap (with_prev nd.prev) (edit cap (with_next nd.next) (set cs x None) nd.prev) nd.next
         → Result ds (set heads l (record { first = first; last = last; count = h.count - 1 })) (map (without x) rs)
-    detach_made h first last ds eh =
-        let goal = λ (h : Head) (first last : ℕ) (ds : List (Option (Node X))).
-        Result ds (set heads l (record { first = first; last = last; count = h.count - 1 }))
-        (map (without x) rs) in
-        let first_is = λ (h : Head) (n : Node X). if nat_lt n.prev cap then h.first else n.next in
-        let last_is = λ (h : Head) (n : Node X). if nat_lt n.next cap then h.last else n.prev in
-        let cells_are = λ (n : Node X). edit cap (with_prev n.prev)
-        (edit cap (with_next n.next) (set cs x None) n.prev) n.next in
-        let g = get_or heads l no_head in
+    detach_made h first last ds eh ef el ed =
         let base = from_tied _ _ _ (detached cs cap heads rs t l x parts.1 parts.0 parts.2 lt parts.3).1 in
-        let n1 = node (last_of (cap + l) parts.0) (first_of parts.2 (cap + l)) l parts.1 in
-        let named : goal g (first_is g n1) (last_is g n1) (cells_are n1) = (base.0, base.1 ∙ lists_without) in
-        let back : goal g (first_is g nd) (last_is g nd) (cells_are nd) =
-        subst (λ (n : Node X). goal g (first_is g n) (last_is g n) (cells_are n)) (sym node_is) named in
-        subst (λ h. first ≡ first_is h nd → last ≡ last_is h nd → ds ≡ cells_are nd → goal h first last ds)
-        (sym eh) (λ ef el ed.
-        subst (λ z. goal g z last ds) (sym ef) (subst (λ z. goal g (first_is g nd) z ds) (sym el)
-        (subst (λ z. goal g (first_is g nd) (last_is g nd) z) (sym ed) back)))
+        rw (ed, el, ef, eh, node_is) (base.0, base.1 ∙ lists_without)
 
 module _ {X : Type 0} where
   -- the cells other than x are used as before

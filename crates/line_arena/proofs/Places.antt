@@ -1,71 +1,40 @@
 -- A cell on one of a caller's lists: what its node is, and what the functions on the lists tell of it.
-use Rattle.std.proofs.Common.{◌≡◌, ◌≢◌, ℕ, ◌+◌, ◌<◌, ◌≤◌, zero, suc, inl, inr, List, [], ◌∷◌, ◌++◌, length, get_or}
-use Rattle.std.proofs.Common.{nat_eq, if◌then◌else◌, Option, Some, None, refl, sym, ap, subst, ◌∙◌, arith, ne_eqb}
+use Rattle.std.proofs.Common.{◌≡◌, ◌≢◌, ℕ, ◌+◌, ◌<◌, ◌≤◌, inl, inr, List, [], ◌∷◌, ◌++◌, length, get_or}
+use Rattle.std.proofs.Common.{nat_eq, if◌then◌else◌, Option, Some, None, is_some, true, map, refl, sym, ap, subst, ◌∙◌}
+use Rattle.std.proofs.Common.{arith, ne_eqb}
 use Rattle.std.proofs.Common.{eq-eqb}
 use Rattle.std.proofs.lemmas.Bool.{cases_eq}
 use Rattle.line_arena.specs.declared.node.Node.{Node}
 use Rattle.line_arena.specs.declared.chains.Chains.{Chains}
 use Rattle.line_arena.specs.Rings.{no_head, node, or_blank, first_of, last_of, Has, IsApart}
-use Rattle.line_arena.specs.CellLists.{find_cell, or_else, first_some, look_up, first_cell, next_in, next_cell}
+use Rattle.line_arena.specs.CellLists.{find_cell, first_some, look_up, first_cell, next_in, next_cell}
+use Rattle.line_arena.specs.CellLists.{without}
 use Rattle.line_arena.specs.Chains.{rings_of}
-use Rattle.line_arena.specs.Arenas.{with_value, values, AllSome, AllNone, IsArena, shown}
+use Rattle.line_arena.specs.Arenas.{with_value, values, AllSome, AllNone, Lists, IsArena, shown, model}
 use Rattle.line_arena.proofs.Links.{has_right, apart_split, parted}
 use Rattle.line_arena.proofs.Ties.{one_list, below, detached}
-use Rattle.line_arena.proofs.Finds.{find_part}
-use Rattle.line_arena.proofs.Shows.{length-shown, shown_at}
+use Rattle.line_arena.proofs.Finds.{find_part, first_some_at}
+use Rattle.line_arena.proofs.Shows.{length-shown, shown_at, shown_without}
 use Rattle.line_arena.proofs.Counts.{find_gone}
-use Rattle.line_arena.proofs.Seen.{same_some, find_has, here}
-
-module _ {A B : Type 0} (f : List (ℕ × A) → Option B) where
-  none_first : (ls : List (List (ℕ × A))) → ((m : ℕ) → m < length ls → f (get_or ls m []) ≡ None) →
-      first_some f ls ≡ None
-  none_first [] h = refl
-  none_first (r ∷ ls) h = ap (λ o. or_else o (first_some f ls)) (h 0 (omega arith))
-      ∙ none_first ls (λ m lt. h (suc m) (omega (arith, lt)))
-
-  or_none : (o : Option B) → or_else o None ≡ o
-  or_none None = refl
-  or_none (Some b) = refl
-
-  pub first_some_at : (ls : List (List (ℕ × A))) (l : ℕ) → l < length ls → ((m : ℕ) → m < length ls → m ≢ l →
-      f (get_or ls m []) ≡ None) → first_some f ls ≡ f (get_or ls l [])
-  first_some_at [] l lt h = absurd (omega (arith, lt))
-  first_some_at (r ∷ ls) zero lt h =
-      ap (or_else (f r)) (none_first ls (λ m mt. h (suc m) (omega (arith, mt)) (λ e. absurd (omega (arith, e)))))
-      ∙ or_none (f r)
-  first_some_at (r ∷ ls) (suc l) lt h =
-      ap (λ o. or_else o (first_some f ls)) (h 0 (omega arith) (λ e. absurd (omega (arith, e))))
-      ∙ first_some_at ls l (omega (arith, lt)) (λ m mt ne. h (suc m) (omega (arith, mt))
-      (λ e. ne (omega (arith, e))))
+use Rattle.line_arena.proofs.Seen.{same_some, some_of, find_has, here, seen}
 
 module _ {X : Type 0} where
   find_shown : (x : ℕ) (v : X) (us bs : List (ℕ × Option X)) → (Has us x → ⊥) →
       find_cell x (values (us ++ (x, Some v) ∷ bs)) ≡ Some v
-  find_shown x v [] bs nu = ap (λ b. if b then Some v else find_cell x (values bs)) (eq-eqb x x refl)
-  find_shown x v (a ∷ us) bs nu = let rest =
-      values (us ++ (x, Some v) ∷ bs) in elim a.1 as (λ o. find_cell x (with_value a.0 o rest) ≡ Some v) [
-        | None ↦ find_shown x v us bs (λ w. nu (inr w))
-        | Some w ↦ ap (λ b. if b then Some w else find_cell x rest) (ne_eqb a.0 x (λ e. nu (inl e)))
-            ∙ find_shown x v us bs (λ w. nu (inr w))
-      ]
+  find_shown x v [] bs nu = grind arith
+  find_shown x v (a ∷ us) bs nu = let rest = find_shown x v us bs (λ w. nu (inr w)) in
+      let ne : a.0 ≢ x = λ e. nu (inl e) in grind arith
 
   next_shown : (x : ℕ) (v : X) (us bs : List (ℕ × Option X)) → (Has us x → ⊥) →
       next_in x (values (us ++ (x, Some v) ∷ bs)) ≡ first_cell (values bs)
-  next_shown x v [] bs nu = ap (λ b. if b then first_cell (values bs) else next_in x (values bs)) (eq-eqb x x refl)
-  next_shown x v (a ∷ us) bs nu = let rest = values (us ++ (x, Some v) ∷ bs) in
-      elim a.1 as (λ o. next_in x (with_value a.0 o rest) ≡ first_cell (values bs)) [
-        | None ↦ next_shown x v us bs (λ w. nu (inr w))
-        | Some w ↦ ap (λ b. if b then first_cell rest else next_in x rest) (ne_eqb a.0 x (λ e. nu (inl e)))
-            ∙ next_shown x v us bs (λ w. nu (inr w))
-      ]
+  next_shown x v [] bs nu = grind arith
+  next_shown x v (a ∷ us) bs nu = let rest = next_shown x v us bs (λ w. nu (inr w)) in
+      let ne : a.0 ≢ x = λ e. nu (inl e) in grind arith
 
   next_gone : (x : ℕ) (xs : List (ℕ × Option X)) → (Has xs x → ⊥) → next_in x (values xs) ≡ None
   next_gone x [] no_x = refl
-  next_gone x (a ∷ xs) no_x = elim a.1 as (λ o. next_in x (with_value a.0 o (values xs)) ≡ None) [
-    | None ↦ next_gone x xs (λ w. no_x (inr w))
-    | Some v ↦ ap (λ b. if b then first_cell (values xs) else next_in x (values xs))
-        (ne_eqb a.0 x (λ e. no_x (inl e))) ∙ next_gone x xs (λ w. no_x (inr w))
-  ]
+  next_gone x (a ∷ xs) no_x = let rest = next_gone x xs (λ w. no_x (inr w)) in
+      let ne : a.0 ≢ x = λ e. no_x (inl e) in grind arith
 
   none_part : (us : List (ℕ × Option X)) (a : ℕ × Option X) (bs : List (ℕ × Option X)) →
       AllNone (us ++ a ∷ bs) → a.1 ≡ None
@@ -172,6 +141,40 @@ module _ {X : Type 0} where
             | [] ↦ λ all p. absurd (omega arith)
             | b ∷ bs ↦ λ all p. first_value b bs all
           ] rest_some low
+
+  -- a cell that a caller finds: its value, its node, the cell after it, and the lists without it
+  pub record IsHeld (spare : ℕ) (c : Chains X) (x : ℕ) (now : List (List (ℕ × X))) (cell : ℕ) : Type 0 where
+    pub value : X
+    pub found : look_up cell now ≡ Some value
+    pub seen_as : look_up x (shown spare (rings_of c)) ≡ Some value
+    pub inside : Node X
+    pub is : get_or c.block x None ≡ Some inside
+    pub item : inside.item ≡ Some value
+    pub held_as : look_up x (rings_of c) ≡ Some (Some value)
+    pub ends : c.capacity ≤ inside.next → next_cell cell now ≡ None
+    pub goes_on : inside.next < c.capacity → next_cell cell now ≡ Some inside.next
+    pub kept : shown spare (map (without x) (rings_of c)) ≡ map (without cell) now
+
+  pub held : {spare : ℕ} {c : Chains X} {x cell : ℕ} {now : Lists X} → IsArena spare c → model spare c ≡ now → x ≡
+      cell →
+      is_some (look_up cell now.lists) ≡ true → IsHeld spare c x now.lists cell
+  held {spare} {c} {x} {cell} {now} h is at some =
+      let many = h.many in let n = h.tied.tied.many in let v = some_of (look_up cell now.lists) some in
+      let lists : shown spare (rings_of c) ≡ now.lists = ap (λ a. a.lists) is in
+      let e : look_up x (shown spare (rings_of c)) ≡ Some v.0 = (λ k. look_up (at k) (lists k)) ∙ v.1 in
+      let next : next_cell x (shown spare (rings_of c)) ≡ next_cell cell now.lists = λ k. next_cell (at k) (lists k) in
+      record {
+        value = v.0;
+        found = v.1;
+        seen_as = e;
+        inside = _;
+        is = found_is_held spare c h x v.0 e;
+        item = refl;
+        held_as = (seen spare c h x v.0 e).1;
+        ends = λ past. sym next ∙ next_none spare c h x v.0 e past;
+        goes_on = λ low. sym next ∙ next_some spare c h x v.0 e low;
+        kept = shown_without spare x (rings_of c) (omega arith) ∙ (λ k. map (without (at k)) (lists k));
+      }
 
   -- the first cell of a list
   pub front_is : (spare : ℕ) (c : Chains X) (h : IsArena spare c) (l : ℕ) → l < spare →

@@ -1,7 +1,7 @@
 -- What the lists are once one cell gets another value.
 use Rattle.std.proofs.Common.{◌≡◌, ◌≢◌, ℕ, ◌+◌, ◌<◌, suc, inl, inr, true, false, List, [], ◌∷◌, map, length, get_or}
 use Rattle.std.proofs.Common.{set, nat_eq, if◌then◌else◌, Option, Some, None, refl, sym, ap, subst, ◌∙◌, arith}
-use Rattle.std.proofs.Common.{ext_get_or, length-set, get_or-set_same, get_or-set_other, ne_eqb, eq-eqb}
+use Rattle.std.proofs.Common.{length-set, get_or-set_same, get_or-set_other, ne_eqb, eq-eqb}
 use Rattle.std.proofs.lemmas.Bool.{cases_eq}
 use Rattle.std.proofs.lemmas.List.{get_or-map, length-map}
 use Rattle.line_arena.specs.declared.node.Node.{Node}
@@ -12,10 +12,10 @@ use Rattle.line_arena.specs.Rings.{no_head, node, or_blank, at, with_item, with_
 use Rattle.line_arena.specs.Rings.{Has, IsApart, IsRing, Tied, rings}
 use Rattle.line_arena.specs.CellLists.{look_up, rewritten}
 use Rattle.line_arena.specs.Chains.{rings_of}
-use Rattle.line_arena.specs.Arenas.{with_value, values, AllSome, AllNone, IsArena, lists_of, model, shown}
+use Rattle.line_arena.specs.Arenas.{values, AllSome, AllNone, IsArena, lists_of, model, shown}
 use Rattle.line_arena.proofs.Edits.{within}
 use Rattle.line_arena.proofs.Ties.{one_list, rings_are}
-use Rattle.line_arena.proofs.Shows.{length-shown, shown_at}
+use Rattle.line_arena.proofs.Shows.{shown_mapped}
 use Rattle.line_arena.proofs.Places.{place, found_is_held}
 use Rattle.line_arena.proofs.Links.{has_right}
 
@@ -127,15 +127,7 @@ module _ {X : Type 0} where
   values_r : (x : ℕ) (w : X) (xs : List (ℕ × Option X)) → AllSome xs → values (rewritten x (Some w) xs) ≡
       rewritten x w (values xs)
   values_r x w [] h = refl
-  values_r x w (a ∷ xs) h =
-      let v = h.0.0 in let b = nat_eq a.0 x in
-      ap (λ q. with_value a.0 (if b then Some w else q) (values (rewritten x (Some w) xs))) h.0.1
-      ∙ elim b as (λ c. with_value a.0 (if c then Some w else Some v) (values (rewritten x (Some w) xs)) ≡
-      (a.0, if c then w else v) ∷ rewritten x w (values xs)) [
-        | true ↦ ap (λ ys. (a.0, w) ∷ ys) (values_r x w xs h.1)
-        | false ↦ ap (λ ys. (a.0, v) ∷ ys) (values_r x w xs h.1)
-      ]
-      ∙ ap (λ q. rewritten x w (with_value a.0 q (values xs))) (sym h.0.1)
+  values_r x w (a ∷ xs) h = let rest = values_r x w xs h.1 in let some = h.0.1 in grind arith
 
   pub arena_written : (spare : ℕ) (c : Chains X) (h : IsArena spare c) (x : ℕ) (v w : X) →
       look_up x (shown spare (rings_of c)) ≡ Some v
@@ -164,7 +156,7 @@ module _ {X : Type 0} where
       λ l lt. ap (λ zs. get_or zs l []) are ∙ get_or-map (rewritten x (Some w)) rs l [] [] (omega arith) in
       let absent : Has (get_or rs spare []) x → ⊥ = λ u. one_list c.block c.capacity hs rs h.tied.tied p.0 spare x x
       (omega arith) (omega arith) (λ i. absurd (omega arith)) on u refl in
-      let left = length-shown spare (rings_of d) (omega arith) in let right = length-shown spare rs (omega arith) in (
+      (
         record {
           tied = record { tied = tied; small = h.tied.small };
           many = h.many;
@@ -187,12 +179,7 @@ module _ {X : Type 0} where
           spare = subst AllNone (sym (at_l spare (omega arith) ∙ absent_r x (Some w) (get_or rs spare []) absent))
               h.spare;
         },
-        ap (λ ls. lists_of ls c.capacity) (ext_get_or [] (shown spare (rings_of d))
-            (map (rewritten x w) (shown spare rs)) (left ∙ sym (length-map (shown spare rs) (rewritten x w) ∙ right))
-            (λ l lt.
-            let lo : l < spare = omega arith in
-            shown_at spare (rings_of d) l lo (omega arith) ∙ ap values (at_l l (omega arith))
-            ∙ values_r x w (get_or rs l []) (h.loaded l lo)
-            ∙ ap (rewritten x w) (sym (shown_at spare rs l lo (omega arith)))
-            ∙ sym (get_or-map (rewritten x w) (shown spare rs) l [] [] (omega arith)))),
+        ap (λ ls. lists_of ls c.capacity) (ap (shown spare) are
+            ∙ shown_mapped (rewritten x (Some w)) (rewritten x w) spare rs (omega arith)
+            (λ l lo. values_r x w (get_or rs l []) (h.loaded l lo))),
       )

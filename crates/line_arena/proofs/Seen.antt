@@ -1,7 +1,7 @@
 -- What a caller's look-up tells of the cells.
 use Rattle.std.proofs.Common.{◌≡◌, ℕ, ◌+◌, ◌<◌, zero, suc, inl, inr, true, true≢false, List, [], ◌∷◌, map, length}
-use Rattle.std.proofs.Common.{get_or, replicate, take, nat_eq, if◌then◌else◌, Option, Some, None, is_some, refl, sym}
-use Rattle.std.proofs.Common.{ap, ◌∙◌, arith, ne_eqb, eq-eqb}
+use Rattle.std.proofs.Common.{get_or, replicate, take, if◌then◌else◌, Option, Some, None, is_some, refl, sym}
+use Rattle.std.proofs.Common.{ap, ◌∙◌, arith, ne_eqb}
 use Rattle.std.proofs.lemmas.Bool.{cases_eq}
 use Rattle.std.proofs.lemmas.List.{take-replicate}
 use Rattle.line_arena.specs.declared.chains.Chains.{Chains}
@@ -9,7 +9,7 @@ use Rattle.line_arena.specs.Filled.{IsFilled}
 use Rattle.line_arena.specs.Rings.{Has}
 use Rattle.line_arena.specs.CellLists.{find_cell, or_else, look_up}
 use Rattle.line_arena.specs.Chains.{rings_of}
-use Rattle.line_arena.specs.Arenas.{with_value, values, AllSome, IsArena, shown}
+use Rattle.line_arena.specs.Arenas.{values, AllSome, IsArena, shown}
 use Rattle.line_arena.proofs.Ties.{one_list}
 use Rattle.line_arena.proofs.Finds.{find_absent, look_at_list}
 use Rattle.line_arena.proofs.Shows.{length-shown, shown_at}
@@ -44,21 +44,7 @@ module _ {X : Type 0} where
   find_value : (x : ℕ) (v : X) (xs : List (ℕ × Option X)) → AllSome xs → find_cell x (values xs) ≡ Some v →
       find_cell x xs ≡ Some (Some v)
   find_value x v [] h e = cc
-  find_value x v (a ∷ xs) h e =
-      let w = h.0.0 in
-      let f : (if nat_eq a.0 x then Some w else find_cell x (values xs)) ≡ Some v =
-      sym (ap (λ o. find_cell x (with_value a.0 o (values xs))) h.0.1) ∙ e in
-      elim (cases_eq a.0 x) [
-        | inl i ↦
-            let t = eq-eqb a.0 x i in
-            let is : Some w ≡ Some v = sym (ap (λ b. if b then Some w else find_cell x (values xs)) t) ∙ f in
-            ap (λ b. if b then Some a.1 else find_cell x xs) t ∙ ap Some h.0.1 ∙ ap Some is
-        | inr ne ↦
-            let t = ne_eqb a.0 x ne in
-            let rest : find_cell x (values xs) ≡ Some v =
-            sym (ap (λ b. if b then Some w else find_cell x (values xs)) t) ∙ f in
-            ap (λ b. if b then Some a.1 else find_cell x xs) t ∙ find_value x v xs h.1 rest
-      ]
+  find_value x v (a ∷ xs) h e = let rest = find_value x v xs h.1 in let some = h.0.1 in grind arith
 
   module _ (spare : ℕ) (c : Chains X) (h : IsArena spare c) (x : ℕ) (v : X)
       (e : look_up x (shown spare (rings_of c)) ≡ Some v) where

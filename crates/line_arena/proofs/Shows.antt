@@ -1,14 +1,16 @@
 -- What a caller sees of the lists, and what holds of them after a step.
+use Rattle.std.proofs.Common.{zero, suc}
 use Rattle.std.proofs.Common.{◌≡◌, ◌≢◌, ℕ, ◌+◌, ◌<◌, ◌≤◌, inl, inr, true, false, List, [], ◌∷◌, ◌++◌, map, take}
 use Rattle.std.proofs.Common.{length, get_or, set, nat_eq, if◌then◌else◌, Option, Some, None, refl, sym, ap, subst}
-use Rattle.std.proofs.Common.{◌∙◌, arith, length-set, get_or-set_same, get_or-set_other, ext_get_or}
+use Rattle.std.proofs.Common.{◌∙◌, arith, length-set, get_or-set_same, get_or-set_other}
 use Rattle.std.proofs.lemmas.Bool.{cases_lt, cases_eq}
 use Rattle.std.proofs.lemmas.List.{get_or-map, length-map, length-take, get_or-take, take-set-le}
 use Rattle.line_arena.specs.declared.chains.Chains.{Chains}
 use Rattle.line_arena.specs.Filled.{IsFilled}
-use Rattle.line_arena.specs.CellLists.{without}
+use Rattle.line_arena.specs.CellLists.{without, append_to}
 use Rattle.line_arena.specs.Chains.{total, rings_of, IsTied, SameUse, SameSizes}
-use Rattle.line_arena.specs.Arenas.{with_value, values, AllSome, AllNone, IsArena, Lacks, Suits, shown}
+use Rattle.line_arena.specs.Arenas.{values, AllSome, AllNone, IsArena, Lacks, Suits, shown, model, pushed}
+use Rattle.line_arena.specs.Arenas.{lists_of}
 use Rattle.line_arena.proofs.Edits.{within}
 
 module _ {X : Type 0} where
@@ -104,27 +106,12 @@ module _ {X : Type 0} where
 
   values_without : (x : ℕ) (xs : List (ℕ × Option X)) → values (without x xs) ≡ without x (values xs)
   values_without x [] = refl
-  values_without x (a ∷ xs) =
-      elim a.1 as (λ o. values (if nat_eq a.0 x then without x xs else (a.0, o) ∷ without x xs) ≡ without x
-      (with_value a.0 o (values xs))) [
-        | None ↦ elim (nat_eq a.0 x) as (λ b. values (if b then without x xs else (a.0, None) ∷ without x xs) ≡
-            without x
-            (values xs)) [ true ↦ values_without x xs | false ↦ values_without x xs ]
-        | Some v ↦ elim (nat_eq a.0 x) as (λ b. values (if b then without x xs else (a.0, Some v) ∷ without x xs) ≡
-            (if b then without x (values xs) else (a.0, v) ∷ without x (values xs))) [
-              | true ↦ values_without x xs
-              | false ↦ ap (λ ys. (a.0, v) ∷ ys) (values_without x xs)
-            ]
-      ]
+  values_without x (a ∷ xs) = let rest = values_without x xs in grind arith
 
   values_push : (xs : List (ℕ × Option X)) (x : ℕ) (v : X) → values (xs ++ (x, Some v) ∷ []) ≡ values xs
       ++ (x, v) ∷ []
   values_push [] x v = refl
-  values_push (a ∷ xs) x v = elim a.1 as (λ o. with_value a.0 o (values (xs ++ (x, Some v) ∷ [])) ≡ with_value a.0 o
-      (values xs) ++ (x, v) ∷ []) [
-        | None ↦ values_push xs x v
-        | Some w ↦ ap (λ ys. (a.0, w) ∷ ys) (values_push xs x v)
-      ]
+  values_push (a ∷ xs) x v = let rest = values_push xs x v in grind arith
 
   pub length-shown : (n : ℕ) (rs : List (List (ℕ × Option X))) → n ≤ length rs → length (shown n rs) ≡ n
   length-shown n rs le = length-map (take n rs) values ∙ (let k = length-take n rs in omega (arith, k))
@@ -134,34 +121,40 @@ module _ {X : Type 0} where
   shown_at n rs l lt le = let k = length-take n rs in get_or-map values (take n rs) l [] [] (omega (arith, k))
       ∙ ap values (get_or-take n rs l [] lt)
 
+  -- a change of each list that shows as another one
+  pub shown_mapped : (f : List (ℕ × Option X) → List (ℕ × Option X)) (g : List (ℕ × X) → List (ℕ × X)) (n : ℕ)
+      (rs : List (List (ℕ × Option X))) → n ≤ length rs →
+      ((l : ℕ) → l < n → values (f (get_or rs l [])) ≡ g (values (get_or rs l []))) →
+      shown n (map f rs) ≡ map g (shown n rs)
+  shown_mapped f g zero rs le h = refl
+  shown_mapped f g (suc n) [] le h = absurd (omega (arith, le))
+  shown_mapped f g (suc n) (r ∷ rs) le h = λ k. h 0 (omega arith) k
+      ∷ shown_mapped f g n rs (omega (arith, le)) (λ l lt. h (suc l) (omega (arith, lt))) k
+
   pub shown_without : (n x : ℕ) (rs : List (List (ℕ × Option X))) → n ≤ length rs → shown n (map (without x) rs) ≡ map
       (without x) (shown n rs)
   shown_without n x rs le =
-      let long = length-map rs (without x) in let left = length-shown n (map (without x) rs) (omega arith) in
-      let right = length-shown n rs le in
-      ext_get_or [] (shown n (map (without x) rs)) (map (without x) (shown n rs))
-      (left ∙ sym (length-map (shown n rs) (without x) ∙ right)) (λ l lt.
-      shown_at n (map (without x) rs) l (omega arith) (omega arith)
-      ∙ ap values (get_or-map (without x) rs l [] [] (omega arith)) ∙ values_without x (get_or rs l [])
-      ∙ ap (without x) (sym (shown_at n rs l (omega arith) le))
-      ∙ sym (get_or-map (without x) (shown n rs) l [] [] (omega arith)))
+      shown_mapped (without x) (without x) n rs le (λ l lt. values_without x (get_or rs l []))
 
   pub shown_push : (n : ℕ) (rs : List (List (ℕ × Option X))) (l x : ℕ) (v : X) → l < n → n ≤ length rs
       → shown n (set rs l (get_or rs l [] ++ (x, Some v) ∷ [])) ≡ set (shown n rs) l
       (get_or (shown n rs) l [] ++ (x, v) ∷ [])
-  shown_push n rs l x v ln le =
-      let r = get_or rs l [] in let new = r ++ (x, Some v) ∷ [] in let ss = set rs l new in let old = shown n rs in
-      let put = get_or old l [] ++ (x, v) ∷ [] in
-      let long = length-set rs l new in let left = length-shown n ss (omega arith) in let right =
-      length-shown n rs le in
-      ext_get_or [] (shown n ss) (set old l put) (left ∙ sym (length-set old l put ∙ right)) (λ k lt.
-      shown_at n ss k (omega arith) (omega arith) ∙ elim (cases_eq k l) [
-        | inl i ↦ ap (λ j. values (get_or ss j [])) i ∙ ap values (get_or-set_same rs l new [] (omega arith))
-            ∙ values_push r x v ∙ ap (λ ys. ys ++ (x, v) ∷ []) (sym (shown_at n rs l ln le))
-            ∙ sym (ap (λ j. get_or (set old l put) j []) i ∙ get_or-set_same old l put [] (omega arith))
-        | inr ne ↦ ap values (get_or-set_other rs l k new [] ne) ∙ sym (shown_at n rs k (omega arith) le)
-            ∙ sym (get_or-set_other old l k put [] ne)
-      ])
+  shown_push zero rs l x v ln le = absurd (omega (arith, ln))
+  shown_push (suc n) [] l x v ln le = absurd (omega (arith, le))
+  shown_push (suc n) (r ∷ rs) zero x v ln le = ap (λ ys. ys ∷ shown n rs) (values_push r x v)
+  shown_push (suc n) (r ∷ rs) (suc l) x v ln le =
+      ap (λ zs. values r ∷ zs) (shown_push n rs l x v (omega (arith, ln)) (omega (arith, le)))
+
+  -- an arena to one of whose lists a cell with a value was put
+  pub pushed_to : {spare : ℕ} (rs : List (List (ℕ × Option X))) {ls : List (List (ℕ × X))} (d : Chains X)
+      {l x cell : ℕ}
+      (v : X) {cells : ℕ} → spare ≤ length rs → shown spare rs ≡ ls → l < length ls → x ≡ cell →
+      rings_of d ≡ append_to l (x, Some v) rs → d.capacity ≡ cells →
+      model spare d ≡ pushed l (cell, v) (lists_of ls cells)
+  pushed_to {spare} rs {ls} d {l} {x} {cell} v {cells} le same low at is sizes =
+      let long = length-shown spare rs le in let all = ap length same in
+      let lists = ap (shown spare) is ∙ shown_push spare rs l x v (omega arith) le in
+      (λ k. lists_of (lists k) (sizes k)) ∙ (λ k. pushed l (at k, v) (lists_of (same k) cells))
 
   -- what is put on the last list does not show
   pub shown_spare : (n : ℕ) (rs : List (List (ℕ × Option X))) (r : List (ℕ × Option X)) →

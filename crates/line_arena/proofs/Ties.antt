@@ -87,6 +87,38 @@ module _ {X : Type 0} (cs : List (Option (Node X))) (cap : ℕ) (heads : List He
       get_or-map read heads l no_head [] (omega arith) ∙ (λ k. chain cs (g.count k) (g.first k))
       ∙ chain_is cs l (cap + l) (r l) (cap + l) g.linked)
 
+  -- one list has other cells, and the cells of the others are as before
+  retied : (ds : List (Option (Node X))) (l : ℕ) (new : Head) (zs : List (ℕ × Option X)) → l < length heads →
+      length ds ≡ cap → IsRing ds cap l new zs →
+      ((m y : ℕ) → m < length heads → m ≢ l → Has (r m) y → get_or ds y None ≡ get_or cs y None) →
+      ((y : ℕ) (q : Node X) → get_or ds y None ≡ Some q → (q.list < length heads) × (q.list ≡ l → Has zs y)
+      × (q.list ≢ l → Has (r q.list) y)) → Tied ds cap (set heads l new) (set rs l zs)
+  retied ds l new zs lt long ring others on =
+      let many = t.many in let heads_long = length-set heads l new in
+      let here : get_or (set rs l zs) l [] ≡ zs = get_or-set_same rs l zs [] (omega arith) in
+      record {
+        cells = long;
+        many = length-set rs l zs ∙ many ∙ sym heads_long;
+        ring = λ m mt. elim (cases_eq m l) [
+          | inl i ↦ rw (i, get_or-set_same heads l new no_head lt, here) ring
+          | inr ne ↦ (let k = t.ring m (omega arith) in
+              rw (get_or-set_other heads l m new no_head ne, get_or-set_other rs l m zs [] ne) (record {
+                linked = linked_same cs ds m (cap + m) (r m) (cap + m) (λ y w. others m y (omega arith) ne w) k.linked;
+                first = k.first;
+                last = k.last;
+                count = k.count;
+                apart = k.apart;
+              }))
+        ];
+        on = λ y q is. (let o = on y q is in (
+          omega (arith, o.0),
+          elim (cases_eq q.list l) [
+            | inl i ↦ rw (i, here) (o.1 i)
+            | inr ne ↦ rw (get_or-set_other rs l q.list zs [] ne) (o.2 ne)
+          ],
+        ));
+      }
+
   -- a cell that is on no list is put at the end of the list l
   pub attached : (l x : ℕ) (it : Option X) → l < length heads → x < cap → get_or cs x None ≡ None
       → Tied (edit cap (with_next x) (set cs x (Some (node (hd l).last (cap + l) l it))) (hd l).last) cap
@@ -101,10 +133,8 @@ module _ {X : Type 0} (cs : List (Option (Node X))) (cap : ℕ) (heads : List He
       let e = cap + l in let g = t.ring l lt in let us = r l in let h = hd l in let p = h.last in
       let n = node p e l it in let c1 = set cs x (Some n) in let ds = edit cap (with_next x) c1 p in
       let new : Head = record { first = if nat_lt p cap then h.first else x; last = x; count = h.count + 1 } in
-      let hs = set heads l new in let ss = set rs l (us ++ (x, it) ∷ []) in
       let long1 = length-set cs x (Some n) in let many = t.many in let cells = t.cells in
       let long : length ds ≡ cap = length-edit cap (with_next x) c1 p ∙ long1 ∙ cells in
-      let heads_long = length-set heads l new in
       -- a used cell is not the new one
       let apart : (m y : ℕ) → m < length heads → Has (r m) y → y ≢ x = λ m y mt w i.
       let s = on_list m y mt w in
@@ -131,56 +161,22 @@ module _ {X : Type 0} (cs : List (Option (Node X))) (cap : ℕ) (heads : List He
         count = omega (arith, g.count, length-append us ((x, it) ∷ []));
         apart = apart_push us (x, it) g.apart (λ w. apart l x lt w refl);
       } in
-      record {
-        cells = long;
-        many = length-set rs l (us ++ (x, it) ∷ []) ∙ many ∙ sym heads_long;
-        ring = λ m mt. elim (cases_eq m l) [
-          | inl i ↦ subst (λ k. IsRing ds cap k (get_or hs k no_head) (get_or ss k [])) (sym i)
-              (subst (λ q. IsRing ds cap l q (get_or ss l [])) (sym (get_or-set_same heads l new no_head lt))
-              (subst (IsRing ds cap l new) (sym (get_or-set_same rs l (us ++ (x, it) ∷ []) [] (omega arith)))
-              ring_l))
-          | inr ne ↦
-              let k = t.ring m (omega arith) in
-              let same : (y : ℕ) → Has (r m) y → get_or ds y None ≡ get_or cs y None = λ y w.
-              edit_other cap (with_next x) c1 p y (λ i. elim (last_in e us) [
-                | inl j ↦ high y (below m y (omega arith) w) (i ∙ g.last ∙ j)
-                | inr v ↦ one_list l m y (last_of e us) lt (omega arith) ne v w (i ∙ g.last)
-              ]) ∙ keep1 y (apart m y (omega arith) w) in
-              let old : IsRing ds cap m (hd m) (r m) = record {
-                linked = linked_same cs ds m (cap + m) (r m) (cap + m)
-                    same k.linked;
-                first = k.first;
-                last = k.last;
-                count = k.count;
-                apart = k.apart;
-              } in
-              subst (λ q. IsRing ds cap m q (get_or ss m [])) (sym (get_or-set_other heads l m new no_head ne))
-              (subst (IsRing ds cap m (hd m)) (sym (get_or-set_other rs l m (us ++ (x, it) ∷ []) [] ne)) old)
-        ];
-        on = λ y q is.
-            let b = edit_back cap (with_next x) c1 p (long1 ∙ cells) (λ m. refl) y q is in
-            let at_l : get_or ss l [] ≡ us ++ (x, it) ∷ [] =
-            get_or-set_same rs l (us ++ (x, it) ∷ []) [] (omega arith) in
-            elim (cases_eq y x) [
-              | inl i ↦
-                  let w : q.list ≡ l = b.2 ∙ ap (λ o. (or_blank o).list) (sym b.1 ∙ ap (λ k. get_or c1 k None) i
-                  ∙ get_or-set_same cs x (Some n) None (omega arith)) in
-                  subst (λ k. (k < length hs) × Has (get_or ss k []) y) (sym w) (
-                    omega arith,
-                    subst (λ zs. Has zs y)
-                        (sym at_l) (has_right us ((x, it) ∷ []) y (inl (sym i))),
-                  )
-              | inr ne ↦
-                  let o = t.on y b.0 (sym (keep1 y ne) ∙ b.1) in
-                  let there : Has (get_or ss b.0.list []) y = elim (cases_eq b.0.list l) [
-                    | inl i ↦ subst (λ k. Has (get_or ss k []) y) (sym i) (subst (λ zs. Has zs y) (sym at_l)
-                        (has_left us ((x, it) ∷ []) y (subst (λ k. Has (r k) y) i o.1)))
-                    | inr other ↦ subst (λ zs. Has zs y)
-                        (sym (get_or-set_other rs l b.0.list (us ++ (x, it) ∷ []) [] other)) o.1
-                  ] in
-                  subst (λ k. (k < length hs) × Has (get_or ss k []) y) (sym b.2) (omega (arith, o.0), there)
-            ];
-      }
+      retied ds l new (us ++ (x, it) ∷ []) lt long ring_l
+      (λ m y mt ne w. edit_other cap (with_next x) c1 p y (λ i. elim (last_in e us) [
+        | inl j ↦ high y (below m y mt w) (i ∙ g.last ∙ j)
+        | inr v ↦ one_list l m y (last_of e us) lt mt ne v w (i ∙ g.last)
+      ]) ∙ keep1 y (apart m y mt w))
+      (λ y q is. (let b = edit_back cap (with_next x) c1 p (long1 ∙ cells) (λ m. refl) y q is in
+      elim (cases_eq y x) [
+        | inl i ↦ (let w : q.list ≡ l = b.2 ∙ ap (λ o. (or_blank o).list) (sym b.1 ∙ ap (λ k. get_or c1 k None) i
+            ∙ get_or-set_same cs x (Some n) None (omega arith)) in
+            (omega arith, (λ _. has_right us ((x, it) ∷ []) y (inl (sym i))), λ ne. absurd (ne w)))
+        | inr ne ↦ (let o = t.on y b.0 (sym (keep1 y ne) ∙ b.1) in let on = rw (← b.2) at o.1 in let low = b.2 in (
+          omega (arith, o.0),
+          (λ e. has_left us ((x, it) ∷ []) y (rw e at on)),
+          λ _. on,
+        ))
+      ]))
 
   -- a cell of the list l is taken off, between us and bs
   pub detached : (l x : ℕ) (it : Option X) (us bs : List (ℕ × Option X)) → l < length heads → r l ≡ us ++ (x, it) ∷ bs
@@ -204,11 +200,9 @@ module _ {X : Type 0} (cs : List (Option (Node X))) (cap : ℕ) (heads : List He
             p;
         count = h.count - 1;
       } in
-      let hs = set heads l new in let ss = set rs l (us ++ bs) in
       let long1 = length-set cs x None in let many = t.many in let cells = t.cells in
       let long2 : length c2 ≡ cap = length-edit cap (with_next n) c1 p ∙ long1 ∙ cells in
       let long : length ds ≡ cap = length-edit cap (with_prev p) c2 n ∙ long2 in
-      let heads_long = length-set heads l new in
       let linked : Linked cs l e all e = subst (λ zs. Linked cs l e zs e) parts g.linked in
       let cut = apart_split us (x, it) bs (subst IsApart parts g.apart) in
       let halves = linked_split cs l e us ((x, it) ∷ bs) e linked in
@@ -251,62 +245,30 @@ module _ {X : Type 0} (cs : List (Option (Node X))) (cap : ℕ) (heads : List He
         apart = cut.2;
       } in (
         here,
-        record {
-          cells = long;
-          many = length-set rs l (us ++ bs) ∙ many ∙ sym heads_long;
-          ring = λ m mt. elim (cases_eq m l) [
-            | inl i ↦ subst (λ k. IsRing ds cap k (get_or hs k no_head) (get_or ss k [])) (sym i)
-                (subst (λ q. IsRing ds cap l q (get_or ss l [])) (sym (get_or-set_same heads l new no_head lt))
-                (subst (IsRing ds cap l new) (sym (get_or-set_same rs l (us ++ bs) [] (omega arith))) ring_l))
-            | inr ne ↦
-                let k = t.ring m (omega arith) in
-                let other : (z : ℕ) → Has (r l) z → (y : ℕ) → Has (r m) y → y ≢ z =
-                λ z v y w. one_list l m y z lt (omega arith) ne v w in
-                let same : (y : ℕ) → Has (r m) y → get_or ds y None ≡ get_or cs y None = λ y w.
-                let yl = below m y (omega arith) w in
-                edit_other cap (with_prev p) c2 n y (λ i. elim (first_in bs e) [
-                  | inl j ↦ high y yl (i ∙ j)
-                  | inr v ↦
-                      other n (on_bs n v) y w i
-                ])
-                ∙ edit_other cap (with_next n) c1 p y
-                (λ i. elim (last_in e us) [ inl j ↦ high y yl (i ∙ j) | inr v ↦ other p (on_us p v) y w i ])
-                ∙ keep1 y (other x on_x y w) in
-                let old : IsRing ds cap m (hd m) (r m) =
-                record {
-                  linked = linked_same cs ds m (cap + m) (r m) (cap + m) same k.linked;
-                  first =
-                      k.first;
-                  last = k.last;
-                  count = k.count;
-                  apart = k.apart;
-                } in
-                subst (λ q. IsRing ds cap m q (get_or ss m [])) (sym (get_or-set_other heads l m new no_head ne))
-                (subst (IsRing ds cap m (hd m)) (sym (get_or-set_other rs l m (us ++ bs) [] ne)) old)
-          ];
-          on = λ y q is.
-              let b = edit_back cap (with_prev p) c2 n long2 (λ m. refl) y q is in
-              let a = edit_back cap (with_next n) c1 p (long1 ∙ cells) (λ m. refl) y b.0 b.1 in
-              let at_l : get_or ss l [] ≡ us ++ bs = get_or-set_same rs l (us ++ bs) [] (omega arith) in
-              elim (cases_eq y x) [
-                | inl i ↦
-                    let inside = within cs x (node p n l it) here in
-                    let two : Some a.0 ≡ None =
-                    sym a.1 ∙ ap (λ k. get_or c1 k None) i ∙ get_or-set_same cs x None None inside in cc
-                | inr ne ↦
-                    let o = t.on y a.0 (sym (keep1 y ne) ∙ a.1) in
-                    let there : Has (get_or ss a.0.list []) y = elim (cases_eq a.0.list l) [
-                      | inl i ↦ subst (λ k. Has (get_or ss k []) y) (sym i) (subst (λ zs. Has zs y) (sym at_l)
-                          (elim (has_either us ((x, it) ∷ bs) y
-                          (subst (λ zs. Has zs y) parts (subst (λ k. Has (r k) y) i o.1))) [
-                            | inl w ↦ has_left us bs y w
-                            | inr w ↦ elim w [ inl j ↦ absurd (ne (sym j)) | inr v ↦ has_right us bs y v ]
-                          ]))
-                      | inr other ↦ subst (λ zs. Has zs y) (sym (get_or-set_other rs l a.0.list (us ++ bs) [] other))
-                          o.1
-                    ] in
-                    subst (λ k. (k < length hs) × Has (get_or ss k []) y) (sym (b.2 ∙ a.2))
-                    (omega (arith, o.0), there)
-              ];
-        },
+        retied ds l new (us ++ bs) lt long ring_l
+            (λ m y mt ne w.
+            let yl = below m y mt w in
+            let other : (z : ℕ) → Has (r l) z → y ≢ z = λ z v. one_list l m y z lt mt ne v w in
+            edit_other cap (with_prev p) c2 n y
+            (λ i. elim (first_in bs e) [ inl j ↦ high y yl (i ∙ j) | inr v ↦ other n (on_bs n v) i ])
+            ∙ edit_other cap (with_next n) c1 p y
+            (λ i. elim (last_in e us) [ inl j ↦ high y yl (i ∙ j) | inr v ↦ other p (on_us p v) i ])
+            ∙ keep1 y (other x on_x))
+            (λ y q is.
+            let b = edit_back cap (with_prev p) c2 n long2 (λ m. refl) y q is in
+            let a = edit_back cap (with_next n) c1 p (long1 ∙ cells) (λ m. refl) y b.0 b.1 in
+            elim (cases_eq y x) [
+              | inl i ↦
+                  let two : Some a.0 ≡ None = sym a.1 ∙ ap (λ k. get_or c1 k None) i
+                  ∙ get_or-set_same cs x None None (within cs x (node p n l it) here) in cc
+              | inr ne ↦ (let o = t.on y a.0 (sym (keep1 y ne) ∙ a.1) in let same : q.list ≡ a.0.list = b.2 ∙ a.2 in
+                  let on = rw (← same) at o.1 in (
+                    omega (arith, o.0),
+                    (λ i. elim (has_either us ((x, it) ∷ bs) y (rw parts at (rw i at on))) [
+                      | inl w ↦ has_left us bs y w
+                      | inr w ↦ elim w [ inl j ↦ absurd (ne (sym j)) | inr v ↦ has_right us bs y v ]
+                    ]),
+                    λ _. on,
+                  ))
+            ]),
       )

@@ -1,8 +1,8 @@
 -- What is left when what follows an index is moved down one by one.
-use Rattle.std.proofs.Common.{◌≡◌, ℕ, zero, suc, ◌+◌, ◌-◌, ◌<◌, ◌≤◌, List, [], ◌∷◌, ◌++◌}
-use Rattle.std.proofs.Common.{length, take, drop, set, get_or, refl, sym, ap, ◌∙◌, arith}
+use Rattle.std.proofs.Common.{◌≡◌, ℕ, zero, suc, ◌+◌, ◌-◌, ◌<◌, ◌≤◌, List, [], ◌∷◌, ◌++◌, length, take, drop, set}
+use Rattle.std.proofs.Common.{get_or, refl, sym, ap, ◌∙◌, arith}
 use Rattle.std.specs.List.{remove}
-use Rattle.std.proofs.lemmas.List.{append_assoc, drop-set-lt, get_or-take}
+use Rattle.std.proofs.lemmas.List.{append_assoc, drop-set-lt, get_or-take, length-take-le, length-take}
 use Rattle.std.proofs.Math.Seq.{take-set-lt, take-suc-set}
 
 module _ {X : Type 0} where
@@ -20,21 +20,13 @@ module _ {X : Type 0} where
       ∙ append_assoc (take i xs) (v ∷ []) (drop (suc (suc i)) xs)
       ∙ ap (λ us. take i xs ++ us) (sym (next xs (suc i) v d h e))
 
-  length-taken : (xs : List X) (n : ℕ) → n ≤ length xs → length (take n xs) ≡ n
-  length-taken xs zero h = refl
-  length-taken [] (suc n) h = absurd (omega arith)
-  length-taken (x ∷ xs) (suc n) h = ap suc (length-taken xs n (omega arith))
-
   -- one of the first n is moved down
   pub shifted-first : (xs : List X) (n i : ℕ) (v d : X) → n ≤ length xs → i + 1 < n → v ≡ get_or xs (i + 1) d →
       remove (take n (set xs i v)) (i + 1) ≡ remove (take n xs) i
   shifted-first xs n i v d h low e =
       let one : i + 1 ≡ suc i = omega arith in
-      let read : v ≡ get_or xs (suc i) d = e ∙ ap (λ k. get_or xs k d) one in
-      ap (λ k. remove (take n (set xs i v)) k) one
-      ∙ ap (λ us. remove us (suc i)) (take-set-lt n xs i v (omega arith))
-      ∙ shifted (take n xs) i v d (omega (arith, length-taken xs n h))
-      (read ∙ sym (get_or-take n xs (suc i) d (omega arith)))
+      rw (one, take-set-lt n xs i v (omega arith)) (shifted (take n xs) i v d (omega (arith, length-take-le n xs h))
+      (rw one at e ∙ sym (get_or-take n xs (suc i) d (omega arith))))
 
   all_but_last : (xs : List X) (i : ℕ) → i < length xs → remove (take (suc i) xs) i ≡ take i xs
   all_but_last [] i h = absurd (omega arith)
@@ -45,9 +37,7 @@ module _ {X : Type 0} where
   pub shifted-all : (xs : List X) (n i : ℕ) → n ≡ i + 1 → i < length xs → take (n - 1) xs ≡ remove (take n xs) i
   shifted-all xs n i e h =
       let more : n ≡ suc i = omega (arith, e) in let less : n - 1 ≡ i = omega (arith, e) in
-      ap (λ k. take k xs) less ∙ sym (all_but_last xs i h) ∙ sym (ap (λ k. remove (take k xs) i) more)
+      rw less (rw more (sym (all_but_last xs i h)))
 
   pub length-first : (n : ℕ) (xs : List X) → length (take n xs) ≤ n
-  length-first zero xs = omega arith
-  length-first (suc n) [] = omega arith
-  length-first (suc n) (x ∷ xs) = (let h = length-first n xs in omega arith)
+  length-first n xs = omega (arith, length-take n xs)

@@ -1,22 +1,22 @@
 -- What a table keeps when one cell is put, written, moved or taken off, and what its sets are then.
-use Rattle.std.proofs.Common.{◌≡◌, ◌≢◌, ℕ, zero, suc, ◌*◌, ◌<◌, ◌≤◌, inl, inr, true, false, ltb, List, [], ◌∷◌}
-use Rattle.std.proofs.Common.{◌++◌, map, length, get_or, set, replicate, Option, Some, None, refl, sym, ap, ◌∙◌, arith}
-use Rattle.std.proofs.Common.{⊎_elim, length-set, get_or-set_same, get_or-set_other, sum_by, if◌then◌else◌}
+use Rattle.std.proofs.Common.{◌≡◌, ◌≢◌, ℕ, zero, suc, ◌*◌, ◌<◌, ◌≤◌, inl, inr, true, List, [], ◌∷◌, ◌++◌, map}
+use Rattle.std.proofs.Common.{length, get_or, set, replicate, Option, Some, None, refl, sym, ap, ◌∙◌, arith}
+use Rattle.std.proofs.Common.{length-set, get_or-set_same, get_or-set_other, sum_by}
 use Rattle.std.specs.Prelude.{Result, Ok, Err, IsOk, IsErr, IfOk, IfSome}
 use Rattle.std.specs.Option.{is_some}
-use Rattle.std.proofs.lemmas.Bool.{cases_eq, ltb-true, or_cases, eq-eqb, ne_eqb}
-use Rattle.std.proofs.lemmas.List.{get_or-map, length-map, length-replicate, map-set, ext_get_or, set-set, set-get_or}
+use Rattle.std.proofs.lemmas.Bool.{cases_eq}
+use Rattle.std.proofs.lemmas.List.{get_or-map, length-map, length-replicate, map-set, set-set, set-get_or}
 use Rattle.std.proofs.lemmas.List.Sums.{sum_by-cons}
-use Rattle.line_arena.specs.CellLists.{find_cell, look_up, append_to, rewritten}
+use Rattle.line_arena.specs.CellLists.{find_cell, look_up, next_in, next_cell, first_cell, or_else, rewritten}
 use Rattle.line_arena.specs.CellLists as cell
-use Rattle.line_arena.specs.Arenas.{Lists, lists_of, pushed, unlinked, free_cells, cell_in, IsOnce}
+use Rattle.line_arena.specs.Arenas.{Lists, lists_of, pushed, unlinked, free_cells, IsOnce}
 use Rattle.line_arena.specs.ListLaws.{LookUpLaws, WithoutLaws}
-use Rattle.line_sets.specs.Order.{find, is_there, put_last, put_in_place, without}
-use Rattle.line_sets.specs.SetTable.{Sets, set_at, look, has_place, put, put_within, drop_line}
+use Rattle.line_sets.specs.Order.{find, put_last, put_in_place, without, IsDistinct}
+use Rattle.line_sets.specs.SetTable.{Sets, set_at, look, has_place, drop_line}
 use Rattle.line_sets.specs.Stored.{entries_of, tags_of, sets_of, Fits, IsStored}
 use Rattle.line_sets.proofs.Indices.{missing-find, missing-without}
-use Rattle.line_sets.proofs.OrderLaws.{without-put_in_place}
-use Rattle.line_sets.proofs.TaggedCells.{CellsOnce, cells-once, none_or_some, rewritten_none, IsOn, on-line}
+use Rattle.line_sets.proofs.ListedSums.{IsSwap, swap-put_last, swap-put_in_place, swap-without}
+use Rattle.line_sets.proofs.TaggedCells.{CellsOnce, cells-once, none_or_some, rewritten_none, on-line}
 use Rattle.line_sets.proofs.TaggedCells.{entry-there, cut-entries, written-entries, moved-entries, pushed-entries}
 use Rattle.line_sets.proofs.TaggedCells.{fits-pushed, fits-written, fits-moved, fits-cut}
 
@@ -28,73 +28,134 @@ module _ {X : Type 0} where
   pub length-sets : (ls : List (List (ℕ × (ℕ × X)))) → length (sets_of ls) ≡ length ls
   length-sets ls = length-map ls entries_of
 
-  pub below : (ls : List (List (ℕ × (ℕ × X)))) (i : ℕ) → i < length (sets_of ls) → i < length ls
-  below ls i h = omega (arith, length-sets ls)
+  -- a set of the table is one of the arena's lists
+  pub below : {ways : ℕ} {a : Lists (ℕ × X)} {rows : List (List (ℕ × ℕ))} {now : Sets X} (i : ℕ) → IsStored ways a
+      rows →
+      table_of ways (sets_of a.lists) ≡ now → i < length now.sets → i < length a.lists
+  below {a = a} i stored is h =
+      let same = ap (λ t. length t.sets) is in let long = length-sets a.lists in omega (arith, same, long)
 
   pub entries-at : (ls : List (List (ℕ × (ℕ × X)))) (i : ℕ) → i < length ls →
       set_at (sets_of ls) i ≡ entries_of (get_or ls i [])
   entries-at ls i h = get_or-map entries_of ls i [] [] h
 
-  pub apart : (ls : List (List (ℕ × (ℕ × X)))) (i : ℕ) → IsOnce ls → CellsOnce (get_or ls i [])
+  apart : (ls : List (List (ℕ × (ℕ × X)))) (i : ℕ) → IsOnce ls → CellsOnce (get_or ls i [])
   apart ls i once = cells-once (get_or ls i []) (λ j k x p q. (once.once i i j k x p q).1)
 
-  -- one list is changed, as its set is
-  pub sets-set : (ls : List (List (ℕ × (ℕ × X)))) (i : ℕ) (xs : List (ℕ × (ℕ × X))) →
-      sets_of (set ls i xs) ≡ set (sets_of ls) i (entries_of xs)
-  sets-set ls i xs = map-set entries_of ls i xs
+  -- no line is twice in a set of a table
+  distinct-entries : (xs : List (ℕ × (ℕ × X))) → IsDistinct (tags_of xs) → IsDistinct (entries_of xs)
+  distinct-entries [] h = tt
+  distinct-entries (a ∷ xs) h = (entry-there xs a.1.0 ∙ h.0, distinct-entries xs h.1)
+
+  pub distinct-at : {ways : ℕ} {a : Lists (ℕ × X)} {rows : List (List (ℕ × ℕ))} (i : ℕ) → IsStored ways a rows →
+      i < length a.lists → IsDistinct (set_at (sets_of a.lists) i)
+  distinct-at {a = a} i stored h =
+      rw (entries-at a.lists i h) (distinct-entries (get_or a.lists i []) (stored.fits i h).lines)
 
   -- a line that its row has, by its cell
-  pub record IsFound (ls : List (List (ℕ × (ℕ × X)))) (i line c : ℕ) : Type 0 where
+  pub record IsFound (ways : ℕ) (a : Lists (ℕ × X)) (rows : List (List (ℕ × ℕ))) (i line c : ℕ) : Type 0 where
+    pub stored : IsStored ways a rows
+    pub once : IsOnce a.lists
+    pub laws : LookUpLaws (ℕ × X)
+    pub low : i < length a.lists
+    pub tag : find (set_at rows i) line ≡ Some c
     pub value : X
-    pub here : find_cell c (get_or ls i []) ≡ Some (line, value)
-    pub cell : look_up c ls ≡ Some (line, value)
-    pub entry : look (sets_of ls) i line ≡ Some value
+    pub here : find_cell c (get_or a.lists i []) ≡ Some (line, value)
+    pub cell : look_up c a.lists ≡ Some (line, value)
+    pub entry : look (sets_of a.lists) i line ≡ Some value
 
-  pub is-found : (ways : ℕ) (a : Lists (ℕ × X)) (rows : List (List (ℕ × ℕ))) (i line c : ℕ) → IsStored ways a rows →
-      IsOnce a.lists → LookUpLaws (ℕ × X) → i < length a.lists → find (set_at rows i) line ≡ Some c →
-      IsFound a.lists i line c
-  is-found ways a rows i line c stored once laws h e =
-      let fits : Fits ways (set_at rows i) (get_or a.lists i []) = stored.fits i h in
-      let on : IsOn (get_or a.lists i []) line c =
-      on-line (get_or a.lists i []) line c (apart a.lists i once) (sym (fits.found line) ∙ e) in
+  pub is-found : {ways : ℕ} {a : Lists (ℕ × X)} {rows : List (List (ℕ × ℕ))} {now : Sets X} {i line c : ℕ} →
+      IsStored ways a rows → IsOnce a.lists → LookUpLaws (ℕ × X) → table_of ways (sets_of a.lists) ≡ now →
+      i < length now.sets → find (set_at rows i) line ≡ Some c → IsFound ways a rows i line c
+  is-found {a = a} {i = i} {line = line} {c = c} stored once laws is h tag =
+      let low = below i stored is h in
+      let on = on-line (get_or a.lists i []) line c (apart a.lists i once)
+      (sym ((stored.fits i low).found line) ∙ tag) in
       record {
+        stored = stored;
+        once = once;
+        laws = laws;
+        low = low;
+        tag = tag;
         value = on.value;
         here = on.cell;
         cell = laws.here a.lists i c (line, on.value) once on.cell;
-        entry = ap (λ us. find us line) (entries-at a.lists i h) ∙ on.entry;
+        entry = ap (λ us. find us line) (entries-at a.lists i low) ∙ on.entry;
       }
 
+  -- the value of a pair that is read
+  pub read-value : {ways : ℕ} {a : Lists (ℕ × X)} {rows : List (List (ℕ × ℕ))} {i line c : ℕ} {p : ℕ × X} →
+      IsFound ways a rows i line c → look_up c a.lists ≡ Some p → look (sets_of a.lists) i line ≡ Some p.1
+  read-value {line = line} {p = p} found read =
+      let same : Some p ≡ Some (line, found.value) = sym read ∙ found.cell in
+      let is : p ≡ (line, found.value) = cc in found.entry ∙ ap (λ (q : ℕ × X). Some q.1) (sym is)
+
   -- a line that its row doesn't have
-  pub is-missing : (ways : ℕ) (a : Lists (ℕ × X)) (rows : List (List (ℕ × ℕ))) (i line : ℕ) → IsStored ways a rows →
-      i < length a.lists → find (set_at rows i) line ≡ None → look (sets_of a.lists) i line ≡ None
-  is-missing ways a rows i line stored h e =
-      let fits : Fits ways (set_at rows i) (get_or a.lists i []) = stored.fits i h in
-      ap (λ us. find us line) (entries-at a.lists i h)
+  pub is-missing : {ways : ℕ} {a : Lists (ℕ × X)} {rows : List (List (ℕ × ℕ))} {now : Sets X} (i line : ℕ) →
+      IsStored ways a rows → table_of ways (sets_of a.lists) ≡ now → i < length now.sets →
+      find (set_at rows i) line ≡ None → look now.sets i line ≡ None
+  is-missing {a = a} i line stored is h none =
+      let low = below i stored is h in
+      ap (λ t. look t.sets i line) (sym is) ∙ ap (λ us. find us line) (entries-at a.lists i low)
       ∙ missing-find (entries_of (get_or a.lists i [])) line
-      (entry-there (get_or a.lists i []) line ∙ ap is_some (sym (fits.found line) ∙ e))
+      (entry-there (get_or a.lists i []) line ∙ ap is_some (sym ((stored.fits i low).found line) ∙ none))
 
-  -- a line that its set doesn't have
-  pub is-absent : (ways : ℕ) (a : Lists (ℕ × X)) (rows : List (List (ℕ × ℕ))) (i line : ℕ) → IsStored ways a rows →
-      i < length a.lists → look (sets_of a.lists) i line ≡ None → find (set_at rows i) line ≡ None
-  is-absent ways a rows i line stored h e =
-      let fits : Fits ways (set_at rows i) (get_or a.lists i []) = stored.fits i h in
-      missing-find (set_at rows i) line
-      (ap is_some (fits.found line) ∙ sym (entry-there (get_or a.lists i []) line)
-      ∙ ap is_some (ap (λ us. find us line) (sym (entries-at a.lists i h)) ∙ e))
+  -- a line that its set doesn't have, and for which it has room
+  pub record IsNew (ways : ℕ) (a : Lists (ℕ × X)) (rows : List (List (ℕ × ℕ))) (i line : ℕ) : Type 0 where
+    pub stored : IsStored ways a rows
+    pub low : i < length a.lists
+    pub absent : look (sets_of a.lists) i line ≡ None
+    pub none : find (set_at rows i) line ≡ None
+    pub room : length (get_or a.lists i []) < ways
+    pub row_room : length (set_at rows i) < 16
 
-  -- one list and its row are changed
-  stored-set : (ways : ℕ) (a : Lists (ℕ × X)) (rows : List (List (ℕ × ℕ))) (i : ℕ) (row : List (ℕ × ℕ))
+  in-room : (table : Sets X) (i line : ℕ) → look table.sets i line ≡ None → has_place table i line ≡ true →
+      length (set_at table.sets i) < table.ways
+  in-room table i line absent place = grind arith
+
+  pub is-new : {ways : ℕ} {a : Lists (ℕ × X)} {rows : List (List (ℕ × ℕ))} {now : Sets X} {i line : ℕ} →
+      IsStored ways a rows → table_of ways (sets_of a.lists) ≡ now → i < length now.sets → look now.sets i line ≡ None
+      →
+      has_place now i line ≡ true → IsNew ways a rows i line
+  is-new {ways} {a} {rows} {now} {i} {line} stored is h absent place =
+      let low = below i stored is h in let fits = stored.fits i low in let narrow = stored.narrow in
+      let long : length (set_at (sets_of a.lists) i) ≡ length (get_or a.lists i []) =
+      ap length (entries-at a.lists i low) ∙ length-map (get_or a.lists i []) (λ (p : ℕ × (ℕ × X)). (p.1.0, p.1.1)) in
+      let gone : look (sets_of a.lists) i line ≡ None = ap (λ t. look t.sets i line) is ∙ absent in
+      let room = in-room (table_of ways (sets_of a.lists)) i line gone (ap (λ t. has_place t i line) is ∙ place) in
+      let short = fits.short in
+      record {
+        stored = stored;
+        low = low;
+        absent = gone;
+        none = missing-find (set_at rows i) line (ap is_some (fits.found line)
+            ∙ sym (entry-there (get_or a.lists i []) line)
+            ∙ ap is_some (ap (λ us. find us line) (sym (entries-at a.lists i low)) ∙ gone));
+        room = omega arith;
+        row_room = omega arith;
+      }
+
+  -- what an arena and the rows of a table are after a set became another, and the table with them
+  pub record Becomes (ways : ℕ) (a new : Lists (ℕ × X)) (rows : List (List (ℕ × ℕ))) (i : ℕ) (ps : List (ℕ × X))
+      (line : ℕ)
+      (now : Option X) : Type 0 where
+    pub stored : IsStored ways new rows
+    pub are : sets_of new.lists ≡ set (sets_of a.lists) i ps
+    pub swap : IsSwap (set_at (sets_of a.lists) i) ps line now
+    pub cells : new.cells ≡ a.cells
+    pub low : i < length a.lists
+    pub distinct : IsDistinct (set_at (sets_of a.lists) i)
+
+  stored-set : {ways : ℕ} {a : Lists (ℕ × X)} {rows : List (List (ℕ × ℕ))} (i : ℕ) (row : List (ℕ × ℕ))
       (xs : List (ℕ × (ℕ × X))) → IsStored ways a rows → i < length a.lists → Fits ways row xs →
       IsStored ways (lists_of (set a.lists i xs) a.cells) (set rows i row)
-  stored-set ways a rows i row xs stored h fits =
-      let same : length (set a.lists i xs) ≡ length a.lists = length-set a.lists i xs in
-      let rows_same : length (set rows i row) ≡ length rows = length-set rows i row in
-      let many = stored.many in
+  stored-set {ways} {a} {rows} i row xs stored h fits =
+      let same = length-set a.lists i xs in let many = stored.many in
       record {
         cells = stored.cells ∙ ap (λ n. n * ways) (sym same);
         narrow = stored.narrow;
-        small = (let s = stored.small in omega (arith, same));
-        many = rows_same ∙ many ∙ sym same;
+        small = rw same stored.small;
+        many = length-set rows i row ∙ many ∙ sym same;
         fits = λ j lt. elim (cases_eq j i) [
           | inl e ↦ rw (e, get_or-set_same rows i row [] (omega (arith, many)), get_or-set_same a.lists i xs [] h) fits
           | inr ne ↦ rw (get_or-set_other rows i j row [] ne, get_or-set_other a.lists i j xs [] ne)
@@ -102,156 +163,185 @@ module _ {X : Type 0} where
         ];
       }
 
-  -- one list is changed, and its row fits still
-  stored-list : (ways : ℕ) (a : Lists (ℕ × X)) (rows : List (List (ℕ × ℕ))) (i : ℕ) (xs : List (ℕ × (ℕ × X))) →
-      IsStored ways a rows → i < length a.lists → Fits ways (set_at rows i) xs →
-      IsStored ways (lists_of (set a.lists i xs) a.cells) rows
-  stored-list ways a rows i xs stored h fits =
-      rw (set-get_or rows i []) at (stored-set ways a rows i (set_at rows i) xs stored h fits)
+  -- one list and its row are changed
+  becomes : {ways : ℕ} {a b : Lists (ℕ × X)} {rows new : List (List (ℕ × ℕ))} {i line : ℕ} {ps : List (ℕ × X)}
+      {now : Option X} (row : List (ℕ × ℕ)) (xs : List (ℕ × (ℕ × X))) → IsStored ways a rows → i < length a.lists →
+      IsSwap (set_at (sets_of a.lists) i) ps line now → b ≡ lists_of (set a.lists i xs) a.cells → new ≡ set rows i row
+      →
+      Fits ways row xs → entries_of xs ≡ ps → Becomes ways a b new i ps line now
+  becomes {a = a} {i = i} row xs stored h swap is row_is fits are = record {
+    stored = rw (is, row_is) (stored-set i row xs stored h fits);
+    are = ap (λ u. sets_of u.lists) is ∙ map-set entries_of a.lists i xs ∙ ap (set (sets_of a.lists) i) are;
+    swap = swap;
+    cells = ap (λ u. u.cells) is;
+    low = h;
+    distinct = distinct-at i stored h;
+  }
 
   -- a cell is on one list alone
-  written-lists : (ls : List (List (ℕ × (ℕ × X)))) (i c : ℕ) (w : ℕ × X) → IsOnce ls → LookUpLaws (ℕ × X) →
-      is_some (find_cell c (get_or ls i [])) ≡ true → map (rewritten c w) ls ≡ set ls i
-      (rewritten c w (get_or ls i []))
-  written-lists ls i c w once laws there =
-      let f : List (ℕ × (ℕ × X)) → List (ℕ × (ℕ × X)) = rewritten c w in
-      let new : List (ℕ × (ℕ × X)) = rewritten c w (get_or ls i []) in
-      ext_get_or [] (map f ls) (set ls i new) (length-map ls f ∙ sym (length-set ls i new))
-      (λ j lt. (let jl : j < length ls = omega (arith, length-map ls f) in
-      get_or-map f ls j [] [] jl ∙ elim (cases_eq j i) [
-        | inl e ↦ ap (λ k. f (get_or ls k [])) e
-            ∙ sym (ap (λ k. get_or (set ls i new) k []) e
-            ∙ get_or-set_same ls i new [] (rw e at jl))
-        | inr ne ↦ rewritten_none c w (get_or ls j [])
-            (elim (none_or_some c (get_or ls j [])) [
-              | inl none ↦ none
-              | inr some ↦ absurd (ne (laws.one ls j i c once some there))
-            ]) ∙ sym (get_or-set_other ls i j new [] ne)
+  mapped-none : (f : List (ℕ × (ℕ × X)) → List (ℕ × (ℕ × X))) (ls : List (List (ℕ × (ℕ × X)))) →
+      ((j : ℕ) → j < length ls → f (get_or ls j []) ≡ get_or ls j []) → map f ls ≡ ls
+  mapped-none f [] h = refl
+  mapped-none f (xs ∷ ls) h = λ k. h 0 (omega arith) k ∷ mapped-none f ls (λ j lt. h (suc j) (omega (arith, lt))) k
+
+  mapped-one : (f : List (ℕ × (ℕ × X)) → List (ℕ × (ℕ × X))) (ls : List (List (ℕ × (ℕ × X)))) (i : ℕ) → i < length ls →
+      ((j : ℕ) → j < length ls → j ≢ i → f (get_or ls j []) ≡ get_or ls j []) → map f ls ≡ set ls i
+      (f (get_or ls i []))
+  mapped-one f [] i h same = absurd (omega (arith, h))
+  mapped-one f (xs ∷ ls) zero h same =
+      ap (λ us. f xs ∷ us) (mapped-none f ls (λ j lt. same (suc j) (omega (arith, lt)) (omega arith)))
+  mapped-one f (xs ∷ ls) (suc i) h same = λ k. same 0 (omega arith) (omega arith) k
+      ∷ mapped-one f ls i (omega (arith, h)) (λ j lt ne. same (suc j) (omega (arith, lt)) (omega (arith, ne))) k
+
+  written-lists : {ways : ℕ} {a : Lists (ℕ × X)} {rows : List (List (ℕ × ℕ))} {i line c : ℕ} (w : ℕ × X) →
+      IsFound ways a rows i line c → map (rewritten c w) a.lists ≡ set a.lists i (rewritten c w (get_or a.lists i []))
+  written-lists {a = a} {i = i} {c = c} w found = mapped-one (rewritten c w) a.lists i found.low
+      (λ j lt ne. rewritten_none c w (get_or a.lists j []) (elim (none_or_some c (get_or a.lists j [])) [
+        | inl none ↦ none
+        | inr some ↦ absurd (ne (found.laws.one a.lists j i c found.once some (ap is_some found.here)))
       ]))
 
-  pub cut-lists : (ls : List (List (ℕ × (ℕ × X)))) (i c : ℕ) → IsOnce ls → WithoutLaws (ℕ × X) →
-      is_some (find_cell c (get_or ls i [])) ≡ true → map (cell.without c) ls ≡ set ls i
-      (cell.without c (get_or ls i []))
-  cut-lists ls i c once laws there =
-      let f : List (ℕ × (ℕ × X)) → List (ℕ × (ℕ × X)) = cell.without c in
-      let new : List (ℕ × (ℕ × X)) = cell.without c (get_or ls i []) in
-      ext_get_or [] (map f ls) (set ls i new) (length-map ls f ∙ sym (length-set ls i new))
-      (λ j lt. (let jl : j < length ls = omega (arith, length-map ls f) in
-      laws.each ls c j ∙ elim (cases_eq j i) [
-        | inl e ↦ ap (λ k. f (get_or ls k [])) e
-            ∙ sym (ap (λ k. get_or (set ls i new) k []) e
-            ∙ get_or-set_same ls i new [] (rw e at jl))
-        | inr ne ↦ laws.apart ls c i j once there ne ∙ sym (get_or-set_other ls i j new [] ne)
-      ]))
+  cut-lists : {ways : ℕ} {a : Lists (ℕ × X)} {rows : List (List (ℕ × ℕ))} {i line c : ℕ} → IsFound ways a rows i line
+      c →
+      WithoutLaws (ℕ × X) → map (cell.without c) a.lists ≡ set a.lists i (cell.without c (get_or a.lists i []))
+  cut-lists {a = a} {i = i} {c = c} found laws = mapped-one (cell.without c) a.lists i found.low
+      (λ j lt ne. laws.apart a.lists c i j found.once (ap is_some found.here) ne)
 
-  -- what an arena of a table is after a change, and the table with it
-  pub record Becomes (ways : ℕ) (new : Lists (ℕ × X)) (rows : List (List (ℕ × ℕ))) (sets : List (List (ℕ × X))) : Type
-      0 where
-    pub stored : IsStored ways new rows
-    pub are : sets_of new.lists ≡ sets
+  -- the arena with a written value
+  abbrev pub written-in : ℕ → ℕ × X → Lists (ℕ × X) → Lists (ℕ × X)
+  written-in c w a = lists_of (map (rewritten c w) a.lists) a.cells
 
   -- a cell's value is written
-  pub written : (ways : ℕ) (a b : Lists (ℕ × X)) (rows : List (List (ℕ × ℕ))) (i line c : ℕ) (w : X) →
-      IsStored ways a rows → IsOnce a.lists → LookUpLaws (ℕ × X) → i < length a.lists →
-      find (set_at rows i) line ≡ Some c → b ≡ lists_of (map (rewritten c (line, w)) a.lists) a.cells →
-      Becomes ways b rows (put_within (sets_of a.lists) i line w)
-  written ways a b rows i line c w stored once laws h e is =
-      let found : IsFound a.lists i line c = is-found ways a rows i line c stored once laws h e in
-      let fits : Fits ways (set_at rows i) (get_or a.lists i []) = stored.fits i h in
-      let cells : CellsOnce (get_or a.lists i []) = apart a.lists i once in
-      let ls = written-lists a.lists i c (line, w) once laws (ap is_some found.here) in
-      let all : b ≡ lists_of (set a.lists i (rewritten c (line, w) (get_or a.lists i []))) a.cells =
-      is ∙ ap (λ us. lists_of us a.cells) ls in
-      record {
-        stored = rw all (stored-list ways a rows i (rewritten c (line, w) (get_or a.lists i [])) stored h
-            (fits-written ways (set_at rows i) (get_or a.lists i []) line c w fits cells e));
-        are = ap (λ u. sets_of u.lists) all ∙ sets-set a.lists i (rewritten c (line, w) (get_or a.lists i []))
-            ∙ ap (λ us. set (sets_of a.lists) i us) (written-entries (get_or a.lists i []) line c w cells
-            (sym (fits.found line) ∙ e) ∙ ap (λ us. put_in_place us line w) (sym (entries-at a.lists i h)));
-      }
+  pub written : {ways : ℕ} {a : Lists (ℕ × X)} {rows : List (List (ℕ × ℕ))} {i line c : ℕ} (w : X) →
+      IsFound ways a rows i line c →
+      Becomes ways a (written-in c (line, w) a) rows i (put_in_place (set_at (sets_of a.lists) i) line w) line (Some w)
+  written {a = a} {rows} {i} {line} {c} w found =
+      let fits = found.stored.fits i found.low in let cells = apart a.lists i found.once in
+      becomes (set_at rows i) (rewritten c (line, w) (get_or a.lists i [])) found.stored found.low
+      (swap-put_in_place (set_at (sets_of a.lists) i) line w (ap is_some found.entry))
+      (ap (λ us. lists_of us a.cells) (written-lists (line, w) found)) (sym (set-get_or rows i []))
+      (fits-written line w fits cells found.tag)
+      (written-entries (get_or a.lists i []) line c w cells (sym (fits.found line) ∙ found.tag)
+      ∙ ap (λ us. put_in_place us line w) (sym (entries-at a.lists i found.low)))
 
-  -- a cell is moved to the end of its list
-  pub moved : (ways : ℕ) (a b : Lists (ℕ × X)) (rows : List (List (ℕ × ℕ))) (i line c : ℕ) (w : X) →
-      IsStored ways a rows → IsOnce a.lists → WithoutLaws (ℕ × X) → i < length a.lists →
-      find (set_at rows i) line ≡ Some c → find_cell c (get_or a.lists i []) ≡ Some (line, w) →
-      b ≡ pushed i (c, (line, w)) (unlinked c a) →
-      Becomes ways b rows (put (sets_of a.lists) i line w)
-  moved ways a b rows i line c w stored once laws h e here is =
-      let fits : Fits ways (set_at rows i) (get_or a.lists i []) = stored.fits i h in
-      let cells : CellsOnce (get_or a.lists i []) = apart a.lists i once in
-      let tag : find (tags_of (get_or a.lists i [])) line ≡ Some c = sym (fits.found line) ∙ e in
+  -- a cell's list has it at its end
+  last-put : {ways : ℕ} {a b : Lists (ℕ × X)} {rows : List (List (ℕ × ℕ))} {i line c : ℕ} (w : X) →
+      IsFound ways a rows i line c →
+      b ≡ lists_of (set a.lists i (cell.without c (get_or a.lists i []) ++ (c, (line, w)) ∷ [])) a.cells →
+      Becomes ways a b rows i (put_last (set_at (sets_of a.lists) i) line w) line (Some w)
+  last-put {a = a} {rows = rows} {i} {line} {c} w found is =
+      let fits = found.stored.fits i found.low in let cells = apart a.lists i found.once in
+      becomes (set_at rows i) (cell.without c (get_or a.lists i []) ++ (c, (line, w)) ∷ [])
+      found.stored found.low
+      (swap-put_last (set_at (sets_of a.lists) i) line w (distinct-at i found.stored found.low)) is
+      (sym (set-get_or rows i [])) (fits-moved line w fits cells found.tag)
+      (moved-entries (get_or a.lists i []) line c w cells fits.lines (sym (fits.found line) ∙ found.tag)
+      ∙ ap (λ us. put_last us line w) (sym (entries-at a.lists i found.low)))
+
+  -- a cell's value is written, and the cell moved to the end of its list
+  cut-written : (c : ℕ) (w : ℕ × X) (xs : List (ℕ × (ℕ × X))) → cell.without c (rewritten c w xs) ≡ cell.without c xs
+  cut-written c w [] = refl
+  cut-written c w (a ∷ xs) = let rest = cut-written c w xs in grind arith
+
+  all-cut : (c : ℕ) (w : ℕ × X) (ls : List (List (ℕ × (ℕ × X)))) →
+      map (cell.without c) (map (rewritten c w) ls) ≡ map (cell.without c) ls
+  all-cut c w [] = refl
+  all-cut c w (xs ∷ ls) = λ k. cut-written c w xs k ∷ all-cut c w ls k
+
+  pub used : {ways : ℕ} {a b : Lists (ℕ × X)} {rows : List (List (ℕ × ℕ))} {i line c : ℕ} (w : X) →
+      IsFound ways a rows i line c → WithoutLaws (ℕ × X) →
+      b ≡ pushed i (c, (line, w)) (unlinked c (written-in c (line, w) a)) →
+      Becomes ways a b rows i (put_last (set_at (sets_of a.lists) i) line w) line (Some w)
+  used {a = a} {i = i} {line} {c} w found laws is =
       let cut : List (ℕ × (ℕ × X)) = cell.without c (get_or a.lists i []) in
-      let new : List (ℕ × (ℕ × X)) = cut ++ (c, (line, w)) ∷ [] in
-      let ls : map (cell.without c) a.lists ≡ set a.lists i cut =
-      cut-lists a.lists i c once laws (ap is_some here) in
-      let all : b ≡ lists_of (set a.lists i new) a.cells =
-      is ∙ ap (λ us. lists_of (append_to i (c, (line, w)) us) a.cells) ls
-      ∙ ap (λ us. lists_of us a.cells)
-      (ap (λ us. set (set a.lists i cut) i (us ++ (c, (line, w)) ∷ [])) (get_or-set_same a.lists i cut [] h)
-      ∙ set-set a.lists i cut new) in
-      record {
-        stored = rw all (stored-list ways a rows i new stored h
-            (fits-moved ways (set_at rows i) (get_or a.lists i []) line c w fits cells e));
-        are = ap (λ u. sets_of u.lists) all ∙ sets-set a.lists i new
-            ∙ ap (λ us. set (sets_of a.lists) i us) (moved-entries (get_or a.lists i []) line c w cells fits.lines tag
-            ∙ ap (λ us. put_last us line w) (sym (entries-at a.lists i h)));
-      }
+      let end = λ (us : List (ℕ × (ℕ × X))). us ++ (c, (line, w)) ∷ [] in
+      last-put w found (is ∙ ap (λ us. lists_of us a.cells) (ap (λ us. set us i (end (get_or us i [])))
+      (all-cut c (line, w) a.lists ∙ cut-lists found laws)
+      ∙ ap (λ us. set (set a.lists i cut) i (end us)) (get_or-set_same a.lists i cut [] found.low)
+      ∙ set-set a.lists i cut (end cut)))
+
+  -- a line that is there and the most recently used one stays where it is
+  last-cell : (c : ℕ) (w : ℕ × X) (xs : List (ℕ × (ℕ × X))) → CellsOnce xs → is_some (find_cell c xs) ≡ true →
+      next_in c xs ≡ None → rewritten c w xs ≡ cell.without c xs ++ (c, w) ∷ []
+  last-cell c w [] once there none = cc
+  last-cell c w (a ∷ []) once there none = grind arith
+  last-cell c w (a ∷ b ∷ xs) once there none = let rest = last-cell c w (b ∷ xs) once.1 in grind arith
+
+  next-written : (c : ℕ) (w : ℕ × X) (xs : List (ℕ × (ℕ × X))) → next_in c (rewritten c w xs) ≡ next_in c xs
+  next-written c w [] = refl
+  next-written c w (a ∷ []) = refl
+  next-written c w (a ∷ b ∷ xs) = let rest = next-written c w (b ∷ xs) in grind arith
+
+  all-next : (c : ℕ) (w : ℕ × X) (ls : List (List (ℕ × (ℕ × X)))) →
+      next_cell c (map (rewritten c w) ls) ≡ next_cell c ls
+  all-next c w [] = refl
+  all-next c w (xs ∷ ls) = λ k. or_else (next-written c w xs k) (all-next c w ls k)
+
+  pub used-last : {ways : ℕ} {a : Lists (ℕ × X)} {rows : List (List (ℕ × ℕ))} {i line c : ℕ} (w : X) →
+      IsFound ways a rows i line c → next_cell c (written-in c (line, w) a).lists ≡ None →
+      Becomes ways a (written-in c (line, w) a) rows i (put_last (set_at (sets_of a.lists) i) line w) line (Some w)
+  used-last {a = a} {i = i} {line} {c} w found last =
+      let there = ap is_some found.here in
+      let none = sym (found.laws.after a.lists i c found.once there) ∙ sym (all-next c (line, w) a.lists) ∙ last in
+      last-put w found (ap (λ us. lists_of us a.cells) (written-lists (line, w) found
+      ∙ ap (set a.lists i) (last-cell c (line, w) (get_or a.lists i []) (apart a.lists i found.once) there none)))
+
+  find-first : (c : ℕ) (w : ℕ × X) (a : ℕ × (ℕ × X)) (xs : List (ℕ × (ℕ × X))) (o p : Option (ℕ × X)) →
+      (is_some (or_else (find_cell c xs) o) ≡ true → or_else (find_cell c (rewritten c w xs)) p ≡ Some w) →
+      is_some (or_else (find_cell c (a ∷ xs)) o) ≡ true → or_else (find_cell c (rewritten c w (a ∷ xs))) p ≡ Some w
+  find-first c w a xs o p rest h = grind arith
+
+  find-written : (c : ℕ) (w : ℕ × X) (xs : List (ℕ × (ℕ × X))) (o p : Option (ℕ × X)) →
+      (is_some o ≡ true → p ≡ Some w) → is_some (or_else (find_cell c xs) o) ≡ true →
+      or_else (find_cell c (rewritten c w xs)) p ≡ Some w
+  find-written c w [] o p rest h = rest h
+  find-written c w (a ∷ xs) o p rest h = find-first c w a xs o p (find-written c w xs o p rest) h
+
+  pub written-there : (c : ℕ) (w : ℕ × X) (ls : List (List (ℕ × (ℕ × X)))) → is_some (look_up c ls) ≡ true →
+      look_up c (map (rewritten c w) ls) ≡ Some w
+  written-there c w [] h = cc
+  written-there c w (xs ∷ ls) h = find-written c w xs (look_up c ls) _ (written-there c w ls) h
 
   -- a cell is taken off, and its line out of its row
-  pub cut-off : (ways : ℕ) (a b : Lists (ℕ × X)) (rows : List (List (ℕ × ℕ))) (i line c : ℕ) → IsStored ways a rows →
-      IsOnce a.lists → LookUpLaws (ℕ × X) → WithoutLaws (ℕ × X) → i < length a.lists →
-      find (set_at rows i) line ≡ Some c → b ≡ unlinked c a →
-      Becomes ways b (set rows i (without (set_at rows i) line)) (drop_line (sets_of a.lists) i line)
-  cut-off ways a b rows i line c stored once finds laws h e is =
-      let found : IsFound a.lists i line c = is-found ways a rows i line c stored once finds h e in
-      let fits : Fits ways (set_at rows i) (get_or a.lists i []) = stored.fits i h in
-      let cells : CellsOnce (get_or a.lists i []) = apart a.lists i once in
-      let tag : find (tags_of (get_or a.lists i [])) line ≡ Some c = sym (fits.found line) ∙ e in
-      let cut : List (ℕ × (ℕ × X)) = cell.without c (get_or a.lists i []) in
-      let all : b ≡ lists_of (set a.lists i cut) a.cells =
-      is ∙ ap (λ us. lists_of us a.cells) (cut-lists a.lists i c once laws (ap is_some found.here)) in
-      record {
-        stored = rw all (stored-set ways a rows i (without (set_at rows i) line) cut stored h
-            (fits-cut ways (set_at rows i) (get_or a.lists i []) line c fits cells e));
-        are = ap (λ u. sets_of u.lists) all ∙ sets-set a.lists i cut
-            ∙ ap (λ us. set (sets_of a.lists) i us) (cut-entries (get_or a.lists i []) line c cells fits.lines tag
-            ∙ ap (λ us. without us line) (sym (entries-at a.lists i h)));
-      }
+  pub cut-off : {ways : ℕ} {a b : Lists (ℕ × X)} {rows new : List (List (ℕ × ℕ))} {i line c : ℕ} →
+      IsFound ways a rows i line c → WithoutLaws (ℕ × X) → b ≡ unlinked c a →
+      new ≡ set rows i (without (set_at rows i) line) →
+      Becomes ways a b new i (without (set_at (sets_of a.lists) i) line) line None
+  cut-off {a = a} {rows = rows} {i = i} {line} {c} found laws is row_is =
+      let fits = found.stored.fits i found.low in let cells = apart a.lists i found.once in
+      becomes (without (set_at rows i) line) (cell.without c (get_or a.lists i [])) found.stored found.low
+      (swap-without (set_at (sets_of a.lists) i) line (distinct-at i found.stored found.low))
+      (is ∙ ap (λ us. lists_of us a.cells) (cut-lists found laws)) row_is (fits-cut line fits cells found.tag)
+      (cut-entries (get_or a.lists i []) line c cells fits.lines (sym (fits.found line) ∙ found.tag)
+      ∙ ap (λ us. without us line) (sym (entries-at a.lists i found.low)))
 
   -- a new line is put
-  pub put-new : (ways : ℕ) (a b : Lists (ℕ × X)) (rows : List (List (ℕ × ℕ))) (i line c : ℕ) (v : X) →
-      IsStored ways a rows → i < length a.lists → find (set_at rows i) line ≡ None →
-      length (get_or a.lists i []) < ways → b ≡ pushed i (c, (line, v)) a →
-      Becomes ways b (set rows i (set_at rows i ++ (line, c) ∷ [])) (put (sets_of a.lists) i line v)
-  put-new ways a b rows i line c v stored h e room is =
-      let fits : Fits ways (set_at rows i) (get_or a.lists i []) = stored.fits i h in
-      let new : List (ℕ × (ℕ × X)) = get_or a.lists i [] ++ (c, (line, v)) ∷ [] in
-      record {
-        stored = rw is (stored-set ways a rows i (set_at rows i ++ (line, c) ∷ []) new stored h
-            (fits-pushed ways (set_at rows i) (get_or a.lists i []) line c v fits e room));
-        are = ap (λ u. sets_of u.lists) is ∙ sets-set a.lists i new
-            ∙ ap (λ us. set (sets_of a.lists) i us) (pushed-entries (get_or a.lists i []) line c v
-            (sym (fits.found line) ∙ e) ∙ ap (λ us. put_last us line v) (sym (entries-at a.lists i h)));
-      }
+  pub put-new : {ways : ℕ} {a b : Lists (ℕ × X)} {rows new : List (List (ℕ × ℕ))} {i line : ℕ} (c : ℕ) (v : X) →
+      IsNew ways a rows i line → b ≡ pushed i (c, (line, v)) a → new ≡ set rows i (set_at rows i ++ (line, c) ∷ []) →
+      Becomes ways a b new i (put_last (set_at (sets_of a.lists) i) line v) line (Some v)
+  put-new {a = a} {rows = rows} {i = i} {line} c v fresh is row_is =
+      let fits = fresh.stored.fits i fresh.low in
+      becomes (set_at rows i ++ (line, c) ∷ []) (get_or a.lists i [] ++ (c, (line, v)) ∷ [])
+      fresh.stored fresh.low
+      (swap-put_last (set_at (sets_of a.lists) i) line v (distinct-at i fresh.stored fresh.low)) is row_is
+      (fits-pushed line c v fits fresh.none fresh.room)
+      (pushed-entries (get_or a.lists i []) line c v (sym (fits.found line) ∙ fresh.none)
+      ∙ ap (λ us. put_last us line v) (sym (entries-at a.lists i fresh.low)))
 
-  -- a set that has room
-  pub has-room : (ways : ℕ) (a : Lists (ℕ × X)) (i line : ℕ) → i < length a.lists →
-      look (sets_of a.lists) i line ≡ None → has_place (table_of ways (sets_of a.lists)) i line ≡ true →
-      length (get_or a.lists i []) < ways
-  has-room ways a i line h absent place =
-      let none : is_there (set_at (sets_of a.lists) i) line ≡ false = ap is_some absent in
-      ⊎_elim
-      (λ (there : is_there (set_at (sets_of a.lists) i) line ≡ true).
-      absurd (let two : true ≡ false = sym there ∙ none in cc))
-      (λ (room : ltb (length (set_at (sets_of a.lists) i)) ways ≡ true).
-      let lt : length (set_at (sets_of a.lists) i) < ways = ltb-true _ _ room in
-      let same : length (set_at (sets_of a.lists) i) ≡ length (get_or a.lists i []) =
-      ap length (entries-at a.lists i h) ∙ length-map (get_or a.lists i []) (λ (p : ℕ × (ℕ × X)). (p.1.0, p.1.1)) in
-      omega arith)
-      (or_cases _ _ place)
+  -- no line is taken out
+  pub nothing-cut : {ways : ℕ} {a : Lists (ℕ × X)} {rows new : List (List (ℕ × ℕ))} {now : Sets X} (i line : ℕ) →
+      IsStored ways a rows → table_of ways (sets_of a.lists) ≡ now → i < length now.sets →
+      find (set_at rows i) line ≡ None → new ≡ set rows i (without (set_at rows i) line) →
+      (new ≡ rows) × (now.sets ≡ drop_line now.sets i line)
+  nothing-cut {a = a} {rows} {new} {now} i line stored is h none row_is = (
+    row_is ∙ ap (set rows i) (missing-without (set_at rows i) line (ap is_some none)) ∙ set-get_or rows i [],
+    sym (ap (set now.sets i) (missing-without (set_at now.sets i) line
+        (ap is_some (is-missing i line stored is h none))) ∙ set-get_or now.sets i []),
+  )
 
   -- where a set has room, a cell is free
-  sum-below : (ways : ℕ) (ls : List (List (ℕ × (ℕ × X)))) → ((j : ℕ) → j < length ls → length (get_or ls j []) ≤ ways) →
+  sum-below : (ways : ℕ) (ls : List (List (ℕ × (ℕ × X)))) → ((j : ℕ) → j < length ls → length (get_or ls j []) ≤ ways)
+      →
       sum_by length ls ≤ length ls * ways
   sum-below ways [] all = omega arith
   sum-below ways (xs ∷ ls) all =
@@ -269,112 +359,11 @@ module _ {X : Type 0} where
       let one = sum_by-cons length xs ls in let first = all 0 (omega arith) in
       let rest = sum-less ways ls i (λ j lt. all (suc j) (omega arith)) (omega arith) room in omega arith
 
-  pub is-free : (ways : ℕ) (a : Lists (ℕ × X)) (rows : List (List (ℕ × ℕ))) (i : ℕ) → IsStored ways a rows →
-      i < length a.lists → length (get_or a.lists i []) < ways → free_cells a ≢ 0
-  is-free ways a rows i stored h room none =
-      let less = sum-less ways a.lists i (λ j lt. (stored.fits j lt).within) h room in
-      let cells = stored.cells in absurd (omega arith)
-
-  -- the value of a pair that is read
-  pub second-of : (p : ℕ × X) (line : ℕ) (x : X) → Some p ≡ Some (line, x) → Some p.1 ≡ Some x
-  second-of p line x e = let same : p ≡ (line, x) = cc in ap (λ (q : ℕ × X). Some q.1) same
-
-  -- no line is taken out
-  pub nothing-cut : (ways : ℕ) (a : Lists (ℕ × X)) (rows new : List (List (ℕ × ℕ))) (i line : ℕ) →
-      IsStored ways a rows → i < length a.lists → find (set_at rows i) line ≡ None →
-      new ≡ set rows i (without (set_at rows i) line) → Becomes ways a new (drop_line (sets_of a.lists) i line)
-  nothing-cut ways a rows new i line stored h e is =
-      let gone : is_there (set_at (sets_of a.lists) i) line ≡ false =
-      ap is_some (is-missing ways a rows i line stored h e) in
-      let same : new ≡ rows = is ∙ ap (λ us. set rows i us) (missing-without (set_at rows i) line (ap is_some e))
-      ∙ set-get_or rows i [] in
-      record {
-        stored = rw same stored;
-        are = sym (ap (λ us. set (sets_of a.lists) i us) (missing-without (set_at (sets_of a.lists) i) line gone)
-            ∙ set-get_or (sets_of a.lists) i []);
-      }
-
-  -- a list of written cells has them in the same places
-  map-at : (f : List (ℕ × (ℕ × X)) → List (ℕ × (ℕ × X))) → f [] ≡ [] → (ls : List (List (ℕ × (ℕ × X)))) (l : ℕ) →
-      get_or (map f ls) l [] ≡ f (get_or ls l [])
-  map-at f e [] l = sym e
-  map-at f e (xs ∷ ls) zero = refl
-  map-at f e (xs ∷ ls) (suc l) = map-at f e ls l
-
-  cell-in-written : (xs : List (ℕ × (ℕ × X))) (c i : ℕ) (w : ℕ × X) → cell_in (rewritten c w xs) i ≡ cell_in xs i
-  cell-in-written [] c i w = refl
-  cell-in-written (a ∷ xs) c zero w = refl
-  cell-in-written (a ∷ xs) c (suc i) w = cell-in-written xs c i w
-
-  pub once-written : (ls : List (List (ℕ × (ℕ × X)))) (c : ℕ) (w : ℕ × X) → IsOnce ls → IsOnce (map (rewritten c w) ls)
-  once-written ls c w once =
-      let at : (l i : ℕ) → cell_in (get_or (map (rewritten c w) ls) l []) i ≡ cell_in (get_or ls l []) i =
-      λ l i. ap (λ us. cell_in us i) (map-at (rewritten c w) refl ls l) ∙ cell-in-written (get_or ls l []) c i w in
-      record { once = λ l m i j x e f. once.once l m i j x (sym (at l i) ∙ e) (sym (at m j) ∙ f) }
-
-  find-written : (xs : List (ℕ × (ℕ × X))) (c : ℕ) (w v : ℕ × X) → find_cell c xs ≡ Some v →
-      find_cell c (rewritten c w xs) ≡ Some w
-  find-written [] c w v h = cc
-  find-written (a ∷ xs) c w v h = elim (cases_eq a.0 c) [
-    | inl e ↦ ap (λ b. if b then Some (if b then w else a.1) else find_cell c (rewritten c w xs)) (eq-eqb a.0 c e)
-    | inr ne ↦ ap (λ b. if b then Some (if b then w else a.1) else find_cell c (rewritten c w xs)) (ne_eqb a.0 c ne)
-        ∙ find-written xs c w v (sym (ap (λ b. if b then Some a.1 else find_cell c xs) (ne_eqb a.0 c ne)) ∙ h)
-  ]
-
-  -- the arena with a written value
-  abbrev pub written-in : ℕ → ℕ × X → Lists (ℕ × X) → Lists (ℕ × X)
-  written-in c w a = lists_of (map (rewritten c w) a.lists) a.cells
-
-  pub written-here : (ways : ℕ) (a : Lists (ℕ × X)) (rows : List (List (ℕ × ℕ))) (i line c : ℕ) (w : X) →
-      IsStored ways a rows → IsOnce a.lists → LookUpLaws (ℕ × X) → i < length a.lists →
-      find (set_at rows i) line ≡ Some c → find_cell c (get_or (map (rewritten c (line, w)) a.lists) i []) ≡ Some
-      (line, w)
-  written-here ways a rows i line c w stored once laws h e =
-      let found : IsFound a.lists i line c = is-found ways a rows i line c stored once laws h e in
-      ap (λ us. find_cell c us) (map-at (rewritten c (line, w)) refl a.lists i)
-      ∙ find-written (get_or a.lists i []) c (line, w) (line, found.value) found.here
-
-  pub written-there : (ways : ℕ) (a : Lists (ℕ × X)) (rows : List (List (ℕ × ℕ))) (i line c : ℕ) (w : X) →
-      IsStored ways a rows → IsOnce a.lists → LookUpLaws (ℕ × X) → i < length a.lists →
-      find (set_at rows i) line ≡ Some c → look_up c (map (rewritten c (line, w)) a.lists) ≡ Some (line, w)
-  written-there ways a rows i line c w stored once laws h e =
-      laws.here (map (rewritten c (line, w)) a.lists) i c (line, w) (once-written a.lists c (line, w) once)
-      (written-here ways a rows i line c w stored once laws h e)
-
-  -- a line that is there is put again
-  put-again : (sets : List (List (ℕ × X))) (i line : ℕ) (w : X) → i < length sets →
-      put (put_within sets i line w) i line w ≡ put sets i line w
-  put-again sets i line w h =
-      ap (λ us. set (put_within sets i line w) i (put_last us line w))
-      (get_or-set_same sets i (put_in_place (set_at sets i) line w) [] h)
-      ∙ set-set sets i (put_in_place (set_at sets i) line w)
-      (put_last (put_in_place (set_at sets i) line w) line w)
-      ∙ ap (λ us. set sets i (us ++ (line, w) ∷ [])) (without-put_in_place (set_at sets i) line w)
-
-  pub used : (ways : ℕ) (a b : Lists (ℕ × X)) (rows : List (List (ℕ × ℕ))) (i line c : ℕ) (w : X) →
-      IsStored ways a rows → IsOnce a.lists → LookUpLaws (ℕ × X) → WithoutLaws (ℕ × X) → i < length a.lists →
-      find (set_at rows i) line ≡ Some c → b ≡ pushed i (c, (line, w)) (unlinked c (written-in c (line, w) a)) →
-      Becomes ways b rows (put (sets_of a.lists) i line w)
-  used ways a b rows i line c w stored once finds laws h e is =
-      let first : Becomes ways (written-in c (line, w) a) rows (put_within (sets_of a.lists) i line w) =
-      written ways a (written-in c (line, w) a) rows i line c w stored once finds h e refl in
-      let same : length (map (rewritten c (line, w)) a.lists) ≡ length a.lists =
-      length-map a.lists (rewritten c (line, w)) in
-      let second : Becomes ways b rows (put (sets_of (map (rewritten c (line, w)) a.lists)) i line w) =
-      moved ways (written-in c (line, w) a) b rows i line c w first.stored
-      (once-written a.lists c (line, w) once) laws (omega (arith, same)) e
-      (written-here ways a rows i line c w stored once finds h e) is in
-      record {
-        stored = second.stored;
-        are = second.are ∙ ap (λ us. put us i line w) first.are
-            ∙ put-again (sets_of a.lists) i line w (omega (arith, length-sets a.lists));
-      }
-
-  -- a new line's row is not full
-  pub row-room : (ways : ℕ) (a : Lists (ℕ × X)) (rows : List (List (ℕ × ℕ))) (i : ℕ) → IsStored ways a rows →
-      i < length a.lists → length (get_or a.lists i []) < ways → length (set_at rows i) < 16
-  row-room ways a rows i stored h room =
-      let short = (stored.fits i h).short in let narrow = stored.narrow in omega arith
+  pub is-free : {ways : ℕ} {a : Lists (ℕ × X)} {rows : List (List (ℕ × ℕ))} {i line : ℕ} → IsNew ways a rows i line →
+      free_cells a ≢ 0
+  is-free {ways} {a} {i = i} fresh none =
+      let less = sum-less ways a.lists i (λ j lt. (fresh.stored.fits j lt).within) fresh.low fresh.room in
+      let cells = fresh.stored.cells in absurd (omega arith)
 
 pub is-ok : {A B : Type 0} (r : Result A B) → (IsErr r → ⊥) → IsOk r
 is-ok (Ok x) never = refl

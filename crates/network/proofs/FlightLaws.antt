@@ -1,6 +1,6 @@
 -- What sending and taking do to what is found by number, and to counts.
-use Rattle.std.proofs.Common.{◌≡◌, ℕ, ◌+◌, ◌<◌, ◌≤◌, ◌++◌, List, [], ◌∷◌, Bool, true, false, cond, nat_eq, Some, None}
-use Rattle.std.proofs.Common.{refl, ap, arith}
+use Rattle.std.proofs.Common.{◌≡◌, ℕ, ◌+◌, ◌<◌, ◌≤◌, ◌++◌, List, [], ◌∷◌, Bool, true, cond, nat_eq, Some, None}
+use Rattle.std.proofs.Common.{refl, arith}
 use Rattle.std.proofs.lemmas.Bool.Decides.{nat_tests}
 use Rattle.network.specs.declared.message.Message.{Message}
 use Rattle.network.specs.NumberedMessages.{IsRising, at_number, without_number}
@@ -27,11 +27,8 @@ module _ {X : Type 0} where
       at_number n xs ≡ Some x → n < high
   at_number-below_next n low high x [] rising some = cc
   at_number-below_next n low high x (y ∷ ys) rising some =
-      elim (nat_eq y.0 n) as (λ b. nat_eq y.0 n ≡ b → cond b (Some y.1) (at_number n ys) ≡ Some x → n < high) [
-        | true ↦ λ is found. let top = bounds_rise (y.0 + 1) high ys rising.1 in let same : y.0 ≡ n =
-            grind (arith, nat_tests, is) in omega (arith, top, same)
-        | false ↦ λ is found. at_number-below_next n (y.0 + 1) high x ys rising.1 found
-      ] refl some
+      let rest = at_number-below_next n (y.0 + 1) high x ys rising.1 in
+      let top = bounds_rise (y.0 + 1) high ys rising.1 in grind arith
 
   -- after a message is sent, it is found by its number, and the others as before
   pub at_number-append : (n low high : ℕ) (x : X) (xs : List (ℕ × X)) → IsRising low xs high →
@@ -51,26 +48,13 @@ module _ {X : Type 0} where
       let others = at_number-too_low n (y.0 + 1) high ys rising.1 in
       grind (arith, nat_tests, rest, others)
 
-  -- what is in front is found, and what is later is found behind it
-  front_found : (n : ℕ) (y : ℕ × X) (x : X) (ys : List (ℕ × X)) → y.0 ≡ n → y.1 ≡ x → at_number n (y ∷ ys) ≡ Some x
-  front_found n y x ys number same = grind (arith, nat_tests, number, same)
-
-  found_later : (n low high : ℕ) (y : ℕ × X) (x : X) (ys : List (ℕ × X)) → IsRising low ys high → low ≡ y.0 + 1 →
-      at_number n ys ≡ Some x → at_number n (y ∷ ys) ≡ Some x
-  found_later n low high y x ys rising is later =
-      let others = at_number-too_low n low high ys rising in
-      grind (arith, nat_tests, is, later, others)
-
   -- taking keeps the order
   pub IsRising-without_number : (n low high : ℕ) (xs : List (ℕ × X)) → IsRising low xs high →
       IsRising low (without_number n xs) high
   IsRising-without_number n low high [] rising = rising
   IsRising-without_number n low high (y ∷ ys) rising =
-      elim (nat_eq y.0 n) as (λ b. IsRising low (cond b ys (y ∷ without_number n ys)) high) [
-        | true ↦ IsRising-lower (y.0 + 1) low high ys rising.1 (omega (arith, rising.0))
-        | false ↦
-            (rising.0, IsRising-without_number n (y.0 + 1) high ys rising.1)
-      ]
+      let rest = IsRising-without_number n (y.0 + 1) high ys rising.1 in let least = rising.0 in
+      let gone = IsRising-lower (y.0 + 1) low high ys rising.1 (omega (arith, rising.0)) in grind arith
 
 -- a message that is sent counts where it passes the test
 pub count_messages-append : (test : Message → Bool) (n : ℕ) (m : Message) (xs : List (ℕ × Message)) →
@@ -83,26 +67,21 @@ pub count_messages-without_number : (test : Message → Bool) (n : ℕ) (m : Mes
     at_number n xs ≡ Some m → count_messages test (without_number n xs) + cond (test m) 1 0 ≡ count_messages test xs
 count_messages-without_number test n m [] some = cc
 count_messages-without_number test n m (y ∷ ys) some =
-    elim (nat_eq y.0 n) as (λ b. cond b (Some y.1) (at_number n ys) ≡ Some m →
-    count_messages test (cond b ys (y ∷ without_number n ys)) + cond (test m) 1 0 ≡ cond (test y.1) 1
-    0 + count_messages test ys) [
-      | true ↦ λ found. let same : y.1 ≡ m = cc in rw same (omega arith)
-      | false ↦ λ found. let rest = count_messages-without_number test n m ys found in omega (arith, rest)
-    ] some
+    let rest = count_messages-without_number test n m ys in grind arith
+
+first-at : (test : Message → Bool) (n : ℕ) (m : Message) (y : ℕ × Message) (ys : List (ℕ × Message)) →
+    (first_message test ys ≡ Some (n, m) → (at_number n ys ≡ Some m) × (test m ≡ true)) →
+    (n < y.0 + 1 → at_number n ys ≡ None) → first_message test (y ∷ ys) ≡ Some (n, m) →
+    (at_number n (y ∷ ys) ≡ Some m) × (test m ≡ true)
+first-at test n m y ys rest others some = grind arith
 
 -- the first message that passes a test is in flight by its number, and passes it
 pub first_message-at_number : (test : Message → Bool) (n low high : ℕ) (m : Message) (xs : List (ℕ × Message)) →
     IsRising low xs high → first_message test xs ≡ Some (n, m) → (at_number n xs ≡ Some m) × (test m ≡ true)
 first_message-at_number test n low high m [] rising some = cc
 first_message-at_number test n low high m (y ∷ ys) rising some =
-    elim (test y.1) as (λ b. test y.1 ≡ b → cond b (Some y) (first_message test ys) ≡ Some (n, m) →
-    (at_number n (y ∷ ys) ≡ Some m) × (test m ≡ true)) [
-      | true ↦ λ is found. let same : y ≡ (n, m) = cc in let number : y.0 ≡ n = ap (λ (z : ℕ × Message). z.0) same in
-          let message : y.1 ≡ m =
-          ap (λ (z : ℕ × Message). z.1) same in (front_found n y m ys number message, rw (← message) is)
-      | false ↦ λ is found. let rest = first_message-at_number test n (y.0 + 1) high m ys rising.1 found in
-          (found_later n (y.0 + 1) high y m ys rising.1 refl rest.0, rest.1)
-    ] refl some
+    let rest = first_message-at_number test n (y.0 + 1) high m ys rising.1 in
+    let others = at_number-too_low n (y.0 + 1) high ys rising.1 in first-at test n m y ys rest others some
 
 -- where there is none, none is counted
 pub count_messages-none : (test : Message → Bool) (xs : List (ℕ × Message)) → first_message test xs ≡ None →

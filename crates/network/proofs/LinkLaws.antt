@@ -1,6 +1,6 @@
 -- The numbers of links: each is below how many links there are, and two links have two numbers.
 use Rattle.std.proofs.Common.{◌≡◌, ℕ, ◌+◌, ◌*◌, ◌<◌, ◌≤◌, Bool, true, false, ◌&&◌, nat_eq, nat_lt}
-use Rattle.std.proofs.Common.{Option, Some, None, refl, sym, ap, ◌∙◌, inl, inr, ◌⊎◌, arith, IsTrue, if◌then◌else◌}
+use Rattle.std.proofs.Common.{Option, Some, None, refl, sym, ap, ◌∙◌, inl, inr, arith, IsTrue, if◌then◌else◌}
 use Rattle.std.proofs.Common.{true≢false, List, [], ◌∷◌}
 use Rattle.std.proofs.lemmas.Bool.{cases_eq, eq-eqb, ne_eqb}
 use Rattle.std.proofs.lemmas.Bool.Decides.{nat_tests}
@@ -23,28 +23,17 @@ pair-below c b cores banks core bank =
     omega (arith, h)
 
 -- two pairs have two numbers
-three : (a b : ℕ) → (a < b) ⊎ ((a ≡ b) ⊎ (b < a))
-three a b = grind arith
-
 pair-once : (c b d e banks : ℕ) → b < banks → e < banks → c * banks + b ≡ d * banks + e → (c ≡ d) × (b ≡ e)
-pair-once c b d e banks bank other same = elim (three c d) [
-  | inl less ↦ let h = pair-below c b d banks less bank in absurd (omega (arith, h, same))
-  | inr rest ↦ elim rest [
-    | inl is ↦ let h : c * banks ≡ d * banks = ap (λ k. k * banks) is in (is, omega (arith, h, same))
-    | inr more ↦ let h = pair-below d e c banks more other in absurd (omega (arith, h, same))
-  ]
-]
+pair-once c b d e banks bank other same =
+    let less = pair-below c b d banks in let more = pair-below d e c banks in
+    let alike : c ≡ d → c * banks ≡ d * banks = λ is. ap (λ k. k * banks) is in grind arith
 
 -- what is chosen by a test
 chosen : (p : Bool) (k l : ℕ) → (if p then Some k else None) ≡ Some l → (p ≡ true) × (k ≡ l)
-chosen p k l e = elim p as (λ p. (if p then Some k else None) ≡ Some l → (p ≡ true) × (k ≡ l)) [
-  | true ↦ λ e. (refl, cc)
-  | false ↦ λ e. cc
-] e
+chosen p k l e = grind arith
 
 both : (p q : Bool) → p && q ≡ true → (p ≡ true) × (q ≡ true)
-both true q e = (refl, e)
-both false q e = cc
+both p q e = grind arith
 
 below : (a b : ℕ) → nat_lt a b ≡ true → a < b
 below a b e = grind (arith, nat_tests, e)
@@ -56,8 +45,7 @@ is-less : (a b : ℕ) → a < b → nat_lt a b ≡ true
 is-less a b h = grind (arith, nat_tests, h)
 
 never : (q : Bool) → (q ≡ true → ⊥) → q ≡ false
-never true h = absurd (h refl)
-never false h = refl
+never q h = grind arith
 
 -- whether a number that is chosen by a test is the one that is looked for
 meets : (p : Bool) (k l : ℕ) (q : Bool) → (p ≡ true → k ≡ l → q ≡ true) → (q ≡ true → (p ≡ true) × (k ≡ l)) →
@@ -117,10 +105,7 @@ to_bank cores banks c b _ _ l e =
     grind (arith, nat_tests, low, one.1)
 
 and-comm : (p q : Bool) → (p && q) ≡ (q && p)
-and-comm true true = refl
-and-comm true false = refl
-and-comm false true = refl
-and-comm false false = refl
+and-comm p q = grind arith
 
 to_core : (cores banks c b : ℕ) (f t : Node) (l : ℕ) → link_of cores banks (Bank b) (Core c) ≡ Some l →
     has_link l (link_of cores banks f t) ≡ (is_same_node f (Bank b) && is_same_node t (Core c))
@@ -156,8 +141,11 @@ up : (cores banks : ℕ) (f t : Node) → is_core_to_bank cores banks f t ≡ tr
     IsLink (count_links cores banks) cores banks f t
 up cores banks (Core c) (Bank b) h =
     let tests = both _ _ h in
-    let low = pair-below c b cores banks (below c cores tests.0) (below b banks tests.1) in
-    (2 * banks + (c * banks + b), ap (λ p. if p then Some (2 * banks + (c * banks + b)) else None) h, omega (arith, low))
+    let low = pair-below c b cores banks (below c cores tests.0) (below b banks tests.1) in (
+      2 * banks + (c * banks + b),
+      ap (λ p. if p then Some (2 * banks + (c * banks + b)) else None) h,
+      omega (arith, low),
+    )
 up cores banks _ _ h = cc
 
 down : (cores banks : ℕ) (t f : Node) → is_core_to_bank cores banks t f ≡ true →
@@ -208,18 +196,10 @@ has-link cores banks m h = route-link cores banks m.from m.to m.body h
 -- the number of a link is below how many there are
 pub link-low : (cores banks : ℕ) (from to : Node) (l : ℕ) → link_of cores banks from to ≡ Some l →
     l < count_links cores banks
-link-low cores banks (Bank b) (Dram d) l e =
-    let one = chosen _ b l e in let tests = both _ _ one.0 in
-    let low = below b banks tests.0 in omega (arith, low, one.1)
-link-low cores banks (Dram d) (Bank b) l e =
-    let one = chosen _ (banks + b) l e in let tests = both _ _ one.0 in
-    let low = below b banks tests.0 in omega (arith, low, one.1)
-link-low cores banks (Core c) (Bank b) l e =
-    let one = chosen _ (2 * banks + (c * banks + b)) l e in let tests = both _ _ one.0 in
-    let low = pair-below c b cores banks (below c cores tests.0) (below b banks tests.1) in omega (arith, low, one.1)
-link-low cores banks (Bank b) (Core c) l e =
-    let one = chosen _ (2 * banks + cores * banks + (c * banks + b)) l e in let tests = both _ _ one.0 in
-    let low = pair-below c b cores banks (below c cores tests.0) (below b banks tests.1) in omega (arith, low, one.1)
+link-low cores banks (Bank b) (Dram d) l e = grind arith
+link-low cores banks (Dram d) (Bank b) l e = grind arith
+link-low cores banks (Core c) (Bank b) l e = let low = pair-below c b cores banks in grind arith
+link-low cores banks (Bank b) (Core c) l e = let low = pair-below c b cores banks in grind arith
 link-low cores banks _ _ l e = cc
 
 -- nodes that are the same
@@ -242,9 +222,8 @@ off-link cores banks from to m none here = never (is_between from to m) (λ is.
 pub none-between : (cores banks : ℕ) (from to : Node) (xs : List (ℕ × Message)) → link_of cores banks from to ≡ None →
     AllHaveEndpoints cores banks xs → first_message (is_between from to) xs ≡ None
 none-between cores banks from to [] none all = refl
-none-between cores banks from to (x ∷ xs) none all =
-    ap (λ b. if b then Some x else first_message (is_between from to) xs)
-    (off-link cores banks from to x.1 none all.0) ∙ none-between cores banks from to xs none all.1
+none-between cores banks from to (x ∷ xs) none all = let off = off-link cores banks from to x.1 none all.0 in
+    let rest = none-between cores banks from to xs none all.1 in grind arith
 
 -- a message that stores words in DRAM goes over one of the first links
 stored : (cores banks : ℕ) (f t : Node) (body : Body) → has_route cores banks f t body ≡ true →

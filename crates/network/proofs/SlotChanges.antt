@@ -1,6 +1,6 @@
 -- What sending and taking do to the slots, and to what is still there.
-use Rattle.std.proofs.Common.{◌≡◌, ℕ, zero, suc, ◌+◌, ◌<◌, ◌≤◌, ◌++◌, List, [], ◌∷◌, length, filter, Bool, true, false}
-use Rattle.std.proofs.Common.{is_some, Option, Some, None, refl, sym, ap, ◌∙◌, subst, nat_eq, cond, IfSome}
+use Rattle.std.proofs.Common.{◌≡◌, ℕ, zero, suc, ◌+◌, ◌<◌, ◌≤◌, ◌++◌, List, [], ◌∷◌, length, filter, Bool}
+use Rattle.std.proofs.Common.{is_some, Option, Some, None, refl, sym, ap, ◌∙◌, IfSome}
 use Rattle.std.proofs.Common.{option_copied, Bor, arith, length-append}
 use Rattle.std.proofs.Common.{get_or, map, option_map}
 use Rattle.std.specs.List.{remove}
@@ -74,8 +74,7 @@ module _ {X : Type 0} where
 
   without_number-given_same : (n m : ℕ) (o : Option X) (xs : List (ℕ × X)) → m ≡ n → at_number n xs ≡ None →
       without_number n (given m o xs) ≡ xs
-  without_number-given_same n m None xs same none = without_number-none n xs none
-  without_number-given_same n m (Some x) xs same none = grind (arith, nat_tests, same)
+  without_number-given_same n m o xs same none = let rest = without_number-none n xs none in grind arith
 
   without_number-given_other : (n m : ℕ) (o : Option X) (xs : List (ℕ × X)) → (m ≡ n → ⊥) →
       without_number n (given m o xs) ≡ given m o (without_number n xs)
@@ -134,12 +133,8 @@ module _ {X : Type 0} where
       IsRising low (filter test xs) high
   IsRising-filter low high test [] rising = rising
   IsRising-filter low high test (x ∷ xs) rising =
-      let rest = IsRising-filter (x.0 + 1) high test xs rising.1 in
-      elim (test x) as (λ b. IsRising low (cond b (x ∷ filter test xs) (filter test xs)) high) [
-        | true ↦ (rising.0, rest)
-        | false ↦ IsRising-lower (x.0 + 1) low high (filter test xs) rest
-            (omega (arith, rising.0))
-      ]
+      let rest = IsRising-filter (x.0 + 1) high test xs rising.1 in let least = rising.0 in
+      let lower = IsRising-lower (x.0 + 1) low high (filter test xs) rest (omega (arith, rising.0)) in grind arith
 
   -- an empty slot leaves no trace
   pub still_there-remove : (k : ℕ) (x : ℕ × Option X) (xs : List (ℕ × Option X)) → k < length xs →
@@ -176,11 +171,7 @@ pub AllHaveEndpoints-at_number : (cores banks n : ℕ) (m : Message) (xs : List 
     banks xs → at_number n xs ≡ Some m → IsTrue (has_endpoints cores banks m)
 AllHaveEndpoints-at_number cores banks n m [] all some = cc
 AllHaveEndpoints-at_number cores banks n m (x ∷ xs) all some =
-    elim (nat_eq x.0 n) as (λ b. cond b (Some x.1) (at_number n xs) ≡ Some m → IsTrue (has_endpoints cores banks m)) [
-      | true ↦ λ here. let is : x.1 ≡ m = cc in subst (λ y. IsTrue (has_endpoints cores banks y)) is all.0
-      | false ↦
-          λ later. AllHaveEndpoints-at_number cores banks n m xs all.1 later
-    ] some
+    let rest = AllHaveEndpoints-at_number cores banks n m xs all.1 in let here = all.0 in grind arith
 
 pub AllHaveEndpoints-append : (cores banks n : ℕ) (m : Message) (xs : List (ℕ × Message)) → AllHaveEndpoints cores
     banks xs → IsTrue (has_endpoints cores banks m) → AllHaveEndpoints cores banks (xs ++ (n, m) ∷ [])
@@ -192,8 +183,7 @@ pub AllHaveEndpoints-without_number : (cores banks n : ℕ) (xs : List (ℕ × M
     xs → AllHaveEndpoints cores banks (without_number n xs)
 AllHaveEndpoints-without_number cores banks n [] all = tt
 AllHaveEndpoints-without_number cores banks n (x ∷ xs) all =
-    elim (nat_eq x.0 n) as (λ b. AllHaveEndpoints cores banks (cond b xs (x ∷ without_number n xs)))
-    [ true ↦ all.1 | false ↦ (all.0, AllHaveEndpoints-without_number cores banks n xs all.1) ]
+    let rest = AllHaveEndpoints-without_number cores banks n xs all.1 in grind arith
 
 -- the same of what is found, or not, by a reference
 pub ends_if_found : (cores banks n : ℕ) (r : Option Message) (xs : List (ℕ × Message)) → AllHaveEndpoints cores banks

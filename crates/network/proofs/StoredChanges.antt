@@ -1,6 +1,7 @@
 -- What is stored after a message is sent or taken, or empty slots are dropped.
 use Rattle.std.proofs.Common.{◌≡◌, ℕ, ◌+◌, ◌-◌, ◌*◌, ◌<◌, ◌≤◌, ◌^◌, ◌++◌, List, [], ◌∷◌, length, length-append}
-use Rattle.std.proofs.Common.{Option, Some, None, Result, Ok, Err, IsOk, IsErr, IfOk, IsTrue, refl, sym, ap, ◌∙◌, arith}
+use Rattle.std.proofs.Common.{Option, Some, None, Result, Ok, Err, IsOk, IsErr, IfOk, IsTrue, refl, sym, ap, ◌∙◌}
+use Rattle.std.proofs.Common.{arith}
 use Rattle.line_arena.specs.Arenas.{Lists, pushed, unlinked, free_cells, IsOnce}
 use Rattle.line_arena.specs.CellLists.{look_up}
 use Rattle.line_arena.specs.ListLaws.{LookUpLaws, AppendLaws, WithoutLaws}
@@ -92,7 +93,8 @@ stored-same cores banks next count places slots new arena stored same rising few
 
 -- nothing is there to be taken
 pub stored-none : (cores banks next count places n : ℕ) (slots new : List (ℕ × Option ℕ))
-    (arena : Lists (ℕ × Message)) → IsStored cores banks next count places slots arena → at_number n (still_there slots) ≡ None →
+    (arena : Lists (ℕ × Message)) → IsStored cores banks next count places slots arena →
+    at_number n (still_there slots) ≡ None →
     still_there new ≡ without_number n (still_there slots) → IsRising 0 new next → length new ≡ length slots →
     (still_there new ≡ still_there slots) × IsStored cores banks next count places new arena
 stored-none cores banks next count places n slots new arena stored none after rising long =

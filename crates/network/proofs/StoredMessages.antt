@@ -1,13 +1,13 @@
 -- What is true of messages in the cells of lists, and what sending and taking do to it.
 use Rattle.std.proofs.Common.{◌≡◌, ◌≢◌, ℕ, suc, ◌+◌, ◌<◌, ◌++◌, List, [], ◌∷◌, length, map, filter}
-use Rattle.std.proofs.Common.{get_or, sum_by, Bool, true, false, cond, nat_eq, if◌then◌else◌, Option, Some, None}
+use Rattle.std.proofs.Common.{get_or, sum_by, Bool, true, false, cond, if◌then◌else◌, Option, Some, None}
 use Rattle.std.proofs.Common.{IsSome, is_some, refl, sym, ap, ◌∙◌, inl, inr, arith, length-append, IsTrue, option_map}
 use Rattle.std.proofs.lemmas.Bool.{cases_eq, eq-eqb, ne_eqb}
 use Rattle.std.proofs.Common.{set, length-set, get_or-set_same, get_or-set_other}
 use Rattle.std.proofs.lemmas.List.{append-nil, map_push, ext_get_or}
 use Rattle.std.proofs.lemmas.List.Elements.{filter-append}
 use Rattle.std.proofs.lemmas.List.Sums.{sum_by-set}
-use Rattle.line_arena.specs.CellLists.{find_cell, first_cell, look_up, without, append_to}
+use Rattle.line_arena.specs.CellLists.{first_cell, look_up, without, append_to}
 use Rattle.line_arena.specs.Arenas.{IsOnce}
 use Rattle.line_arena.specs.ListLaws.{LookUpLaws, AppendLaws, WithoutLaws}
 use Rattle.network.specs.declared.message.Message.{Message}
@@ -52,16 +52,10 @@ pub messages-at_number : (n : ℕ) (ls : Lists) (xs : List (ℕ × ℕ)) → Are
     at_number n (cell_messages ls xs) ≡ at_cell ls (at_number n xs)
 messages-at_number n ls [] all = refl
 messages-at_number n ls (x ∷ xs) all = let f = front ls x xs all in
-    let rest = messages-at_number n ls xs all.1 in
-    ap (λ h. at_number n (map (λ a. a.1) h)) f.1 ∙ elim (nat_eq x.0 n) as (λ b.
-    cond b (Some f.0) (at_number n (cell_messages ls xs)) ≡ at_cell ls (cond b (Some x.1) (at_number n xs))) [
-      | true ↦ sym (ap (option_map (λ (p : ℕ × Message). p.1)) all.0.1)
-      | false ↦ rest
-    ]
+    let rest = messages-at_number n ls xs all.1 in let here = all.0.1 in rw f.1 (grind arith)
 
 some-cell : (ls : Lists) (o : Option ℕ) → IsSome (at_cell ls o) → IsSome o
-some-cell ls None none = none
-some-cell ls (Some c) some = refl
+some-cell ls o some = grind arith
 
 -- where a number has a message, it has a cell
 pub placed-some : (n : ℕ) (ls : Lists) (xs : List (ℕ × ℕ)) → ArePlaced ls xs →
@@ -69,17 +63,24 @@ pub placed-some : (n : ℕ) (ls : Lists) (xs : List (ℕ × ℕ)) → ArePlaced 
 placed-some n ls xs all some =
     some-cell ls (at_number n xs) (sym (ap is_some (messages-at_number n ls xs all)) ∙ some)
 
+placed-here : (n c : ℕ) (ls : Lists) (x : ℕ × ℕ) (xs : List (ℕ × ℕ)) (m : Message) → x.0 ≡ n →
+    look_up x.1 ls ≡ Some (x.0, m) → at_number n (x ∷ xs) ≡ Some c → look_up c ls ≡ Some (n, m)
+placed-here n c ls x xs m same here e = grind arith
+
+here-cell : (n c : ℕ) (x : ℕ × ℕ) (xs : List (ℕ × ℕ)) → x.0 ≡ n → at_number n (x ∷ xs) ≡ Some c → x.1 ≡ c
+here-cell n c x xs same e = grind arith
+
+later-cell : (n c : ℕ) (x : ℕ × ℕ) (xs : List (ℕ × ℕ)) → x.0 ≢ n → at_number n (x ∷ xs) ≡ Some c →
+    at_number n xs ≡ Some c
+later-cell n c x xs other e = grind arith
+
 -- the cell of a number has it with a message
 pub placed-at : (n c : ℕ) (ls : Lists) (xs : List (ℕ × ℕ)) → ArePlaced ls xs → at_number n xs ≡ Some c →
     (m : Message) × (look_up c ls ≡ Some (n, m))
 placed-at n c ls [] all e = cc
 placed-at n c ls (x ∷ xs) all e = elim (cases_eq x.0 n) [
-  | inl same ↦
-      let one : Some x.1 ≡ Some c = sym (ap (λ b. if b then Some x.1 else at_number n xs) (eq-eqb x.0 n same)) ∙ e in
-      let cell : x.1 ≡ c = cc in
-      (all.0.0, ap (λ d. look_up d ls) (sym cell) ∙ all.0.1 ∙ ap (λ k. Some (k, all.0.0)) same)
-  | inr other ↦
-      placed-at n c ls xs all.1 (sym (ap (λ b. if b then Some x.1 else at_number n xs) (ne_eqb x.0 n other)) ∙ e)
+  | inl same ↦ (all.0.0, placed-here n c ls x xs all.0.0 same all.0.1 e)
+  | inr other ↦ placed-at n c ls xs all.1 (later-cell n c x xs other e)
 ]
 
 -- what is found in each cell stays
@@ -135,7 +136,8 @@ linked-sent cores banks l c n m old xs linked laws fresh link lt here =
         each = λ k below. (let test : ℕ × (ℕ × Message) → Bool = λ b. is_on cores banks k b.1.1 in
             let low : k < length old = omega (arith, below, laws.lists old l a) in
             let before : get_or old k [] ≡ filter test (held old xs) = linked.each k low in
-            let after : filter test (held new (xs ++ (n, c) ∷ [])) ≡ filter test (held old xs) ++ filter test (a ∷ []) =
+            let after : filter test (held new (xs ++ (n, c) ∷ []))
+            ≡ filter test (held old xs) ++ filter test (a ∷ []) =
             ap (filter test) all ∙ filter-append test (held old xs) (a ∷ []) in
             elim (cases_eq l k) [
               | inl same ↦
@@ -204,16 +206,12 @@ pub cut-placed : (n c low high : ℕ) (m : Message) (ls : Lists) (xs : List (ℕ
     × (cell_messages (map (without c) ls) (without_number n xs) ≡ without_number n (cell_messages ls xs))
 cut-placed n c low high m ls [] all rising e is laws = cc
 cut-placed n c low high m ls (x ∷ xs) all rising e is laws =
-    let new : Lists = map (without c) ls in
-    let first = front ls x xs all in
+    let new : Lists = map (without c) ls in let first = front ls x xs all in
     elim (cases_eq x.0 n) [
       | inl same ↦
-          let one : Some x.1 ≡ Some c = sym (ap (λ b. if b then Some x.1 else at_number n xs) (eq-eqb x.0 n same)) ∙ e
-          in
-          let cell : x.1 ≡ c = cc in
+          let cell = here-cell n c x xs same e in
           let rest = lacks n c (x.0 + 1) high m ls xs all.1 rising.1 (omega (arith, same)) is laws in
-          let left : without_number n (x ∷ xs) ≡ xs =
-          ap (λ b. if b then xs else x ∷ without_number n xs) (eq-eqb x.0 n same) in (
+          let left : without_number n (x ∷ xs) ≡ xs = grind arith in (
             rw left rest.0,
             ap (held new) left ∙ rest.1 ∙ sym (ap (without c) first.1
                 ∙ ap (λ b. if b then without c (held ls xs) else (x.1, (x.0, first.0)) ∷ without c (held ls xs))
@@ -224,18 +222,15 @@ cut-placed n c low high m ls (x ∷ xs) all rising e is laws =
                 (eq-eqb x.0 n same)),
           )
       | inr other ↦
-          let later : at_number n xs ≡ Some c =
-          sym (ap (λ b. if b then Some x.1 else at_number n xs) (ne_eqb x.0 n other)) ∙ e in
-          let rest = cut-placed n c (x.0 + 1) high m ls xs all.1 rising.1 later is laws in
-          let left : without_number n (x ∷ xs) ≡ x ∷ without_number n xs =
-          ap (λ b. if b then xs else x ∷ without_number n xs) (ne_eqb x.0 n other) in
+          let rest = cut-placed n c (x.0 + 1) high m ls xs all.1 rising.1 (later-cell n c x xs other e) is laws in
+          let left : without_number n (x ∷ xs) ≡ x ∷ without_number n xs = grind arith in
           let step = passed-over n c x m ls xs all other is laws in
           let front_new : held new (x ∷ without_number n xs) ≡ (x.1, (x.0, first.0)) ∷ held new (without_number n xs) =
-          ap (λ o. given x.1 o (held new (without_number n xs))) step.0 in (
-            rw left ((all.0.0, step.0), rest.0),
-            ap (held new) left ∙ front_new ∙ ap (λ us. (x.1, (x.0, first.0)) ∷ us) rest.1 ∙ sym step.2,
-            ap (cell_messages new) left ∙ ap (map (λ (a : ℕ × (ℕ × Message)). a.1)) front_new
-                ∙ ap (λ us. (x.0, first.0) ∷ us) rest.2
+          ap (λ o. given x.1 o (held new (without_number n xs))) step.0 in
+          rw left (
+            ((all.0.0, step.0), rest.0),
+            front_new ∙ ap (λ us. (x.1, (x.0, first.0)) ∷ us) rest.1 ∙ sym step.2,
+            ap (map (λ (a : ℕ × (ℕ × Message)). a.1)) front_new ∙ ap (λ us. (x.0, first.0) ∷ us) rest.2
                 ∙ sym (ap (λ h. without_number n (map (λ (a : ℕ × (ℕ × Message)). a.1) h)) first.1
                 ∙ ap (λ b. if b then cell_messages ls xs else (x.0, first.0) ∷ without_number n (cell_messages ls xs))
                 (ne_eqb x.0 n other)),
@@ -256,49 +251,23 @@ pub record AreCut (cores banks n : ℕ) (new : Lists) (cells : List (ℕ × ℕ)
 filter-without : (test : Message → Bool) (c : ℕ) (hs : List (ℕ × (ℕ × Message))) →
     filter (λ a. test a.1.1) (without c hs) ≡ without c (filter (λ a. test a.1.1) hs)
 filter-without test c [] = refl
-filter-without test c (a ∷ hs) =
-    let rest = filter-without test c hs in
-    elim (cases_eq a.0 c) [
-      | inl same ↦
-          ap (λ b. filter (λ (a : ℕ × (ℕ × Message)). test a.1.1) (if b then without c hs else a ∷ without c hs))
-          (eq-eqb a.0 c same) ∙ rest
-          ∙ sym (elim (test a.1.1) as (λ b. without c (cond b (a ∷ filter (λ a. test a.1.1) hs)
-          (filter (λ a. test a.1.1) hs)) ≡ without c (filter (λ a. test a.1.1) hs)) [
-            | true ↦ ap (λ b. if b then without c (filter (λ (a : ℕ × (ℕ × Message)). test a.1.1) hs)
-                else a ∷ without c (filter (λ (a : ℕ × (ℕ × Message)). test a.1.1) hs)) (eq-eqb a.0 c same)
-            | false ↦ refl
-          ])
-      | inr other ↦
-          ap (λ b. filter (λ (a : ℕ × (ℕ × Message)). test a.1.1) (if b then without c hs else a ∷ without c hs))
-          (ne_eqb a.0 c other)
-          ∙ elim (test a.1.1) as (λ b. cond b (a ∷ filter (λ a. test a.1.1) (without c hs))
-          (filter (λ a. test a.1.1) (without c hs)) ≡ without c (cond b (a ∷ filter (λ a. test a.1.1) hs)
-          (filter (λ a. test a.1.1) hs))) [
-            | true ↦ ap (λ us. a ∷ us) rest
-                ∙ sym (ap (λ b. if b then without c (filter (λ (a : ℕ × (ℕ × Message)). test a.1.1) hs)
-                else a ∷ without c (filter (λ (a : ℕ × (ℕ × Message)). test a.1.1) hs)) (ne_eqb a.0 c other))
-            | false ↦ rest
-          ]
-    ]
+filter-without test c (a ∷ hs) = let rest = filter-without test c hs in grind arith
 
 -- one cell fewer is on the lists
 total-cut : (c : ℕ) (p : ℕ × Message) (ls : Lists) → LookUpLaws (ℕ × Message) → WithoutLaws (ℕ × Message) →
     IsOnce ls → look_up c ls ≡ Some p → sum_by length (map (without c) ls) + 1 ≡ sum_by length ls
 total-cut c p ls finds laws once is =
-    let on = finds.on ls c p is in
-    let there : is_some (find_cell c (get_or ls on.0 [])) ≡ true = ap is_some on.2 in
+    let on = finds.on ls c p is in let there = ap is_some on.2 in
     let cut : List (ℕ × (ℕ × Message)) = without c (get_or ls on.0 []) in
     let same : map (without c) ls ≡ set ls on.0 cut =
     ext_get_or [] (map (without c) ls) (set ls on.0 cut) (laws.lists ls c ∙ sym (length-set ls on.0 cut))
-    (λ j below. (let low : j < length ls = omega (arith, below, laws.lists ls c) in
-    laws.each ls c j ∙ elim (cases_eq j on.0) [
+    (λ j below. laws.each ls c j ∙ elim (cases_eq j on.0) [
       | inl e ↦ ap (λ k. without c (get_or ls k [])) e
           ∙ sym (ap (λ k. get_or (set ls on.0 cut) k []) e ∙ get_or-set_same ls on.0 cut [] on.1)
       | inr ne ↦ laws.apart ls c on.0 j once there ne ∙ sym (get_or-set_other ls on.0 j cut [] ne)
-    ])) in
+    ]) in
     let sums = sum_by-set length ls on.0 cut [] on.1 in
-    let less = laws.shorter ls c on.0 once there in
-    rw same (omega (arith, sums, less))
+    let less = laws.shorter ls c on.0 once there in rw same (omega (arith, sums, less))
 
 pub linked-cut : (cores banks n c high : ℕ) (m : Message) (old : Lists) (xs : List (ℕ × ℕ)) →
     AreLinked cores banks old xs → IsRising 0 xs high → at_number n xs ≡ Some c → look_up c old ≡ Some (n, m) →
@@ -328,34 +297,25 @@ linked-cut cores banks n c high m old xs linked rising e is finds laws once =
 pub none-held : (test : Message → Bool) (hs : List (ℕ × (ℕ × Message))) →
     first_cell (filter (λ a. test a.1.1) hs) ≡ None → first_message test (map (λ a. a.1) hs) ≡ None
 none-held test [] e = refl
-none-held test (a ∷ hs) e =
-    elim (test a.1.1) as (λ b. first_cell (cond b (a ∷ filter (λ a. test a.1.1) hs) (filter (λ a. test a.1.1) hs))
-    ≡ None → cond b (Some a.1) (first_message test (map (λ a. a.1) hs)) ≡ None) [
-      | true ↦ λ some. cc
-      | false ↦ λ rest. none-held test hs rest
-    ] e
+none-held test (a ∷ hs) e = let rest = none-held test hs in grind arith
+
+held-first : (test : Message → Bool) (c : ℕ) (ls : Lists) (x : ℕ × ℕ) (hs : List (ℕ × (ℕ × Message))) (m : Message) →
+    look_up x.1 ls ≡ Some (x.0, m) → (first_cell (filter (λ a. test a.1.1) hs) ≡ Some c →
+    (is_some (look_up c ls) ≡ true) × (first_message test (map (λ a. a.1) hs) ≡ look_up c ls)) →
+    first_cell (filter (λ a. test a.1.1) ((x.1, (x.0, m)) ∷ hs)) ≡ Some c → (is_some (look_up c ls) ≡ true)
+    × (first_message test (map (λ a. a.1) ((x.1, (x.0, m)) ∷ hs)) ≡ look_up c ls)
+held-first test c ls x hs m here rest e = grind arith
 
 pub first-held : (test : Message → Bool) (c : ℕ) (ls : Lists) (xs : List (ℕ × ℕ)) → ArePlaced ls xs →
     first_cell (filter (λ a. test a.1.1) (held ls xs)) ≡ Some c →
     (is_some (look_up c ls) ≡ true) × (first_message test (cell_messages ls xs) ≡ look_up c ls)
 first-held test c ls [] all e = cc
 first-held test c ls (x ∷ xs) all e =
-    let first = front ls x xs all in
-    let rest = first-held test c ls xs all.1 in
-    let found = rw first.1 at e in
-    rw first.1 (elim (test first.0) as (λ b. first_cell (cond b ((x.1, (x.0, first.0))
-    ∷ filter (λ a. test a.1.1) (held ls xs)) (filter (λ a. test a.1.1) (held ls xs))) ≡ Some c →
-    (is_some (look_up c ls) ≡ true) × (cond b (Some (x.0, first.0)) (first_message test (cell_messages ls xs))
-    ≡ look_up c ls)) [
-      | true ↦ λ is. (let same : x.1 ≡ c = cc in
-          let here : look_up c ls ≡ Some (x.0, first.0) = ap (λ d. look_up d ls) (sym same) ∙ all.0.1 in
-          (ap is_some here, sym here))
-      | false ↦ λ later. rest later
-    ] found)
+    let first = front ls x xs all in let found = rw first.1 at e in
+    rw first.1 (held-first test c ls x (held ls xs) first.0 all.0.1 (first-held test c ls xs all.1) found)
 
 -- tests that agree find the same
 pub same-test : (p q : Message → Bool) (xs : List (ℕ × Message)) → ((m : Message) → p m ≡ q m) →
     first_message p xs ≡ first_message q xs
 same-test p q [] h = refl
-same-test p q (x ∷ xs) h =
-    ap (λ b. cond b (Some x) (first_message p xs)) (h x.1) ∙ ap (cond (q x.1) (Some x)) (same-test p q xs h)
+same-test p q (x ∷ xs) h = let rest = same-test p q xs h in let same = h x.1 in grind arith

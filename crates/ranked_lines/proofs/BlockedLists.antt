@@ -1,71 +1,46 @@
 -- Rising lists in blocks, and what is put into a block or taken out.
 use Rattle.std.proofs.Common.{◌≡◌, ℕ, zero, suc, ◌+◌, ◌-◌, ◌<◌, ◌≤◌, ◌⊎◌, true, false, cond, ltb, List, []}
-use Rattle.std.proofs.Common.{◌∷◌, ◌++◌, Bool, length, get_or, set, take, drop, inl, inr, Option, None, Some, refl, sym}
-use Rattle.std.proofs.Common.{ap, ap₂, ◌∙◌, arith, append_assoc, append-nil, length-append, leb-true, not}
+use Rattle.std.proofs.Common.{◌∷◌, ◌++◌, Bool, length, get_or, set, take, drop, inl, inr, Option, None, Some, refl}
+use Rattle.std.proofs.Common.{sym}
+use Rattle.std.proofs.Common.{ap, ap₂, ◌∙◌, arith, append_assoc, append-nil, length-append}
 use Rattle.std.specs.List.{insert, remove, slice_get}
 use Rattle.arrayvec.specs.ArrayVec.{ArrayVec}
 use Rattle.std.proofs.Math.Seq.{take-length}
 use Rattle.std.proofs.lemmas.List.{length-drop, length-take-le}
-use mathlib.Core.Bool.{false≢true}
-use Rattle.std.proofs.lemmas.Bool.{cases_eq, cases_lt, cond_both, le-leb, lt-ltb}
-use Rattle.ranked_lines.specs.Rising.{all_below, all_but, is_but, put_in, take_out, AllFrom, Rises}
+use Rattle.std.proofs.lemmas.Bool.{cases_eq, cases_lt, le-leb}
+use Rattle.ranked_lines.specs.Rising.{all_below, all_but, put_in, take_out, AllFrom, Rises}
 use Rattle.ranked_lines.specs.Blocked.{block_at, joined, size_at, Filled, IsPlaceOf, DenseBut, Dense}
 use Rattle.ranked_lines.proofs.BlockNeighbours.{dense-but-set, pair-before, pair-next, dense-dense-but, dense-push}
 use Rattle.ranked_lines.proofs.BlockNeighbours.{dense-remove, dense-set, split-dense}
 use Rattle.ranked_lines.proofs.SortedLists.{from-weaker}
-use Rattle.ranked_lines.proofs.RisingEdits.{at-from, at-less, ge-ltb, less-most}
-use Rattle.ranked_lines.proofs.RisingEdits.{all_but-above, but-gone, but-kept, gt-leb, less, less-more, less-none, most}
-use Rattle.ranked_lines.proofs.RisingEdits.{most-more, most-none, none-below, put-here, put-later, take-here, take-later}
+use Rattle.ranked_lines.proofs.RisingEdits.{at-from, at-less, less-most}
+use Rattle.ranked_lines.proofs.RisingEdits.{all_but-above, gt-leb, less}
+use Rattle.ranked_lines.proofs.RisingEdits.{most}
+use Rattle.ranked_lines.proofs.RisingEdits.{most-none, none-below}
 
 -- a list whose numbers are all below one
-below-first : (x y : ℕ) (ys : List ℕ) → length (y ∷ ys) ≤ less x (y ∷ ys) → y < x
-below-first x y ys le = elim (cases_lt y x) [
-  | inl lt ↦ lt
-  | inr ge ↦ absurd (let none = less-none x y ys ge in omega (arith, le, none))
-]
-
-below-rest : (x y : ℕ) (ys : List ℕ) → length (y ∷ ys) ≤ less x (y ∷ ys) → length ys ≤ less x ys
-below-rest x y ys le = let more = less-more x y ys (below-first x y ys le) in omega (arith, le, more)
 
 pub ends-below : (x : ℕ) (ys : List ℕ) → Rises ys → 0 < length ys →
     ltb (get_or ys (length ys - 1) 0) x ≡ all_below x ys
-ends-below x ys r some = elim (cases_lt (get_or ys (length ys - 1) 0) x) [
-  | inl lt ↦
-      let more = at-less x ys (length ys - 1) 0 r (omega (arith, some)) lt in
-      lt-ltb (get_or ys (length ys - 1) 0) x lt ∙ sym (le-leb (length ys) (less x ys) (omega (arith, some, more)))
-  | inr ge ↦
-      let few = at-from x ys (length ys - 1) 0 (omega (arith, some)) ge in
-      ge-ltb (get_or ys (length ys - 1) 0) x ge ∙ sym (gt-leb (length ys) (less x ys) (omega (arith, some, few)))
-]
+ends-below x ys r some =
+    let more = at-less x ys (length ys - 1) 0 r in let few = at-from x ys (length ys - 1) 0 in grind arith
 
 -- what is put in or taken out behind such a list, or before what comes behind another
 put-behind : (x : ℕ) (fs bs : List ℕ) → length fs ≤ less x fs → put_in x (fs ++ bs) ≡ fs ++ put_in x bs
 put-behind x [] bs le = refl
-put-behind x (a ∷ fs) bs le = put-later x a (fs ++ bs) (below-first x a fs le)
-    ∙ ap (λ zs. a ∷ zs) (put-behind x fs bs (below-rest x a fs le))
+put-behind x (a ∷ fs) bs le = let later = put-behind x fs bs in grind arith
 
 put-before : (x : ℕ) (fs bs : List ℕ) → less x fs < length fs → put_in x (fs ++ bs) ≡ put_in x fs ++ bs
 put-before x [] bs lt = absurd (omega (arith, lt))
-put-before x (a ∷ fs) bs lt = elim (cases_lt a x) [
-  | inl up ↦ put-later x a (fs ++ bs) up
-      ∙ ap (λ zs. a ∷ zs) (put-before x fs bs (let more = less-more x a fs up in omega (arith, lt, more)))
-      ∙ sym (ap (λ zs. zs ++ bs) (put-later x a fs up))
-  | inr ge ↦ put-here x a (fs ++ bs) ge ∙ sym (ap (λ zs. zs ++ bs) (put-here x a fs ge))
-]
+put-before x (a ∷ fs) bs lt = let later = put-before x fs bs in grind arith
 
 take-behind : (x : ℕ) (fs bs : List ℕ) → length fs ≤ less x fs → take_out x (fs ++ bs) ≡ fs ++ take_out x bs
 take-behind x [] bs le = refl
-take-behind x (a ∷ fs) bs le = take-later x a (fs ++ bs) (below-first x a fs le)
-    ∙ ap (λ zs. a ∷ zs) (take-behind x fs bs (below-rest x a fs le))
+take-behind x (a ∷ fs) bs le = let later = take-behind x fs bs in grind arith
 
 take-before : (x : ℕ) (fs bs : List ℕ) → less x fs < length fs → take_out x (fs ++ bs) ≡ take_out x fs ++ bs
 take-before x [] bs lt = absurd (omega (arith, lt))
-take-before x (a ∷ fs) bs lt = elim (cases_lt a x) [
-  | inl up ↦ take-later x a (fs ++ bs) up
-      ∙ ap (λ zs. a ∷ zs) (take-before x fs bs (let more = less-more x a fs up in omega (arith, lt, more)))
-      ∙ sym (ap (λ zs. zs ++ bs) (take-later x a fs up))
-  | inr ge ↦ take-here x a (fs ++ bs) ge ∙ sym (ap (λ zs. zs ++ bs) (take-here x a fs ge))
-]
+take-before x (a ∷ fs) bs lt = let later = take-before x fs bs in grind arith
 
 -- the blocks before the one of a number
 block-cases : (x : ℕ) (b : ArrayVec ℕ) (bs : List (ArrayVec ℕ)) →
@@ -104,65 +79,38 @@ put-block x (b ∷ bs) (suc k) d w lt le last e = elim (block-cases x b bs) [
 pub take-block : (x : ℕ) (bs : List (ArrayVec ℕ)) (k : ℕ) (d w : ArrayVec ℕ) → k < length bs →
     k ≡ block_at x bs → w.items ≡ take_out x (get_or bs k d).items → joined (set bs k w) ≡ take_out x (joined bs)
 take-block x [] k d w lt same e = absurd (omega (arith, lt))
-take-block x (b ∷ bs) zero d w lt same e = elim (block-cases x b bs) [
-  | inl h ↦ ap (λ zs. zs ++ joined bs) e ∙ sym (take-before x b.items (joined bs) h.0)
-  | inr h ↦ absurd (let at = h.1 in omega (arith, same, at))
-]
-take-block x (b ∷ bs) (suc k) d w lt same e = elim (block-cases x b bs) [
-  | inl h ↦ absurd (let none = h.1 in omega (arith, none, same))
-  | inr h ↦
-      let at = h.1 in
-      ap (λ zs. b.items ++ zs) (take-block x bs k d w (omega (arith, lt)) (omega (arith, same, at)) e)
-      ∙ sym (take-behind x b.items (joined bs) h.0)
-]
+take-block x (b ∷ bs) zero d w lt same e = let before = take-before x b.items (joined bs) in grind arith
+take-block x (b ∷ bs) (suc k) d w lt same e = let later = take-block x bs k d w in
+    let behind = take-behind x b.items (joined bs) in grind arith
 
 emptied : (x : ℕ) (ys : List ℕ) → less x ys < length ys → length ys ≤ 1 → take_out x ys ≡ []
-emptied x [] lt le = absurd (omega (arith, lt))
-emptied x (y ∷ []) lt le = elim (cases_lt y x) [
-  | inl up ↦ absurd (let more = less-more x y [] up in omega (arith, lt, more))
-  | inr ge ↦ take-here x y [] ge
-]
+emptied x [] lt le = refl
+emptied x (y ∷ []) lt le = grind arith
 emptied x (y ∷ z ∷ zs) lt le = absurd (omega (arith, le))
 
 pub drop-block : (x : ℕ) (bs : List (ArrayVec ℕ)) (k : ℕ) (d : ArrayVec ℕ) → k < length bs →
     k ≡ block_at x bs → length (get_or bs k d).items ≤ 1 → joined (remove bs k) ≡ take_out x (joined bs)
 drop-block x [] k d lt same one = absurd (omega (arith, lt))
-drop-block x (b ∷ bs) zero d lt same one = elim (block-cases x b bs) [
-  | inl h ↦ sym (take-before x b.items (joined bs) h.0 ∙ ap (λ zs. zs ++ joined bs) (emptied x b.items h.0 one))
-  | inr h ↦ absurd (let at = h.1 in omega (arith, same, at))
-]
-drop-block x (b ∷ bs) (suc k) d lt same one = elim (block-cases x b bs) [
-  | inl h ↦ absurd (let none = h.1 in omega (arith, none, same))
-  | inr h ↦
-      let at = h.1 in
-      ap (λ zs. b.items ++ zs) (drop-block x bs k d (omega (arith, lt)) (omega (arith, same, at)) one)
-      ∙ sym (take-behind x b.items (joined bs) h.0)
-]
+drop-block x (b ∷ bs) zero d lt same one = let before = take-before x b.items (joined bs) in
+    let none = emptied x b.items in grind arith
+drop-block x (b ∷ bs) (suc k) d lt same one = let later = drop-block x bs k d in
+    let behind = take-behind x b.items (joined bs) in grind arith
 
 put-longer : (x : ℕ) (ys : List ℕ) → length ys ≤ length (put_in x ys)
 put-longer x [] = omega arith
-put-longer x (y ∷ ys) = let later = put-longer x ys in
-    cond_both (ltb y x) (y ∷ put_in x ys) (x ∷ y ∷ ys) (λ zs. suc (length ys) ≤ length zs)
-    (λ e. omega (arith, later)) (λ e. omega arith)
+put-longer x (y ∷ ys) = let later = put-longer x ys in grind arith
 
 put-some : (x : ℕ) (ys : List ℕ) → 0 < length (put_in x ys)
 put-some x [] = omega arith
-put-some x (y ∷ ys) = cond_both (ltb y x) (y ∷ put_in x ys) (x ∷ y ∷ ys) (λ zs. 0 < length zs)
-    (λ e. omega arith) (λ e. omega arith)
+put-some x (y ∷ ys) = grind arith
 
 take-shorter : (x : ℕ) (ys : List ℕ) → length ys ≤ suc (length (take_out x ys))
 take-shorter x [] = omega arith
-take-shorter x (y ∷ ys) = let later = take-shorter x ys in
-    cond_both (ltb y x) (y ∷ take_out x ys) ys (λ zs. suc (length ys) ≤ suc (length zs))
-    (λ e. omega (arith, later)) (λ e. omega arith)
+take-shorter x (y ∷ ys) = let later = take-shorter x ys in grind arith
 
 pub take-none : (x : ℕ) (bs : List (ArrayVec ℕ)) → length bs ≤ block_at x bs → joined bs ≡ take_out x (joined bs)
 take-none x [] le = refl
-take-none x (b ∷ bs) le = elim (block-cases x b bs) [
-  | inl h ↦ absurd (let none = h.1 in omega (arith, none, le))
-  | inr h ↦ (let at = h.1 in ap (λ zs. b.items ++ zs) (take-none x bs (omega (arith, le, at)))
-      ∙ sym (take-behind x b.items (joined bs) h.0))
-]
+take-none x (b ∷ bs) le = let later = take-none x bs in let behind = take-behind x b.items (joined bs) in grind arith
 
 -- blocks that aren't empty
 pub filled-set : (bs : List (ArrayVec ℕ)) (k : ℕ) (w : ArrayVec ℕ) → Filled bs → 0 < length w.items →
@@ -225,49 +173,20 @@ split-kept (b ∷ bs) (suc k) d u lt = split-kept bs k d u (omega (arith, lt))
 both-below : (x : ℕ) (fs bs : List ℕ) → length fs ≤ less x fs → length bs ≤ less x bs →
     length (fs ++ bs) ≤ less x (fs ++ bs)
 both-below x [] bs low high = high
-both-below x (a ∷ fs) bs low high =
-    let later = both-below x fs bs (below-rest x a fs low) high in
-    let more = less-more x a (fs ++ bs) (below-first x a fs low) in omega (arith, later, more)
+both-below x (a ∷ fs) bs low high = let later = both-below x fs bs in grind arith
 
 split-later : (x : ℕ) (bs : List (ArrayVec ℕ)) (k : ℕ) (u w : ArrayVec ℕ) → k < length bs → k ≤ block_at x bs →
     k ≤ block_at x (set (insert bs (suc k) u) k w)
 split-later x [] k u w lt le = absurd (omega (arith, lt))
 split-later x (b ∷ bs) zero u w lt le = omega arith
-split-later x (b ∷ bs) (suc k) u w lt le = elim (block-cases x b bs) [
-  | inl h ↦ absurd (let none = h.1 in omega (arith, none, le))
-  | inr h ↦
-      let at = h.1 in
-      let later = split-later x bs k u w (omega (arith, lt)) (omega (arith, le, at)) in
-      elim (block-cases x b (set (insert bs (suc k) u) k w)) [
-        | inl g ↦ absurd (let low = g.0 in let high = h.0 in omega (arith, low, high))
-        | inr g ↦ (let same = g.1 in omega (arith, same, later))
-      ]
-]
+split-later x (b ∷ bs) (suc k) u w lt le = let later = split-later x bs k u w in grind arith
 
 split-near : (x : ℕ) (bs : List (ArrayVec ℕ)) (k : ℕ) (d u w : ArrayVec ℕ) → k < length bs → k ≡ block_at x bs →
     w.items ++ u.items ≡ (get_or bs k d).items → block_at x (set (insert bs (suc k) u) k w) ≤ suc k
 split-near x [] k d u w lt same e = absurd (omega (arith, lt))
-split-near x (b ∷ bs) zero d u w lt same e = elim (block-cases x w (u ∷ bs)) [
-  | inl g ↦ (let at = g.1 in omega (arith, at))
-  | inr g ↦ elim (block-cases x u bs) [
-    | inl f ↦ (let at = g.1 in let next = f.1 in omega (arith, at, next))
-    | inr f ↦ elim (block-cases x b bs) [
-      | inl h ↦ absurd (let all = both-below x w.items u.items g.0 f.0 in let few = h.0 in
-          let long = ap length e in let below = ap (less x) e in omega (arith, all, few, long, below))
-      | inr h ↦ absurd (let at = h.1 in omega (arith, same, at))
-    ]
-  ]
-]
-split-near x (b ∷ bs) (suc k) d u w lt same e = elim (block-cases x b bs) [
-  | inl h ↦ absurd (let none = h.1 in omega (arith, none, same))
-  | inr h ↦
-      let at = h.1 in
-      let later = split-near x bs k d u w (omega (arith, lt)) (omega (arith, same, at)) e in
-      elim (block-cases x b (set (insert bs (suc k) u) k w)) [
-        | inl g ↦ (let none = g.1 in omega (arith, none))
-        | inr g ↦ (let more = g.1 in omega (arith, more, later))
-      ]
-]
+split-near x (b ∷ bs) zero d u w lt same e = let all = both-below x w.items u.items in
+    let long = ap length e in let below = ap (less x) e in grind arith
+split-near x (b ∷ bs) (suc k) d u w lt same e = let later = split-near x bs k d u w in grind arith
 
 split-length : (bs : List (ArrayVec ℕ)) (k : ℕ) (u w : ArrayVec ℕ) → k < length bs →
     length (set (insert bs (suc k) u) k w) ≡ suc (length bs)
@@ -345,86 +264,42 @@ rises-block (b ∷ bs) (suc k) d lt h = rises-block bs k d (omega (arith, lt)) (
 -- a search by the blocks' last numbers
 from-seam : (x : ℕ) (fs bs : List ℕ) → Rises (fs ++ bs) → less x fs < length fs → AllFrom x bs
 from-seam x [] bs h lt = absurd (omega (arith, lt))
-from-seam x (a ∷ fs) bs h lt = elim (cases_lt a x) [
-  | inl up ↦ from-seam x fs bs h.1 (let more = less-more x a fs up in omega (arith, lt, more))
-  | inr ge ↦ from-weaker x a bs ge (from-back a fs bs h.0)
-]
+from-seam x (a ∷ fs) bs h lt = let later = from-seam x fs bs h.1 in
+    let weaker = from-weaker x a bs in let back = from-back a fs bs h.0 in grind arith
 
 none-before : (x : ℕ) (bs : List (ArrayVec ℕ)) → Filled bs → AllFrom x (joined bs) → block_at x bs ≡ 0
 none-before x [] h from = refl
-none-before x (b ∷ bs) h from = elim (block-cases x b bs) [
-  | inl at ↦ at.1
-  | inr at ↦ absurd (let none = none-below x b.items (from-front x b.items (joined bs) from) in let le = at.0 in
-      let some = h.0 in omega (arith, none, le, some))
-]
+none-before x (b ∷ bs) h from =
+    let none = none-below x b.items (from-front x b.items (joined bs) from) in grind arith
 
 pub at-least : (x : ℕ) (bs : List (ArrayVec ℕ)) (k : ℕ) (d : ArrayVec ℕ) → Rises (joined bs) → Filled bs →
     k < length bs → all_below x (get_or bs k d).items ≡ true → suc k ≤ block_at x bs
 at-least x [] k d r h lt e = absurd (omega (arith, lt))
-at-least x (b ∷ bs) zero d r h lt e = elim (block-cases x b bs) [
-  | inl at ↦ absurd (let le = leb-true (length b.items) (less x b.items) e in let more = at.0 in
-      omega (arith, le, more))
-  | inr at ↦ (let same = at.1 in omega (arith, same))
-]
+at-least x (b ∷ bs) zero d r h lt e = grind arith
 at-least x (b ∷ bs) (suc k) d r h lt e =
     let later = at-least x bs k d (rises-back b.items (joined bs) r) h.1 (omega (arith, lt)) e in
-    elim (block-cases x b bs) [
-      | inl at ↦ absurd (let none = none-before x bs h.1 (from-seam x b.items (joined bs) r at.0) in
-          omega (arith, later, none))
-      | inr at ↦ (let same = at.1 in omega (arith, same, later))
-    ]
+    let none = none-before x bs h.1 in let seam = from-seam x b.items (joined bs) r in grind arith
 
 pub at-most : (x : ℕ) (bs : List (ArrayVec ℕ)) (k : ℕ) (d : ArrayVec ℕ) → k < length bs →
     all_below x (get_or bs k d).items ≡ false → block_at x bs ≤ k
 at-most x [] k d lt e = omega arith
-at-most x (b ∷ bs) zero d lt e = elim (block-cases x b bs) [
-  | inl at ↦ (let same = at.1 in omega (arith, same))
-  | inr at ↦ absurd (false≢true (sym e ∙ le-leb (length b.items) (less x b.items) at.0))
-]
-at-most x (b ∷ bs) (suc k) d lt e =
-    let later = at-most x bs k d (omega (arith, lt)) e in
-    elim (block-cases x b bs) [
-      | inl at ↦ (let same = at.1 in omega (arith, same))
-      | inr at ↦ (let same = at.1 in omega (arith, same, later))
-    ]
+at-most x (b ∷ bs) zero d lt e = grind arith
+at-most x (b ∷ bs) (suc k) d lt e = let later = at-most x bs k d (omega (arith, lt)) e in grind arith
 
 pub at-bound : (x : ℕ) (bs : List (ArrayVec ℕ)) → block_at x bs ≤ length bs
 at-bound x [] = omega arith
-at-bound x (b ∷ bs) = let later = at-bound x bs in elim (block-cases x b bs) [
-  | inl at ↦ (let same = at.1 in omega (arith, same))
-  | inr at ↦ (let same = at.1 in omega (arith, same, later))
-]
+at-bound x (b ∷ bs) = let later = at-bound x bs in grind arith
 
 -- how many numbers there are but one
 pub most-length : (b : ℕ) (ys : List ℕ) → most b ys ≤ length ys
 most-length b [] = omega arith
-most-length b (y ∷ ys) = let later = most-length b ys in elim (cases_lt b y) [
-  | inl lt ↦ (let none = most-none b y ys lt in omega (arith, none))
-  | inr ge ↦ (let more = most-more b y ys ge in omega (arith, more, later))
-]
+most-length b (y ∷ ys) = let later = most-length b ys in grind arith
 
 pub length-all_but : (b : ℕ) (ys : List ℕ) → Rises ys →
     length (all_but (Some b) ys) ≡ length ys - (most b ys - less b ys)
 length-all_but b [] r = refl
-length-all_but b (y ∷ ys) r = elim (cases_lt y b) [
-  | inl lt ↦
-      let low = less-more b y ys lt in let high = most-more b y ys (omega (arith, lt)) in
-      let later = length-all_but b ys r.1 in let within = most-length b ys in
-      let keep = ap length (but-kept b y ys (λ e. absurd (omega (arith, e, lt)))) in
-      omega (arith, low, high, later, within, keep)
-  | inr ge ↦ elim (cases_eq b y) [
-    | inl e ↦
-        let low = less-none b y ys ge in let high = most-more b y ys (omega (arith, e)) in
-        let none = none-below b ys (rw (sym e) at r.0) in
-        let later = length-all_but b ys r.1 in let within = most-length b ys in
-        let gone = ap length (but-gone b y ys e) in omega (arith, low, high, none, later, within, gone)
-    | inr ne ↦
-        let lt : b < y = omega (arith, ge, ne) in
-        let low = less-none b y ys ge in let high = most-none b y ys lt in
-        let keep = ap length (but-kept b y ys (λ e. absurd (omega (arith, e, lt)))) in
-        let rest = ap length (all_but-above b y ys lt r.0) in omega (arith, low, high, keep, rest)
-  ]
-]
+length-all_but b (y ∷ ys) r = let later = length-all_but b ys r.1 in let within = most-length b ys in
+    let none = none-below b ys in let rest = all_but-above b y ys in grind arith
 
 pub all-below : (b : ℕ) (ys : List ℕ) → Rises ys → get_or ys (length ys - 1) 0 < b → 0 < length ys →
     length ys ≡ length (all_but (Some b) ys)
@@ -445,19 +320,12 @@ but-length but b n ys e long = long ∙ ap (λ o. length (all_but o ys)) (sym e)
 
 pub all_but-length : (but : Option ℕ) (ys : List ℕ) → length (all_but but ys) ≤ length ys
 all_but-length but [] = omega arith
-all_but-length but (y ∷ ys) = let later = all_but-length but ys in
-    cond_both (not (is_but but y)) (y ∷ all_but but ys) (all_but but ys) (λ zs. length zs ≤ suc (length ys))
-    (λ e. omega (arith, later)) (λ e. omega (arith, later))
+all_but-length but (y ∷ ys) = let later = all_but-length but ys in grind arith
 
 -- the numbers at an index of joined blocks but one number
 all_but-joined : (but : Option ℕ) (fs bs : List ℕ) → all_but but (fs ++ bs) ≡ all_but but fs ++ all_but but bs
 all_but-joined but [] bs = refl
-all_but-joined but (a ∷ fs) bs = ap (λ zs. cond (not (is_but but a)) (a ∷ zs) zs) (all_but-joined but fs bs)
-    ∙ cond_both (not (is_but but a)) (a ∷ all_but but fs) (all_but but fs) (λ zs.
-    cond (not (is_but but a)) (a ∷ (all_but but fs ++ all_but but bs)) (all_but but fs ++ all_but but bs)
-    ≡ zs ++ all_but but bs)
-    (λ e. ap (λ t. cond t (a ∷ (all_but but fs ++ all_but but bs)) (all_but but fs ++ all_but but bs)) e)
-    (λ e. ap (λ t. cond t (a ∷ (all_but but fs ++ all_but but bs)) (all_but but fs ++ all_but but bs)) e)
+all_but-joined but (a ∷ fs) bs = let later = all_but-joined but fs bs in grind arith
 
 get-front : (fs bs : List ℕ) (k : ℕ) → k < length fs → slice_get (fs ++ bs) k ≡ slice_get fs k
 get-front [] bs k lt = absurd (omega (arith, lt))
@@ -552,7 +420,8 @@ taken zero t xs le = ap (λ k. take k xs) (omega arith)
 taken (suc n) zero xs le = absurd (omega (arith, le))
 taken (suc n) (suc t) [] le = take-nil (suc t - suc n)
 taken (suc n) (suc t) (x ∷ xs) le =
-    ap (λ k. x ∷ (take n xs ++ take k (drop n xs))) (omega arith) ∙ ap (λ zs. x ∷ zs) (taken n t xs (omega (arith, le)))
+    ap (λ k. x ∷ (take n xs ++ take k (drop n xs))) (omega arith) ∙ ap (λ zs. x ∷ zs)
+    (taken n t xs (omega (arith, le)))
 
 pub more-joined : (xs : List ℕ) (n t : ℕ) (bs cs : List (ArrayVec ℕ)) (w : ArrayVec ℕ) → n ≤ t →
     joined bs ≡ take n xs → cs ≡ bs ++ w ∷ [] → w.items ≡ take (t - n) (drop n xs) → joined cs ≡ take t xs
@@ -662,7 +531,8 @@ took-dense-but x bs k d w lt is e h =
     let few = take-shorter x d.items in let long = ap length e in let same = sized k bs d lt is in
     dense-but-set 65 bs k w (omega (arith, few, long, same)) h
 
-pub went-dense-but : (bs : List (ArrayVec ℕ)) (k : ℕ) → size_at k bs ≤ 1 → Dense 65 bs → DenseBut 1 1 65 k (remove bs k)
+pub went-dense-but : (bs : List (ArrayVec ℕ)) (k : ℕ) → size_at k bs ≤ 1 → Dense 65 bs → DenseBut 1 1 65 k
+    (remove bs k)
 went-dense-but bs k few h = dense-dense-but 1 1 65 (remove bs k) k (dense-remove 65 bs k few h)
 
 pub went : (x : ℕ) (bs : List (ArrayVec ℕ)) (k : ℕ) → k < length bs → k ≡ block_at x bs →

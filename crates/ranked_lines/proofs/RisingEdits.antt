@@ -1,11 +1,12 @@
 -- Rising lists that a number is put into or taken out of, by index and by how often each number is there.
 use Rattle.std.proofs.Common.{◌≡◌, ◌≢◌, ℕ, zero, suc, ◌+◌, ◌-◌, ◌*◌, ◌<◌, ◌≤◌, true, false, cond, eqb, leb, ltb, List}
-use Rattle.std.proofs.Common.{[], ◌∷◌, leb-true, not, Bool, length, get_or, inl, inr, Option, None, Some, refl, sym, ap}
+use Rattle.std.proofs.Common.{[], ◌∷◌, not, Bool, length, get_or, inl, inr, Option, None, Some, refl, sym}
+use Rattle.std.proofs.Common.{ap}
 use Rattle.std.proofs.Common.{◌∙◌, arith}
 use Rattle.std.specs.Option.{is_some}
 use Rattle.std.specs.List.{insert, prefix_len, remove, slice_get}
 use Rattle.std.specs.List.Sorted.{IsNonDecreasing, IsPartitionPoint}
-use Rattle.std.proofs.lemmas.Bool.{cases_Bool, cases_eq, cases_lt, cond_both, eq-eqb, le-leb, lt-ltb, ltb-true}
+use Rattle.std.proofs.lemmas.Bool.{cases_eq, cases_lt, cond_both, eq-eqb, le-leb, lt-ltb, ltb-true}
 use Rattle.std.proofs.lemmas.Bool.{ltb-false, ne_eqb}
 use Rattle.std.proofs.lemmas.List.Sums.{prefix_len_is}
 use Rattle.ranked_lines.specs.Rising.{all_but, is_but, put_in, room_of, sorted, take_out, tally, AllFrom, HasRoom}
@@ -40,16 +41,10 @@ abbrev pub most : ℕ → List ℕ → ℕ
 most b ys = prefix_len (λ y. leb y b) ys
 
 pub ge-ltb : (y x : ℕ) → x ≤ y → ltb y x ≡ false
-ge-ltb y x le = elim (cases_Bool (ltb y x)) [
-  | inl e ↦ absurd (let lt = ltb-true y x e in omega (arith, lt, le))
-  | inr e ↦ e
-]
+ge-ltb y x le = grind arith
 
 pub gt-leb : (y x : ℕ) → x < y → leb y x ≡ false
-gt-leb y x lt = elim (cases_Bool (leb y x)) [
-  | inl e ↦ absurd (let le = leb-true y x e in omega (arith, lt, le))
-  | inr e ↦ e
-]
+gt-leb y x lt = grind arith
 
 pub less-more : (b y : ℕ) (ys : List ℕ) → y < b → less b (y ∷ ys) ≡ suc (less b ys)
 less-more b y ys lt = ap (λ t. cond t (1 + less b ys) 0) (lt-ltb y b lt) ∙ omega arith
@@ -65,111 +60,58 @@ most-none b y ys lt = ap (λ t. cond t (1 + most b ys) 0) (gt-leb y b lt)
 
 pub less-most : (b : ℕ) (ys : List ℕ) → less b ys ≤ most b ys
 less-most b [] = omega arith
-less-most b (y ∷ ys) = elim (cases_lt y b) [
-  | inl lt ↦
-      let one = less-more b y ys lt in let two = most-more b y ys (omega (arith, lt)) in
-      let later = less-most b ys in omega (arith, one, two, later)
-  | inr ge ↦ (let none = less-none b y ys ge in omega (arith, none))
-]
+less-most b (y ∷ ys) = let later = less-most b ys in grind arith
 
 -- at most a number is below the next one
 pub less-next : (b : ℕ) (ys : List ℕ) → less (b + 1) ys ≡ most b ys
 less-next b [] = refl
-less-next b (y ∷ ys) = elim (cases_lt b y) [
-  | inl lt ↦ less-none (b + 1) y ys (omega (arith, lt)) ∙ sym (most-none b y ys lt)
-  | inr ge ↦
-      less-more (b + 1) y ys (omega (arith, ge)) ∙ ap suc (less-next b ys) ∙ sym (most-more b y ys (omega (arith, ge)))
-]
+less-next b (y ∷ ys) = let later = less-next b ys in grind arith
 
 -- the number at an index is below one exactly where so many are
 pub at-less : (b : ℕ) (ys : List ℕ) (at d : ℕ) → Rises ys → at < length ys → get_or ys at d < b → at < less b ys
 at-less b [] at d r in_list lt = absurd (omega (arith, in_list))
-at-less b (y ∷ ys) zero d r in_list lt = let more = less-more b y ys lt in omega (arith, more)
+at-less b (y ∷ ys) zero d r in_list lt = grind arith
 at-less b (y ∷ ys) (suc k) d r in_list lt =
     let first = from-at y ys k d r.0 (omega (arith, in_list)) in
-    let more = less-more b y ys (omega (arith, first, lt)) in
-    let later = at-less b ys k d r.1 (omega (arith, in_list)) lt in omega (arith, more, later)
+    let later = at-less b ys k d r.1 (omega (arith, in_list)) lt in grind arith
 
 pub at-from : (b : ℕ) (ys : List ℕ) (at d : ℕ) → at < length ys → b ≤ get_or ys at d → less b ys ≤ at
 at-from b [] at d in_list le = omega arith
-at-from b (y ∷ ys) at d in_list le = elim (cases_lt y b) [
-  | inl lt ↦ go at (at-from b ys) in_list le lt
-  | inr ge ↦ (let none = less-none b y ys ge in omega (arith, none))
-]
-  where
-    go : (k : ℕ) → ((i e : ℕ) → i < length ys → b ≤ get_or ys i e → less b ys ≤ i) → k < length (y ∷ ys) →
-        b ≤ get_or (y ∷ ys) k d → y < b → less b (y ∷ ys) ≤ k
-    go zero later h low lt = absurd (omega (arith, low, lt))
-    go (suc k) later h low lt =
-        let more = less-more b y ys lt in let rest = later k d (omega (arith, h)) low in omega (arith, more, rest)
+at-from b (y ∷ ys) zero d in_list le = grind arith
+at-from b (y ∷ ys) (suc k) d in_list le = let later = at-from b ys k d (omega (arith, in_list)) le in grind arith
 
 -- a number is put in before the first that isn't below it, or that one is taken out
-pub put-later : (x y : ℕ) (ys : List ℕ) → y < x → put_in x (y ∷ ys) ≡ y ∷ put_in x ys
-put-later x y ys lt = ap (λ t. cond t (y ∷ put_in x ys) (x ∷ y ∷ ys)) (lt-ltb y x lt)
-
-pub put-here : (x y : ℕ) (ys : List ℕ) → x ≤ y → put_in x (y ∷ ys) ≡ x ∷ y ∷ ys
-put-here x y ys le = ap (λ t. cond t (y ∷ put_in x ys) (x ∷ y ∷ ys)) (ge-ltb y x le)
-
-pub take-later : (x y : ℕ) (ys : List ℕ) → y < x → take_out x (y ∷ ys) ≡ y ∷ take_out x ys
-take-later x y ys lt = ap (λ t. cond t (y ∷ take_out x ys) ys) (lt-ltb y x lt)
-
-pub take-here : (x y : ℕ) (ys : List ℕ) → x ≤ y → take_out x (y ∷ ys) ≡ ys
-take-here x y ys le = ap (λ t. cond t (y ∷ take_out x ys) ys) (ge-ltb y x le)
 
 pub inserted : (x : ℕ) (ys : List ℕ) → insert ys (less x ys) x ≡ put_in x ys
 inserted x [] = refl
-inserted x (y ∷ ys) = elim (cases_lt y x) [
-  | inl lt ↦ ap (λ n. insert (y ∷ ys) n x) (less-more x y ys lt) ∙ ap (λ zs. y ∷ zs) (inserted x ys)
-      ∙ sym (put-later x y ys lt)
-  | inr ge ↦ ap (λ n. insert (y ∷ ys) n x) (less-none x y ys ge) ∙ sym (put-here x y ys ge)
-]
+inserted x (y ∷ ys) = let later = inserted x ys in let more = less-more x y ys in
+    let none = less-none x y ys in grind arith
 
 pub removed : (x : ℕ) (ys : List ℕ) → remove ys (less x ys) ≡ take_out x ys
 removed x [] = refl
-removed x (y ∷ ys) = elim (cases_lt y x) [
-  | inl lt ↦ ap (λ n. remove (y ∷ ys) n) (less-more x y ys lt) ∙ ap (λ zs. y ∷ zs) (removed x ys)
-      ∙ sym (take-later x y ys lt)
-  | inr ge ↦ ap (λ n. remove (y ∷ ys) n) (less-none x y ys ge) ∙ sym (take-here x y ys ge)
-]
+removed x (y ∷ ys) = let later = removed x ys in let more = less-more x y ys in
+    let none = less-none x y ys in grind arith
 
 pub none-removed : (x : ℕ) (ys : List ℕ) → length ys ≤ less x ys → ys ≡ take_out x ys
 none-removed x [] le = refl
-none-removed x (y ∷ ys) le = elim (cases_lt y x) [
-  | inl lt ↦
-      let later : length ys ≤ less x ys = (let more = less-more x y ys lt in omega (arith, le, more)) in
-      ap (λ zs. y ∷ zs) (none-removed x ys later) ∙ sym (take-later x y ys lt)
-  | inr ge ↦ absurd (let none = less-none x y ys ge in omega (arith, le, none))
-]
+none-removed x (y ∷ ys) le = let later = none-removed x ys in grind arith
 
 -- what is left rises
 from-take_out : (b x : ℕ) (ys : List ℕ) → AllFrom b ys → AllFrom b (take_out x ys)
 from-take_out b x [] h = tt
-from-take_out b x (y ∷ ys) h = cond_both (ltb y x) (y ∷ take_out x ys) ys (AllFrom b)
-    (λ e. (h.0, from-take_out b x ys h.1)) (λ e. h.1)
+from-take_out b x (y ∷ ys) h = let later = from-take_out b x ys h.1 in grind arith
 
 pub rises-take_out : (x : ℕ) (ys : List ℕ) → Rises ys → Rises (take_out x ys)
 rises-take_out x [] h = tt
-rises-take_out x (y ∷ ys) h = cond_both (ltb y x) (y ∷ take_out x ys) ys Rises
-    (λ e. (from-take_out y x ys h.0, rises-take_out x ys h.1)) (λ e. h.1)
+rises-take_out x (y ∷ ys) h =
+    let low = from-take_out y x ys h.0 in let later = rises-take_out x ys h.1 in grind arith
 
 -- a number that is there is taken out once
 tally-take_out : (c x : ℕ) (ys : List ℕ) → Rises ys → 1 ≤ tally x ys →
     tally c (take_out x ys) + cond (eqb x c) 1 0 ≡ tally c ys
 tally-take_out c x [] r there = absurd (omega (arith, there))
-tally-take_out c x (y ∷ ys) r there = elim (cases_lt y x) [
-  | inl lt ↦
-      let other : ◌≡◌ {A = ℕ} (cond (eqb y x) 1 0) 0 =
-      ap (λ b. cond b 1 0) (ne_eqb y x (λ e. absurd (omega (arith, e, lt)))) in
-      let later = tally-take_out c x ys r.1 (omega (arith, there, other)) in
-      rw (lt-ltb y x lt) (omega (arith, later))
-  | inr ge ↦
-      rw (ge-ltb y x ge) (elim (cases_eq y x) [
-        | inl e ↦ (let here : ◌≡◌ {A = ℕ} (cond (eqb y c) 1 0) (cond (eqb x c) 1 0) = ap (λ z. cond (eqb z c) 1 0) e in
-            omega (arith, here))
-        | inr ne ↦ absurd (let none = tally-none x (y ∷ ys) y (omega (arith, ge, ne)) (omega arith, r.0) in
-            omega (arith, there, none))
-      ])
-]
+tally-take_out c x (y ∷ ys) r there = let none = tally-none x ys y in
+    let later = tally-take_out c x ys r.1 in grind arith
 
 -- a list that is kept in order, after an exchange
 pub order-same : (line n : ℕ) (xs zs ys : List ℕ) → ys ≡ sorted xs → IsExchanged line n n xs zs → ys ≡ sorted zs
@@ -180,7 +122,8 @@ order-same line n xs zs ys e h = e ∙ one-sorted (sorted xs) (sorted zs) (rises
 pub order-entered : (line : ℕ) (xs zs ys : List ℕ) → ys ≡ sorted xs → IsExchanged line 0 1 xs zs →
     put_in line ys ≡ sorted zs
 order-entered line xs zs ys e h = ap (put_in line) e
-    ∙ one-sorted (put_in line (sorted xs)) (sorted zs) (rises-put_in line (sorted xs) (rises-sorted xs)) (rises-sorted zs)
+    ∙ one-sorted (put_in line (sorted xs)) (sorted zs) (rises-put_in line (sorted xs) (rises-sorted xs))
+    (rises-sorted zs)
     (λ c. (let first = tally-sorted c xs in let second = tally-sorted c zs in let both = h c in
     let put = tally-put_in c line (sorted xs) in
     let none : ◌≡◌ {A = ℕ} (cond (eqb line c) 0 0) 0 =
@@ -190,7 +133,8 @@ order-entered line xs zs ys e h = ap (put_in line) e
 pub order-left : (line : ℕ) (xs zs ys : List ℕ) → ys ≡ sorted xs → IsExchanged line 1 0 xs zs →
     take_out line ys ≡ sorted zs
 order-left line xs zs ys e h = ap (take_out line) e
-    ∙ one-sorted (take_out line (sorted xs)) (sorted zs) (rises-take_out line (sorted xs) (rises-sorted xs)) (rises-sorted zs)
+    ∙ one-sorted (take_out line (sorted xs)) (sorted zs) (rises-take_out line (sorted xs) (rises-sorted xs))
+    (rises-sorted zs)
     (λ c. (let first = tally-sorted c xs in let second = tally-sorted c zs in let both = h c in
     let there : 1 ≤ tally line (sorted xs) = (let same = h line in let at = tally-sorted line xs in
     let here : ◌≡◌ {A = ℕ} (cond (eqb line line) 1 0) 1 = ap (λ b. cond b 1 0) (eq-eqb line line refl) in
@@ -226,32 +170,17 @@ rises-exchanged goes x ys h =
 -- a rising list but one number
 from-all_but : (b : ℕ) (but : Option ℕ) (ys : List ℕ) → AllFrom b ys → AllFrom b (all_but but ys)
 from-all_but b but [] h = tt
-from-all_but b but (y ∷ ys) h = cond_both (not (is_but but y)) (y ∷ all_but but ys) (all_but but ys) (AllFrom b)
-    (λ e. (h.0, from-all_but b but ys h.1)) (λ e. from-all_but b but ys h.1)
+from-all_but b but (y ∷ ys) h = let later = from-all_but b but ys h.1 in grind arith
 
 rises-all_but : (but : Option ℕ) (ys : List ℕ) → Rises ys → Rises (all_but but ys)
 rises-all_but but [] h = tt
-rises-all_but but (y ∷ ys) h = cond_both (not (is_but but y)) (y ∷ all_but but ys) (all_but but ys) Rises
-    (λ e. (from-all_but y but ys h.0, rises-all_but but ys h.1)) (λ e. rises-all_but but ys h.1)
-
-kept-tally : (c y : ℕ) (k : Bool) (us ys : List ℕ) → y ≡ c → tally c us ≡ cond k (tally c ys) 0 →
-    tally c (cond k (y ∷ us) us) ≡ cond k (tally c (y ∷ ys)) 0
-kept-tally c y true us ys e later = omega (arith, later)
-kept-tally c y false us ys e later = later
+rises-all_but but (y ∷ ys) h =
+    let low = from-all_but y but ys h.0 in let later = rises-all_but but ys h.1 in grind arith
 
 tally-all_but : (c : ℕ) (but : Option ℕ) (ys : List ℕ) →
     tally c (all_but but ys) ≡ cond (not (is_but but c)) (tally c ys) 0
-tally-all_but c but [] = cond_both (not (is_but but c)) 0 0 (λ n. 0 ≡ n) (λ e. refl) (λ e. refl)
-tally-all_but c but (y ∷ ys) = elim (cases_eq y c) [
-  | inl e ↦ ap (λ z. tally c (cond (not (is_but but z)) (y ∷ all_but but ys) (all_but but ys))) e
-      ∙ kept-tally c y (not (is_but but c)) (all_but but ys) ys e (tally-all_but c but ys)
-  | inr ne ↦
-      let other : ◌≡◌ {A = ℕ} (cond (eqb y c) 1 0) 0 = ap (λ b. cond b 1 0) (ne_eqb y c ne) in
-      let whole : tally c ys ≡ tally c (y ∷ ys) = omega (arith, other) in
-      cond_both (not (is_but but y)) (y ∷ all_but but ys) (all_but but ys)
-      (λ zs. tally c zs ≡ tally c (all_but but ys)) (λ e. omega (arith, other)) (λ e. refl)
-      ∙ tally-all_but c but ys ∙ ap (λ n. cond (not (is_but but c)) n 0) whole
-]
+tally-all_but c but [] = grind arith
+tally-all_but c but (y ∷ ys) = let later = tally-all_but c but ys in grind arith
 
 pub sorted-all_but : (but : Option ℕ) (xs : List ℕ) → sorted (all_but but xs) ≡ all_but but (sorted xs)
 sorted-all_but but xs =
@@ -263,14 +192,11 @@ sorted-all_but but xs =
 -- where the number stands that comes after so many others but that one
 pub all_but-above : (b x : ℕ) (ys : List ℕ) → b < x → AllFrom x ys → all_but (Some b) ys ≡ ys
 all_but-above b x [] lt h = refl
-all_but-above b x (y ∷ ys) lt h =
-    let first = h.0 in
-    let other : eqb b y ≡ false = ne_eqb b y (λ e. absurd (omega (arith, e, first, lt))) in
-    rw other (ap (λ zs. y ∷ zs) (all_but-above b x ys lt h.1))
+all_but-above b x (y ∷ ys) lt h = let later = all_but-above b x ys lt h.1 in grind arith
 
 pub none-below : (b : ℕ) (ys : List ℕ) → AllFrom b ys → prefix_len (λ y. ltb y b) ys ≡ 0
 none-below b [] h = refl
-none-below b (y ∷ ys) h = rw (ge-ltb y b h.0) refl
+none-below b (y ∷ ys) h = grind arith
 
 pub but-kept : (b y : ℕ) (ys : List ℕ) → b ≢ y → all_but (Some b) (y ∷ ys) ≡ y ∷ all_but (Some b) ys
 but-kept b y ys ne = ap (λ t. cond (not t) (y ∷ all_but (Some b) ys) (all_but (Some b) ys)) (ne_eqb b y ne)
@@ -281,16 +207,8 @@ but-gone b y ys e = ap (λ t. cond (not t) (y ∷ all_but (Some b) ys) (all_but 
 pub before-but : (b : ℕ) (ys : List ℕ) (at : ℕ) → at < less b ys →
     slice_get ys at ≡ slice_get (all_but (Some b) ys) at
 before-but b [] at lt = absurd (omega (arith, lt))
-before-but b (y ∷ ys) at lt = elim (cases_lt y b) [
-  | inl up ↦ sym (ap (λ zs. slice_get zs at) (but-kept b y ys (λ e. absurd (omega (arith, e, up))))
-      ∙ go at (before-but b ys) (let more = less-more b y ys up in omega (arith, lt, more)))
-  | inr ge ↦ absurd (let none = less-none b y ys ge in omega (arith, lt, none))
-]
-  where
-    go : (k : ℕ) → ((i : ℕ) → i < less b ys → slice_get ys i ≡ slice_get (all_but (Some b) ys) i) →
-        k < suc (less b ys) → slice_get (y ∷ all_but (Some b) ys) k ≡ slice_get (y ∷ ys) k
-    go zero later h = refl
-    go (suc k) later h = sym (later k (omega (arith, h)))
+before-but b (y ∷ ys) zero lt = grind arith
+before-but b (y ∷ ys) (suc k) lt = let later = before-but b ys k in grind arith
 
 pub from-but : (b : ℕ) (ys : List ℕ) (at : ℕ) → Rises ys → less b ys ≤ at →
     slice_get ys (at + (most b ys - less b ys)) ≡ slice_get (all_but (Some b) ys) at

@@ -1,11 +1,11 @@
 -- Rising lists: the one list of its numbers that rises, and the number at an index of it.
-use Rattle.std.proofs.Common.{◌≡◌, ◌≢◌, ℕ, suc, ◌+◌, ◌<◌, ◌≤◌, cond, eqb, ltb, List, [], ◌∷◌}
-use Rattle.std.proofs.Common.{◌++◌, length, get_or, inl, inr, None, Some, refl, sym, ap, ◌∙◌, arith, IsPermutation}
+use Rattle.std.proofs.Common.{◌≡◌, ℕ, suc, ◌+◌, ◌<◌, ◌≤◌, cond, eqb, ltb, List, [], ◌∷◌}
+use Rattle.std.proofs.Common.{◌++◌, length, get_or, None, Some, refl, sym, ap, ◌∙◌, arith, IsPermutation}
 use Rattle.std.proofs.Common.{IsSorted}
 use Rattle.std.specs.List.{slice_get, sum_by}
 use Rattle.std.specs.List.Sorted.{IsSplitAround, IsNonDecreasing}
 use Rattle.std.specs.Ordering.{nat_cmp}
-use Rattle.std.proofs.lemmas.Bool.{cases_lt, cond_both, eq-eqb, ltb-false, ltb-true, ne_eqb}
+use Rattle.std.proofs.lemmas.Bool.{cond_both}
 use Rattle.std.proofs.lemmas.List.Sorted.{sum_by-IsPermutation, IsNonDecreasingBy-from_sort, IsPermutation-refl}
 use Rattle.std.proofs.lemmas.List.Sorted.{IsPermutation-cons, IsPermutation-middle, IsPermutation-sym}
 use Rattle.std.proofs.lemmas.List.Sorted.{IsPermutation-trans}
@@ -31,10 +31,7 @@ tally-permuted c xs ys p =
 -- a number put in is counted once more
 pub tally-put_in : (c x : ℕ) (ys : List ℕ) → tally c (put_in x ys) ≡ cond (eqb x c) 1 0 + tally c ys
 tally-put_in c x [] = refl
-tally-put_in c x (y ∷ ys) = cond_both (ltb y x) (y ∷ put_in x ys) (x ∷ y ∷ ys)
-    (λ zs. tally c zs ≡ cond (eqb x c) 1 0 + (cond (eqb y c) 1 0 + tally c ys))
-    (λ e. (let later = tally-put_in c x ys in omega (arith, later)))
-    (λ e. refl)
+tally-put_in c x (y ∷ ys) = let later = tally-put_in c x ys in grind arith
 
 pub tally-sorted : (c : ℕ) (xs : List ℕ) → tally c (sorted xs) ≡ tally c xs
 tally-sorted c [] = refl
@@ -51,15 +48,11 @@ from-weaker a b (x ∷ xs) le h = (let first = h.0 in omega (arith, le, first), 
 
 from-put_in : (b x : ℕ) (ys : List ℕ) → b ≤ x → AllFrom b ys → AllFrom b (put_in x ys)
 from-put_in b x [] le h = (le, tt)
-from-put_in b x (y ∷ ys) le h = cond_both (ltb y x) (y ∷ put_in x ys) (x ∷ y ∷ ys) (AllFrom b)
-    (λ e. (h.0, from-put_in b x ys le h.1))
-    (λ e. (le, h))
+from-put_in b x (y ∷ ys) le h = let later = from-put_in b x ys le h.1 in grind arith
 
 to-put_in : (b x : ℕ) (ys : List ℕ) → x ≤ b → AllTo b ys → AllTo b (put_in x ys)
 to-put_in b x [] le h = (le, tt)
-to-put_in b x (y ∷ ys) le h = cond_both (ltb y x) (y ∷ put_in x ys) (x ∷ y ∷ ys) (AllTo b)
-    (λ e. (h.0, to-put_in b x ys le h.1))
-    (λ e. (le, h))
+to-put_in b x (y ∷ ys) le h = let later = to-put_in b x ys le h.1 in grind arith
 
 from-sorted : (b : ℕ) (xs : List ℕ) → AllFrom b xs → AllFrom b (sorted xs)
 from-sorted b [] h = tt
@@ -72,9 +65,8 @@ to-sorted b (x ∷ xs) h = to-put_in b x (sorted xs) h.0 (to-sorted b xs h.1)
 -- what is sorted rises
 pub rises-put_in : (x : ℕ) (ys : List ℕ) → Rises ys → Rises (put_in x ys)
 rises-put_in x [] h = (tt, tt)
-rises-put_in x (y ∷ ys) h = cond_both (ltb y x) (y ∷ put_in x ys) (x ∷ y ∷ ys) Rises
-    (λ e. (let lt : y < x = ltb-true y x e in from-put_in y x ys (omega (arith, lt)) h.0, rises-put_in x ys h.1))
-    (λ e. (let le : x ≤ y = ltb-false y x e in ((le, from-weaker x y ys le h.0), h)))
+rises-put_in x (y ∷ ys) h = let low = from-put_in y x ys in let weaker = from-weaker x y ys in
+    let later = rises-put_in x ys h.1 in grind arith
 
 pub rises-sorted : (xs : List ℕ) → Rises (sorted xs)
 rises-sorted [] = tt
@@ -97,22 +89,14 @@ permuted-sorted (x ∷ xs) = IsPermutation-trans (x ∷ xs) (x ∷ sorted xs) (p
 -- a number below all isn't there
 pub tally-none : (c : ℕ) (xs : List ℕ) (b : ℕ) → c < b → AllFrom b xs → tally c xs ≡ 0
 tally-none c [] b lt h = refl
-tally-none c (x ∷ xs) b lt h =
-    let ne : x ≢ c = λ e. absurd (let first = h.0 in omega (arith, e, first, lt)) in
-    let here : ◌≡◌ {A = ℕ} (cond (eqb x c) 1 0) 0 = ap (λ t. cond t 1 0) (ne_eqb x c ne) in
-    let later = tally-none c xs b lt h.1 in omega (arith, here, later)
+tally-none c (x ∷ xs) b lt h = let later = tally-none c xs b lt h.1 in grind arith
 
 tally-first : (x : ℕ) (xs : List ℕ) → 1 ≤ tally x (x ∷ xs)
-tally-first x xs =
-    let here : ◌≡◌ {A = ℕ} (cond (eqb x x) 1 0) 1 = ap (λ t. cond t 1 0) (eq-eqb x x refl) in omega (arith, here)
+tally-first x xs = grind arith
 
 -- two rising lists of the same numbers begin with the same
 first-least : (x y : ℕ) (xs ys : List ℕ) → AllFrom y ys → tally x (x ∷ xs) ≡ tally x (y ∷ ys) → y ≤ x
-first-least x y xs ys h e = elim (cases_lt x y) [
-  | inl lt ↦ (let none = tally-none x (y ∷ ys) y lt (omega arith, h) in let one = tally-first x xs in
-      absurd (omega (arith, e, none, one)))
-  | inr ge ↦ omega (arith, ge)
-]
+first-least x y xs ys h e = let none = tally-none x ys y in let one = tally-first x xs in grind arith
 
 -- two rising lists of the same numbers are one
 pub one-sorted : (xs ys : List ℕ) → Rises xs → Rises ys → ((c : ℕ) → tally c xs ≡ tally c ys) → xs ≡ ys
@@ -167,8 +151,7 @@ rises-joined x (f ∷ fs) bs r to from s = (go fs r.0, rises-joined x fs bs r.1 
 
 length-put_in : (x : ℕ) (ys : List ℕ) → length (put_in x ys) ≡ suc (length ys)
 length-put_in x [] = refl
-length-put_in x (y ∷ ys) = cond_both (ltb y x) (y ∷ put_in x ys) (x ∷ y ∷ ys)
-    (λ zs. length zs ≡ suc (suc (length ys))) (λ e. ap suc (length-put_in x ys)) (λ e. refl)
+length-put_in x (y ∷ ys) = let later = length-put_in x ys in grind arith
 
 pub length-sorted : (xs : List ℕ) → length (sorted xs) ≡ length xs
 length-sorted [] = refl

@@ -1,15 +1,16 @@
 -- Lists that are dealt to hands, one item after another.
-use Rattle.std.proofs.Common.{◌≡◌, ◌≢◌, ℕ, ◌+◌, ◌*◌, ◌/◌, ◌%◌, ◌<◌, ◌≤◌, List, [], ◌∷◌, ◌++◌, length, All}
-use Rattle.std.proofs.Common.{Some, get_or, ⊎_elim, sym, ap, ◌∙◌, subst, arith}
+use Rattle.std.proofs.Common.{◌≡◌, ℕ, ◌+◌, ◌*◌, ◌/◌, ◌%◌, ◌<◌, List, [], ◌∷◌, ◌++◌, length, All}
+use Rattle.std.proofs.Common.{Some, get_or, sym, ap, ◌∙◌, subst, arith}
 use Rattle.std.proofs.Common.{length-append, get_or-set_same, get_or-set_other}
 use Rattle.std.specs.Prelude.{slice_get}
 use Rattle.std.specs.List.{AllZip}
 use Rattle.std.proofs.Math.ListN.{set, length-set}
-use Rattle.std.proofs.lemmas.Bool.{cases_eq, cases_lt}
+use Rattle.std.proofs.lemmas.Bool.{cases_eq}
 use Rattle.std.proofs.lemmas.Nat.{mod_below}
 use Rattle.std.proofs.lemmas.Option.{slice_get-get_or, slice_get_within, get_or_from_slice_get}
 use Rattle.round_robin.specs.Dealing.{IsDealtInTurn, HasLengths, hand_of}
-use Rattle.round_robin.proofs.Places.{hand_there, same_hand, same_place, split_place, turn_of, lower_place, lower_row, snoc_here, snoc_there}
+use Rattle.round_robin.proofs.Places.{hand_there, same_hand, same_place, split_place, turn_of, lower_place, lower_row}
+use Rattle.round_robin.proofs.Places.{snoc_here, snoc_there}
 use Rattle.round_robin.proofs.Places.{same_by_get, within_both, nothing_at, BothAt, zip_at, zip_from_places}
 
 module _ {A : Type 0} where
@@ -26,20 +27,11 @@ module _ {A : Type 0} where
   }
 
   -- the length of the hand that gets the next item
-  pub next_length : (items first n : ℕ) (lists : List (List A)) (q r : ℕ) → HasLengths items first n lists → items ≡ n * q + r →
-      r < n → length (get_or lists (hand_of first n r) []) ≡ q
+  pub next_length : (items first n : ℕ) (lists : List (List A)) (q r : ℕ) → HasLengths items first n lists →
+      items ≡ n * q + r → r < n → length (get_or lists (hand_of first n r) []) ≡ q
   next_length items first n lists q r d e rn =
-      let l = length (get_or lists (hand_of first n r) []) in
-      ⊎_elim
-      (λ (lt : l < q).
-      let low : n * l + r < n * q + r = lower_place n l q r d.some lt in
-      let z : l < l = (d.at r l rn).1 (omega arith) in
-      absurd (omega arith))
-      (λ (le : q ≤ l). ⊎_elim
-      (λ (lt : q < l). let z : n * q + r < items = (d.at r q rn).0 lt in absurd (omega arith))
-      (λ (ge : l ≤ q). omega arith)
-      (cases_lt q l))
-      (cases_lt l q)
+      let l = length (get_or lists (hand_of first n r) []) in let low = lower_place n l q r d.some in
+      let within = (d.at r l rn).1 in let there = (d.at r q rn).0 in grind arith
 
   -- one more item is dealt
   pub one_more : (front : List A) (first n : ℕ) (lists : List (List A)) (q r : ℕ) (x : A) → IsDealtInTurn front
@@ -55,73 +47,45 @@ module _ {A : Type 0} where
       record {
         some = d.some;
         count = length-set lists (hand_of first n r) (l ++ x ∷ []) ∙ d.count;
-        at = λ h k hn. ⊎_elim
-            (λ (same : h ≡ r). ⊎_elim
-            (λ (last : k ≡ q).
-            ap (λ z. slice_get (get_or (set lists (hand_of first n r) (l ++ x ∷ [])) (hand_of first n z) []) k) same
-            ∙ ap (λ z. slice_get z k) (get_or-set_same lists (hand_of first n r) (l ++ x ∷ []) [] inside)
-            ∙ snoc_here l x k (last ∙ sym long)
-            ∙ sym (snoc_here front x (n * k + h) (ap (λ z. n * z + h) last ∙ ap (λ z. n * q + z) same ∙ sym e)))
-            (λ (other : k ≢ q).
-            ap (λ z. slice_get (get_or (set lists (hand_of first n r) (l ++ x ∷ [])) (hand_of first n z) []) k) same
-            ∙ ap (λ z. slice_get z k) (get_or-set_same lists (hand_of first n r) (l ++ x ∷ []) [] inside)
-            ∙ snoc_there l x k (λ z. other (z ∙ long))
-            ∙ d.at r k rn
-            ∙ ap (λ z. slice_get front (n * k + z)) (sym same)
-            ∙ sym (snoc_there front x (n * k + h) (λ z. other (same_place n k h q r hn rn (z ∙ e)).0)))
-            (cases_eq k q))
-            (λ (other : h ≢ r).
-            ap (λ z. slice_get z k) (get_or-set_other lists (hand_of first n r) (hand_of first n h) (l ++ x ∷ []) [] (λ z. other (same_hand first n h r hn rn z)))
-            ∙ d.at h k hn
-            ∙ sym (snoc_there front x (n * k + h) (λ z. other (same_place n k h q r hn rn (z ∙ e)).1)))
-            (cases_eq h r);
+        at = λ h k hn.
+            let turn = cases_eq h r in let row = cases_eq k q in let hand = same_hand first n h r hn rn in
+            let place = same_place n k h q r hn rn in let was = d.at h k hn in
+            let put = get_or-set_same lists (hand_of first n r) (l ++ x ∷ []) [] inside in
+            let other = get_or-set_other lists (hand_of first n r) (hand_of first n h) (l ++ x ∷ []) [] in
+            let here = snoc_here l x k in let there = snoc_there l x k in let last = snoc_here front x (n * k + h) in
+            let before = snoc_there front x (n * k + h) in grind arith;
       }
 
   -- the hand that got the last item has one more than it had
   pub last_length : (items first n : ℕ) (lists : List (List A)) (q r : ℕ) → HasLengths (items + 1) first n lists →
       items ≡ n * q + r → r < n → length (get_or lists (hand_of first n r) []) ≡ q + 1
   last_length items first n lists q r d e rn =
-      let l = length (get_or lists (hand_of first n r) []) in
-      let has : q < l = (d.at r q rn).1 (omega arith) in
-      ⊎_elim
-      (λ (lt : q + 1 < l).
-      let z : n * (q + 1) + r < items + 1 = (d.at r (q + 1) rn).0 lt in
-      let some : 0 < n = d.some in
-      absurd (omega arith))
-      (λ (le : l ≤ q + 1). omega arith)
-      (cases_lt (q + 1) l)
+      let has : q < length (get_or lists (hand_of first n r) []) = (d.at r q rn).1 (omega arith) in
+      let there = (d.at r (q + 1) rn).0 in let some = d.some in grind arith
 
   -- the last item is taken back
   pub one_less : (items first n : ℕ) (lists : List (List A)) (q r : ℕ) (l : List A) (x : A) →
-      HasLengths (items + 1) first n lists → items ≡ n * q + r → r < n → get_or lists (hand_of first n r) [] ≡ l ++ x ∷ [] →
-      HasLengths items first n (set lists (hand_of first n r) l)
+      HasLengths (items + 1) first n lists → items ≡ n * q + r → r < n →
+      get_or lists (hand_of first n r) [] ≡ l ++ x ∷ [] → HasLengths items first n (set lists (hand_of first n r) l)
   one_less items first n lists q r l x d e rn ends =
       let below = mod_below (first + r) n d.some in
       let inside : hand_of first n r < length lists = omega (arith, d.count) in
       let long : length l ≡ q =
       (let a = last_length items first n lists q r d e rn in
-      let b : length (get_or lists (hand_of first n r) []) ≡ length l + 1 = ap length ends ∙ length-append l (x ∷ []) in
+      let b : length (get_or lists (hand_of first n r) []) ≡ length l + 1 = ap length ends ∙ length-append l (x ∷ [])
+      in
       omega arith) in
       let some : 0 < n = d.some in
       record {
         some = d.some;
         count = length-set lists (hand_of first n r) l ∙ d.count;
-        at = λ h k hn. ⊎_elim
-            (λ (same : h ≡ r).
-            let here : length (get_or (set lists (hand_of first n r) l) (hand_of first n h) []) ≡ q =
-            ap (λ z. length (get_or (set lists (hand_of first n r) l) (hand_of first n z) [])) same
-            ∙ ap length (get_or-set_same lists (hand_of first n r) l [] inside) ∙ long in (
-              λ lt. (let up : n * k + r < n * q + r = lower_place n k q r some (omega arith) in omega arith),
-              λ lt. (let down : k < q = lower_row n k q r (omega arith) in omega arith),
-            ))
-            (λ (other : h ≢ r).
-            let there : length (get_or (set lists (hand_of first n r) l) (hand_of first n h) []) ≡ length (get_or lists (hand_of first n h) []) =
-            ap length (get_or-set_other lists (hand_of first n r) (hand_of first n h) l [] (λ z. other (same_hand first n h r hn rn z))) in
-            let apart : n * k + h ≢ items = λ z. other (same_place n k h q r hn rn (z ∙ e)).1 in (
-              λ lt. (let below = (d.at h k hn).0 (omega arith) in omega arith),
-              λ lt. (let below = (d.at h k hn).1 (omega arith) in omega arith),
-            ))
-            (cases_eq h r);
+        at = λ h k hn.
+            let turn = cases_eq h r in let hand = same_hand first n h r hn rn in
+            let place = same_place n k h q r hn rn in let was = d.at h k hn in
+            let put = get_or-set_same lists (hand_of first n r) l [] inside in
+            let other = get_or-set_other lists (hand_of first n r) (hand_of first n h) l [] in
+            let up = lower_place n k q r some in let down = lower_row n k q r in
+            (λ lt. grind arith, λ lt. grind arith);
       }
 
   -- hands of no items are those of the empty list
@@ -129,7 +93,8 @@ module _ {A : Type 0} where
   none_dealt first n lists d = record {
     some = d.some;
     count = d.count;
-    at = λ h k hn. nothing_at (get_or lists (hand_of first n h) []) k (λ lt. (let z = (d.at h k hn).0 lt in omega arith));
+    at = λ h k hn. nothing_at (get_or lists (hand_of first n h) []) k
+        (λ lt. (let z = (d.at h k hn).0 lt in omega arith));
   }
 
   -- the hand and the place at which an item is
@@ -156,8 +121,10 @@ module _ {A : Type 0} where
 
 module _ {A B : Type 0} where
   -- hands of which each is as long as before have the lengths of as many items
-  pub same_lengths : (items first n : ℕ) (before : List (List A)) (after : List (List B)) → HasLengths items first n before →
-      length after ≡ n → ((h : ℕ) → h < n → length (get_or after (hand_of first n h) []) ≡ length (get_or before (hand_of first n h) [])) →
+  pub same_lengths : (items first n : ℕ) (before : List (List A)) (after : List (List B)) → HasLengths items first n
+      before →
+      length after ≡ n → ((h : ℕ) → h < n → length (get_or after (hand_of first n h) []) ≡ length
+      (get_or before (hand_of first n h) [])) →
       HasLengths items first n after
   same_lengths items first n before after d long e = record {
     some = d.some;
@@ -171,13 +138,16 @@ module _ {A B : Type 0} where
   -- where R holds item by item in each hand, it does so in the lists that were dealt
   pub related : (R : A → B → Type 0) (xs : List A) (ys : List B) (first n : ℕ) (before : List (List A))
       (after : List (List B)) → IsDealtInTurn xs first n before → IsDealtInTurn ys first n after →
-      ((h : ℕ) → h < n → AllZip R (get_or before (hand_of first n h) []) (get_or after (hand_of first n h) [])) → AllZip R xs ys
+      ((h : ℕ) → h < n → AllZip R (get_or before (hand_of first n h) []) (get_or after (hand_of first n h) [])) →
+      AllZip R xs ys
   related R xs ys first n before after d e each =
       zip_from_places R xs ys (λ i.
       let r = mod_below i n d.some in
-      let here = zip_at R (get_or before (hand_of first n (i % n)) []) (get_or after (hand_of first n (i % n)) []) (each (i % n) r) (i / n) in
+      let here = zip_at R (get_or before (hand_of first n (i % n)) []) (get_or after (hand_of first n (i % n)) [])
+      (each (i % n) r) (i / n) in
       subst (λ z. BothAt R z (slice_get ys i)) (sym (item_at xs first n before d i))
-      (subst (BothAt R (slice_get (get_or before (hand_of first n (i % n)) []) (i / n))) (sym (item_at ys first n after e i)) here))
+      (subst (BothAt R (slice_get (get_or before (hand_of first n (i % n)) []) (i / n)))
+      (sym (item_at ys first n after e i)) here))
 
 module _ {A : Type 0} (P : A → Type 0) (xs : List A) (first n : ℕ) (lists : List (List A))
     (d : IsDealtInTurn xs first n lists) where

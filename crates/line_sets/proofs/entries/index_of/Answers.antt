@@ -13,7 +13,8 @@ loop-left-preserved c = record {
 }
 
 pub returns-then-entries-left-clause-index : goal.returns-then-entries-left-clause-index
-returns-then-entries-left-clause-index c = distinct-first c.args.entries.now c.args.line (c.loop-left.left - 1) _ c.requires
+returns-then-entries-left-clause-index c = distinct-first c.args.entries.now c.args.line (c.loop-left.left - 1) _
+    c.requires
     (omega (arith, c.loop-left.invariant.within, c.loop-left-test.true)) c.if-entries-left.true
 
 pub returns-clause-index : goal.returns-clause-index

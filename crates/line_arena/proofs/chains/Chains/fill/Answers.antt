@@ -1,16 +1,17 @@
 use Rattle.std.proofs.Common.{set, Some, None, sym, ap, subst, ◌∙◌, arith, get_or-set_same}
+use Rattle.std.proofs.lemmas.List.{set-set}
 use Rattle.line_arena.specs.CellLists.{append_to}
 use Rattle.line_arena.specs.Chains.{IsTied, SameUse}
 use Rattle.line_arena.specs.Filled.{IsFilled}
 use Rattle.line_arena.specs.Rings.{node, at, or_blank, rings}
-use Rattle.line_arena.proofs.EmptiedCells.{set_twice, set_none}
+use Rattle.line_arena.proofs.EmptiedCells.{set_none}
 use Rattle.line_arena.proofs.Shows.{arena_from}
 use Rattle.line_arena.proofs.chains.Chains.fill.Goals as goal
 
 pub hook-requires-clause-tied : goal.hook-requires-clause-tied
 hook-requires-clause-tied g c =
     let s = c.args.self.now in let x = c.args.cell in let n = node 0 0 c.args.list c.args.item in
-    let back = ap (λ cs. set cs x None) c.put.ensures ∙ set_twice s.block x (Some n) None
+    let back = ap (λ cs. set cs x None) c.put.ensures ∙ set-set s.block x (Some n) None
     ∙ set_none s.block x c.requires.lacks.gap.1 in
     subst (λ cs. IsTied (record { block = cs; heads = s.heads; capacity = s.capacity; used = s.used })) (sym back)
     c.requires.lacks.tied
@@ -32,7 +33,7 @@ pub returns-clause-arena : goal.returns-clause-arena
 returns-clause-arena g c =
     let s = c.args.self.now in let x = c.args.cell in let l = c.args.list in let n = node 0 0 l c.args.item in
     let a = c.requires.lacks in
-    let back = ap (λ cs. set cs x None) c.put.ensures ∙ set_twice s.block x (Some n) None
+    let back = ap (λ cs. set cs x None) c.put.ensures ∙ set-set s.block x (Some n) None
     ∙ set_none s.block x a.gap.1 in
     let low = a.gap.0 in let most = a.total.1 in let cells = a.tied.tied.cells in let e = c.hook.ensures in
     let item = ap (λ cs. (at cs x).item) c.put.ensures ∙ ap (λ o. (or_blank o).item)
@@ -48,7 +49,7 @@ pub returns-clause-lists : goal.returns-clause-lists
 returns-clause-lists g c =
     let s = c.args.self.now in let x = c.args.cell in let l = c.args.list in let n = node 0 0 l c.args.item in
     let a = c.requires.lacks in
-    let back = ap (λ cs. set cs x None) c.put.ensures ∙ set_twice s.block x (Some n) None
+    let back = ap (λ cs. set cs x None) c.put.ensures ∙ set-set s.block x (Some n) None
     ∙ set_none s.block x a.gap.1 in
     let low = a.gap.0 in let most = a.total.1 in let cells = a.tied.tied.cells in
     let item = ap (λ cs. (at cs x).item) c.put.ensures ∙ ap (λ o. (or_blank o).item)

@@ -1,9 +1,8 @@
 use Rattle.std.proofs.Common.{◌≡◌, ◌+◌, length, set, Some, None, sym, ap, subst, ◌∙◌, arith, length-set}
 use Rattle.std.proofs.Common.{get_or-set_same}
-use Rattle.std.proofs.lemmas.List.{get_or_read}
+use Rattle.std.proofs.lemmas.List.{get_or_read, set-set}
 use Rattle.line_arena.specs.Rings.{no_head, node, at, with_next, edit}
 use Rattle.line_arena.specs.Filled.{IsFilled}
-use Rattle.line_arena.proofs.EmptiedCells.{set_twice}
 use Rattle.line_arena.proofs.Moves.{attach_made, last_near, edit_filled, Kept, kept_set, kept_edit}
 use Rattle.line_arena.proofs.chains.Chains.hook.Goals as goal
 
@@ -16,7 +15,7 @@ set_next-requires g c =
     t.cells in
     let free = get_or-set_same s.block x None None (omega (arith, c.requires.cell.0, long, cells)) in
     let is = get_or_read s.heads.items l h c.requires.list c.index-head.ensures no_head in
-    λ low. subst (λ cs. IsFilled cs h.last) (sym (c.set_links.ensures ∙ sym (set_twice s.block x None (Some n))))
+    λ low. subst (λ cs. IsFilled cs h.last) (sym (c.set_links.ensures ∙ sym (set-set s.block x None (Some n))))
     (last_near (set s.block x None) s.capacity s.heads.items t l x h n c.requires.list free is low)
 
 pub returns-clause-tied : goal.returns-clause-tied
@@ -30,7 +29,7 @@ returns-clause-tied g c =
     let free = get_or-set_same s.block x None None (omega (arith, c.requires.cell.0, long, many)) in
     let is = get_or_read s.heads.items l h c.requires.list c.index-head.ensures no_head in
     let cells = c.set_next.ensures ∙ ap (λ cs. edit s.capacity (with_next x) cs h.last) (c.set_links.ensures
-    ∙ sym (set_twice s.block x None (Some n))) in
+    ∙ sym (set-set s.block x None (Some n))) in
     let made = attach_made (set s.block x None) s.capacity s.heads.items t l x it h c.choose.result
     c.set_next.new.block c.requires.list c.requires.cell.0 free is c.choose.ensures cells in
     record {
@@ -57,7 +56,7 @@ returns-clause-rings g c =
     let free = get_or-set_same s.block x None None (omega (arith, c.requires.cell.0, long, many)) in
     let is = get_or_read s.heads.items l h c.requires.list c.index-head.ensures no_head in
     let cells = c.set_next.ensures ∙ ap (λ cs. edit s.capacity (with_next x) cs h.last) (c.set_links.ensures
-    ∙ sym (set_twice s.block x None (Some n))) in
+    ∙ sym (set-set s.block x None (Some n))) in
     (attach_made (set s.block x None) s.capacity s.heads.items t l x it h c.choose.result c.set_next.new.block
     c.requires.list c.requires.cell.0 free is c.choose.ensures cells).1
 
@@ -70,7 +69,7 @@ returns-clause-uses g c =
     let put = set gone x (Some n) in
     let long : length put ≡ s.capacity = length-set gone x (Some n) ∙ t.cells in let many = t.cells in
     let cells = c.set_next.ensures ∙ ap (λ cs. edit s.capacity (with_next x) cs h.last) (c.set_links.ensures
-    ∙ sym (set_twice s.block x None (Some n))) in
+    ∙ sym (set-set s.block x None (Some n))) in
     subst (λ ds. Kept x gone ds × IsFilled ds x) (sym cells) (
       kept_edit s.capacity (with_next x) gone put h.last x long (kept_set gone x (Some n)),
       edit_filled s.capacity (with_next x) put h.last x long (

@@ -3,9 +3,8 @@ use Rattle.std.proofs.lemmas.List.{length-map}
 use Rattle.line_sets.specs.Order.{lines_passing}
 use Rattle.line_sets.specs.SetTable.{all_listed}
 use Rattle.line_sets.specs.Stored.{counts_without, sets_of}
-use Rattle.line_sets.proofs.ListedCounts.{none-listed}
+use Rattle.line_sets.proofs.ListedChanges.{none-anywhere, none-listed}
 use Rattle.line_sets.proofs.StoredSets.{table_of, length-sets, sets-empty, stored-cleared}
-use Rattle.line_sets.proofs.UnlistedCounts.{none-anywhere}
 use Rattle.line_sets.proofs.sets.LineSets.clear.Goals as goal
 
 pub invariant_of-self : goal.invariant_of-self

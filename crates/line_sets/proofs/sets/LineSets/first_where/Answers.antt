@@ -1,4 +1,4 @@
-use Rattle.std.proofs.Common.{drop, get_or, [], sym, ap, ◌∙◌, ◌+◌}
+use Rattle.std.proofs.Common.{sym, ap, ◌∙◌}
 use Rattle.std.specs.Option.{is_some}
 use Rattle.line_sets.specs.Order.{first_where}
 use Rattle.line_sets.proofs.StoredSets.{below, entries-at}
@@ -7,34 +7,22 @@ use Rattle.line_sets.proofs.sets.LineSets.first_where.Goals as goal
 
 pub get-entry-requires : goal.get-entry-requires
 get-entry-requires g c =
-    let ls = c.self.inside.arena.lists in
-    let met = c.looked_up.ensures.met ls c.args.set c.loop.counter c.in-Some.cell c.lists-lists.ensures.once
-    (sym c.loop.invariant.0 ∙ c.in-Some.is) in
-    ap is_some met.cell
+    let met = c.looked_up.ensures.met c.self.inside.arena.lists c.args.set c.loop.counter c.in-Some.cell
+    c.lists-lists.ensures.once (sym c.loop.invariant.0 ∙ c.in-Some.is) in ap is_some met.cell
 
 pub returns-then-passes : goal.returns-then-passes
 returns-then-passes g c =
-    let ls = c.self.inside.arena.lists in
-    let xs = get_or ls c.args.set [] in
-    let h = below ls c.args.set (rw (← c.self.view_is) at c.requires) in
+    let ls = c.self.inside.arena.lists in let h = below c.args.set c.self.invariant.0 c.self.view_is c.requires in
     let met = c.looked_up.ensures.met ls c.args.set c.loop.counter c.in-Some.cell c.lists-lists.ensures.once
-    (sym c.loop.invariant.0 ∙ c.in-Some.is) in
-    let e = line-of (drop c.loop.counter xs) c.in-Some.cell c.get-entry.result.now met.value
-    (drop (c.loop.counter + 1) xs) met.is (sym c.get-entry.ensures ∙ met.cell) in
-    let passes = g.T.LineTest.passes c.args.test.now in
+    (sym c.loop.invariant.0 ∙ c.in-Some.is) in let passes = g.T.LineTest.passes c.args.test.now in
     rw (← c.self.view_is) (sym (ap (first_where passes) (entries-at ls c.args.set h) ∙ c.loop.invariant.1
-    ∙ first-passes passes _ _ _ _ e (sym c.passes.ensures ∙ c.if-passes.true)))
+    ∙ first-passes passes (line-of met c.get-entry.ensures) (sym c.passes.ensures ∙ c.if-passes.true)))
 
 pub loop-preserved : goal.loop-preserved
 loop-preserved g c =
-    let ls = c.self.inside.arena.lists in
-    let xs = get_or ls c.args.set [] in
-    let met = c.looked_up.ensures.met ls c.args.set c.loop.counter c.in-Some.cell c.lists-lists.ensures.once
-    (sym c.loop.invariant.0 ∙ c.in-Some.is) in
-    let e = line-of (drop c.loop.counter xs) c.in-Some.cell c.get-entry.result.now met.value
-    (drop (c.loop.counter + 1) xs) met.is (sym c.get-entry.ensures ∙ met.cell) in
-    let passes = g.T.LineTest.passes c.args.test.now in (
+    let met = c.looked_up.ensures.met c.self.inside.arena.lists c.args.set c.loop.counter c.in-Some.cell
+    c.lists-lists.ensures.once (sym c.loop.invariant.0 ∙ c.in-Some.is) in (
       c.next-next.ensures ∙ met.next,
-      c.loop.invariant.1
-          ∙ first-fails passes _ _ _ _ e (sym c.passes.ensures ∙ c.if-passes.false),
+      c.loop.invariant.1 ∙ first-fails (g.T.LineTest.passes c.args.test.now) (line-of met c.get-entry.ensures)
+          (sym c.passes.ensures ∙ c.if-passes.false),
     )

@@ -1,9 +1,8 @@
 use Rattle.std.proofs.Common.{sym, ap, ◌∙◌, length}
 use Rattle.line_sets.specs.SetTable.{all_listed}
 use Rattle.line_sets.specs.Stored.{counts_without, sets_of}
-use Rattle.line_sets.proofs.ListedCounts.{none-listed}
+use Rattle.line_sets.proofs.ListedChanges.{none-anywhere, none-listed}
 use Rattle.line_sets.proofs.StoredSets.{table_of, sets-empty, stored-empty}
-use Rattle.line_sets.proofs.UnlistedCounts.{none-anywhere}
 use Rattle.line_sets.proofs.sets.LineSets.new.Goals as goal
 
 pub returns-in-Ok : goal.returns-in-Ok
@@ -20,7 +19,8 @@ invariant_of-result g c = (
       ∙ ap length (none-listed g.V.Listed.is_listed c.args.sets)),
   rw c.none.ensures tt,
   rw c.none.ensures tt,
-  c.in_ok-unlisted.ensures.items_if_clones_equal (λ y e. e) ∙ sym (ap (λ a. counts_without g.V.Listed.is_listed (sets_of a.lists)) c.in-Ok.ensures.made
+  c.in_ok-unlisted.ensures.items_if_clones_equal (λ y e. e) ∙ sym
+      (ap (λ a. counts_without g.V.Listed.is_listed (sets_of a.lists)) c.in-Ok.ensures.made
       ∙ ap (counts_without g.V.Listed.is_listed) (sets-empty c.args.sets)
       ∙ none-anywhere g.V.Listed.is_listed c.args.sets),
 )

@@ -1,4 +1,4 @@
-use Rattle.std.proofs.Common.{[], drop, get_or, sym, ap, ◌∙◌, ◌+◌}
+use Rattle.std.proofs.Common.{sym, ap, ◌∙◌}
 use Rattle.std.specs.Option.{is_some}
 use Rattle.line_sets.proofs.Walks.{line-of, added, not-added}
 use Rattle.line_sets.proofs.sets.LineSets.push_listed.Goals.{then-is_listed+in_ok-push, else-is_listed}
@@ -6,26 +6,20 @@ use Rattle.line_sets.proofs.sets.LineSets.push_listed.Goals as goal
 
 pub get-entry-requires : goal.get-entry-requires
 get-entry-requires g c =
-    let ls = c.self.inside.arena.lists in
-    let met = c.looked_up.ensures.met ls c.args.set c.loop.counter c.in-Some.cell c.lists-lists.ensures.once
-    (sym c.loop.invariant.0 ∙ c.in-Some.is) in
-    ap is_some met.cell
+    let met = c.looked_up.ensures.met c.self.inside.arena.lists c.args.set c.loop.counter c.in-Some.cell
+    c.lists-lists.ensures.once (sym c.loop.invariant.0 ∙ c.in-Some.is) in ap is_some met.cell
 
 pub loop-preserved : goal.loop-preserved
 loop-preserved g c =
-    let ls = c.self.inside.arena.lists in
-    let xs = get_or ls c.args.set [] in
-    let met = c.looked_up.ensures.met ls c.args.set c.loop.counter c.in-Some.cell c.lists-lists.ensures.once
-    (sym c.loop.invariant.0 ∙ c.in-Some.is) in
-    let e = line-of (drop c.loop.counter xs) c.in-Some.cell c.get-entry.result.now met.value
-    (drop (c.loop.counter + 1) xs) met.is (sym c.get-entry.ensures ∙ met.cell) in (
+    let met = c.looked_up.ensures.met c.self.inside.arena.lists c.args.set c.loop.counter c.in-Some.cell
+    c.lists-lists.ensures.once (sym c.loop.invariant.0 ∙ c.in-Some.is) in let e = line-of met c.get-entry.ensures in (
       c.next-next.ensures ∙ met.next,
       elim c.if-is_listed.branch [
         | then-is_listed+in_ok-push w ↦ rw (ap (λ v. v.items) w.lines-is ∙ w.in_ok-push.ensures.items)
-            (added g.V.Listed.is_listed c.loop.lines.items _ _ _ _ _ e (sym c.is_listed.ensures ∙ w.if-is_listed.true)
+            (added g.V.Listed.is_listed c.loop.lines.items e (sym c.is_listed.ensures ∙ w.if-is_listed.true)
             c.loop.invariant.1)
         | else-is_listed w ↦ rw (ap (λ v. v.items) w.lines-is)
-            (not-added g.V.Listed.is_listed c.loop.lines.items _ _ _ _ _ e
+            (not-added g.V.Listed.is_listed c.loop.lines.items e
             (sym c.is_listed.ensures ∙ w.if-is_listed.false) c.loop.invariant.1)
       ],
     )

@@ -4,7 +4,7 @@ use Rattle.seat_views.specs.Seated.{knows}
 use Rattle.stop_flags.specs.declared.signaler.Signaler.{Signaler}
 use Rattle.stop_flags.specs.Ties.{FlagSeat}
 use Rattle.stop_flags.specs.Heard.{entries_of, entry_of, knows_all}
-use Rattle.stop_flags.proofs.SignalerLists.{joined, get_middle}
+use Rattle.seat_views.proofs.Lemmas.{joined, get_middle}
 use Rattle.stop_flags.proofs.closing.join_all.Goals as goal
 
 pub meet-requires-clause-table : goal.meet-requires-clause-table

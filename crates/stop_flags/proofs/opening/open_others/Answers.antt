@@ -2,7 +2,9 @@ use Rattle.std.proofs.Common.{◌≡◌, ◌+◌, ◌≤◌, ◌++◌, [], ◌�
 use Rattle.std.proofs.Common.{arith, ◌∙◌}
 use Rattle.seat_views.specs.Seated.{one_more}
 use Rattle.stop_flags.specs.declared.signaler.Signaler.{Signaler}
-use Rattle.stop_flags.proofs.SignalerLists.{new_signaler, more_signalers}
+use Rattle.stop_flags.proofs.SignalerLists.{new_signaler}
+use Rattle.seat_views.proofs.Lemmas.{more_at}
+use Rattle.stop_flags.specs.Signalers.{IsNewSignaler}
 use Rattle.stop_flags.proofs.opening.open_others.Goals as goal
 
 pub make-seat-requires-clause-table : goal.make-seat-requires-clause-table
@@ -35,7 +37,7 @@ loop-number-preserved c =
       (made.table.0 ∙ i.0.0, made.made.0 ∙ ap (λ y. (one_more y.0, y.1)) i.0.1),
       omega arith,
       omega arith,
-      more_signalers m 1 ss c.push.new.self.items s items i.3
+      more_at (IsNewSignaler m) 1 ss c.push.new.self.items s items i.3
           (new_signaler m (1 + length ss) s c.make-seat.result (made.table.2 ∙ i.0.0) workers
           (ap (λ y. y.0.number) made.made.1 ∙ v ∙ omega arith) new.0 new.1),
     )

@@ -8,7 +8,7 @@ use Rattle.stop_flags.specs.declared.words.Voice.{Voice}
 use Rattle.stop_flags.specs.Ties.{FlagSeat}
 use Rattle.stop_flags.specs.Told.{FlagsHold}
 use Rattle.stop_flags.specs.Heard.{knows_all}
-use Rattle.stop_flags.proofs.SignalerLists.{get_front, split_of}
+use Rattle.seat_views.proofs.Lemmas.{get_front, split_of}
 use Rattle.stop_flags.proofs.Endings.{all_heard}
 use Rattle.stop_flags.proofs.signals.Signals.close.Goals as goal
 

@@ -4,8 +4,6 @@ use Rattle.std.proofs.Common.{sym, refl, ap, ◌∙◌, arith, ⊎_elim}
 use Rattle.std.proofs.lemmas.Bool.{or_left, or_right}
 use Rattle.std.specs.Prelude.{slice_get, slice_index_or}
 use Rattle.std.specs.List.{list_any}
-use mathlib.Core.Option.{some, some-ne-none}
-use lib.ListN.{get_elem?}
 use Rattle.atomic_table.specs.Table.{Final, Seen}
 use Rattle.seat_views.specs.declared.views.View.{View}
 use Rattle.seat_views.specs.Seated.{over}

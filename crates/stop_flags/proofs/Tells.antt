@@ -1,5 +1,5 @@
 -- Each step of a signaler keeps the rule, and the rule holds at the opening.
-use Rattle.std.proofs.Common.{◌≡◌, ℕ, zero, suc, ◌+◌, ◌*◌, ◌%◌, ◌^◌, ◌<◌, ◌≤◌, true, false, true≢false, eqb}
+use Rattle.std.proofs.Common.{◌≡◌, ℕ, zero, suc, ◌+◌, ◌*◌, ◌%◌, ◌^◌, ◌<◌, ◌≤◌, true, false, eqb}
 use Rattle.std.proofs.Common.{List, [], ◌∷◌, ◌++◌, length, get_or, set, ◌⊎◌, inl, inr, ⊎_elim, sym, refl, ap, ◌∙◌}
 use Rattle.std.proofs.lemmas.Bool.{eqb-true}
 use Rattle.std.proofs.Common.{subst, arith, rules, length-set, get_or-set_same, mod-eq_of_lt, bit_or}
@@ -75,15 +75,7 @@ module _ (n : ℕ) where
         omega arith
 
     finished_in_all : FinishedInAll v.mine.workers v.mine.said (get_or s.words 0 0)
-    finished_in_all =
-        subst (λ k. FinishedInAll k v.mine.said (get_or s.words 0 0)) (sym workers_is)
-        record {
-          said = λ j. (r.voices j).said;
-          seat = id;
-          among = seat;
-          mine = ap (λ (h : Voice). h.said) is;
-          total = r.total;
-        }
+    finished_in_all = search (rules, workers_is, seat, is)
 
     some_stopped : get_or s.words 1 0 ≡ 1 → SomeStopped v.mine.workers v.mine.said
     some_stopped e =

@@ -95,17 +95,7 @@ not_completed m event same = by_answer (transition m event).0 (transition m even
         ap length (sym same ∙ completes.records) ∙ length-append m.records (done ∷ []) in
         absurd (omega (arith, more))
     by_answer answer.Issued after says same = refl
-    by_answer answer.Requested after says same = refl
-    by_answer answer.Waiting after says same = refl
-    by_answer answer.Idle after says same = refl
-    by_answer answer.Delivered after says same = refl
-    by_answer answer.Dropped after says same = refl
-    by_answer answer.Held after says same = refl
-    by_answer answer.Started after says same = refl
-    by_answer answer.Evicted after says same = refl
-    by_answer answer.Recalled after says same = refl
-    by_answer answer.Advanced after says same = refl
-    by_answer (answer.Refused why) after says same = refl
+    by_answer _ after says same = refl
 
 -- what an issue and an attempt may come to
 abbrev pub Issues : Machine → ℕ → Op → Answer × Machine → Type 0
@@ -145,17 +135,13 @@ module _ (m : Machine) where
 
   -- what is known of the part that a step makes
   Part : {S : Type 0} → (S → Type 0) → Step S → Type 0
-  Part K step.Exhausts = Unit {0}
-  Part K (step.Keeps kept) = Unit {0}
-  Part K step.Drops = Unit {0}
   Part K (step.Makes did consumes sends part) = K part
+  Part _ _ = Unit {0}
 
   any_part : {S : Type 0} (s : Step S) → Part (λ (part : S). Unit {0}) s
   unfolding Part
   any_part step.Exhausts = tt
-  any_part (step.Keeps kept) = tt
-  any_part step.Drops = tt
-  any_part (step.Makes did consumes sends part) = tt
+  any_part _ = tt
 
   changed_stays : {S : Type 0} (n : Option ℕ) (put : S → Machine) (K : S → Type 0) →
       ((part : S) → K part → IsQuiet m (put part)) → (s : Step S) → Part K s → Stays (changed m put n s)
@@ -189,10 +175,7 @@ module _ (m : Machine) where
   reaction_part core line (Arrives copy) = refl
   reaction_part core line (Grants copy) = refl
   reaction_part core line (Returns copy back) = refl
-  reaction_part core line Drops = tt
-  reaction_part core line Holds = tt
-  reaction_part core line TooLate = tt
-  reaction_part core line NoCase = tt
+  reaction_part core line _ = tt
 
   core_stays : (n : ℕ) (message : Message) (c : ℕ) (o : Option CoreState) → slice_get m.cores c ≡ o →
       Stays (deliver_core m n message c o)
@@ -307,9 +290,7 @@ module _ (m : Machine) where
       )
   tried_so c core at op opens (Some (attempted.NeedShared pts version), new) closes = asks c core at op _
   tried_so c core at op opens (Some (attempted.NeedExclusive version), new) closes = asks c core at op _
-  tried_so c core at op opens (Some attempted.NoRoom, new) closes = inl (refl, same)
-  tried_so c core at op opens (Some attempted.Waiting, new) closes = inl (refl, same)
-  tried_so c core at op opens (Some attempted.Idle, new) closes = inl (refl, same)
+  tried_so c core at op opens _ closes = inl (refl, same)
 
   tries : (c : ℕ) (o : Option CoreState) → slice_get m.cores c ≡ o → Tries m c (attempt_at m c o)
   tries c None at = inl (refl, same)

@@ -5,7 +5,7 @@ use Rattle.network.specs.declared.message.Body.TheVariants.{RenewRep, UpgradeRep
 use Rattle.network.specs.declared.message.Message.{Message}
 use Rattle.network.specs.declared.counts.Counts.{Counts}
 use Rattle.network.specs.Mail.{counted}
-use Rattle.seat_views.specs.Seated.{over, with_value_at}
+use Rattle.seat_views.specs.Seated.{with_value_at}
 use Rattle.seat_views.proofs.Lemmas.{put_here, put_else, at_put, over_put}
 use Rattle.seat_rule.specs.declared.views.Hold.{Hold}
 use Rattle.seat_rule.specs.Rule.{counts_of}

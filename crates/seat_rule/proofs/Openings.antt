@@ -1,5 +1,5 @@
 -- The rule holds of a machine as it opens.
-use Rattle.std.proofs.Common.{◌≡◌, ℕ, zero, suc, ◌+◌, ◌<◌, [], ◌∷◌, length, get_or, map, replicate, Option, None}
+use Rattle.std.proofs.Common.{◌≡◌, ℕ, zero, suc, ◌+◌, ◌<◌, [], length, get_or, map, replicate, Option, None}
 use Rattle.std.proofs.Common.{sym, refl, ap, arith}
 use Rattle.std.specs.FinMap.{entries}
 use mathlib.Core.Option.{some}

@@ -13,16 +13,8 @@ module _ {P S : Type 0} (acts : Acts P) (m : Machine) (programs : List P) where
   unfoldable pub Gives : Choice S → Type 0
   Gives (Does (event.Issue core op)) =
       (open_op m core ≡ None) × (next_in acts programs core ≡ Some (step.Op op))
-  Gives (Does (event.Attempt core)) = Unit {0}
-  Gives (Does (event.Deliver number)) = Unit {0}
-  Gives (Does (event.EvictCache core line)) = Unit {0}
-  Gives (Does (event.EvictBank bank line)) = Unit {0}
-  Gives (Does (event.Advance core)) = Unit {0}
   Gives (Advances core) = (open_op m core ≡ None) × (next_in acts programs core ≡ Some step.Advance)
-  Gives (Tries core) = Unit {0}
-  Gives (Delivers number) = Unit {0}
-  Gives (Goes own) = Unit {0}
-  Gives Over = Unit {0}
+  Gives _ = Unit {0}
 
   -- each of a list does
   unfoldable pub AllGive : List (Choice S) → Type 0

@@ -106,18 +106,7 @@ module _ {P : Type 0} (acts : Acts P) where
 
   untold : (programs : List P) (a : Answer) → is_no_room a ≡ true → programs ≡ programs_told acts programs a
   untold programs (answer.Completed done) e = absurd cc
-  untold programs (answer.Refused why) e = refl
-  untold programs answer.Issued e = refl
-  untold programs answer.Requested e = refl
-  untold programs answer.Idle e = refl
-  untold programs answer.Waiting e = refl
-  untold programs answer.Delivered e = refl
-  untold programs answer.Held e = refl
-  untold programs answer.Dropped e = refl
-  untold programs answer.Started e = refl
-  untold programs answer.Evicted e = refl
-  untold programs answer.Recalled e = refl
-  untold programs answer.Advanced e = refl
+  untold programs _ e = refl
 
   abbrev plan : ℕ → Plan P Round
   plan limit = plan_of acts (rounds acts) limit

@@ -108,12 +108,7 @@ module _ {P S : Type 0} (plan : Plan P S) where
   -- whether the end is that all is done
   says_done : Continuation P S → Bool
   says_done (Ends AllDone) = true
-  says_done (Ends Stalled) = false
-  says_done (Ends TurnsUsed) = false
-  says_done (Ends Exhausted) = false
-  says_done (Ends NoMemory) = false
-  says_done (Makes event leads) = false
-  says_done (Moves d) = false
+  says_done _ = false
 
   begin_says : (d : Position P S) (over : Bool) → says_done (begin plan d over) ≡ true → over ≡ true
   unfolding says_done
@@ -126,12 +121,9 @@ module _ {P S : Type 0} (plan : Plan P S) where
   chosen_says : (d : Position P S) (choice : Choice S) → says_done (chosen plan d choice) ≡ false
   unfolding says_done
   chosen_says d (Does event) = refl
-  chosen_says d (Tries core) = refl
-  chosen_says d (Delivers number) = refl
-  chosen_says d (Advances core) = refl
-  chosen_says d (Goes own) = refl
   chosen_says d Over = cond_both (plan.schedule.stalls && not d.has_progressed) (Ends Stalled)
       (Moves (record d { stage = Before; turns = d.turns + 1 })) (λ x. says_done x ≡ false) (λ t. refl) (λ t. refl)
+  chosen_says d _ = refl
 
   evict_says : (d : Position P S) (core : ℕ) (o : Option ℕ) → says_done (next_eviction d core o) ≡ false
   unfolding says_done
@@ -172,10 +164,7 @@ module _ {P S : Type 0} (plan : Plan P S) where
 
   is_all : End → Bool
   is_all AllDone = true
-  is_all Stalled = false
-  is_all TurnsUsed = false
-  is_all Exhausted = false
-  is_all NoMemory = false
+  is_all _ = false
 
   other : AllDone ≡ NoMemory → ⊥
   unfolding is_all

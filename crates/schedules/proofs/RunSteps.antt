@@ -55,9 +55,7 @@ noted_keeps : (p : Log) (m after : Machine) (event : Event) (r : Result Answer E
 noted_keeps p m after event (Ok answer) log noted = ap is_some noted.2.events ∙ kept_more p.events event
 noted_keeps p m after event (Err end.Exhausted) log noted = ap is_some noted.1.events ∙ kept_more p.events event
 noted_keeps p m after event (Err end.NoMemory) log noted = ap is_some noted.1.events
-noted_keeps p m after event (Err end.AllDone) log noted = absurd noted
-noted_keeps p m after event (Err end.Stalled) log noted = absurd noted
-noted_keeps p m after event (Err end.TurnsUsed) log noted = absurd noted
+noted_keeps p m after event _ log noted = absurd noted
 
 module _ {P S : Type 0} (plan : Plan P S) (start : Position P S) (p : Point P S) (turns : ℕ) (event : Event)
     (leads : Answer → Position P S → Position P S)

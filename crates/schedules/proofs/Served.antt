@@ -96,34 +96,12 @@ module _ (m after : Machine) (s : Issues m) (t : Issues after) (added : List Rec
 untold : {P : Type 0} (acts : Acts P) (programs : List P) (a : Answer) → is_completion a ≡ false →
     programs_told acts programs a ≡ programs
 untold acts programs (answer.Completed done) silent = absurd (true≢false silent)
-untold acts programs answer.Issued silent = refl
-untold acts programs answer.Requested silent = refl
-untold acts programs answer.Waiting silent = refl
-untold acts programs answer.Idle silent = refl
-untold acts programs answer.Delivered silent = refl
-untold acts programs answer.Dropped silent = refl
-untold acts programs answer.Held silent = refl
-untold acts programs answer.Started silent = refl
-untold acts programs answer.Evicted silent = refl
-untold acts programs answer.Recalled silent = refl
-untold acts programs answer.Advanced silent = refl
-untold acts programs (answer.Refused why) silent = refl
+untold acts programs _ silent = refl
 
 -- no want of room is a completion
 room_silent : (a : Answer) → is_no_room a ≡ true → is_completion a ≡ false
 room_silent (answer.Completed done) room = absurd (true≢false (sym room))
-room_silent answer.Issued room = refl
-room_silent answer.Requested room = refl
-room_silent answer.Waiting room = refl
-room_silent answer.Idle room = refl
-room_silent answer.Delivered room = refl
-room_silent answer.Dropped room = refl
-room_silent answer.Held room = refl
-room_silent answer.Started room = refl
-room_silent answer.Evicted room = refl
-room_silent answer.Recalled room = refl
-room_silent answer.Advanced room = refl
-room_silent (answer.Refused why) room = refl
+room_silent _ room = refl
 
 module _ {P S : Type 0} (plan : Plan P S) (gives : GivesSteps plan.acts plan.schedule) (start : Position P S) where
   abbrev Kept : Machine → List P → Type 0

@@ -173,12 +173,8 @@ module _ {P S : Type 0} (acts : Acts P) (schedule : Schedule P S) (m : Machine) 
   -- a run ends within a turn only where the turn is over
   still_in : (limit turns : ℕ) (end : End) (choice : Choice S) →
       chosen (plan_of acts schedule limit) (position Here turns) choice ≡ Ends end → choice ≡ Over
-  still_in limit turns end (Does event) ends = absurd cc
-  still_in limit turns end (Tries core) ends = absurd cc
-  still_in limit turns end (Delivers number) ends = absurd cc
-  still_in limit turns end (Advances core) ends = absurd cc
-  still_in limit turns end (Goes other) ends = absurd cc
   still_in limit turns end Over ends = refl
+  still_in limit turns end _ ends = absurd cc
 
   -- memory was refused before the turn was over
   pub refused : schedule.next m programs own ≢ Over → IsTrue (schedule.lists own) →

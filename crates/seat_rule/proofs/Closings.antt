@@ -123,17 +123,13 @@ at_most_four link (suc n) w b =
 
 at_most_one : (phase : Phase) → weigh (λ m. 1) (content phase) ≤ 1
 at_most_one free = omega arith
-at_most_one writing = omega arith
-at_most_one (full m) = omega arith
-at_most_one (reading m) = omega arith
+at_most_one _ = omega arith
 
 of_link : (b : Bool) (phase : Phase) →
     weigh (λ (m : Message). cond b 1 0) (content phase) ≡ cond b (weigh (λ m. 1) (content phase)) 0
 of_link true phase = refl
 of_link false free = refl
-of_link false writing = refl
-of_link false (full m) = refl
-of_link false (reading m) = refl
+of_link false _ = refl
 
 -- on a link, at most four more messages were put than taken
 pub at_most_four_lie : (z : SetUp) (seats : ℕ → Hold) (phases : ℕ → Phase) (log : List Record) →

@@ -2,7 +2,7 @@
 -- joining of seats.
 use Rattle.std.proofs.Common.{◌≡◌, ◌≢◌, ℕ, zero, suc, ◌+◌, ◌*◌, ◌%◌, ◌^◌, ◌<◌, ◌≤◌, true, false, cond, eqb, List, []}
 use Rattle.std.proofs.Common.{◌∷◌, ◌++◌, length, get_or, Option, Some, sym, refl, ap, ◌∙◌, subst, arith, length-append}
-use Rattle.std.proofs.Common.{append_assoc, append-nil, mod-eq_of_lt, eq-eqb, ne_eqb}
+use Rattle.std.proofs.Common.{rules, append_assoc, append-nil, mod-eq_of_lt, eq-eqb, ne_eqb}
 use Rattle.std.specs.Prelude.{slice_get}
 use mathlib.Core.Option.{some}
 use Rattle.std.proofs.lemmas.List.Elements.{filter-append}
@@ -62,26 +62,7 @@ module _ (z : SetUp) (n : ℕ) (from to : ℕ → ℕ) (slots : ℕ) where
   -- other views of the same
   reshown : (s : Sets) (r : K s) {views : List (View Hold)} → Shown (opening_hold z) n views r.seats →
       K (record { words = s.words; homes = s.homes; views = views })
-  reshown s r shown =
-      record {
-        seats = r.seats;
-        phases = r.phases;
-        log = r.log;
-        shown = shown;
-        wide = r.wide;
-        homes = r.homes;
-        count = r.count;
-        each_slot = r.each_slot;
-        each_seat = r.each_seat;
-        busy = r.busy;
-        addressed = r.addressed;
-        links = r.links;
-        reached = r.reached;
-        seen = r.seen;
-        total = r.total;
-        bounded = r.bounded;
-        own = r.own;
-      }
+  reshown s r shown = search (rules, r, shown)
 
   -- a change by the seat alone: 0 is added to the last word
   pub serves : (id : ℕ) (me : SeatState) (h : Hold) → me.0.spent ≡ false → Serves me.0.mine h →

@@ -1,6 +1,6 @@
 -- What stays of the rule when one seat moves.
 use Rattle.std.proofs.Common.{◌≡◌, ◌≢◌, ℕ, ◌+◌, ◌/◌, ◌<◌, ◌^◌, false, List, ◌++◌, length, get_or, set, Option}
-use Rattle.std.proofs.Common.{sym, refl, ap, ◌∙◌, subst, arith, length-set, get_or-set_other, get_or-set_same}
+use Rattle.std.proofs.Common.{rules, sym, refl, ap, ◌∙◌, subst, arith, length-set, get_or-set_other, get_or-set_same}
 use mathlib.Core.Option.{some}
 use lib.ListN.{get_elem?}
 use Rattle.atomic_table.specs.Table.{State}
@@ -26,16 +26,7 @@ use Rattle.seat_rule.proofs.Weights.{weigh-append, weigh_together}
 -- the same seats, with the same messages in another order
 pub rebag : (z : SetUp) (n : ℕ) (seats : ℕ → Hold) (xs ys : List Message) (log : List Record) → SameBag xs ys →
     MovesReach z n seats xs log → MovesReach z n seats ys log
-rebag z n seats xs ys log e r =
-    same r (record {
-      cores = λ _. refl;
-      banks = λ _. refl;
-      drams = λ _. refl;
-      bag = e;
-      issued = λ _. refl;
-      records = refl;
-      counts = refl;
-    })
+rebag z n seats xs ys log e r = same r (search (rules, e))
 
 -- what a seat has of its own is the same, for all seats
 pub same_of : {X : Type 0} (g : Hold → X) (seats : ℕ → Hold) (id : ℕ) (h : Hold) → g h ≡ g (seats id) →

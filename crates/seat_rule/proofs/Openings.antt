@@ -1,8 +1,8 @@
 -- The rule holds of a machine as it opens.
-use Rattle.std.proofs.Common.{◌≡◌, ℕ, zero, suc, ◌+◌, ◌<◌, [], ◌∷◌, length, get_or, map, replicate, Option, None}
-use Rattle.std.proofs.Common.{sym, refl, ap, ◌∙◌, arith}
+use Rattle.std.proofs.Common.{◌≡◌, ℕ, zero, suc, ◌+◌, ◌<◌, [], length, get_or, map, replicate, Option, None}
+use Rattle.std.proofs.Common.{sym, refl, ap, arith}
 use Rattle.std.specs.FinMap.{entries}
-use mathlib.Core.Option.{some, some-injective, some-ne-none}
+use mathlib.Core.Option.{some}
 use mathlib.Core.Option as maybe
 use Rattle.std.proofs.lemmas.List.{length-replicate}
 use lib.ListN.{get_elem?}
@@ -11,17 +11,13 @@ use Rattle.network.specs.declared.message.Message.{Message}
 use Rattle.llc_bank.specs.BankTable.{empty_bank}
 use Rattle.machine_table.specs.Opening.{bank_config, dram_of}
 use Rattle.machine_theorem.specs.Moves.{same}
-use Rattle.seat_views.specs.declared.views.View.{View}
-use Rattle.seat_views.specs.Seated.{over, Shown, first_view}
+use Rattle.seat_views.specs.Seated.{over, first_view}
+use Rattle.seat_views.proofs.Lemmas.{shown_first}
 use Rattle.seat_rule.specs.declared.views.SetUp.{SetUp}
 use Rattle.seat_rule.specs.declared.views.Hold.{Hold}
 use Rattle.seat_rule.specs.StateLaws.{StateLaws}
 use Rattle.seat_rule.specs.Rule.{free, opening_hold, gather, MovesReach, RuleIsKept}
 use Rattle.seat_rule.specs.Plays.{Standing}
-
-at_first : (v u : View Hold) (j : ℕ) → get_elem? (v ∷ []) j ≡ some u → (j ≡ 0) × (v ≡ u)
-at_first v u zero e = (refl, some-injective v u e)
-at_first v u (suc j) e = absurd (some-ne-none u (sym e))
 
 zeros : (m : ℕ) → over m (λ j. 0) ≡ 0
 zeros zero = refl
@@ -61,25 +57,6 @@ opens_seated laws z n =
     })
 
 module _ (z : SetUp) (n : ℕ) (from to : ℕ → ℕ) (slots : ℕ) where
-  first_shown : 0 < n → Shown (opening_hold z) n (first_view (opening_hold z 0) ∷ []) (opening_hold z)
-  first_shown pos =
-      let one : View Hold = first_view (opening_hold z 0) in
-      record {
-        few = omega arith;
-        number = λ j v e _. let a = at_first one v j e in ap (λ (y : View Hold). y.number) (sym a.1) ∙ sym a.0;
-        mine = λ j v e _.
-            let a = at_first one v j e in
-            ap (opening_hold z) a.0 ∙ ap (λ (y : View Hold). y.mine) a.1;
-        known = λ j v e q p k.
-            let a = at_first one v j e in
-            absurd (some-ne-none p (sym (ap (λ (y : View Hold). get_elem? y.known q) a.1 ∙ k)));
-        once = λ j v e q q' p p' k k' alike.
-            let a = at_first one v j e in
-            absurd (some-ne-none p (sym (ap (λ (y : View Hold). get_elem? y.known q) a.1 ∙ k)));
-        made = λ j v e _. let a = at_first one v j e in (a.0, ap (λ (y : View Hold). y.made) (sym a.1));
-        later = λ j le. refl;
-      }
-
   pub opening_kept : StateLaws → 0 < n →
       RuleIsKept z n from to slots
       (opening (replicate (slots + 1) 0) (replicate slots None) (first_view (opening_hold z 0)))
@@ -88,7 +65,7 @@ module _ (z : SetUp) (n : ℕ) (from to : ℕ → ℕ) (slots : ℕ) where
         seats = opening_hold z;
         phases = λ _. free;
         log = [];
-        shown = first_shown pos;
+        shown = shown_first Hold (opening_hold z) n pos;
         wide = length-replicate (slots + 1) 0;
         homes = long_homes slots;
         count = zero_words (slots + 1) slots;

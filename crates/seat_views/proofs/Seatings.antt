@@ -1,14 +1,14 @@
 -- Views by number: one seat changes, is made, or is joined.
 use Rattle.std.proofs.Common.{◌≡◌, ◌≢◌, ℕ, zero, suc, ◌+◌, ◌<◌, ◌≤◌, false, true≢false}
 use Rattle.std.proofs.Common.{List, [], ◌∷◌, ◌++◌, length, set, sym, refl, ap, ◌∙◌, subst, ◌⊎◌, inl, inr, ⊎_elim}
-use Rattle.std.proofs.Common.{arith, length-set, length-append}
+use Rattle.std.proofs.Common.{arith, length-set, length-append, rules}
 use mathlib.Core.Option.{some, some-injective, some-ne-none}
 use lib.ListN.{get_elem?}
 use Rattle.atomic_table.proofs.Lists.{at_set, set_here, set_else, at_longer}
 use Rattle.seat_views.proofs.Sums.{put_here, put_else}
 use Rattle.seat_views.specs.declared.views.View.{View}
 use Rattle.seat_views.specs.Seated.{with_value_at, Shown, IsSpent, Once, seat_view, with_hold, one_more, spent_view}
-use Rattle.seat_views.specs.Seated.{knows}
+use Rattle.seat_views.specs.Seated.{first_view, knows}
 
 module _ {A : Type 0} where
   pub within : (l : List A) (i : ℕ) (a : A) → get_elem? l i ≡ some a → i < length l
@@ -286,6 +286,10 @@ module _ (H : Type 0) (blank : ℕ → H) where
                 (λ t. let z = s.made j x t.1 pos in (z.0, z.1 ∙ sym lasts));
             later = λ j le. s.later j (subst (λ z. z ≤ j) lasts le);
           }
+
+  -- the first seat alone
+  pub shown_first : (n : ℕ) → 0 < n → Shown blank n (first_view (blank 0) ∷ []) blank
+  shown_first n pos = search rules
 
   -- what one seat holds changes
   pub shown_set : (n : ℕ) (views : List V) (seats : ℕ → H) (id : ℕ) (v : V) (h : H) → Shown blank n views seats →

@@ -49,10 +49,8 @@ record IsAt (s : SequentialState) (t u : ℕ) (p : Place) : Type 0 where
 
 -- what a thread has received
 abbrev received_at : Place → Option ℕ
-received_at Begins = None
-received_at HasSet = None
-received_at HasStored = None
 received_at (HasLoaded value) = Some value
+received_at _ = None
 
 -- where both have received, one of them received 1
 abbrev OneOf : Place → Place → Type 0
@@ -63,10 +61,8 @@ turned p q h = λ v w a b. ⊎_elim (λ (e : w ≡ 1). inr e) (λ (e : v ≡ 1).
 
 -- a thread that loads behind the other's load receives the other's store
 loads : (q : Place) → OneOf (HasLoaded (word_at q)) q
-loads Begins = λ v w a b. absurd cc
-loads HasSet = λ v w a b. absurd cc
-loads HasStored = λ v w a b. absurd cc
 loads (HasLoaded x) = λ v w a b. inl cc
+loads _ = λ v w a b. absurd cc
 
 -- a thread has come to a place, and the other is where it was
 record Comes (s : SequentialState) (t u : ℕ) (q : Place) : Type 0 where
@@ -184,13 +180,9 @@ steps_keep s u (more {u = w} a b) h = step_keeps w u b (steps_keep s w a h)
 no_end : (p q : Place) → OneOf p q → left_at 0 1 p ≡ [] → left_at 1 0 q ≡ [] → 0 ≡ register_value (registers_at p) 6 →
     0 ≡ register_value (registers_at q) 6 → ⊥
 no_end Begins q h a b v w = absurd cc
-no_end HasSet q h a b v w = absurd cc
-no_end HasStored q h a b v w = absurd cc
-no_end (HasLoaded x) Begins h a b v w = absurd cc
-no_end (HasLoaded x) HasSet h a b v w = absurd cc
-no_end (HasLoaded x) HasStored h a b v w = absurd cc
 no_end (HasLoaded x) (HasLoaded y) h a b v w =
     ⊎_elim (λ (e : x ≡ 1). omega arith) (λ (e : y ≡ 1). omega arith) (h x y refl refl)
+no_end _ _ h a b v w = absurd cc
 
 values_of : (v w x y : ℕ) → v ∷ w ∷ [] ≡ x ∷ y ∷ [] → (v ≡ x) × (w ≡ y)
 values_of v w x y e = (cc, cc)

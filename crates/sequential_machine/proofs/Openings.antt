@@ -108,11 +108,9 @@ set_here (z ∷ xs) zero x l = refl
 set_here (z ∷ xs) (suc i) x l = set_here xs i x (omega arith)
 
 set_else : (xs : List ℕ) (i j x : ℕ) → i ≢ j → slice_get (slice_set xs i x) j ≡ slice_get xs j
-set_else [] i j x ne = refl
 set_else (z ∷ xs) zero zero x ne = absurd (ne refl)
-set_else (z ∷ xs) zero (suc j) x ne = refl
-set_else (z ∷ xs) (suc i) zero x ne = refl
 set_else (z ∷ xs) (suc i) (suc j) x ne = set_else xs i j x (λ e. ne (ap suc e))
+set_else _ _ _ x ne = refl
 
 set_length : (xs : List ℕ) (i x : ℕ) → length (slice_set xs i x) ≡ length xs
 set_length [] i x = refl
@@ -301,10 +299,8 @@ register_settable = leads-at IsSetting Beyond (word BadInitial (λ w. settable (
         (λ ne. let other = eqb-false r 0 ne in (omega (arith, other), register_below w r e))
 
     on : (o : Option Piece) → Tells IsSetting (said (word BadInitial (λ w. settable (register_of w))) (Err CutShort) o)
-    on None = tt
     on (Some (Word w)) = told w (register_of w) refl
-    on (Some (Sign b)) = tt
-    on (Some LineEnd) = tt
+    on _ = tt
 
 item_settable : (o : Opening × Names) → Leads (rest_of_item o) (λ i. IsSettable i.0.name)
 unfolding rest_of_item

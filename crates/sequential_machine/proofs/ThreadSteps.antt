@@ -58,11 +58,9 @@ goes-behind s t cell rest l go =
 -- what an instruction without memory leaves
 local : (i : Instruction) (old new : List ℕ) (m : Memory) → after_local i old ≡ Some new →
     (registers_after i old m ≡ new) × (memory_after i old m ≡ m)
-local (does.Load target location) old new m e = absurd cc
-local (does.Store source location) old new m e = absurd cc
-local (does.Swap target source location) old new m e = absurd cc
 local (does.Set target value) old new m e = (cc, refl)
 local does.Fence old new m e = (cc, refl)
+local _ old new m e = absurd cc
 
 first_of : (t : ℕ) (cell : Cell) (rest : List Cell) → cell.thread ≡ t →
     cells_of t (cell ∷ rest) ≡ cell ∷ cells_of t rest
@@ -157,10 +155,7 @@ performs s t q x received at e v =
 
 never_both : (i : Instruction) (rs : List ℕ) → instruction_operation i rs ≡ None → after_local i rs ≡ None → ⊥
 never_both (does.Load target location) rs e f = absurd cc
-never_both (does.Store source location) rs e f = absurd cc
-never_both (does.Swap target source location) rs e f = absurd cc
-never_both (does.Set target value) rs e f = absurd cc
-never_both does.Fence rs e f = absurd cc
+never_both _ rs e f = absurd cc
 
 none_in : (t : ℕ) (rs : List ℕ) (cells : List Cell) → Ready t rs cells → first_operation cells rs ≡ None →
     cells_of t cells ≡ []

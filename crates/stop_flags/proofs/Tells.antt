@@ -1,15 +1,15 @@
 -- Each step of a signaler keeps the rule, and the rule holds at the opening.
-use Rattle.std.proofs.Common.{◌≡◌, ℕ, zero, suc, ◌+◌, ◌*◌, ◌%◌, ◌^◌, ◌<◌, ◌≤◌, true, false, true≢false, eqb}
+use Rattle.std.proofs.Common.{◌≡◌, ℕ, zero, suc, ◌+◌, ◌*◌, ◌%◌, ◌^◌, ◌<◌, ◌≤◌, true, false, eqb}
 use Rattle.std.proofs.Common.{List, [], ◌∷◌, ◌++◌, length, get_or, set, ◌⊎◌, inl, inr, ⊎_elim, sym, refl, ap, ◌∙◌}
 use Rattle.std.proofs.lemmas.Bool.{eqb-true}
-use Rattle.std.proofs.Common.{subst, arith, length-set, get_or-set_same, mod-eq_of_lt, bit_or}
-use mathlib.Core.Option.{some, some-injective, some-ne-none}
+use Rattle.std.proofs.Common.{subst, arith, rules, length-set, get_or-set_same, mod-eq_of_lt, bit_or}
+use mathlib.Core.Option.{some}
 use lib.ListN.{get_elem?}
 use Rattle.atomic_table.specs.Table.{State, Me, keeps, Allows, Splits, Joins, opening}
 use Rattle.seat_views.specs.declared.views.View.{View}
 use Rattle.seat_views.specs.Seated.{over, with_value_at, with_hold, Shown, one_more, knows, seat_view, spent_view}
 use Rattle.seat_views.specs.Seated.{first_view}
-use Rattle.seat_views.proofs.Lemmas.{within, shown_set, shown_split, shown_join, at_put, over_put, put_here}
+use Rattle.seat_views.proofs.Lemmas.{within, shown_first, shown_set, shown_split, shown_join, at_put, over_put, put_here}
 use Rattle.stop_flags.specs.declared.words.Look.{Look}
 use Rattle.stop_flags.specs.declared.words.Said.{Said}
 use Rattle.stop_flags.specs.declared.words.Voice.{Voice}
@@ -65,7 +65,7 @@ module _ (n : ℕ) where
     seat = let a = within s.views id v at in let b = r.shown.few in omega arith
 
     own_few : v.mine.said.finished ≤ 4294967296
-    own_few = let a = finished_is in let b = r.bounded id in omega arith
+    own_few = search rules
 
     own_within : v.mine.said.finished ≤ get_or s.words 0 0
     own_within =
@@ -75,15 +75,7 @@ module _ (n : ℕ) where
         omega arith
 
     finished_in_all : FinishedInAll v.mine.workers v.mine.said (get_or s.words 0 0)
-    finished_in_all =
-        subst (λ k. FinishedInAll k v.mine.said (get_or s.words 0 0)) (sym workers_is)
-        record {
-          said = λ j. (r.voices j).said;
-          seat = id;
-          among = seat;
-          mine = ap (λ (h : Voice). h.said) is;
-          total = r.total;
-        }
+    finished_in_all = search (rules, workers_is, seat, is)
 
     some_stopped : get_or s.words 1 0 ≡ 1 → SomeStopped v.mine.workers v.mine.said
     some_stopped e =
@@ -273,80 +265,23 @@ module _ (n : ℕ) where
   pub splitting : (id : ℕ) (v : V) → v.spent ≡ false → 0 < v.made → v.made < n →
       Splits (FlagsHold n) id v (one_more v) (seat_view v.made (voice v.mine.workers nothing))
   splitting id v live pos room s r at =
-      record {
-        voices = r.voices;
-        shown =
-            subst (λ k. Shown (λ _. voice n nothing) n
-            (set s.views id (one_more v) ++ seat_view v.made (voice k nothing) ∷ []) r.voices)
-            (sym (workers_is s r id v at live))
-            (shown_split Voice (λ _. voice n nothing) n s.views r.voices id v r.shown at live pos room);
-        two_words = r.two_words;
-        few = r.few;
-        counted = r.counted;
-        total = r.total;
-        bounded = r.bounded;
-        one_bit = r.one_bit;
-        rung = r.rung;
-        by_some = r.by_some;
-        heard_finished = r.heard_finished;
-        heard_stopped = r.heard_stopped;
-      }
+      let shown : Shown (λ _. voice n nothing) n
+      (set s.views id (one_more v) ++ seat_view v.made (voice v.mine.workers nothing) ∷ []) r.voices =
+      subst (λ k. Shown (λ _. voice n nothing) n
+      (set s.views id (one_more v) ++ seat_view v.made (voice k nothing) ∷ []) r.voices)
+      (sym (workers_is s r id v at live))
+      (shown_split Voice (λ _. voice n nothing) n s.views r.voices id v r.shown at live pos room) in
+      search rules
 
   pub joining : (id : ℕ) (v : V) (other : ℕ) (u : V) → v.spent ≡ false → u.spent ≡ false →
       Joins (FlagsHold n) id v other u (knows v u) (spent_view (voice 0 nothing))
   joining id v other u live lives s r at two at' =
-      record {
-        voices = r.voices;
-        shown = shown_join Voice (λ _. voice n nothing) (voice 0 nothing) n s.views r.voices id v other u r.shown at
-            live two at' lives;
-        two_words = r.two_words;
-        few = r.few;
-        counted = r.counted;
-        total = r.total;
-        bounded = r.bounded;
-        one_bit = r.one_bit;
-        rung = r.rung;
-        by_some = r.by_some;
-        heard_finished = r.heard_finished;
-        heard_stopped = r.heard_stopped;
-      }
-
-  at_first : (v u : V) (j : ℕ) → get_elem? (v ∷ []) j ≡ some u → (j ≡ 0) × (v ≡ u)
-  at_first v u zero e = (refl, some-injective v u e)
-  at_first v u (suc j) e = absurd (some-ne-none u (sym e))
-
-  -- the first view knows nobody
-  knows_none : {B : Type 0} → (v : V) (j q : ℕ) (p : ℕ × Voice) →
-      get_elem? (first_view (voice n nothing) ∷ []) j ≡ some v → get_elem? v.known q ≡ some p → B
-  knows_none v j q p e k =
-      let a = at_first (first_view (voice n nothing)) v j e in
-      absurd (some-ne-none p (sym (ap (λ (y : V). get_elem? y.known q) a.1 ∙ k)))
+      let shown = shown_join Voice (λ _. voice n nothing) (voice 0 nothing) n s.views r.voices id v other u r.shown at
+      live two at' lives in
+      search (rules, r, shown)
 
   pub opens : 0 < n → n ≤ 16 → FlagsHold n (opening (0 ∷ 0 ∷ []) [] (first_view (voice n nothing)))
   opens pos small =
-      record {
-        voices = λ _. voice n nothing;
-        shown = record {
-          few = omega arith;
-          number = λ j v e _.
-              let a = at_first (first_view (voice n nothing)) v j e in
-              ap (λ (y : V). y.number) (sym a.1) ∙ sym a.0;
-          mine = λ j v e _. let a = at_first (first_view (voice n nothing)) v j e in ap (λ (y : V). y.mine) a.1;
-          known = λ j v e q p k. knows_none v j q p e k;
-          once = λ j v e q q' p p' k k' same. knows_none v j q p e k;
-          made = λ j v e _.
-              let a = at_first (first_view (voice n nothing)) v j e in
-              (a.0, ap (λ (y : V). y.made) (sym a.1));
-          later = λ j le. refl;
-        };
-        two_words = refl;
-        few = small;
-        counted = λ j. refl;
-        total = zeros n;
-        bounded = λ j. omega arith;
-        one_bit = inl refl;
-        rung = λ j e. absurd (true≢false (sym e));
-        by_some = λ e. absurd (omega arith);
-        heard_finished = λ j. omega arith;
-        heard_stopped = λ j e. absurd (true≢false (sym e));
-      }
+      let shown = shown_first Voice (λ _. voice n nothing) n pos in
+      let total : in_all n (λ j. (voice n nothing).said) ≡ 0 = zeros n in
+      search (rules, shown, total)

@@ -13,7 +13,7 @@ use Rattle.mailboxes.specs.declared.bank_seat.BankSeat.{BankSeat}
 use Rattle.mailboxes.specs.Seats.{AllCoreSeats, AllBankSeats}
 use Rattle.programs.specs.Acts.{Acts}
 use Rattle.stop_flags.specs.declared.signals.Signals.{Signals}
-use Rattle.round_robin.specs.Dealing.{IsDealtInTurn, hand_of}
+use Rattle.round_robin.specs.Dealing.{HasLengths, IsDealtInTurn, hand_of}
 use Rattle.round_robin.proofs.Lemmas.{item_of, lengths_of, same_lengths}
 use Rattle.thread_driver.specs.declared.shift.Shift.{Shift}
 use Rattle.thread_driver.specs.declared.told.Told.{Told}
@@ -31,12 +31,6 @@ use Rattle.thread_driver.proofs.Sums.{or_swap, same_told}
 use Rattle.thread_driver.proofs.Worked.{Gave}
 
 -- what a function has of the value at an index
-read_map : {A : Type 0} {B : Type 0} (f : A → List B) (xs : List A) (i : ℕ) (x : A) → slice_get xs i ≡ Some x →
-    slice_index_or (map f xs) i [] ≡ f x
-read_map f [] i x e = none_some e
-read_map f (y ∷ xs) zero x e = ap f (some_is e)
-read_map f (y ∷ xs) (suc i) x e = read_map f xs i x e
-
 pub value_of : {A B : Type 0} (f : A → B) (xs : List A) (i : ℕ) (x : A) (d : B) → slice_get xs i ≡ Some x →
     slice_index_or (map f xs) i d ≡ f x
 value_of f [] i x d e = none_some e
@@ -80,26 +74,18 @@ module _ {P : Type 0} (acts : Acts P) (m : Machine) (n : ℕ) where
     first_hand : hand_of 0 n i ≡ i
     first_hand = let z : 0 + i ≡ i = omega arith in ap (λ z. z % n) z ∙ mod-eq_of_lt within
 
-    share_of_cores : slice_index_or (core_hands ws) i [] ≡ w.cores.items
-    share_of_cores = read_map (λ (v : Worker P). v.cores.items) ws i w at
-
-    share_of_programs : slice_index_or (program_hands ws) i [] ≡ w.programs.items
-    share_of_programs = read_map (λ (v : Worker P). v.programs.items) ws i w at
-
-    share_of_banks : slice_index_or (bank_hands ws) i [] ≡ w.banks.items
-    share_of_banks = read_map (λ (v : Worker P). v.banks.items) ws i w at
+    -- what is at a place of a share
+    in_share : {X : Type 0} → (items : Worker P → List X) (xs : List X) → IsDealtInTurn xs 0 n (map items ws) → (k : ℕ) →
+        slice_get (items w) k ≡ slice_get xs (n * k + i)
+    in_share items xs turns k =
+        ap (λ l. slice_get l k) (sym (value_of items ws i w [] at))
+        ∙ ap (λ h. slice_get (slice_index_or (map items ws) h []) k) (sym first_hand) ∙ turns.at i k within
 
     core_there : (k : ℕ) → slice_get w.cores.items k ≡ slice_get cores (n * k + i)
-    core_there k =
-        ap (λ l. slice_get l k) (sym share_of_cores)
-        ∙ ap (λ h. slice_get (slice_index_or (core_hands ws) h []) k) (sym first_hand)
-        ∙ dealt.cores_dealt.at i k within
+    core_there = in_share (λ (v : Worker P). v.cores.items) cores dealt.cores_dealt
 
     program_there : (k : ℕ) → slice_get w.programs.items k ≡ slice_get programs (n * k + i)
-    program_there k =
-        ap (λ l. slice_get l k) (sym share_of_programs)
-        ∙ ap (λ h. slice_get (slice_index_or (program_hands ws) h []) k) (sym first_hand)
-        ∙ dealt.programs_dealt.at i k within
+    program_there = in_share (λ (v : Worker P). v.programs.items) programs dealt.programs_dealt
 
     pub cores_of : AllCoreSeats m w.cores.items
     cores_of k p e = core_seats (n * k + i) p (sym (core_there k) ∙ e)
@@ -107,7 +93,7 @@ module _ {P : Type 0} (acts : Acts P) (m : Machine) (n : ℕ) where
     pub banks_of : AllBankSeats m w.banks.items
     banks_of k p e =
         let j = item_of banks (length cores) n (bank_hands ws) dealt.banks_dealt i k p
-        (ap (λ l. slice_get l k) share_of_banks ∙ e) in
+        (ap (λ l. slice_get l k) (value_of (λ (v : Worker P). v.banks.items) ws i w [] at) ∙ e) in
         bank_seats j.0 p j.1
 
     pub ahead_of : AreAhead acts w.cores.items w.programs.items
@@ -153,43 +139,32 @@ module _ {P : Type 0} (acts : Acts P) (m : Machine) (n : ℕ) where
       v : (x : Worker P) × (slice_get vs h ≡ Some x)
       v = let count = vs_count in there vs h (omega arith)
 
+    -- hands that are as long as they were
+    as_long : {X : Type 0} → (items : Worker P → List X) (xs : List X) (first : ℕ) →
+        IsDealtInTurn xs first n (map items ws) →
+        ((i : ℕ) (x y : Worker P) → slice_get ws i ≡ Some x → slice_get vs i ≡ Some y →
+        length (items y) ≡ length (items x)) → HasLengths (length xs) first n (map items vs)
+    as_long items xs first turns same =
+        same_lengths (length xs) first n (map items ws) (map items vs) (lengths_of xs first n (map items ws) turns)
+        (length-map vs items ∙ vs_count)
+        (λ h lt.
+        let j : ℕ = hand_of first n h in
+        let lt' = mod_below (first + h) n turns.some in
+        let x = w j lt' in
+        let y = v j lt' in
+        ap length (value_of items vs j y.0 [] y.1) ∙ same j x.0 y.0 x.1 y.1
+        ∙ sym (ap length (value_of items ws j x.0 [] x.1)))
+
     pub lengths_after : HaveLengths n (length cores) (length programs) (length banks) (core_hands vs)
         (program_hands vs) (bank_hands vs)
     lengths_after =
         record {
-          core_lengths = same_lengths (length cores) 0 n (core_hands ws) (core_hands vs)
-              (lengths_of cores 0 n (core_hands ws) dealt.cores_dealt)
-              (length-map {B = List CoreSeat} vs (λ (x : Worker P). x.cores.items) ∙ vs_count)
-              (λ h lt.
-              let j : ℕ = hand_of 0 n h in
-              let lt' = mod_below (0 + h) n dealt.cores_dealt.some in
-              let x = w j lt' in
-              let y = v j lt' in
-              ap length (read_map (λ (z : Worker P). z.cores.items) vs j y.0 y.1)
-              ∙ (work.each j x.0 y.0 x.1 y.1).cores_long
-              ∙ sym (ap length (read_map (λ (z : Worker P). z.cores.items) ws j x.0 x.1)));
-          program_lengths = same_lengths (length programs) 0 n (program_hands ws) (program_hands vs)
-              (lengths_of programs 0 n (program_hands ws) dealt.programs_dealt)
-              (length-map {B = List P} vs (λ (x : Worker P). x.programs.items) ∙ vs_count)
-              (λ h lt.
-              let j : ℕ = hand_of 0 n h in
-              let lt' = mod_below (0 + h) n dealt.cores_dealt.some in
-              let x = w j lt' in
-              let y = v j lt' in
-              ap length (read_map (λ (z : Worker P). z.programs.items) vs j y.0 y.1)
-              ∙ (work.each j x.0 y.0 x.1 y.1).programs_long
-              ∙ sym (ap length (read_map (λ (z : Worker P). z.programs.items) ws j x.0 x.1)));
-          bank_lengths = same_lengths (length banks) (length cores) n (bank_hands ws) (bank_hands vs)
-              (lengths_of banks (length cores) n (bank_hands ws) dealt.banks_dealt)
-              (length-map {B = List BankSeat} vs (λ (x : Worker P). x.banks.items) ∙ vs_count)
-              (λ h lt.
-              let j : ℕ = hand_of (length cores) n h in
-              let lt' = mod_below (length cores + h) n dealt.cores_dealt.some in
-              let x = w j lt' in
-              let y = v j lt' in
-              ap length (read_map (λ (z : Worker P). z.banks.items) vs j y.0 y.1)
-              ∙ given_long (work.each j x.0 y.0 x.1 y.1).of_banks
-              ∙ sym (ap length (read_map (λ (z : Worker P). z.banks.items) ws j x.0 x.1)));
+          core_lengths = as_long (λ (x : Worker P). x.cores.items) cores 0 dealt.cores_dealt
+              (λ i x y e f. (work.each i x y e f).cores_long);
+          program_lengths = as_long (λ (x : Worker P). x.programs.items) programs 0 dealt.programs_dealt
+              (λ i x y e f. (work.each i x y e f).programs_long);
+          bank_lengths = as_long (λ (x : Worker P). x.banks.items) banks (length cores) dealt.banks_dealt
+              (λ i x y e f. given_long (work.each i x y e f).of_banks);
         }
 
 -- what each worker has of cores with their programs

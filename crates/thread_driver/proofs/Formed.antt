@@ -1,8 +1,8 @@
 -- Hands that become those of workers, and workers that put theirs into hands again.
-use Rattle.std.proofs.Common.{◌≡◌, ℕ, List, [], ◌∷◌, ◌++◌, length, map, refl, sym, ap, subst, ◌∙◌, append_assoc, arith}
+use Rattle.std.proofs.Common.{◌≡◌, ℕ, List, [], ◌∷◌, ◌++◌, length, map, sym, ap, subst, ◌∙◌, append_assoc, arith}
 use Rattle.std.proofs.Common.{length-append, option_to_list, Option, Some, Result, Ok}
 use Rattle.std.specs.Prelude.{if◌then◌else◌, is_ok}
-use Rattle.std.proofs.lemmas.List.{length-map, map-append}
+use Rattle.std.proofs.lemmas.List.{length-map, map-append, nil_from_length}
 use Rattle.mailboxes.specs.declared.core_seat.CoreSeat.{CoreSeat}
 use Rattle.mailboxes.specs.declared.bank_seat.BankSeat.{BankSeat}
 use Rattle.round_robin.specs.Dealing.{HasLengths, IsDealtInTurn, total_length}
@@ -17,10 +17,6 @@ pub one_over : {B V : Type 0} (f : V → B) (all : List B) (old new : List V) (v
 one_over f all old new v rest e is =
     e ∙ ap (λ vs. map f vs ++ rest) is ∙ ap (λ ls. ls ++ rest) (map-append f new (v ∷ []))
     ∙ append_assoc (map f new) (f v ∷ []) rest
-
-none_left : {V : Type 0} (vs : List V) → length vs ≡ 0 → vs ≡ []
-none_left [] e = refl
-none_left (v ∷ vs) e = absurd (omega arith)
 
 -- two lists of one length that lose their last values
 pub both_shorter : {A B : Type 0} (xs xs' : List A) (x : A) (ys ys' : List B) (y : B) → xs ≡ xs' ++ x ∷ [] →
@@ -63,14 +59,14 @@ module _ {P : Type 0} where
     dealt_to d s none =
         record {
           cores_dealt = subst (IsDealtInTurn cores 0 n)
-              (s.cores ∙ ap (λ vs. map (λ v. v.items) vs ++ core_hands ws) (none_left left.cores.items none.cores))
+              (s.cores ∙ ap (λ vs. map (λ v. v.items) vs ++ core_hands ws) (nil_from_length left.cores.items none.cores))
               d.cores_dealt;
           programs_dealt = subst (IsDealtInTurn programs 0 n)
               (s.programs ∙ ap (λ vs. map (λ v. v.items) vs ++ program_hands ws)
-              (none_left left.programs.items none.programs))
+              (nil_from_length left.programs.items none.programs))
               d.programs_dealt;
           banks_dealt = subst (IsDealtInTurn banks (length cores) n)
-              (s.banks ∙ ap (λ vs. map (λ v. v.items) vs ++ bank_hands ws) (none_left left.banks.items none.banks))
+              (s.banks ∙ ap (λ vs. map (λ v. v.items) vs ++ bank_hands ws) (nil_from_length left.banks.items none.banks))
               d.banks_dealt;
         }
 
@@ -79,7 +75,7 @@ module _ {P : Type 0} where
         total_length (core_hands ws) ≡ total_length (cores_in all)
     total_to s none =
         ap total_length
-        (sym (s.cores ∙ ap (λ vs. map (λ v. v.items) vs ++ core_hands ws) (none_left left.cores.items none.cores)))
+        (sym (s.cores ∙ ap (λ vs. map (λ v. v.items) vs ++ core_hands ws) (nil_from_length left.cores.items none.cores)))
 
   -- one worker's hands are back
   pub back_more : (all old new : List (Worker P)) (w : Worker P) (h h' : Hands P) → AreBack all old h →

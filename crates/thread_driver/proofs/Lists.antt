@@ -1,8 +1,8 @@
 -- Lists by index: what is there, and what a list has after one of its values was changed.
-use Rattle.std.proofs.Common.{◌≡◌, ◌≢◌, ℕ, zero, suc, ◌<◌, List, [], ◌∷◌, length, Option, Some, None}
-use Rattle.std.proofs.Common.{◌⊎◌, inl, inr, ⊎_elim, sym, refl, ap, ◌∙◌, arith}
+use Rattle.std.proofs.Common.{◌≡◌, ℕ, zero, suc, ◌<◌, List, [], ◌∷◌, length, Option, Some, None, sym, refl, ap, arith}
 use Rattle.std.specs.Prelude.{slice_get, slice_set, slice_index_or, is_none, ◌&&◌, true}
 use Rattle.std.proofs.lemmas.Bool.{true≢false}
+use Rattle.std.proofs.lemmas.Option.{slice_get_read}
 
 pub none_some : {A B : Type 0} {y : A} → None ≡ Some y → B
 none_some e = cc
@@ -24,29 +24,9 @@ module _ {A : Type 0} where
   there (x ∷ xs) zero lt = (x, refl)
   there (x ∷ xs) (suc i) lt = there xs i (omega arith)
 
-  pub indexed : (xs : List A) (i : ℕ) (d x : A) → slice_get xs i ≡ Some x → slice_index_or xs i d ≡ x
-  indexed [] i d x e = none_some e
-  indexed (y ∷ xs) zero d x e = some_is e
-  indexed (y ∷ xs) (suc i) d x e = indexed xs i d x e
-
-  pub at_index : (xs : List A) (i : ℕ) (d : A) → i < length xs → slice_get xs i ≡ Some (slice_index_or xs i d)
-  at_index [] i d lt = absurd (omega arith)
-  at_index (x ∷ xs) zero d lt = refl
-  at_index (x ∷ xs) (suc i) d lt = at_index xs i d (omega arith)
-
   -- a value that was read at an index is there
   pub here : (xs : List A) (i : ℕ) (x : A) → i < length xs → x ≡ slice_index_or xs i x → slice_get xs i ≡ Some x
-  here xs i x lt e = at_index xs i x lt ∙ ap Some (sym e)
-
-  -- after a change, what is at an index is the new value at its own, or what was there at another
-  pub get_set : (xs : List A) (i : ℕ) (a : A) (j : ℕ) (b : A) → slice_get (slice_set xs i a) j ≡ Some b →
-      ((j ≡ i) × (a ≡ b)) ⊎ ((j ≢ i) × (slice_get xs j ≡ Some b))
-  get_set [] i a j b e = none_some e
-  get_set (x ∷ xs) zero a zero b e = inl (refl, some_is e)
-  get_set (x ∷ xs) zero a (suc j) b e = inr ((λ z. absurd (omega arith)), e)
-  get_set (x ∷ xs) (suc i) a zero b e = inr ((λ z. absurd (omega arith)), e)
-  get_set (x ∷ xs) (suc i) a (suc j) b e =
-      ⊎_elim (λ t. inl (ap suc t.0, t.1)) (λ t. inr ((λ z. t.0 (omega arith)), t.1)) (get_set xs i a j b e)
+  here xs i x lt e = slice_get_read xs (length xs) i x refl lt e
 
   -- a value that is put back where it was
   pub set_back : (xs : List A) (i : ℕ) (a : A) → slice_get xs i ≡ Some a → slice_set xs i a ≡ xs

@@ -1,6 +1,6 @@
 -- The parts of a machine in lists, and those of a machine as it opens.
-use Rattle.std.proofs.Common.{◌≡◌, ℕ, zero, suc, ◌<◌, ◌≤◌, List, [], Some, replicate, refl, arith}
-use Rattle.std.specs.Prelude.{slice_get, slice_index_or}
+use Rattle.std.proofs.Common.{◌≡◌, ℕ, zero, suc, ◌<◌, ◌≤◌, List, [], replicate, refl, arith}
+use Rattle.std.specs.Prelude.{slice_index_or}
 use Rattle.physiological_order.specs.declared.operation.Op.{Op}
 use Rattle.machine_theorem.specs.States.{first}
 

@@ -18,11 +18,9 @@ module _ {A B : Type 0} where
 
   pub both_there : (xs : List A) (ys : List B) (i : ℕ) →
       slice_get (zip xs ys) i ≡ both_of (slice_get xs i) (slice_get ys i)
-  both_there [] ys i = refl
-  both_there (x ∷ xs) [] zero = refl
   both_there (x ∷ xs) [] (suc i) = not_both (slice_get xs i)
-  both_there (x ∷ xs) (y ∷ ys) zero = refl
   both_there (x ∷ xs) (y ∷ ys) (suc i) = both_there xs ys i
+  both_there _ _ _ = refl
 
   pub pair_there : (xs : List A) (ys : List B) (i : ℕ) (x : A) (y : B) → slice_get xs i ≡ Some x →
       slice_get ys i ≡ Some y → slice_get (zip xs ys) i ≡ Some (x, y)

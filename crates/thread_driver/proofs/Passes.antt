@@ -1,40 +1,28 @@
 -- A pass over seats: one more turn in it, and what is at each place.
-use Rattle.std.proofs.Common.{◌≡◌, ◌⊎◌, inl, inr, ℕ, zero, suc, ◌||◌, Bool, true, false, List, [], ◌∷◌, Some}
+use Rattle.std.proofs.Common.{◌≡◌, ◌⊎◌, inl, inr, ℕ, zero, suc, ◌||◌, true, false, List, [], ◌∷◌, Some}
 use Rattle.std.proofs.Common.{refl, sym, subst, ◌∙◌, true≢false}
 use Rattle.std.specs.Prelude.{slice_get, slice_set}
+use Rattle.std.proofs.lemmas.Bool.{or_from, or_parts, or_right}
 use Rattle.thread_driver.specs.declared.told.Told.{Told}
 use Rattle.thread_driver.specs.Given.{told_by_both}
 use Rattle.thread_driver.specs.Teams.{PassGiven, ends, ends_all, goes_on}
 use Rattle.thread_driver.proofs.Lists.{none_some, some_is}
-use Rattle.thread_driver.proofs.Sums.{told_assoc, told_quiet}
+use Rattle.thread_driver.proofs.Sums.{or_swap, told_assoc, told_quiet}
+
+-- two turns end all if one of them does
+both_end : (a b : Told) → ends_all (told_by_both a b) ≡ (ends_all a || ends_all b)
+both_end a b = or_swap a.no_memory b.no_memory a.is_exhausted b.is_exhausted
 
 -- neither of two turns that didn't end all together did
 pub neither_ends : (a b : Told) → ends_all (told_by_both a b) ≡ false → (ends_all a ≡ false) × (ends_all b ≡ false)
-neither_ends a b is = neither a.no_memory b.no_memory a.is_exhausted b.is_exhausted is
-  where
-    neither : (a b c d : Bool) → ((a || b) || (c || d)) ≡ false → ((a || c) ≡ false) × ((b || d) ≡ false)
-    neither true b c d e = absurd (true≢false e)
-    neither false true c d e = absurd (true≢false e)
-    neither false false true d e = absurd (true≢false e)
-    neither false false false d e = (refl, e)
+neither_ends a b is = or_parts (ends_all a) (ends_all b) (sym (both_end a b) ∙ is)
 
 -- two turns of which the second ended all, or neither did
 pub second_ends : (a b : Told) → ends_all b ≡ true → ends_all (told_by_both a b) ≡ true
-second_ends a b is = second a.no_memory b.no_memory a.is_exhausted b.is_exhausted is
-  where
-    second : (a b c d : Bool) → (b || d) ≡ true → ((a || b) || (c || d)) ≡ true
-    second true b c d e = refl
-    second false true c d e = refl
-    second false false true d e = refl
-    second false false false d e = e
+second_ends a b is = both_end a b ∙ or_right (ends_all a) (ends_all b) is
 
 pub none_ends : (a b : Told) → ends_all a ≡ false → ends_all b ≡ false → ends_all (told_by_both a b) ≡ false
-none_ends a b is is' = neither a.no_memory b.no_memory a.is_exhausted b.is_exhausted is is'
-  where
-    neither : (a b c d : Bool) → (a || c) ≡ false → (b || d) ≡ false → ((a || b) || (c || d)) ≡ false
-    neither true b c d e f = absurd (true≢false e)
-    neither false b true d e f = absurd (true≢false e)
-    neither false b false d e f = f
+none_ends a b is is' = both_end a b ∙ or_from (ends_all a) (ends_all b) is is'
 
 module _ {X : Type 0} {Turn : X → Told → X → Type 0} where
   -- the next of the list has its turn, if none before ended all

@@ -7,7 +7,7 @@ use Rattle.mailboxes.specs.declared.core_seat.CoreSeat.{CoreSeat}
 use Rattle.programs.specs.declared.steps.Step.TheVariants as step
 use Rattle.programs.specs.Acts.{Acts}
 use Rattle.programs.specs.Performs.{rests, advances, does}
-use Rattle.thread_driver.specs.Playing.{SameWork, OpensWork, EndsWork, IsAhead, Plays}
+use Rattle.thread_driver.specs.Playing.{SameWork, EndsWork, IsAhead, Plays}
 
 module _ {P : Type 0} (acts : Acts P) where
   ahead_of : (p q : CoreSeat) (program : P) → q.part.core.open_op ≡ p.part.core.open_op → IsAhead acts p program →
@@ -39,18 +39,6 @@ module _ {P : Type 0} (acts : Acts P) where
         records = s.records ∙ sym (append-nil p.records.items);
         performs = advances next rests;
         ahead = none_ahead q (acts.done program None) (s.open_op ∙ e);
-      }
-
-  -- an operation is opened
-  pub plays_issue : (op : Op) (p q : CoreSeat) (program : P) → acts.next program ≡ Some (step.Op op) →
-      OpensWork op p q → Plays acts p program q program
-  plays_issue op p q program next s =
-      record {
-        number = s.number;
-        added = [];
-        records = s.records ∙ sym (append-nil p.records.items);
-        performs = rests;
-        ahead = subst (λ (o : Option Op). IfSome o (λ x. acts.next program ≡ Some (step.Op x))) (sym s.after) next;
       }
 
   -- the open operation is completed

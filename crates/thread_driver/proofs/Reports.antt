@@ -40,16 +40,8 @@ tests_same : {a b : Bool} {A : Type 0} → a ≡ b → Tests b A → Tests a A
 tests_same e f = (λ is. f.0 (sym e ∙ is), λ x. e ∙ f.1 x)
 
 lacks_tests : {A : Type 0} (result : Result A Refusal) → Tests (lacks_memory result) (result ≡ Err refusal.NoMemory)
-lacks_tests (Ok x) = (λ e. cc, λ e. cc)
 lacks_tests (Err refusal.NoMemory) = (λ e. refl, λ e. refl)
-lacks_tests (Err refusal.Busy) = (λ e. cc, λ e. cc)
-lacks_tests (Err refusal.TooMany) = (λ e. cc, λ e. cc)
-lacks_tests (Err refusal.NoSuch) = (λ e. cc, λ e. cc)
-lacks_tests (Err refusal.NoRoom) = (λ e. cc, λ e. cc)
-lacks_tests (Err refusal.Pinned) = (λ e. cc, λ e. cc)
-lacks_tests (Err refusal.NetworkFull) = (λ e. cc, λ e. cc)
-lacks_tests (Err refusal.Exhausted) = (λ e. cc, λ e. cc)
-lacks_tests (Err refusal.Stopped) = (λ e. cc, λ e. cc)
+lacks_tests _ = (λ e. cc, λ e. cc)
 
 stop_tests : (before after : Bool) → Tests (has_stopped before after) (Stopped before after)
 stop_tests true true = (λ e. cc, λ x. cc)
@@ -63,11 +55,9 @@ done_tests (Ok false) = (λ e. cc, λ e. cc)
 done_tests (Err r) = (λ e. cc, λ e. cc)
 
 served_tests : (s : Served) → Tests (is_served s) ((s ≡ served.Held → ⊥) × (s ≡ served.Nothing → ⊥))
-served_tests served.Delivered = (λ e. ((λ h. cc), (λ h. cc)), λ x. refl)
-served_tests served.Dropped = (λ e. ((λ h. cc), (λ h. cc)), λ x. refl)
-served_tests served.Started = (λ e. ((λ h. cc), (λ h. cc)), λ x. refl)
 served_tests served.Held = (λ e. cc, λ x. absurd (x.0 refl))
 served_tests served.Nothing = (λ e. cc, λ x. absurd (x.1 refl))
+served_tests _ = (λ e. ((λ h. cc), (λ h. cc)), λ x. refl)
 
 move_tests : (moved : Result Turn Refusal) → Tests (has_moved moved) (Moved moved)
 move_tests (Ok turn) = tests_or _ _ (ltb-true 0 turn.put, lt-ltb 0 turn.put) (served_tests turn.served)
@@ -108,14 +98,7 @@ module _ {P : Type 0} (acts : Acts P) (m : Machine) where
     after_refusal : (r : Refusal) (p q : CoreSeat) → AfterRefusal r p done q → after ≡ before →
         Went acts done before after
     after_refusal refusal.NoRoom p q c e = went (Ok false) c.0 e
-    after_refusal refusal.Busy p q c e = went (Err refusal.Busy) c.0 e
-    after_refusal refusal.TooMany p q c e = went (Err refusal.TooMany) c.0 e
-    after_refusal refusal.NoSuch p q c e = went (Err refusal.NoSuch) c.0 e
-    after_refusal refusal.Pinned p q c e = went (Err refusal.Pinned) c.0 e
-    after_refusal refusal.NetworkFull p q c e = went (Err refusal.NetworkFull) c.0 e
-    after_refusal refusal.NoMemory p q c e = went (Err refusal.NoMemory) c.0 e
-    after_refusal refusal.Exhausted p q c e = went (Err refusal.Exhausted) c.0 e
-    after_refusal refusal.Stopped p q c e = went (Err refusal.Stopped) c.0 e
+    after_refusal r p q c e = went (Err r) c.0 e
 
     after_attempt : (result : Result (Option Record) Refusal) (p q : CoreSeat) →
         AfterAttempt acts result p before done q after → Went acts done before after
@@ -165,38 +148,30 @@ module _ (flag : Told → Bool) (not_quiet : flag quiet ≡ false)
     one_of_all (one_more {told = told} {all = all} many given rest) =
         tests_same (of_both told all) (tests_or (flag told) (flag all) (one_of given) (one_of_all rest))
 
+decided_so : (a b : Bool) {Lacked Stops : Type 0} → Tests a Lacked → Tests b Stops →
+    IsDecided Lacked Stops (if a then end.NoMemory else (if b then end.Exhausted else end.TurnsUsed))
+decided_so true b l s =
+    record {
+      no_memory = (λ x. l.0 refl, λ x. refl);
+      exhausted = (λ x. absurd cc, λ x. absurd (x.0 (l.0 refl)));
+      turns_used = (λ x. absurd cc, λ x. absurd (x.0 (l.0 refl)));
+    }
+decided_so false true l s =
+    record {
+      no_memory = (λ x. absurd cc, λ x. absurd (true≢false (sym (l.1 x))));
+      exhausted = (λ x. ((λ y. true≢false (sym (l.1 y))), s.0 refl), λ x. refl);
+      turns_used = (λ x. absurd cc, λ x. absurd (x.1 (s.0 refl)));
+    }
+decided_so false false l s =
+    record {
+      no_memory = (λ x. absurd cc, λ x. absurd (true≢false (sym (l.1 x))));
+      exhausted = (λ x. absurd cc, λ x. absurd (true≢false (sym (s.1 x.1))));
+      turns_used = (λ x. ((λ y. true≢false (sym (l.1 y))), (λ y. true≢false (sym (s.1 y)))), λ x. refl);
+    }
+
 decided : (a b : Bool) {Lacked Stops : Type 0} → Tests a Lacked → Tests b Stops → (e : End) →
     e ≡ (if a then end.NoMemory else (if b then end.Exhausted else end.TurnsUsed)) → IsDecided Lacked Stops e
-decided true b l s e is =
-    record {
-      no_memory = (λ x. l.0 refl, λ x. is);
-      exhausted =
-          (λ x. absurd (let both : end.NoMemory ≡ end.Exhausted = sym is ∙ x in cc), λ x. absurd (x.0 (l.0 refl)));
-      turns_used =
-          (λ x. absurd (let both : end.NoMemory ≡ end.TurnsUsed = sym is ∙ x in cc), λ x. absurd (x.0 (l.0 refl)));
-    }
-decided false true l s e is =
-    record {
-      no_memory = (
-        λ x. absurd (let both : end.Exhausted ≡ end.NoMemory = sym is ∙ x in cc),
-        λ x. absurd (true≢false (sym (l.1 x))),
-      );
-      exhausted = (λ x. ((λ y. true≢false (sym (l.1 y))), s.0 refl), λ x. is);
-      turns_used =
-          (λ x. absurd (let both : end.Exhausted ≡ end.TurnsUsed = sym is ∙ x in cc), λ x. absurd (x.1 (s.0 refl)));
-    }
-decided false false l s e is =
-    record {
-      no_memory = (
-        λ x. absurd (let both : end.TurnsUsed ≡ end.NoMemory = sym is ∙ x in cc),
-        λ x. absurd (true≢false (sym (l.1 x))),
-      );
-      exhausted = (
-        λ x. absurd (let both : end.TurnsUsed ≡ end.Exhausted = sym is ∙ x in cc),
-        λ x. absurd (true≢false (sym (s.1 x.1))),
-      );
-      turns_used = (λ x. ((λ y. true≢false (sym (l.1 y))), (λ y. true≢false (sym (s.1 y)))), λ x. is);
-    }
+decided a b {Lacked = Lacked} {Stops = Stops} l s e is = subst (IsDecided Lacked Stops) (sym is) (decided_so a b l s)
 
 -- what the turns reported, by the end
 pub by_end : (told : Told) (e : End) → e ≡ end_told told →

@@ -85,14 +85,7 @@ line_left (Some line) p q (result, evicted) = stays_same p.is_stopped q.is_stopp
 after_refusal : (r : Refusal) (p q : CoreSeat) (done : Result Bool Refusal) → AfterRefusal r p done q →
     Stays p.is_stopped q.is_stopped
 after_refusal refusal.NoRoom p q done c = victim_left (victim_of_seat p p.part.core.open_op) p q c.1
-after_refusal refusal.Busy p q done c = same_seat p q c.1
-after_refusal refusal.TooMany p q done c = same_seat p q c.1
-after_refusal refusal.NoSuch p q done c = same_seat p q c.1
-after_refusal refusal.Pinned p q done c = same_seat p q c.1
-after_refusal refusal.NetworkFull p q done c = same_seat p q c.1
-after_refusal refusal.NoMemory p q done c = same_seat p q c.1
-after_refusal refusal.Exhausted p q done c = same_seat p q c.1
-after_refusal refusal.Stopped p q done c = same_seat p q c.1
+after_refusal _ p q done c = same_seat p q c.1
 
 module _ {P : Type 0} (acts : Acts P) (m : Machine) (before after : P) (done : Result Bool Refusal) where
   after_attempt : (result : Result (Option Record) Refusal) (p q : CoreSeat) →
@@ -155,13 +148,9 @@ not_both true = refl
 not_both false = refl
 
 either : (p r q : Bool) → Stays p r → Stays r q → (has_stopped p r || has_stopped r q) ≡ has_stopped p q
-either true true true f g = refl
-either true true false f g = refl
 either true false q f g = absurd (true≢false (sym (f refl)))
-either false true true f g = refl
 either false true false f g = absurd (true≢false (sym (g refl)))
-either false false true f g = refl
-either false false false f g = refl
+either _ _ _ f g = refl
 
 module _ {X : Type 0} (Turn : X → Told → X → Type 0) (stopped : X → Bool)
     (law : (x : X) (told : Told) (y : X) → Turn x told y → Reports stopped x told y) where
@@ -186,11 +175,9 @@ module _ {P : Type 0} where
       one_stopped (λ (z : CoreSeat × P). z.0.is_stopped) (zip cores programs) (zip cores' programs') ≡
       one_stopped (λ (p : CoreSeat). p.is_stopped) cores cores'
   of_pairs [] cores' programs programs' e f g = refl
-  of_pairs (p ∷ ps) [] programs programs' e f g = absurd (omega arith)
-  of_pairs (p ∷ ps) (q ∷ qs) [] programs' e f g = absurd (omega arith)
-  of_pairs (p ∷ ps) (q ∷ qs) (a ∷ left) [] e f g = absurd (omega arith)
   of_pairs (p ∷ ps) (q ∷ qs) (a ∷ left) (b ∷ left') e f g =
       ap (λ x. has_stopped p.is_stopped q.is_stopped || x) (of_pairs ps qs left left' (omega arith) (omega arith) (omega arith))
+  of_pairs _ _ _ _ e f g = absurd (omega arith)
 
   pub given_report : (acts : Acts P) (m : Machine) (Many : ℕ → Type 0) (cores cores' : List CoreSeat)
       (banks banks' : List BankSeat) (programs programs' : List P) (told : Told) → length programs ≡ length cores →

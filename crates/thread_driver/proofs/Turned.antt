@@ -17,19 +17,9 @@ use Rattle.thread_driver.specs.Turns.{NextDone, StepDone}
 -- an answer that is no record and no refusal
 pub waits : (a : Answer) → ((r : Record) → a ≢ answer.Completed r) → ((r : Refusal) → a ≢ answer.Refused r) →
     Ok None ≡ came_to a
-waits answer.Issued done refused = refl
 waits (answer.Completed r) done refused = absurd (done r refl)
-waits answer.Requested done refused = refl
-waits answer.Waiting done refused = refl
-waits answer.Idle done refused = refl
-waits answer.Delivered done refused = refl
-waits answer.Dropped done refused = refl
-waits answer.Held done refused = refl
-waits answer.Started done refused = refl
-waits answer.Evicted done refused = refl
-waits answer.Recalled done refused = refl
-waits answer.Advanced done refused = refl
 waits (answer.Refused r) done refused = absurd (refused r refl)
+waits _ done refused = refl
 
 -- an open operation, as it is looked up
 abbrev looked : Bool → Option Op → Option (Op × Bool)

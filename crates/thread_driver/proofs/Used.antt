@@ -2,11 +2,11 @@
 use Rattle.std.proofs.Common.{◌≡◌, ◌⊎◌, inl, inr, ℕ, zero, suc, ◌%◌, ◌/◌, ◌<◌, ◌≤◌, Bool, true, false, ◌||◌}
 use Rattle.std.proofs.Common.{List, [], ◌∷◌, length, map, get_or, Some, refl, sym, ap, ap₂, ◌∙◌, subst, arith}
 use Rattle.std.proofs.Common.{true≢false, ⊎_elim, ◌≢◌}
-use Rattle.std.specs.Prelude.{slice_get}
+use Rattle.std.specs.Prelude.{option_map, slice_get}
 use Rattle.std.specs.List.{list_any, zip}
-use Rattle.std.proofs.lemmas.Bool.{cases_lt, false_from_ne_true}
+use Rattle.std.proofs.lemmas.Bool.{cases_lt, false_from_ne_true, or_from, or_parts}
 use Rattle.std.proofs.lemmas.List.{length-map}
-use Rattle.std.proofs.lemmas.Option.{slice_get_within}
+use Rattle.std.proofs.lemmas.Option.{slice_get-map, slice_get_within}
 use Rattle.mailboxes.specs.declared.machine.Machine.{Machine}
 use Rattle.mailboxes.specs.declared.core_seat.CoreSeat.{CoreSeat}
 use Rattle.programs.specs.declared.ends.End.{End}
@@ -36,22 +36,14 @@ either_way : {A : Type 0} (b : Bool) → (b ≡ true → A) → (b ≡ false →
 either_way true f g = f refl
 either_way false f g = g refl
 
-pub neither : (a b : Bool) → (a || b) ≡ false → (a ≡ false) × (b ≡ false)
-neither true b e = absurd (true≢false e)
-neither false b e = (refl, e)
-
-none_of : (a b : Bool) → a ≡ false → b ≡ false → (a || b) ≡ false
-none_of true b e f = absurd (true≢false e)
-none_of false b e f = f
-
 -- a test that none of a list passes
 none_passes : {A : Type 0} (test : A → Bool) (xs : List A) (i : ℕ) (x : A) → list_any test xs ≡ false →
     slice_get xs i ≡ Some x → test x ≡ false
 none_passes test [] i x none at = none_some at
 none_passes test (y ∷ ys) zero x none at =
-    ap test (sym (some_is at)) ∙ (neither (test y) (list_any test ys) none).0
+    ap test (sym (some_is at)) ∙ (or_parts (test y) (list_any test ys) none).0
 none_passes test (y ∷ ys) (suc i) x none at =
-    none_passes test ys i x (neither (test y) (list_any test ys) none).1 at
+    none_passes test ys i x (or_parts (test y) (list_any test ys) none).1 at
 
 -- what one of a list passes
 some_passes : {A : Type 0} (test : A → Bool) (xs : List A) → list_any test xs ≡ true →
@@ -110,9 +102,7 @@ mapped f (x ∷ xs) (suc i) y at = mapped f xs i y at
 
 map_there : {A B : Type 0} (f : A → B) (xs : List A) (i : ℕ) (x : A) → slice_get xs i ≡ Some x →
     slice_get (map f xs) i ≡ Some (f x)
-map_there f [] i x at = none_some at
-map_there f (y ∷ ys) zero x at = ap (λ z. Some (f z)) (some_is at)
-map_there f (y ∷ ys) (suc i) x at = map_there f ys i x at
+map_there f xs i x at = slice_get-map f xs i ∙ ap (option_map f) at
 
 -- the signalers of a team
 abbrev pub signalers_of : {P : Type 0} → List (Worker P) → List Signaler
@@ -200,7 +190,7 @@ module _ {P : Type 0} (acts : Acts P) where
         (stops : list_any (λ w. w.told.is_exhausted) vs ≡ false) where
       goes : (i : ℕ) (v : Worker P) → slice_get vs i ≡ Some v → ends_all v.told ≡ false
       goes i v at =
-          none_of v.told.no_memory v.told.is_exhausted
+          or_from v.told.no_memory v.told.is_exhausted
           (none_passes (λ (w : Worker P). w.told.no_memory) vs i v lacks at)
           (none_passes (λ (w : Worker P). w.told.is_exhausted) vs i v stops at)
 
@@ -237,11 +227,8 @@ module _ {P : Type 0} (acts : Acts P) where
 -- as many turns as there are by the end
 turns_by : (e : End) (limit : ℕ) (Given : (ℕ → Type 0) → Type 0) → Given (AtMost limit) →
     (e ≡ end.TurnsUsed → Given (Exactly limit)) → Given (TurnsBy e limit)
-turns_by end.AllDone limit Given most used = most
 turns_by end.TurnsUsed limit Given most used = used refl
-turns_by end.Exhausted limit Given most used = most
-turns_by end.NoMemory limit Given most used = most
-turns_by end.Stalled limit Given most used = most
+turns_by _ limit _ most used = most
 
 pub given_by : (e : End) (told : Told) (limit : ℕ) (Given : (ℕ → Type 0) → Type 0) (Over : Type 0) →
     (e ≢ end.AllDone → e ≡ end_told told) → (Over → e ≡ end.AllDone) → Given (AtMost limit) →

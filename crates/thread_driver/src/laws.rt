@@ -1,8 +1,10 @@
 //! Laws for callers: of new seats, of turns and the end that they decide, and of a machine that was closed. The
 //! functions do nothing: their contracts are the laws.
-ghost use Rattle.std.specs.Prelude.{◌≡◌, ◌≢◌, ◌⊎◌, ◌<◌, ◌≤◌, ℕ, true, List, [], length, slice_index_or, Ok, Err};
+ghost use Rattle.std.specs.Prelude.{◌≡◌, ◌≢◌, ◌⊎◌, ◌<◌, ◌≤◌, ℕ, Bool, true, false, List, [], length, slice_index_or};
+ghost use Rattle.std.specs.Prelude.{Some, Result, Ok, Err};
 ghost use Rattle.machine_theorem.specs.Consistency.{IsConsistent};
-ghost use Rattle.machine_table.specs.declared.event.Refusal.TheVariants.{NoMemory};
+ghost use Rattle.machine_table.specs.declared.event.Refusal.{Refusal};
+ghost use Rattle.machine_table.specs.declared.event.Refusal.TheVariants.{NoMemory, NoRoom};
 ghost use Rattle.mailboxes.specs.declared.machine.Machine.{Machine};
 ghost use Rattle.mailboxes.specs.declared.core_seat.CoreSeat.{CoreSeat};
 ghost use Rattle.mailboxes.specs.declared.bank_seat.BankSeat.{BankSeat};
@@ -10,13 +12,16 @@ ghost use Rattle.programs.specs.declared.ends.End.{End};
 ghost use Rattle.programs.specs.declared.ends.End.TheVariants as end;
 ghost use Rattle.closed_machine.specs.declared.run.Run.{Run};
 ghost use Rattle.closed_machine.specs.RunParts.{Parts, state_of_run};
+ghost use Rattle.mailboxes.specs.BankTurns.{BankTurns};
+ghost use Rattle.mailboxes.specs.CoreTurns.{CoreTurns};
 ghost use Rattle.mailboxes.specs.Seats.{AllNewBanks, AllNewCores};
 ghost use Rattle.thread_driver.specs.declared.told.Told.{Told};
+ghost use Rattle.thread_driver.specs.Calls.{RoomMade, VictimLeft, victim_of_seat};
 ghost use Rattle.thread_driver.specs.Given.{IsBankTurn, IsCoreTurn, TurnsGiven};
 ghost use Rattle.thread_driver.specs.Reports.{IsDecided, IsReport, Moved, SomeLacked, SomeStopped, Stopped, Went};
 ghost use Rattle.thread_driver.specs.Shifts.{AreBanksInOrder, AreCoresInOrder, NoneOpen, Ran};
 ghost use Rattle.thread_driver.specs.ThreadRuns.{machine_of};
-ghost use Rattle.thread_driver.specs.Turns.{BankHadTurn, CoreHadTurn};
+ghost use Rattle.thread_driver.specs.Turns.{AfterRefusal, BankHadTurn, CoreHadTurn};
 
 use machine_theorem::laws::machines_with_the_invariant_are_consistent;
 use machine_theorem::move_laws::reached_states_have_the_invariant;
@@ -52,6 +57,23 @@ pub fn turns_report_what_calls_answered<P: Program>()
     ensures banks { (m : Machine) (p q : BankSeat) (told : Told) (turn : BankHadTurn m p told q) →
         IsReport told (turn.moved ≡ Err NoMemory) (Stopped p.is_stopped q.is_stopped)
         (Moved turn.moved) }
+{}
+
+/// What follows what the calls of a turn answer. An attempt that is refused for another reason than NoRoom is followed
+/// by no eviction, and the step comes to that refusal. One refused by NoRoom is followed by the eviction of the victim
+/// of the open operation's line, if there is one. A bank's turn first evicts the line that makes room, if there is one.
+/// Then each seat has its own turn.
+pub fn turns_make_these_calls<P: Program>()
+    ensures refused { (r : Refusal) (p q : CoreSeat) (done : Result Bool Refusal) → r ≢ NoRoom →
+        AfterRefusal r p done q → (done ≡ Err r) × (q ≡ p) }
+    ensures no_room { (p q : CoreSeat) (done : Result Bool Refusal) (line : ℕ) →
+        victim_of_seat p p.part.core.open_op ≡ Some line → AfterRefusal NoRoom p done q →
+        (done ≡ Ok false) × VictimLeft (Some line) p q }
+    ensures turned { (m : Machine) (p q : CoreSeat) (before after : P) (told : Told)
+        (turn : CoreHadTurn P.acts m p before told q after) →
+        CoreTurns m turn.between turn.moved q }
+    ensures room { (m : Machine) (p q : BankSeat) (told : Told) (turn : BankHadTurn m p told q) →
+        RoomMade p turn.between × BankTurns m turn.between turn.moved q }
 {}
 
 /// Unless all is done, turns end NoMemory exactly if a call of some turn was refused memory, else Exhausted exactly if

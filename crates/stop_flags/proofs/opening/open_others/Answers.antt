@@ -1,24 +1,18 @@
-use Rattle.std.proofs.Common.{◌≡◌, ◌+◌, ◌≤◌, ◌++◌, [], ◌∷◌, List, length, length-append, sym, ap, subst}
+use Rattle.std.proofs.Common.{rules}
+use Rattle.std.proofs.Common.{◌≡◌, ◌+◌, ◌++◌, [], ◌∷◌, List, length, length-append, ap}
 use Rattle.std.proofs.Common.{arith, ◌∙◌}
 use Rattle.seat_views.specs.Seated.{one_more}
 use Rattle.stop_flags.specs.declared.signaler.Signaler.{Signaler}
-use Rattle.stop_flags.proofs.SignalerLists.{new_signaler, more_signalers}
+use Rattle.stop_flags.proofs.SignalerLists.{new_signaler}
+use Rattle.seat_views.proofs.Lemmas.{more_at}
+use Rattle.stop_flags.specs.Signalers.{IsNewSignaler}
 use Rattle.stop_flags.proofs.opening.open_others.Goals as goal
 
 pub make-seat-requires-clause-table : goal.make-seat-requires-clause-table
-make-seat-requires-clause-table c =
-    let m = c.args.signals.now in
-    let i = c.loop-number.invariant in
-    (i.0.0, m.sized.1, m.sized.2, subst (λ k. k ≤ 16) (sym m.keyed) m.sized.3)
+make-seat-requires-clause-table c = search rules
 
 pub make-seat-requires-clause-more : goal.make-seat-requires-clause-more
-make-seat-requires-clause-more c =
-    let m = c.args.signals.now in
-    let i = c.loop-number.invariant in
-    let v = ap (λ y. y.0.made) i.0.1 in
-    let key = m.keyed in
-    let more = c.loop-number-test.true in
-    (ap (λ y. y.0.spent) i.0.1, omega arith, omega arith)
+make-seat-requires-clause-more c = search rules
 
 pub loop-number-preserved : goal.loop-number-preserved
 loop-number-preserved c =
@@ -35,7 +29,7 @@ loop-number-preserved c =
       (made.table.0 ∙ i.0.0, made.made.0 ∙ ap (λ y. (one_more y.0, y.1)) i.0.1),
       omega arith,
       omega arith,
-      more_signalers m 1 ss c.push.new.self.items s items i.3
+      more_at (IsNewSignaler m) 1 ss c.push.new.self.items s items i.3
           (new_signaler m (1 + length ss) s c.make-seat.result (made.table.2 ∙ i.0.0) workers
           (ap (λ y. y.0.number) made.made.1 ∙ v ∙ omega arith) new.0 new.1),
     )

@@ -1,11 +1,6 @@
-use Rattle.std.proofs.Common.{arith}
+use Rattle.std.proofs.Common.{rules}
 use Rattle.stop_flags.proofs.Tells.{hears_finished}
 use Rattle.stop_flags.proofs.steps.hear_finished.Goals as goal
 
 pub load-requires : goal.load-requires
-load-requires c =
-    let d = c.requires.table in
-    let wide = d.1 in
-    let seat = c.args.seat.now in
-    let table = c.args.table.now in
-    (d.0, omega arith, hears_finished table.key table.table_id.slots seat.id seat.me c.requires.live)
+load-requires c = search (rules, hears_finished)

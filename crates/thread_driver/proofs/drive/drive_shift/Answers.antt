@@ -1,6 +1,7 @@
 use Rattle.std.proofs.Common.{◌≡◌, inl, inr, ⊎_elim, ℕ, ◌<◌, List, length, sym, ap, ◌∙◌, subst, arith}
 use Rattle.std.specs.Prelude.{slice_index_or}
 use Rattle.std.specs.List.{list_any}
+use Rattle.std.proofs.lemmas.Bool.{or_parts}
 use Rattle.std.proofs.lemmas.List.{length-map}
 use Rattle.std.proofs.lemmas.Option.{slice_get_within}
 use Rattle.stop_flags.specs.declared.signaler.Signaler.{Signaler}
@@ -13,7 +14,7 @@ use Rattle.thread_driver.specs.Hands.{HaveHandRoom}
 use Rattle.thread_driver.proofs.Formed.{dealt_back, dealt_to, lengths_back, total_to}
 use Rattle.thread_driver.proofs.Dealt.{ahead_of, all_gave, all_worked, banks_of, cores_of, lengths_after, value_of}
 use Rattle.thread_driver.proofs.Dealt.{vs_count}
-use Rattle.thread_driver.proofs.Used.{all_are_over, all_back, all_used, cores_few, neither, same_total, tells}
+use Rattle.thread_driver.proofs.Used.{all_are_over, all_back, all_used, cores_few, same_total, tells}
 use Rattle.thread_driver.proofs.drive.drive_shift.Goals as goal
 
 pub drive_team-requires-clause-ready : goal.drive_team-requires-clause-ready
@@ -166,7 +167,7 @@ returns-clause-used g c goes =
     ∙ ap (λ (us : List (Worker g.row.P.Denot)). list_any (λ u. u.told.is_exhausted) us) team in
     let moves = told.has_progressed
     ∙ ap (λ (us : List (Worker g.row.P.Denot)). list_any (λ u. u.told.has_progressed) us) team in
-    let none = neither c.told_by_team-told.result.no_memory c.told_by_team-told.result.is_exhausted goes in
+    let none = or_parts c.told_by_team-told.result.no_memory c.told_by_team-told.result.is_exhausted goes in
     let heard = subst AllHeard c.disband.ensures.signalers c.close.ensures in
     let total = same_total a m signals rota ws vs work
     ∙ total_to n s.cores.items s.programs.items s.banks.items c.deal_all.new.hands c.form.new.hands ws

@@ -1,4 +1,5 @@
-use Rattle.std.proofs.Common.{◌≡◌, ℕ, List, [], ◌∷◌, ap, ◌∙◌, subst, arith}
+use Rattle.std.proofs.Common.{rules}
+use Rattle.std.proofs.Common.{◌≡◌, ℕ, List, [], ◌∷◌, ap, ◌∙◌, subst}
 use Rattle.std.specs.Mem.Slots.{slots_items}
 use Rattle.std.specs.Prelude.{slice_get}
 use Rattle.atomic_table.specs.Table.{Final, Seen}
@@ -8,16 +9,12 @@ use Rattle.stop_flags.specs.declared.words.Voice.{Voice}
 use Rattle.stop_flags.specs.Ties.{FlagSeat}
 use Rattle.stop_flags.specs.Told.{FlagsHold}
 use Rattle.stop_flags.specs.Heard.{knows_all}
-use Rattle.stop_flags.proofs.SignalerLists.{get_front, split_of}
+use Rattle.seat_views.proofs.Lemmas.{get_front, split_of}
 use Rattle.stop_flags.proofs.Endings.{all_heard}
 use Rattle.stop_flags.proofs.signals.Signals.close.Goals as goal
 
 pub unwrap-requires : goal.unwrap-requires
-unwrap-requires c =
-    let some = c.args.self.some in
-    let many = c.requires.long in
-    let long = c.args.signalers.ok.0 in
-    c.pop-last.ensures.variant.1 (omega arith)
+unwrap-requires c = search rules
 
 pub join_all-requires-clause-signalers : goal.join_all-requires-clause-signalers
 join_all-requires-clause-signalers c i s e =
@@ -27,9 +24,7 @@ join_all-requires-clause-signalers c i s e =
     (c.requires.each i s (ap (λ z. slice_get z i) split ∙ get_front rest (last ∷ []) i s e)).0.0
 
 pub free-requires : goal.free-requires
-free-requires c =
-    let none = c.close_with-closed.ensures.counts.1 ∙ c.args.self.sized.2 in
-    λ k lt. absurd (omega arith)
+free-requires c = search rules
 
 pub returns : goal.returns
 returns c =

@@ -1,7 +1,7 @@
 -- The first line of a text and its header lines, by their bytes.
 use Rattle.std.specs.Prelude.{◌≡◌, ℕ, ◌<◌, ◌≤◌, ◌==◌, ◌&&◌, ◌||◌, nat_lt, not, Bool, true, false, if◌then◌else◌, List}
-use Rattle.std.specs.Prelude.{[], ◌∷◌, ◌++◌, length, take, drop, Option, Some, None, codes, option_and_then}
-use Rattle.std.specs.List.{list_all, prefix_len}
+use Rattle.std.specs.Prelude.{[], ◌∷◌, ◌++◌, length, drop, Option, Some, None, codes, option_and_then}
+use Rattle.std.specs.List.{list_all, prefix_len, take_while}
 use Rattle.litmus_lexer.specs.declared.signs.TheConstants.{EQUALS, OPENING_BRACE}
 use Rattle.litmus_lexer.specs.declared.limits.TheConstants.{LONGEST_TITLE}
 use Rattle.litmus_lexer.specs.Pieces.{between, is_blank}
@@ -23,6 +23,13 @@ pub record IsTitle (line name : List ℕ) : Type 0 where
   pub name_is : (list_all is_title_byte name ≡ true) × (0 < length name) × (length name ≤ LONGEST_TITLE)
   pub back_is : list_all is_blank back ≡ true
 
+-- a text after the bytes of this kind that it begins with
+abbrev pub text_behind : (ℕ → Bool) → List ℕ → List ℕ
+text_behind p text = drop (prefix_len p text) text
+
+abbrev pub are_blanks : List ℕ → Bool
+are_blanks text = prefix_len is_blank text == length text
+
 -- the same, read from the front
 abbrev pub behind_riscv : List ℕ → Option (List ℕ)
 behind_riscv (a ∷ b ∷ c ∷ d ∷ e ∷ rest) =
@@ -33,26 +40,18 @@ abbrev pub name_in : List ℕ → Option (List ℕ)
 name_in line =
     if prefix_len is_title_byte line == 0 then None
     else if nat_lt LONGEST_TITLE (prefix_len is_title_byte line) then None
-    else if prefix_len is_blank (drop (prefix_len is_title_byte line) line) == length
-    (drop (prefix_len is_title_byte line) line) then Some (take (prefix_len is_title_byte line) line)
+    else if are_blanks (text_behind is_title_byte line) then Some (take_while is_title_byte line)
     else None
 
 abbrev pub name_behind : List ℕ → Option (List ℕ)
-name_behind line = if prefix_len is_blank line == 0 then None else name_in (drop (prefix_len is_blank line) line)
+name_behind line = if prefix_len is_blank line == 0 then None else name_in (text_behind is_blank line)
 
 unfoldable pub title_of : List ℕ → Option (List ℕ)
-title_of line = option_and_then name_behind (behind_riscv (drop (prefix_len is_blank line) line))
-
--- a text after the bytes of this kind that it begins with
-abbrev pub text_behind : (ℕ → Bool) → List ℕ → List ℕ
-text_behind p text = drop (prefix_len p text) text
+title_of line = option_and_then name_behind (behind_riscv (text_behind is_blank line))
 
 abbrev pub is_key : List ℕ → Bool
 is_key [] = false
 is_key (first ∷ rest) = between 65 90 first || between 97 122 first
-
-abbrev pub are_blanks : List ℕ → Bool
-are_blanks text = prefix_len is_blank text == length text
 
 abbrev pub closes_quote : List ℕ → Bool
 closes_quote [] = false

@@ -1,6 +1,5 @@
 -- Reading from left to right, with the first fault that is met.
-use Rattle.std.specs.Prelude.{◌≡◌, ℕ, zero, suc, Bool, if◌then◌else◌, List, Result, Ok, Err}
-use Rattle.text_lines.specs.Reading.{◌>>=◌}
+use Rattle.std.specs.Prelude.{◌≡◌, ℕ, List, Result, Ok, Err}
 use Rattle.litmus_lexer.specs.Pieces.{Piece}
 use Rattle.litmus_lexer.specs.declared.errors.Kind.{Kind}
 use Rattle.litmus_lexer.specs.declared.errors.LitmusError.{LitmusError}
@@ -26,11 +25,3 @@ fault_at kind line = record { line = line; kind = kind }
 
 abbrev pub fails : {A : Type 0} → Kind → ℕ → Result A LitmusError
 fails kind line = Err (fault_at kind line)
-
--- steps from a state on until one says that it is the last; at most k, and then what is made of the last state
-unfoldable pub repeat_at : {S : Type 0} → ℕ → (S → Result (Bool × S) LitmusError) → (S → Result S LitmusError) → S →
-    Result S LitmusError
-repeat_at zero step out s = out s
-repeat_at (suc k) step out s = do
-  r ← step s
-  if r.0 then repeat_at k step out r.1 else Ok r.1

@@ -1,6 +1,4 @@
-mod Steps
-mod Causes
-mod ReadAnswers
+mod TextPieces
 mod ConditionSteps
 mod TableSteps
-pub mod Lemmas
+mod ShapeLaws

@@ -2,18 +2,18 @@
 use Rattle.std.specs.Prelude.{ℕ, ◌==◌, Bool, true, false, if◌then◌else◌, List, [], ◌∷◌, ◌++◌, Option, Some, None}
 use Rattle.std.specs.Prelude.{Result, Ok, Err}
 use Rattle.std.specs.List.{list_any}
-use Rattle.litmus_lexer.specs.declared.limits.TheConstants.{LAST_THREAD, MOST_BYTES}
+use Rattle.litmus_lexer.specs.declared.limits.TheConstants.{MOST_BYTES, MOST_THREADS}
 use Rattle.litmus_lexer.specs.declared.signs.TheConstants.{CLOSING_BRACE, COLON, EQUALS, OPENING_BRACE, SEMICOLON}
 use Rattle.litmus_lexer.specs.Pieces.{Piece, Word, Sign, LineEnd}
-use Rattle.litmus_lexer.specs.Spelling.{is_number, small_of, register_of}
+use Rattle.litmus_lexer.specs.Spelling.{is_number, register_of}
 use Rattle.litmus_lexer.specs.declared.errors.Kind.{Kind}
 use Rattle.litmus_lexer.specs.declared.errors.Kind.TheVariants.{BadInitial, DoubleInitial}
 use Rattle.litmus_lexer.specs.declared.errors.LitmusError.{LitmusError}
 use Rattle.litmus_lexer.specs.Reading.{fails}
 use Rattle.piece_forms.specs.Forms.{Verdict, Takes, Refuses, Form, Gives, Line, Known, ◌>>=◌, word, sign, one, line_end}
-use Rattle.piece_forms.specs.Forms.{until}
+use Rattle.piece_forms.specs.Forms.{taken, mapped, until, refused}
 use Rattle.litmus_parser.specs.Names.{Names, same_name}
-use Rattle.litmus_parser.specs.Words.{value, location}
+use Rattle.litmus_parser.specs.Words.{value, location, opening}
 use Rattle.litmus_parser.specs.declared.items.Opening.{Opening}
 use Rattle.litmus_parser.specs.declared.items.Opening.TheVariants.{OfThread, OfLocation}
 use Rattle.litmus_parser.specs.declared.syntax.Name.TheVariants.{Register, Location}
@@ -23,25 +23,9 @@ use Rattle.litmus_parser.specs.declared.syntax.Item.{Item}
 
 -- ---- items
 
--- a thread, or a location
-abbrev pub located : Result (ℕ × Names) Kind → Result (Opening × Names) Kind
-located (Ok l) = Ok (OfLocation l.0, l.1)
-located (Err kind) = Err kind
-
-abbrev pub opening_from : Option ℕ → List ℕ → Names → Result (Opening × Names) Kind
-opening_from (Some thread) w names = Ok (OfThread thread, names)
-opening_from None w names = located (location BadInitial w names)
-
-abbrev pub opening : List ℕ → Names → Result (Opening × Names) Kind
-opening w names = opening_from (small_of LAST_THREAD w) w names
-
 -- what an item begins with, or }
-abbrev pub begins : Result (Opening × Names) Kind → Verdict (Option (Opening × Names))
-begins (Ok o) = Takes (Some o)
-begins (Err kind) = Refuses kind
-
 abbrev pub item_or_brace : Names → Piece → Verdict (Option (Opening × Names))
-item_or_brace names (Word w) = begins (opening w names)
+item_or_brace names (Word w) = taken (mapped Some (opening BadInitial MOST_THREADS w names))
 item_or_brace names (Sign b) = if b == CLOSING_BRACE then Takes None else Refuses BadInitial
 item_or_brace names LineEnd = Refuses BadInitial
 
@@ -54,18 +38,11 @@ abbrev pub settable : Option ℕ → Result ℕ Kind
 settable None = Err BadInitial
 settable (Some r) = if r == 0 then Err BadInitial else Ok r
 
-abbrev pub as_number : Names → Result ℕ Kind → Result (Setting × Names) Kind
-as_number names (Ok n) = Ok (Number n, names)
-as_number names (Err kind) = Err kind
-
-abbrev pub as_address : Result (ℕ × Names) Kind → Result (Setting × Names) Kind
-as_address (Ok l) = Ok (Address l.0, l.1)
-as_address (Err kind) = Err kind
-
 -- what a register is set to: a number, or a location
 abbrev pub setting : Names → List ℕ → Result (Setting × Names) Kind
 setting names w =
-    if is_number w then as_number names (value BadInitial w) else as_address (location BadInitial w names)
+    if is_number w then mapped (λ n. (Number n, names)) (value BadInitial w)
+    else mapped (λ l. (Address l.0, l.1)) (location BadInitial w names)
 
 -- item := T : xR = ( N | L ) | L = N
 unfoldable pub rest_of_item : Opening × Names → Form (Item × Names)
@@ -95,10 +72,9 @@ added items item = if list_any (λ other. same_name other.name item.name) items 
 
 -- after an item: whether a further one may follow
 abbrev pub separator : Piece → Verdict Bool
-separator (Word w) = Refuses BadInitial
 separator (Sign b) =
     if b == SEMICOLON then Takes true else if b == CLOSING_BRACE then Takes false else Refuses BadInitial
-separator LineEnd = Refuses BadInitial
+separator piece = Refuses BadInitial
 
 unfoldable pub whole_item : List Item → Opening × Names → Form (Bool × Block)
 whole_item items o = do
@@ -119,6 +95,6 @@ entry block = one (item_or_brace block.1) >>= item_or_end block
 unfoldable pub block : Names → Form Block
 block names = do
   _ ← one (sign BadInitial OPENING_BRACE)
-  b ← until entry MOST_BYTES ([], names)
+  b ← until (refused BadInitial) entry MOST_BYTES ([], names)
   _ ← line_end BadInitial
   Gives b

@@ -1,13 +1,14 @@
 -- The grammar of instructions, as forms within a line.
-use Rattle.std.specs.Prelude.{ℕ, ◌==◌, min, Bool, false, if◌then◌else◌, List, Option, Some, None, Result, Ok, Err}
-use Rattle.litmus_lexer.specs.declared.limits.TheConstants.{VALUE_BOUND}
+use Rattle.std.specs.Prelude.{ℕ, ◌-◌, min, Bool, if◌then◌else◌, List, Result, Ok}
+use Rattle.std.specs.Prelude.{Err, ok_or, codes}
+use Rattle.std.specs.Str.{bytes_eq}
+use Rattle.litmus_lexer.specs.declared.limits.TheConstants.{MOST_ORI, VALUE_BOUND}
 use Rattle.litmus_lexer.specs.declared.signs.TheConstants.{CLOSING_PARENTHESIS, COMMA, OPENING_PARENTHESIS}
 use Rattle.litmus_lexer.specs.Spelling.{is_number, value_of_digits, register_of}
 use Rattle.litmus_lexer.specs.declared.errors.Kind.{Kind}
 use Rattle.litmus_lexer.specs.declared.errors.Kind.TheVariants.{BadInstruction}
 use Rattle.piece_forms.specs.Forms.{Form, Gives, ◌>>=◌, here, word, sign}
-use Rattle.litmus_parser.specs.Mnemonics.{mnemonic_of, is_zero, is_fence_set}
-use Rattle.litmus_parser.specs.Words.{or_fault}
+use Rattle.litmus_parser.specs.Mnemonics.{mnemonic_of, is_fence_set}
 use Rattle.litmus_parser.specs.declared.forms.Mnemonic.{Mnemonic}
 use Rattle.litmus_parser.specs.declared.forms.Mnemonic.TheVariants as word_of
 use Rattle.litmus_parser.specs.declared.forms.Form.{Form as Written}
@@ -23,11 +24,7 @@ abbrev pub mark : ℕ → Form (Unit {0})
 mark wanted = here BadInstruction (sign BadInstruction wanted)
 
 abbrev pub register : Form ℕ
-register = operand (λ w. or_fault BadInstruction (register_of w))
-
-abbrev pub is_x0 : Option ℕ → Bool
-is_x0 (Some r) = r == 0
-is_x0 None = false
+register = operand (λ w. ok_or (register_of w) BadInstruction)
 
 -- a number; all that are no value count as the bound of values
 abbrev pub number : Form ℕ
@@ -46,7 +43,7 @@ unfoldable pub offset : Form (ℕ × ℕ)
 offset = do
   r ← register
   _ ← mark COMMA
-  _ ← operand (λ w. passes (is_zero w))
+  _ ← operand (λ w. passes (bytes_eq w (codes "0")))
   b ← base
   Gives (r, b)
 
@@ -73,7 +70,7 @@ unfoldable pub or_numbered : Form (ℕ × ℕ)
 or_numbered = do
   d ← register
   _ ← mark COMMA
-  _ ← operand (λ w. passes (is_x0 (register_of w)))
+  _ ← operand (λ w. passes (bytes_eq w (codes "x0")))
   _ ← mark COMMA
   n ← number
   Gives (d, n)
@@ -89,10 +86,10 @@ unfoldable pub operands : Mnemonic → Form Written
 operands (word_of.Load width) = offset >>= λ r. Gives (written.Load width r.0 r.1)
 operands (word_of.Store width) = offset >>= λ r. Gives (written.Store width r.0 r.1)
 operands (word_of.Swap width) = swapped >>= λ r. Gives (written.Swap width r.0 r.1 r.2)
-operands word_of.Li = numbered >>= λ r. Gives (written.Li r.0 r.1)
-operands word_of.Ori = or_numbered >>= λ r. Gives (written.Ori r.0 r.1)
+operands word_of.Li = numbered >>= λ r. Gives (written.Set r.0 r.1 (VALUE_BOUND - 1))
+operands word_of.Ori = or_numbered >>= λ r. Gives (written.Set r.0 r.1 MOST_ORI)
 operands word_of.Fence = sets >>= λ r. Gives written.Fence
 
 -- instruction := load offset | store offset | swap swapped | li numbered | ori or_numbered | fence sets
 unfoldable pub instruction : Form Written
-instruction = operand (λ w. or_fault BadInstruction (mnemonic_of w)) >>= operands
+instruction = operand (λ w. ok_or (mnemonic_of w) BadInstruction) >>= operands

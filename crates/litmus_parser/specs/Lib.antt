@@ -6,8 +6,9 @@ pub mod Block
 pub mod Verdicts
 pub mod Instructions
 pub mod Table
+pub mod Shapes
 pub mod Trees
 pub mod TreeViews
-pub mod ReadingHeader
+pub mod Header
 pub mod Extents
 pub mod Condition

@@ -1,6 +1,7 @@
 -- The grammar of the table, as forms: the header row, and the rows up to the condition.
 use Rattle.std.specs.Prelude.{ℕ, ◌+◌, ◌-◌, ◌==◌, ◌&&◌, nat_le, Bool, true, false, if◌then◌else◌, List, [], ◌∷◌, ◌++◌}
-use Rattle.std.specs.Prelude.{Option, Some, None, Result, Ok, Err}
+use Rattle.std.specs.Prelude.{Option, Some, None, Result, Ok, Err, is_some}
+use Rattle.std.specs.List.{find}
 use Rattle.litmus_lexer.specs.declared.limits.TheConstants.{MOST_ROWS, MOST_THREADS}
 use Rattle.litmus_lexer.specs.declared.signs.TheConstants.{BAR, SEMICOLON}
 use Rattle.litmus_lexer.specs.Pieces.{Piece, Word, Sign, LineEnd}
@@ -11,8 +12,7 @@ use Rattle.litmus_lexer.specs.declared.errors.LitmusError.{LitmusError}
 use Rattle.litmus_lexer.specs.Reading.{fails}
 use Rattle.piece_forms.specs.Places.{InLine}
 use Rattle.piece_forms.specs.Forms.{Verdict, Takes, Leaves, Refuses, Form, Gives, At, Test, Known}
-use Rattle.piece_forms.specs.Forms.{◌>>=◌, taken, word, one, here, line_end, either, many}
-use Rattle.litmus_parser.specs.Names.{is_present}
+use Rattle.piece_forms.specs.Forms.{◌>>=◌, taken, word, one, here, line_end, either, many, refused}
 use Rattle.litmus_parser.specs.Keywords.{quantifier_of}
 use Rattle.litmus_parser.specs.Instructions.{instruction}
 use Rattle.litmus_parser.specs.Verdicts.{Bases, bases_of, meaning}
@@ -35,9 +35,8 @@ heading thread = word BadTable (λ w. is_heading thread (thread_named w))
 
 -- | before a further heading, or ;
 abbrev pub separator : Piece → Verdict Bool
-separator (Word w) = Refuses BadTable
 separator (Sign b) = if b == BAR then Takes true else if b == SEMICOLON then Takes false else Refuses BadTable
-separator LineEnd = Refuses BadTable
+separator piece = Refuses BadTable
 
 abbrev pub another : ℕ → Form Bool
 another threads = here BadTable separator
@@ -46,11 +45,11 @@ abbrev pub further_heading : ℕ → Form ℕ
 further_heading threads = here BadTable (heading threads) >>= λ _. Gives (threads + 1)
 
 -- header := P0 { "|" PT } ;
--- and the end of the line; the heading of thread 16 is refused, so the steps end with ;
+-- and the end of the line; a heading past the last one is refused, so the steps end with ;
 unfoldable pub header : Form ℕ
 header = do
   _ ← one (heading 0)
-  threads ← many another further_heading MOST_THREADS 1
+  threads ← many (refused BadTable) another further_heading MOST_THREADS 1
   _ ← line_end BadTable
   Gives threads
 
@@ -58,22 +57,17 @@ abbrev pub is_absent : ℕ → Name → Bool
 is_absent threads (Register thread register) = nat_le threads thread
 is_absent threads (Location l) = false
 
--- the line of the first item for a thread that is not there
-unfoldable pub absent_line : ℕ → List Item → Option ℕ
-absent_line threads [] = None
-absent_line threads (item ∷ items) = if is_absent threads item.name then Some item.line else absent_line threads items
-
-abbrev pub unless_absent : Option ℕ → Result (Unit {0}) LitmusError
+-- an item for a thread that is not there is a fault in its line
+abbrev pub unless_absent : Option Item → Result (Unit {0}) LitmusError
 unless_absent None = Ok tt
-unless_absent (Some line) = fails BadInitial line
+unless_absent (Some item) = fails BadInitial item.line
 
 -- ---- rows
 
 abbrev pub ends_here : List Piece → Bool
 ends_here [] = true
 ends_here (LineEnd ∷ pieces) = true
-ends_here (Word w ∷ pieces) = false
-ends_here (Sign b ∷ pieces) = false
+ends_here pieces = false
 
 -- so many |, then a ;, and nothing after it in the line
 unfoldable pub has_shape : ℕ → List Piece → Bool
@@ -91,15 +85,13 @@ Rows = List Cell × Option Width
 
 -- the sign with which a cell ends, if it comes next
 abbrev pub ends_cell : ℕ → Piece → Verdict Bool
-ends_cell end (Word w) = Leaves false
 ends_cell end (Sign b) = if b == end then Takes true else Leaves false
-ends_cell end LineEnd = Leaves false
+ends_cell end piece = Leaves false
 
 -- that sign, if this is found of what stands in the cell
 abbrev pub closes : {A : Type 0} → ℕ → Result A Kind → Piece → Verdict A
-closes end found (Word w) = Refuses BadInstruction
 closes end found (Sign b) = if b == end then taken found else Refuses BadInstruction
-closes end found LineEnd = Refuses BadInstruction
+closes end found piece = Refuses BadInstruction
 
 -- an instruction, with what it means in its thread
 unfoldable pub filled : Bases → ℕ → ℕ → Rows → Form Rows
@@ -126,7 +118,7 @@ always c = Gives true
 unfoldable pub row : Bases → ℕ → Rows → Form Rows
 row bases threads rows = do
   _ ← Test (has_shape (threads - 1)) BadTable
-  c ← many always (column bases threads) threads (0, rows)
+  c ← many Gives always (column bases threads) threads (0, rows)
   _ ← line_end BadTable
   Gives c.1
 
@@ -136,9 +128,8 @@ row_begins is_keyword count =
     if is_keyword then Leaves false else if nat_le MOST_ROWS count then Refuses TooLarge else Leaves true
 
 abbrev pub row_or_condition : ℕ → Piece → Verdict Bool
-row_or_condition count (Word w) = row_begins (is_present (quantifier_of w)) count
-row_or_condition count (Sign b) = row_begins false count
-row_or_condition count LineEnd = row_begins false count
+row_or_condition count (Word w) = row_begins (is_some (quantifier_of w)) count
+row_or_condition count piece = row_begins false count
 
 abbrev pub next_row : ℕ × Rows → Form Bool
 next_row t = one (row_or_condition t.0)
@@ -147,16 +138,16 @@ unfoldable pub counted_row : Bases → ℕ → ℕ × Rows → Form (ℕ × Rows
 counted_row bases threads t = row bases threads t.1 >>= λ rows. Gives (t.0 + 1, rows)
 
 -- rows := { row }
--- up to the condition; row 1,025 is refused, so the steps end with a keyword
+-- up to the condition; a row past the last one is refused, so the steps end with a keyword
 unfoldable pub rows : Bases → ℕ → Form (List Cell)
 rows bases threads =
-    many next_row (counted_row bases threads) (MOST_ROWS + 1) (0, ([], None)) >>= λ t. Gives t.1.0
+    many (refused TooLarge) next_row (counted_row bases threads) (MOST_ROWS + 1) (0, ([], None)) >>= λ t. Gives t.1.0
 
 -- table := header rows
 -- the items are of threads that the header row names
 unfoldable pub table : List Item → Form (ℕ × List Cell)
 table items = do
   threads ← header
-  _ ← Known (unless_absent (absent_line threads items))
+  _ ← Known (unless_absent (find (λ item. is_absent threads item.name) items))
   cells ← rows (bases_of items) threads
   Gives (threads, cells)

@@ -1,12 +1,11 @@
 -- What an instruction may say: its numbers, its width, its registers.
-use Rattle.std.specs.Prelude.{ℕ, nat_lt, Bool, true, false, if◌then◌else◌, List, Option, Some, None, Result, Ok, Err}
-use Rattle.litmus_lexer.specs.declared.limits.TheConstants.{MOST_ORI, VALUE_BOUND}
+use Rattle.std.specs.Prelude.{ℕ, nat_lt, Bool, true, false, if◌then◌else◌, List, Option, Some, None, Result, Ok}
+use Rattle.std.specs.Prelude.{Err, ok_or, is_some}
 use Rattle.litmus_lexer.specs.declared.errors.Kind.{Kind}
 use Rattle.litmus_lexer.specs.declared.errors.Kind.TheVariants.{MixedWidth, ValueRange, AddressAsValue}
 use Rattle.litmus_lexer.specs.declared.errors.Kind.TheVariants.{ValueAsAddress}
 use Rattle.text_lines.specs.Reading.{◌>>=◌}
-use Rattle.litmus_parser.specs.Names.{address_of, is_present}
-use Rattle.litmus_parser.specs.Words.{or_fault}
+use Rattle.litmus_parser.specs.Names.{address_of}
 use Rattle.litmus_parser.specs.declared.syntax.Width.{Width}
 use Rattle.litmus_parser.specs.declared.syntax.Width.TheVariants.{Single, Double}
 use Rattle.litmus_parser.specs.declared.syntax.Item.{Item}
@@ -24,9 +23,8 @@ bases_of items thread register = address_of thread register items
 
 abbrev pub same_width : Width → Width → Bool
 same_width Single Single = true
-same_width Single Double = false
-same_width Double Single = false
 same_width Double Double = true
+same_width width other = false
 
 -- the first width stays
 unfoldable pub kept : Option Width → Width → Result (Option Width) Kind
@@ -35,11 +33,11 @@ kept (Some first) own = if same_width first own then Ok (Some first) else Err Mi
 
 -- an address register holds no value
 unfoldable pub value_in : Bases → ℕ → ℕ → Result ℕ Kind
-value_in bases thread register = if is_present (bases thread register) then Err AddressAsValue else Ok register
+value_in bases thread register = if is_some (bases thread register) then Err AddressAsValue else Ok register
 
 -- the location that an address register holds
 unfoldable pub base_in : Bases → ℕ → ℕ → Result ℕ Kind
-base_in bases thread register = or_fault ValueAsAddress (bases thread register)
+base_in bases thread register = ok_or (bases thread register) ValueAsAddress
 
 -- first the number, then the width, then the registers from the left
 unfoldable pub meaning : Bases → ℕ → Option Width → Form → Result (Instruction × Option Width) Kind
@@ -59,8 +57,6 @@ meaning bases thread width (form.Swap own target source base) = do
   s ← value_in bases thread source
   b ← base_in bases thread base
   Ok (Swap d s b, w)
-meaning bases thread width (form.Li target value) =
-    if nat_lt value VALUE_BOUND then (value_in bases thread target >>= λ d. Ok (Set d value, width)) else Err ValueRange
-meaning bases thread width (form.Ori target value) =
-    if nat_lt MOST_ORI value then Err ValueRange else (value_in bases thread target >>= λ d. Ok (Set d value, width))
+meaning bases thread width (form.Set target value most) =
+    if nat_lt most value then Err ValueRange else (value_in bases thread target >>= λ d. Ok (Set d value, width))
 meaning bases thread width form.Fence = Ok (Fence, width)

@@ -1,16 +1,15 @@
 -- What a word must say, in the initial block and in the condition.
 use Rattle.std.specs.Prelude.{ℕ, nat_lt, nat_le, not, if◌then◌else◌, List, [], ◌∷◌, ◌++◌, length, Option, Some, None}
 use Rattle.std.specs.Prelude.{Result, Ok, Err}
-use Rattle.litmus_lexer.specs.declared.limits.TheConstants.{MOST_LOCATIONS, VALUE_BOUND}
+use Rattle.litmus_lexer.specs.declared.limits.TheConstants.{LAST_THREAD, MOST_LOCATIONS, VALUE_BOUND}
 use Rattle.litmus_lexer.specs.Naming.{place_of}
-use Rattle.litmus_lexer.specs.Spelling.{is_number, value_of_digits, is_location}
+use Rattle.litmus_lexer.specs.Spelling.{is_number, value_of_digits, is_location, small_of}
 use Rattle.litmus_lexer.specs.declared.errors.Kind.{Kind}
 use Rattle.litmus_lexer.specs.declared.errors.Kind.TheVariants.{TooLarge, ValueRange}
+use Rattle.piece_forms.specs.Forms.{mapped}
 use Rattle.litmus_parser.specs.Names.{Names}
-
-abbrev pub or_fault : {A : Type 0} → Kind → Option A → Result A Kind
-or_fault kind None = Err kind
-or_fault kind (Some x) = Ok x
+use Rattle.litmus_parser.specs.declared.items.Opening.{Opening}
+use Rattle.litmus_parser.specs.declared.items.Opening.TheVariants.{OfThread, OfLocation}
 
 -- a number that fits
 abbrev pub value : Kind → List ℕ → Result ℕ Kind
@@ -25,3 +24,12 @@ location kind w names =
     else if nat_lt (place_of w names) (length names) then Ok (place_of w names, names)
     else if nat_le MOST_LOCATIONS (length names) then Err TooLarge
     else Ok (length names, names ++ w ∷ [])
+
+abbrev pub opening_from : Kind → ℕ → Option ℕ → List ℕ → Names → Result (Opening × Names) Kind
+opening_from kind threads (Some thread) w names =
+    if nat_le threads thread then Err kind else Ok (OfThread thread, names)
+opening_from kind threads None w names = mapped (λ l. (OfLocation l.0, l.1)) (location kind w names)
+
+-- what an item or an atom begins with: one of so many threads, or a location
+abbrev pub opening : Kind → ℕ → List ℕ → Names → Result (Opening × Names) Kind
+opening kind threads w names = opening_from kind threads (small_of LAST_THREAD w) w names

@@ -1,78 +1,48 @@
 //! The atoms of a condition.
 
-ghost use Rattle.std.specs.Prelude.{◌≡◌, ◌≢◌, ◌<◌, IfOk};
-ghost use Rattle.litmus_lexer.specs.Spelling.{small_of};
+ghost use Rattle.std.specs.Prelude.{◌≡◌, ◌<◌, None, IfOk};
 ghost use Rattle.litmus_lexer.specs.Views.{view_read};
 ghost use Rattle.litmus_lexer.specs.Reading.{Gives};
 ghost use Rattle.piece_forms.specs.Forms.{one};
-ghost use Rattle.piece_forms.specs.Reading.{reads, judged};
+ghost use Rattle.piece_forms.specs.Reading.{reads};
 ghost use Rattle.litmus_parser.specs.TreeViews.{tree_of};
-ghost use Rattle.litmus_parser.specs.Condition.{addresses, name, start, register, rest_of_atom};
-ghost use Rattle.litmus_parser.specs.declared.atoms.Start.TheVariants.{Parenthesis};
+ghost use Rattle.litmus_parser.specs.Condition.{start, register, rest_of_atom};
+ghost use Rattle.litmus_parser.specs.Verdicts.{bases_of};
 
-use crate::items::{is_address, location, value};
+use crate::items::{Opening, is_address, item_opening, value};
 use crate::syntax::{Expr, Item, Name};
 use litmus_lexer::{
-    Cursor, EQUALS, Kind, LAST_THREAD, Locations, MOST_ATOMS, OPENING_PARENTHESIS, ReadError,
-    Token, register, small,
+    Cursor, EQUALS, Kind, Locations, MOST_ATOMS, OPENING_PARENTHESIS, ReadError, Token, register,
 };
 use piece_forms::{ahead, expect_sign};
 
-/// What a factor begins with.
-#[derive(Clone, Copy)]
-pub enum Start {
-    OfThread(u8),
-    OfLocation(u8),
-    Parenthesis,
-}
-
-/// The thread or the location that a word names.
-fn name_start(
-    threads: u8,
-    locations: &mut Locations,
-    word: &[u8],
-    at: &Cursor<'_>,
-) -> Result<Start, ReadError>
-    ensures read { Gives (λ start. (start, locations.new)) result
-        (judged (name threads (small_of 15 word.now) word.now locations.old) at.now.line) }
-    ensures name { IfOk result (λ start. start ≢ Parenthesis) }
-{
-    match small(word, LAST_THREAD) {
-        Some(thread) if thread < threads => Ok(Start::OfThread(thread)),
-        Some(_) => Err(at.fault(Kind::BadCondition)),
-        None => {
-            let number = location(locations, word, at, Kind::BadCondition)?;
-            Ok(Start::OfLocation(number))
-        }
-    }
-}
-
-/// What a factor begins with, how many atoms there are with it, and the position after it.
+/// What a factor begins with, or nothing for a parenthesis; how many atoms there are with it; and
+/// the position after it.
 pub fn factor_start<'a>(
     threads: u8,
     depth: u8,
     locations: &mut Locations,
     atoms: u16,
     cursor: Cursor<'a>,
-) -> Result<(Start, u16, Cursor<'a>), ReadError>
+) -> Result<(Option<Opening>, u16, Cursor<'a>), ReadError>
     ensures read { Gives (λ r. ((r.0, (locations.new, r.1)), r.2.line, r.2.pieces)) result
         (reads (one (start threads depth (locations.old, atoms)))
         cursor.entry.line cursor.entry.pieces) }
-    ensures deep { IfOk result (λ r. r.0 ≡ Parenthesis → 0 < depth) }
+    ensures deep { IfOk result (λ r. r.0 ≡ None → 0 < depth) }
 {
     match ahead(&cursor) {
         (Some(Token::Word(word)), after) => {
-            let start = name_start(threads, locations, word, &after)?;
+            let start = item_opening(threads, locations, word, &after, Kind::BadCondition)?;
             if atoms >= MOST_ATOMS {
                 return Err(after.fault(Kind::TooLarge));
             }
-            Ok((start, atoms + 1, after))
+            Ok((Some(start), atoms + 1, after))
         }
         (Some(Token::Sign(OPENING_PARENTHESIS)), after) => {
             if depth == 0 {
                 return Err(after.fault(Kind::TooLarge));
             }
-            Ok((Start::Parenthesis, atoms, after))
+            Ok((None, atoms, after))
         }
         (Some(_), after) => Err(after.fault(Kind::BadCondition)),
         (None, end) => Err(end.fault(Kind::CutShort)),
@@ -80,12 +50,13 @@ pub fn factor_start<'a>(
 }
 
 /// A register of the thread that holds values.
+#[tactic(auto, unfolding(crate::specs::Verdicts::value_in))]
 pub fn value_register<'a>(
     items: &[Item],
     thread: u8,
     cursor: Cursor<'a>,
 ) -> Result<(u8, Cursor<'a>), ReadError>
-    ensures { Gives view_read result (reads (register (addresses items.now thread))
+    ensures { Gives view_read result (reads (register (bases_of items.now) thread)
         cursor.entry.line cursor.entry.pieces) }
 {
     match ahead(&cursor) {

@@ -3,7 +3,8 @@
 ghost use Rattle.std.specs.Prelude.{◌≡◌, [], None, IfOk};
 ghost use Rattle.litmus_lexer.specs.Views.{view_read};
 ghost use Rattle.litmus_lexer.specs.Reading.{Gives};
-ghost use Rattle.piece_forms.specs.Forms.{one, until};
+ghost use Rattle.litmus_lexer.specs.declared.errors.Kind.TheVariants.{BadInitial};
+ghost use Rattle.piece_forms.specs.Forms.{one, until, refused};
 ghost use Rattle.piece_forms.specs.Reading.{reads};
 ghost use Rattle.litmus_parser.specs.Block.{added, separator, with_names, item_or_brace};
 ghost use Rattle.litmus_parser.specs.Block.{whole_item, entry, block};
@@ -11,7 +12,8 @@ ghost use Rattle.litmus_parser.specs.Block.{whole_item, entry, block};
 use crate::items::{Opening, is_set, item, item_opening};
 use crate::syntax::Item;
 use litmus_lexer::{
-    CLOSING_BRACE, Cursor, Kind, Locations, MOST_BYTES, OPENING_BRACE, ReadError, SEMICOLON, Token,
+    CLOSING_BRACE, Cursor, Kind, Locations, MOST_BYTES, MOST_THREADS, OPENING_BRACE, ReadError,
+    SEMICOLON, Token,
 };
 use piece_forms::{ahead, end_line, expect_sign};
 use std::alloc::Global;
@@ -70,7 +72,7 @@ fn item_or_brace<'a>(
 {
     match ahead(&cursor) {
         (Some(Token::Word(first)), after) => {
-            let opening = item_opening(locations, first, &after)?;
+            let opening = item_opening(MOST_THREADS, locations, first, &after, Kind::BadInitial)?;
             Ok((Some(opening), after))
         }
         (Some(Token::Sign(CLOSING_BRACE)), after) => Ok((None, after)),
@@ -103,7 +105,7 @@ fn items<'a>(
     cursor: Cursor<'a>,
 ) -> Result<(Vec<Item>, Cursor<'a>), ReadError>
     ensures { Gives (λ r. ((r.0.items, locations.new), r.1.line, r.1.pieces)) result
-        (reads (until entry MOST_BYTES ([], locations.old))
+        (reads (until (refused BadInitial) entry MOST_BYTES ([], locations.old))
         cursor.entry.line cursor.entry.pieces) }
 {
     let mut items = Vec::new(alloc);
@@ -115,7 +117,7 @@ fn items<'a>(
             return Ok((items, at));
         }
     }
-    Ok((items, at))
+    Err(at.fault(Kind::BadInitial))
 }
 
 /// The items of the initial block, and the line after it.

@@ -1,11 +1,11 @@
 //! The condition: its keyword, its expression and the end of the text.
 
-ghost use Rattle.std.specs.Prelude.{◌≡◌};
 ghost use Rattle.litmus_lexer.specs.Views.{view_read};
 ghost use Rattle.litmus_lexer.specs.Reading.{Gives};
 ghost use Rattle.piece_forms.specs.Reading.{reads};
 ghost use Rattle.litmus_parser.specs.TreeViews.{tree_of};
-ghost use Rattle.litmus_parser.specs.Condition.{addresses, keyword, condition};
+ghost use Rattle.litmus_parser.specs.Verdicts.{bases_of};
+ghost use Rattle.litmus_parser.specs.Condition.{keyword, condition};
 
 use crate::expressions::{Connective, expression};
 use crate::syntax::{Expr, Item, Quantifier};
@@ -37,7 +37,7 @@ pub fn condition<'a>(
     cursor: Cursor<'a>,
 ) -> Result<(Quantifier, Expr, Cursor<'a>), ReadError>
     ensures { Gives (λ r. ((r.0, tree_of r.1, locations.new), r.2.line, r.2.pieces)) result
-        (reads (condition (addresses items.now) threads locations.old)
+        (reads (condition (bases_of items.now) threads locations.old)
         cursor.entry.line cursor.entry.pieces) }
 {
     let (quantifier, after) = keyword(cursor)?;

@@ -1,8 +1,9 @@
 //! How far a text can be read: up to its end, or up to the line of its first bad byte.
 
-ghost use Rattle.std.specs.Prelude.{◌≡◌, ◌≤◌, ◌==◌, not, ℕ, length};
-ghost use Rattle.std.specs.List.{prefix_len};
-ghost use Rattle.litmus_parser.specs.Extents.{is_allowed, line_feeds, inner_line_feeds, tail_of, reach};
+ghost use Rattle.std.specs.Prelude.{◌≡◌, ◌≢◌, ◌≤◌, length};
+ghost use Rattle.std.specs.List.{prefix_len, suffix_len};
+ghost use Rattle.text_lines.specs.Lines.{is_within_line};
+ghost use Rattle.litmus_parser.specs.Extents.{is_allowed, line_feeds, inner_line_feeds, reach};
 
 use litmus_lexer::{Kind, LitmusError, MOST_BYTES};
 
@@ -19,59 +20,28 @@ fn allowed_count(text: &[u8]) -> usize
     text.iter().take_while(|b| is_allowed(**b)).count()
 }
 
-#[tactic(auto, unfolding(crate::specs::Extents::line_feeds))]
 fn line_feeds(text: &[u8]) -> usize
     ensures count { result ≡ line_feeds text.now }
     ensures within { result ≤ length text.now }
 {
-    let mut count = 0;
-    let mut left = text;
-    while let Some((b, rest)) = left.split_first() {
-        if *b == b'\n' {
-            count += 1;
-        }
-        left = rest;
-    }
-    count
+    text.iter().filter(|b| **b == b'\n').count()
 }
 
 /// How many line feeds begin a further line: all but one that is the last byte.
-#[tactic(auto, unfolding(crate::specs::Extents::inner_line_feeds))]
 fn inner_line_feeds(text: &[u8]) -> usize
     ensures count { result ≡ inner_line_feeds text.now }
     ensures within { result ≤ length text.now }
 {
-    let mut count = 0;
-    let mut left = text;
-    while let Some((b, rest)) = left.split_first() {
-        if rest.is_empty() {
-            return count;
-        }
-        if *b == b'\n' {
-            count += 1;
-        }
-        left = rest;
-    }
-    count
+    let (inner, _) = text.split_at(text.len().saturating_sub(1));
+    line_feeds(inner)
 }
 
 /// How many bytes come after the last line feed.
-#[tactic(auto, unfolding(crate::specs::Extents::tail_of))]
 fn tail(text: &[u8]) -> usize
-    ensures count { result ≡ tail_of 0 text.now }
+    ensures count { result ≡ suffix_len is_within_line text.now }
     ensures within { result ≤ length text.now }
 {
-    let mut count = 0;
-    let mut left = text;
-    while let Some((b, rest)) = left.split_first() {
-        if *b == b'\n' {
-            count = 0;
-        } else {
-            count += 1;
-        }
-        left = rest;
-    }
-    count
+    text.iter().rev().take_while(|b| **b != b'\n').count()
 }
 
 /// The lines before the one of the first bad byte, or the whole text where each byte is allowed;
@@ -80,6 +50,7 @@ pub fn reach(text: &[u8]) -> (&[u8], LitmusError)
     requires { length text.now ≤ MOST_BYTES }
     ensures text { result.0.now ≡ (reach text.now).0 }
     ensures fault { result.1 ≡ (reach text.now).1 }
+    ensures kind { result.1.kind ≢ Kind.NoMemory }
 {
     let count = allowed_count(text);
     if count == text.len() {

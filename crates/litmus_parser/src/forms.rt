@@ -1,21 +1,19 @@
 //! Instructions as they are written.
 
-ghost use Rattle.std.specs.Prelude.{◌≡◌, if◌then◌else◌, Ok, Err, min};
+ghost use Rattle.std.specs.Prelude.{◌≡◌, ok_or};
 ghost use Rattle.std.specs.Str.{bytes_eq};
 ghost use Rattle.litmus_lexer.specs.Views.{view_read};
 ghost use Rattle.litmus_lexer.specs.Reading.{Gives};
-ghost use Rattle.litmus_lexer.specs.Spelling.{register_of};
 ghost use Rattle.piece_forms.specs.Reading.{reads};
-ghost use Rattle.litmus_parser.specs.Mnemonics.{mnemonic_of, swap_width, is_zero, is_fence_set};
-ghost use Rattle.litmus_parser.specs.Instructions.{passes, operand, register, is_x0, number, base, offset, swapped};
+ghost use Rattle.litmus_parser.specs.Mnemonics.{mnemonic_of, is_fence_set};
+ghost use Rattle.litmus_parser.specs.Instructions.{passes, operand, register, number, base, offset, swapped};
 ghost use Rattle.litmus_parser.specs.Instructions.{numbered, or_numbered, sets, operands, instruction};
-ghost use Rattle.litmus_parser.specs.Words.{or_fault};
 ghost use Rattle.litmus_lexer.specs.declared.errors.Kind.TheVariants.{BadInstruction};
 
 use crate::syntax::Width;
 use litmus_lexer::{
-    CLOSING_PARENTHESIS, COMMA, Cursor, Kind, OPENING_PARENTHESIS, ReadError, Token, is_number,
-    number, register,
+    CLOSING_PARENTHESIS, COMMA, Cursor, Kind, MOST_ORI, OPENING_PARENTHESIS, ReadError, Token,
+    VALUE_BOUND, is_number, number, register,
 };
 use piece_forms::{expect_here, first};
 
@@ -36,8 +34,8 @@ pub enum Form {
     Load(Width, u8, u8),
     Store(Width, u8, u8),
     Swap(Width, u8, u8, u8),
-    Li(u8, u32),
-    Ori(u8, u32),
+    /// A register, its value and the greatest value that is allowed.
+    Set(u8, u32, u32),
     Fence,
 }
 
@@ -48,20 +46,7 @@ pub fn is(word: &[u8], wanted: &[u8]) -> bool
     word == wanted
 }
 
-/// The width of a swap; a suffix has no effect.
-fn swap_width(word: &[u8]) -> Option<Width>
-    ensures { result ≡ swap_width word.now }
-{
-    if is(word, b"amoswap.w") || is(word, b"amoswap.w.aq") || is(word, b"amoswap.w.rl") {
-        return Some(Width::Single);
-    }
-    if is(word, b"amoswap.d") || is(word, b"amoswap.d.aq") || is(word, b"amoswap.d.rl") {
-        return Some(Width::Double);
-    }
-    None
-}
-
-/// What a mnemonic names.
+/// What a mnemonic names; the suffix of a swap has no effect.
 pub fn mnemonic_named(word: &[u8]) -> Option<Mnemonic>
     ensures { result ≡ mnemonic_of word.now }
 {
@@ -86,16 +71,13 @@ pub fn mnemonic_named(word: &[u8]) -> Option<Mnemonic>
     if is(word, b"fence") {
         return Some(Mnemonic::Fence);
     }
-    match swap_width(word) {
-        Some(width) => Some(Mnemonic::Swap(width)),
-        None => None,
+    if is(word, b"amoswap.w") || is(word, b"amoswap.w.aq") || is(word, b"amoswap.w.rl") {
+        return Some(Mnemonic::Swap(Width::Single));
     }
-}
-
-fn is_zero(word: &[u8]) -> bool
-    ensures { result ≡ is_zero word.now }
-{
-    matches!(word, b"0")
+    if is(word, b"amoswap.d") || is(word, b"amoswap.d.aq") || is(word, b"amoswap.d.rl") {
+        return Some(Mnemonic::Swap(Width::Double));
+    }
+    None
 }
 
 fn is_fence_set(word: &[u8]) -> bool
@@ -132,34 +114,14 @@ fn read_number<'a>(cursor: Cursor<'a>) -> Result<(u32, Cursor<'a>), ReadError>
     }
 }
 
-/// `0`.
-fn zero<'a>(cursor: Cursor<'a>) -> Result<Cursor<'a>, ReadError>
+/// This word.
+fn exact<'a>(cursor: Cursor<'a>, wanted: &[u8]) -> Result<Cursor<'a>, ReadError>
     ensures { Gives (λ at. (tt, at.line, at.pieces)) result
-        (reads (operand (λ w. passes (is_zero w))) cursor.entry.line cursor.entry.pieces) }
+        (reads (operand (λ w. passes (bytes_eq w wanted.now))) cursor.entry.line
+        cursor.entry.pieces) }
 {
     match first(&cursor) {
-        (Some(Token::Word(word)), after) => {
-            if is_zero(word) {
-                Ok(after)
-            } else {
-                Err(cursor.fault(Kind::BadInstruction))
-            }
-        }
-        _ => Err(cursor.fault(Kind::BadInstruction)),
-    }
-}
-
-/// `x0`.
-fn no_register<'a>(cursor: Cursor<'a>) -> Result<Cursor<'a>, ReadError>
-    ensures { Gives (λ at. (tt, at.line, at.pieces)) result
-        (reads (operand (λ w. passes (is_x0 (register_of w))))
-        cursor.entry.line cursor.entry.pieces) }
-{
-    match first(&cursor) {
-        (Some(Token::Word(word)), after) => match register(word) {
-            Some(0) => Ok(after),
-            _ => Err(cursor.fault(Kind::BadInstruction)),
-        },
+        (Some(Token::Word(word)), after) if is(word, wanted) => Ok(after),
         _ => Err(cursor.fault(Kind::BadInstruction)),
     }
 }
@@ -184,7 +146,7 @@ fn fence_set<'a>(cursor: Cursor<'a>) -> Result<Cursor<'a>, ReadError>
 /// What a mnemonic names, and the position after it.
 fn read_mnemonic<'a>(cursor: Cursor<'a>) -> Result<(Mnemonic, Cursor<'a>), ReadError>
     ensures { Gives view_read result
-        (reads (operand (λ w. or_fault BadInstruction (mnemonic_of w)))
+        (reads (operand (λ w. ok_or (mnemonic_of w) BadInstruction))
         cursor.entry.line cursor.entry.pieces) }
 {
     match first(&cursor) {
@@ -214,7 +176,7 @@ fn offset<'a>(cursor: Cursor<'a>) -> Result<((u8, u8), Cursor<'a>), ReadError>
 {
     let (first, after) = read_register(cursor)?;
     let after = expect_here(after, Kind::BadInstruction, COMMA)?;
-    let after = zero(after)?;
+    let after = exact(after, b"0")?;
     let (base, after) = based(after)?;
     Ok(((first, base), after))
 }
@@ -250,7 +212,7 @@ fn ori<'a>(cursor: Cursor<'a>) -> Result<((u8, u32), Cursor<'a>), ReadError>
 {
     let (target, after) = read_register(cursor)?;
     let after = expect_here(after, Kind::BadInstruction, COMMA)?;
-    let after = no_register(after)?;
+    let after = exact(after, b"x0")?;
     let after = expect_here(after, Kind::BadInstruction, COMMA)?;
     let (value, after) = read_number(after)?;
     Ok(((target, value), after))
@@ -288,11 +250,11 @@ fn operands<'a>(mnemonic: Mnemonic, cursor: Cursor<'a>) -> Result<(Form, Cursor<
         }
         Mnemonic::Li => {
             let ((target, value), after) = li(cursor)?;
-            Ok((Form::Li(target, value), after))
+            Ok((Form::Set(target, value, VALUE_BOUND - 1), after))
         }
         Mnemonic::Ori => {
             let ((target, value), after) = ori(cursor)?;
-            Ok((Form::Ori(target, value), after))
+            Ok((Form::Set(target, value, MOST_ORI), after))
         }
         Mnemonic::Fence => {
             let after = fence(cursor)?;

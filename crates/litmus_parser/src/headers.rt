@@ -1,9 +1,12 @@
 //! The lines before the initial block.
 
-ghost use Rattle.std.specs.Prelude.{◌≡◌, ◌≢◌, ◌≤◌, ℕ, length, IfErr};
-ghost use Rattle.litmus_lexer.specs.declared.errors.ReadError.TheVariants.{Memory};
+ghost use Rattle.std.specs.Prelude.{◌≡◌, ◌≤◌, [], length, false, IfOk, IfErr};
+ghost use Rattle.litmus_lexer.specs.Pieces.{pieces_of};
 ghost use Rattle.litmus_lexer.specs.Reading.{Gives};
-ghost use Rattle.litmus_parser.specs.ReadingHeader.{first_line_at, header_line_at, header_at, preamble_at};
+ghost use Rattle.litmus_lexer.specs.declared.errors.Kind.TheVariants.{BadHeader, CutShort as Short};
+ghost use Rattle.piece_forms.specs.Forms.{one, line_end, turn, many, refused};
+ghost use Rattle.piece_forms.specs.Reading.{reads};
+ghost use Rattle.litmus_parser.specs.Header.{text_pieces, title, line_or_block, preamble, TakesNoMemory};
 
 use litmus_lexer::{
     HeaderLines, Kind, MOST_BYTES, ReadError, begins_block, is_header_line, read_title,
@@ -11,13 +14,11 @@ use litmus_lexer::{
 use text_lines::split_line;
 
 /// The name in the first line, and the second line.
-#[tactic(auto, unfolding(crate::specs::ReadingHeader::first_line_at))]
 fn first_line<'a>(text: &'a [u8]) -> Result<(&'a [u8], HeaderLines<'a>), ReadError>
     requires { length text.now ≤ MOST_BYTES }
-    ensures read { Gives (λ r. (r.0.now, (r.1.line, r.1.rest.now))) result
-        (first_line_at text.now) }
-    // It takes no memory.
-    ensures sure { IfErr result (λ e. e ≢ Memory) }
+    ensures read { Gives (λ r. (r.0.now, r.1.line, text_pieces r.1.rest.now [])) result
+        (reads title 1 (text_pieces text.now [])) }
+    ensures sure { IfErr result TakesNoMemory }
 {
     let start = HeaderLines {
         line: 1,
@@ -35,12 +36,13 @@ fn first_line<'a>(text: &'a [u8]) -> Result<(&'a [u8], HeaderLines<'a>), ReadErr
 
 /// The line after a header line, or the first line of the initial block; and whether it was a
 /// header line.
-#[tactic(auto, unfolding(crate::specs::ReadingHeader::header_line_at))]
 fn header_line<'a>(cursor: HeaderLines<'a>) -> Result<(bool, HeaderLines<'a>), ReadError>
-    ensures read { Gives (λ r. (r.0, (r.1.line, r.1.rest.now))) result
-        (header_line_at (cursor.entry.line, cursor.entry.rest.now)) }
-    // It takes no memory.
-    ensures sure { IfErr result (λ e. e ≢ Memory) }
+    ensures read { Gives (λ r. ((r.0, tt), r.1.line, text_pieces r.1.rest.now [])) result
+        (reads (turn (λ _. one line_or_block) (λ _. line_end BadHeader) tt) cursor.entry.line
+        (text_pieces cursor.entry.rest.now [])) }
+    ensures block { IfOk result (λ r. r.0 ≡ false →
+        text_pieces r.1.rest.now [] ≡ pieces_of r.1.rest.now) }
+    ensures sure { IfErr result TakesNoMemory }
 {
     if cursor.rest.is_empty() {
         return Err(cursor.fault(Kind::CutShort));
@@ -63,10 +65,10 @@ fn header_line<'a>(cursor: HeaderLines<'a>) -> Result<(bool, HeaderLines<'a>), R
 
 /// The first line of the initial block.
 fn header<'a>(cursor: HeaderLines<'a>) -> Result<HeaderLines<'a>, ReadError>
-    ensures read { Gives (λ r. (r.line, r.rest.now)) result
-        (header_at (cursor.entry.line, cursor.entry.rest.now)) }
-    // It takes no memory.
-    ensures sure { IfErr result (λ e. e ≢ Memory) }
+    ensures read { Gives (λ r. (tt, r.line, pieces_of r.rest.now)) result
+        (reads (many (refused Short) (λ _. one line_or_block) (λ _. line_end BadHeader) MOST_BYTES tt)
+        cursor.entry.line (text_pieces cursor.entry.rest.now [])) }
+    ensures sure { IfErr result TakesNoMemory }
 {
     let mut at = cursor;
     for _ in 0..MOST_BYTES {
@@ -80,12 +82,13 @@ fn header<'a>(cursor: HeaderLines<'a>) -> Result<HeaderLines<'a>, ReadError>
 }
 
 /// The name of the test, and the first line of the initial block.
-#[tactic(auto, unfolding(crate::specs::ReadingHeader::preamble_at))]
+#[tactic(auto, unfolding(crate::specs::Header::preamble))]
 pub fn preamble<'a>(text: &'a [u8]) -> Result<(&'a [u8], HeaderLines<'a>), ReadError>
     requires { length text.now ≤ MOST_BYTES }
-    ensures read { Gives (λ r. (r.0.now, (r.1.line, r.1.rest.now))) result (preamble_at text.now) }
+    ensures read { Gives (λ r. (r.0.now, r.1.line, pieces_of r.1.rest.now)) result
+        (reads preamble 1 (text_pieces text.now [])) }
     // It takes no memory.
-    ensures sure { IfErr result (λ e. e ≢ Memory) }
+    ensures sure { IfErr result TakesNoMemory }
 {
     let (name, second) = first_line(text)?;
     let body = header(second)?;

@@ -1,6 +1,5 @@
 //! What an instruction may say: its numbers, its width, its registers.
 
-ghost use Rattle.std.specs.Prelude.{◌≡◌};
 ghost use Rattle.litmus_lexer.specs.Reading.{Gives};
 ghost use Rattle.piece_forms.specs.Reading.{judged};
 ghost use Rattle.litmus_parser.specs.Verdicts.{bases_of, kept, value_in, base_in, meaning};
@@ -8,7 +7,7 @@ ghost use Rattle.litmus_parser.specs.Verdicts.{bases_of, kept, value_in, base_in
 use crate::forms::Form;
 use crate::items::{address_of, is_address};
 use crate::syntax::{Instruction, Item, Width};
-use litmus_lexer::{Cursor, Kind, MOST_ORI, ReadError, VALUE_BOUND};
+use litmus_lexer::{Cursor, Kind, ReadError};
 
 /// The width of the text after a memory instruction of this width.
 #[tactic(auto, unfolding(crate::specs::Verdicts::kept))]
@@ -96,15 +95,8 @@ pub fn judge(
                 width,
             ))
         }
-        Form::Li(target, value) => {
-            if value >= VALUE_BOUND {
-                return Err(at.fault(Kind::ValueRange));
-            }
-            let target = value_register(items, thread, target, at)?;
-            Ok((Instruction::Set { target, value }, width))
-        }
-        Form::Ori(target, value) => {
-            if value > MOST_ORI {
+        Form::Set(target, value, most) => {
+            if value > most {
                 return Err(at.fault(Kind::ValueRange));
             }
             let target = value_register(items, thread, target, at)?;

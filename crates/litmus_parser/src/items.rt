@@ -1,16 +1,16 @@
 //! The items of the initial block.
 
-ghost use Rattle.std.specs.Prelude.{◌≡◌, IfOk, ◌<◌, length};
-ghost use Rattle.std.specs.List.{list_any};
+ghost use Rattle.std.specs.Prelude.{◌≡◌, option_map, is_some};
+ghost use Rattle.std.specs.List.{list_any, find};
 ghost use Rattle.litmus_lexer.specs.Views.{view_read, view_as};
 ghost use Rattle.litmus_lexer.specs.Reading.{Gives};
 ghost use Rattle.litmus_lexer.specs.Spelling.{register_of};
 ghost use Rattle.litmus_lexer.specs.declared.errors.Kind.TheVariants.{BadInitial};
 ghost use Rattle.piece_forms.specs.Forms.{one, word};
 ghost use Rattle.piece_forms.specs.Reading.{reads, judged};
-ghost use Rattle.litmus_parser.specs.Names.{same_name, address_of, is_present};
-ghost use Rattle.litmus_parser.specs.Words.{value, location};
-ghost use Rattle.litmus_parser.specs.Block.{opening, settable, setting, rest_of_item};
+ghost use Rattle.litmus_parser.specs.Names.{same_name, address_of};
+ghost use Rattle.litmus_parser.specs.Words.{value, location, opening};
+ghost use Rattle.litmus_parser.specs.Block.{settable, setting, rest_of_item};
 
 use crate::syntax::{Item, Name, Setting};
 use litmus_lexer::{
@@ -40,28 +40,29 @@ pub fn is_set(items: &[Item], name: Name) -> bool
     items.iter().any(|item| same_name(item.name, name))
 }
 
+/// The first of the items that sets the name.
+fn first_of(items: &[Item], name: Name) -> Option<&Item>
+    ensures { option_map (λ item. item.now) result
+        ≡ find (λ item. same_name item.name name) items.now }
+{
+    items.iter().find(|item| same_name(item.name, name))
+}
+
 /// The location to which the first of the items that set the thread's register sets it, if it
 /// sets it to one.
-#[tactic(auto, unfolding(crate::specs::Names::address_of))]
 pub fn address_of(items: &[Item], thread: u8, register: u8) -> Option<u8>
     ensures { result ≡ address_of thread register items.now }
 {
-    let mut left = items;
-    while let Some((item, rest)) = left.split_first() {
-        if same_name(item.name, Name::Register(thread, register)) {
-            return match item.setting {
-                Setting::Address(location) => Some(location),
-                Setting::Number(_) => None,
-            };
-        }
-        left = rest;
+    let item = first_of(items, Name::Register(thread, register))?;
+    match item.setting {
+        Setting::Address(location) => Some(location),
+        Setting::Number(_) => None,
     }
-    None
 }
 
 /// Whether the items set the thread's register to a location.
 pub fn is_address(items: &[Item], thread: u8, register: u8) -> bool
-    ensures { result ≡ is_present (address_of thread register items.now) }
+    ensures { result ≡ is_some (address_of thread register items.now) }
 {
     address_of(items, thread, register).is_some()
 }
@@ -121,19 +122,23 @@ pub fn value<'a>(cursor: Cursor<'a>, kind: Kind) -> Result<(u32, Cursor<'a>), Re
     }
 }
 
-/// What an item that begins with this word begins with.
+/// What an item or an atom that begins with this word begins with: one of the threads, or a
+/// location.
 pub fn item_opening(
+    threads: u8,
     locations: &mut Locations,
     word: &[u8],
     at: &Cursor<'_>,
+    kind: Kind,
 ) -> Result<Opening, ReadError>
     ensures { Gives (λ opening. (opening, locations.new)) result
-        (judged (opening word.now locations.old) at.now.line) }
+        (judged (opening kind threads word.now locations.old) at.now.line) }
 {
     match small(word, LAST_THREAD) {
-        Some(thread) => Ok(Opening::OfThread(thread)),
+        Some(thread) if thread < threads => Ok(Opening::OfThread(thread)),
+        Some(_) => Err(at.fault(kind)),
         None => {
-            let number = location(locations, word, at, Kind::BadInitial)?;
+            let number = location(locations, word, at, kind)?;
             Ok(Opening::OfLocation(number))
         }
     }

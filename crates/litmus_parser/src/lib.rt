@@ -11,6 +11,7 @@ mod forms;
 mod headers;
 mod instructions;
 mod items;
+mod laws;
 mod syntax;
 mod table;
 
@@ -19,5 +20,6 @@ pub use conditions::condition;
 pub use extent::reach;
 pub use headers::preamble;
 pub use items::same_name;
+pub use laws::rows_have_this_shape;
 pub use syntax::{Cell, Expr, Instruction, Item, Name, Quantifier, Setting, Width};
 pub use table::whole_table;

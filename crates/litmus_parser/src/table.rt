@@ -1,17 +1,17 @@
 //! The table: the header row and the rows.
 
-ghost use Rattle.std.specs.Prelude.{◌≡◌, ◌<◌, ◌≤◌, ◌+◌, [], IfOk, OnOk, None};
+ghost use Rattle.std.specs.Prelude.{◌≡◌, ◌<◌, ◌≤◌, ◌+◌, IfOk, OnOk, None, option_map};
+ghost use Rattle.std.specs.List.{find};
 ghost use Rattle.litmus_lexer.specs.Views.{view_read, view_as};
 ghost use Rattle.litmus_lexer.specs.Reading.{Gives};
 ghost use Rattle.litmus_lexer.specs.Spelling.{thread_named};
-ghost use Rattle.litmus_lexer.specs.declared.errors.Kind.TheVariants.{BadTable};
-ghost use Rattle.piece_forms.specs.Forms.{one, here, turn, many};
+ghost use Rattle.litmus_lexer.specs.declared.errors.Kind.TheVariants.{TooLarge, BadTable};
+ghost use Rattle.piece_forms.specs.Forms.{one, here, turn, many, refused};
 ghost use Rattle.piece_forms.specs.Reading.{reads};
 ghost use Rattle.litmus_parser.specs.Keywords.{quantifier_of};
 ghost use Rattle.litmus_parser.specs.Verdicts.{bases_of};
-ghost use Rattle.litmus_parser.specs.Table.{heading, another, further_heading, header, is_absent, absent_line};
-ghost use Rattle.litmus_parser.specs.Table.{next_row};
-ghost use Rattle.litmus_parser.specs.Table.{row_or_condition, counted_row, rows, table};
+ghost use Rattle.litmus_parser.specs.Table.{heading, another, further_heading, header, is_absent};
+ghost use Rattle.litmus_parser.specs.Table.{next_row, row_or_condition, counted_row, rows, table};
 
 use crate::cells::row;
 use crate::forms::is;
@@ -97,7 +97,7 @@ fn next_heading<'a>(threads: u8, cursor: Cursor<'a>) -> Result<(bool, u8, Cursor
 /// The headings `P0 | P1 | ..` after the first: how many threads there are.
 fn later_headings<'a>(cursor: Cursor<'a>) -> Result<(u8, Cursor<'a>), ReadError>
     ensures read { Gives view_read result
-        (reads (many another further_heading MOST_THREADS 1)
+        (reads (many (refused BadTable) another further_heading MOST_THREADS 1)
         cursor.entry.line cursor.entry.pieces) }
     ensures few { IfOk result (λ r. (0 < r.0) × (r.0 ≤ MOST_THREADS)) }
 {
@@ -111,7 +111,7 @@ fn later_headings<'a>(cursor: Cursor<'a>) -> Result<(u8, Cursor<'a>), ReadError>
             return Ok((threads, at));
         }
     }
-    Ok((threads, at))
+    Err(at.fault(Kind::BadTable))
 }
 
 /// The header row, after blank lines.
@@ -136,19 +136,12 @@ fn is_absent(name: Name, threads: u8) -> bool
     }
 }
 
-/// The line of the first item for a thread that the table does not have.
-#[tactic(auto, unfolding(crate::specs::Table::absent_line))]
-fn absent_line(items: &[Item], threads: u8) -> Option<usize>
-    ensures { result ≡ absent_line threads items.now }
+/// The first item for a thread that the table does not have.
+fn absent_item(items: &[Item], threads: u8) -> Option<&Item>
+    ensures { option_map (λ item. item.now) result
+        ≡ find (λ item. is_absent threads item.name) items.now }
 {
-    let mut left = items;
-    while let Some((item, rest)) = left.split_first() {
-        if is_absent(item.name, threads) {
-            return Some(item.line);
-        }
-        left = rest;
-    }
-    None
+    items.iter().find(|item| is_absent(item.name, threads))
 }
 
 /// What a keyword asks.
@@ -223,8 +216,8 @@ fn rows_into<'a>(
     cursor: Cursor<'a>,
 ) -> Result<(u16, Option<Width>, Cursor<'a>), ReadError>
     ensures { Gives (λ r. ((r.0, (cells.new.items, r.1)), r.2.line, r.2.pieces)) result
-        (reads (many next_row (counted_row (bases_of items.now) threads) (MOST_ROWS + 1)
-        (0, (cells.old.items, None))) cursor.entry.line cursor.entry.pieces) }
+        (reads (many (refused TooLarge) next_row (counted_row (bases_of items.now) threads)
+        (MOST_ROWS + 1) (0, (cells.old.items, None))) cursor.entry.line cursor.entry.pieces) }
 {
     let mut count = 0;
     let mut width = None;
@@ -238,7 +231,7 @@ fn rows_into<'a>(
             return Ok((count, width, at));
         }
     }
-    Ok((count, width, at))
+    Err(at.fault(Kind::TooLarge))
 }
 
 /// The instructions of all rows in reading order, and the position at which the condition begins.
@@ -270,8 +263,8 @@ pub fn whole_table<'a>(
     ensures few { IfOk result (λ r. (0 < r.0) × (r.0 ≤ MOST_THREADS)) }
 {
     let (threads, after) = header_row(cursor)?;
-    if let Some(line) = absent_line(items, threads) {
-        return Err(ReadError::at(line, Kind::BadInitial));
+    if let Some(item) = absent_item(items, threads) {
+        return Err(ReadError::at(item.line, Kind::BadInitial));
     }
     let (cells, after) = rows(alloc, items, threads, after)?;
     Ok((threads, cells, after))

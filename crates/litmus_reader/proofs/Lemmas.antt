@@ -2,3 +2,5 @@
 
 -- The truth of an expression over the values of the names that it names.
 pub use Rattle.litmus_reader.proofs.SeenNames.{truth-is}
+-- What has bytes: a text without any ends too early.
+pub use Rattle.litmus_reader.proofs.Nothing.{some_of_test, some_before_block}

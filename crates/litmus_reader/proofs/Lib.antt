@@ -1,8 +1,7 @@
+mod Reaching
 mod Found
-mod SeenNames
-mod Only
-mod FaultParts
-mod NoMemoryFault
 mod Fault
+mod Nothing
+mod SeenNames
 mod OpeningItems
 pub mod Lemmas

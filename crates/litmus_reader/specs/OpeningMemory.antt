@@ -5,7 +5,7 @@ use Rattle.std.specs.Ordering.{nat_cmp}
 use Rattle.litmus_parser.specs.declared.syntax.Name.{Name}
 use Rattle.litmus_parser.specs.declared.syntax.Name.TheVariants.{Register, Location}
 use Rattle.litmus_parser.specs.declared.syntax.Setting.{Setting}
-use Rattle.litmus_parser.specs.declared.syntax.Setting.TheVariants.{Number, Address}
+use Rattle.litmus_parser.specs.declared.syntax.Setting.TheVariants.{Number}
 
 abbrev pub Words : Type 0
 Words = finite.FinMap nat_cmp ℕ
@@ -18,9 +18,7 @@ is_of_location (Register t r) = false
 -- an item that sets a location sets its word
 abbrev pub with_setting : Name → Setting → Words → Words
 with_setting (Location l) (Number value) words = finite.insert words l value
-with_setting (Location l) (Address m) words = words
-with_setting (Register t r) (Number value) words = words
-with_setting (Register t r) (Address l) words = words
+with_setting name setting words = words
 
 -- the words that the items set
 unfoldable pub words_opened : List (Name × Setting) → Words → Words

@@ -1,10 +1,11 @@
 -- The threads of a litmus test: registers, and the instructions that are left.
 use Rattle.std.specs.Prelude.{ℕ, ◌==◌, ◌&&◌, nat_lt, if◌then◌else◌, List, [], ◌∷◌, Option, Some, None, slice_get}
-use Rattle.std.specs.Prelude.{slice_set}
+use Rattle.std.specs.Prelude.{slice_set, unwrap_or}
+use Rattle.std.specs.Option.{option_map_or}
 use Rattle.litmus_parser.specs.declared.syntax.Name.{Name}
-use Rattle.litmus_parser.specs.declared.syntax.Name.TheVariants.{Register, Location}
+use Rattle.litmus_parser.specs.declared.syntax.Name.TheVariants.{Register}
 use Rattle.litmus_parser.specs.declared.syntax.Setting.{Setting}
-use Rattle.litmus_parser.specs.declared.syntax.Setting.TheVariants.{Number, Address}
+use Rattle.litmus_parser.specs.declared.syntax.Setting.TheVariants.{Number}
 use Rattle.litmus_parser.specs.declared.syntax.Cell.{Cell}
 use Rattle.litmus_parser.specs.declared.syntax.Instruction.{Instruction}
 use Rattle.litmus_parser.specs.declared.syntax.Instruction.TheVariants as does
@@ -16,13 +17,9 @@ pub record Thread : Type 0 where
   pub registers : List ℕ
   pub rest : List Cell
 
-abbrev pub or_zero : Option ℕ → ℕ
-or_zero (Some value) = value
-or_zero None = 0
-
 -- a register's value
 abbrev pub register_value : List ℕ → ℕ → ℕ
-register_value registers register = or_zero (slice_get registers register)
+register_value registers register = unwrap_or (slice_get registers register) 0
 
 -- writes to x0 are ignored
 abbrev pub with_register : List ℕ → ℕ → ℕ → List ℕ
@@ -31,31 +28,23 @@ with_register registers register value =
 
 -- an instruction that the thread does without memory: what its registers are then
 abbrev pub after_local : Instruction → List ℕ → Option (List ℕ)
-after_local (does.Load target location) registers = None
-after_local (does.Store source location) registers = None
-after_local (does.Swap target source location) registers = None
 after_local (does.Set target value) registers = Some (with_register registers target value)
 after_local does.Fence registers = Some registers
-
-abbrev pub goes_on : {A B : Type 0} → Option A → (A → B) → B → B
-goes_on (Some x) f stop = f x
-goes_on None f stop = stop
+after_local instruction registers = None
 
 -- a thread whose next instruction is a memory instruction, or which has finished
 unfoldable pub settled_thread : ℕ → List ℕ → List Cell → Thread
 settled_thread thread registers [] = record { thread = thread; registers = registers; rest = [] }
 settled_thread thread registers (cell ∷ rest) =
     if cell.thread == thread
-    then goes_on (after_local cell.instruction registers) (λ registers. settled_thread thread registers rest)
+    then option_map_or (λ registers. settled_thread thread registers rest) (after_local cell.instruction registers)
     (record { thread = thread; registers = registers; rest = cell ∷ rest })
     else settled_thread thread registers rest
 
 abbrev pub with_item : ℕ → Name → Setting → List ℕ → List ℕ
 with_item thread (Register owner register) (Number value) registers =
     if owner == thread then with_register registers register value else registers
-with_item thread (Register owner register) (Address l) registers = registers
-with_item thread (Location l) (Number value) registers = registers
-with_item thread (Location l) (Address m) registers = registers
+with_item thread name setting registers = registers
 
 -- the registers as the items set them
 unfoldable pub with_items : ℕ → List (Name × Setting) → List ℕ → List ℕ
@@ -68,8 +57,7 @@ instruction_operation (does.Store source location) registers =
     Some (op.Store location (register_value registers source))
 instruction_operation (does.Swap target source location) registers =
     Some (op.Swap location (register_value registers source))
-instruction_operation (does.Set target value) registers = None
-instruction_operation does.Fence registers = None
+instruction_operation instruction registers = None
 
 abbrev pub first_operation : List Cell → List ℕ → Option Op
 first_operation [] registers = None
@@ -81,12 +69,9 @@ next_operation t = first_operation t.rest t.registers
 
 -- where a received value goes
 abbrev pub received_by : Instruction → Option ℕ → List ℕ → List ℕ
-received_by instruction None registers = registers
 received_by (does.Load target location) (Some value) registers = with_register registers target value
-received_by (does.Store source location) (Some value) registers = registers
 received_by (does.Swap target source location) (Some value) registers = with_register registers target value
-received_by (does.Set target n) (Some value) registers = registers
-received_by does.Fence (Some value) registers = registers
+received_by instruction received registers = registers
 
 abbrev pub behind_first_cell : ℕ → List ℕ → Option ℕ → List Cell → Thread
 behind_first_cell thread registers received [] = record { thread = thread; registers = registers; rest = [] }

@@ -8,12 +8,12 @@ ghost use Rattle.litmus_parser.specs.TreeViews.{tree_of};
 ghost use Rattle.litmus_reader.specs.Litmus.{Litmus};
 ghost use Rattle.litmus_reader.specs.TestViews.{test_of};
 ghost use Rattle.litmus_reader.specs.Seen.{seen_in, with_name};
-ghost use Rattle.litmus_reader.specs.ReadingTest.{parts_at, is_cut_short, test_at, IsReadOrNoMemory};
-ghost use Rattle.litmus_reader.specs.ReadingTest.{ToldSurely};
-ghost use Rattle.litmus_reader.specs.Grammar.{IsTest};
+ghost use Rattle.litmus_reader.specs.ReadingTest.{is_cut_short, test_at, IsReadOrNoMemory};
+ghost use Rattle.litmus_reader.specs.Grammar.{test as whole_test, IsTest};
 ghost use Rattle.litmus_reader.specs.Faults.{FaultBefore, good_lines, Fault};
 ghost use Rattle.litmus_lexer.specs.declared.errors.Kind.TheVariants.{NoMemory};
-ghost use Rattle.litmus_parser.specs.ReadingHeader.{preamble_at};
+ghost use Rattle.litmus_parser.specs.Header.{text_pieces, preamble};
+ghost use Rattle.piece_forms.specs.Reading.{reads};
 
 use crate::contents::Test;
 use litmus_lexer::{Cursor, Kind, LitmusError, Locations, MOST_BYTES, MOST_THREADS, ReadError};
@@ -50,22 +50,23 @@ fn see(seen: &mut Vec<Name>, expr: &Expr) -> Result<(), AllocError>
 }
 
 /// The parts of a text, one after the other.
-#[tactic(auto, unfolding(crate::specs::ReadingTest::parts_at, crate::specs::Grammar::body))]
-fn parts(alloc: Global, text: &[u8]) -> Result<Test, ReadError>
+#[tactic(auto, unfolding(crate::specs::Grammar::test))]
+fn parts<'a>(alloc: Global, text: &'a [u8]) -> Result<(Test, Cursor<'a>), ReadError>
     requires { length text.now ≤ MOST_BYTES }
-    ensures read { Gives test_of result (parts_at text.now) }
-    ensures early { (e : LitmusError) → preamble_at text.now ≡ Err e →
-        result ≡ Err (ReadError.Fault e) }
+    ensures read { Gives (λ r. (test_of r.0, r.1.line, r.1.pieces)) result
+        (reads whole_test 1 (text_pieces text.now [])) }
+    ensures early { (e : LitmusError) → reads preamble 1 (text_pieces text.now []) ≡ Err e →
+        (result ≡ Err (ReadError.Fault e)) × (e.kind ≢ Kind.NoMemory) }
 {
     let (name, body) = preamble(text)?;
     let mut locations = Locations::new(alloc);
     let (items, after) = block(alloc, &mut locations, Cursor::new(body))?;
     let (threads, cells, after) = whole_table(alloc, &items, after)?;
-    let (quantifier, expr, _) = condition(alloc, &items, threads, &mut locations, after)?;
+    let (quantifier, expr, end) = condition(alloc, &items, threads, &mut locations, after)?;
     let name = Vec::from_slice(alloc, name)?;
     let mut seen = Vec::new(alloc);
     see(&mut seen, &expr)?;
-    Ok(Test {
+    let test = Test {
         name,
         locations,
         items,
@@ -75,7 +76,8 @@ fn parts(alloc: Global, text: &[u8]) -> Result<Test, ReadError>
         expr,
         seen,
         alloc,
-    })
+    };
+    Ok((test, end))
 }
 
 fn is_cut_short(kind: Kind) -> bool
@@ -89,8 +91,9 @@ fn read_whole(alloc: Global, text: &[u8]) -> Result<Test, LitmusError>
     ensures told { IsReadOrNoMemory test_of result (test_at text.now) }
     ensures large { MOST_BYTES < length text.now →
         result ≡ Err (record { line = 1; kind = Kind.TooLarge }) }
-    ensures sure { (e : LitmusError) → preamble_at (good_lines text.now) ≡ Err e →
-        ToldSurely test_of result (test_at text.now) }
+    ensures early { (e : LitmusError) →
+        reads preamble 1 (text_pieces (good_lines text.now) []) ≡ Err e →
+        IfErr result (λ f. f.kind ≢ Kind.NoMemory) }
 {
     if text.len() > MOST_BYTES {
         return Err(LitmusError {
@@ -100,7 +103,7 @@ fn read_whole(alloc: Global, text: &[u8]) -> Result<Test, LitmusError>
     }
     let (lines, beyond) = reach(text);
     match parts(alloc, lines) {
-        Ok(test) => {
+        Ok((test, _)) => {
             if is_cut_short(beyond.kind) {
                 Ok(test)
             } else {

@@ -3,9 +3,10 @@ use Rattle.std.proofs.Common.{◌≡◌, ℕ, zero, suc, Bool, true, false, List
 use Rattle.litmus_lexer.specs.Pieces.{Piece}
 use Rattle.litmus_lexer.specs.declared.errors.Kind.{Kind}
 use Rattle.litmus_lexer.specs.declared.errors.LitmusError.{LitmusError}
+use Rattle.litmus_lexer.specs.Reading.{fails}
 use Rattle.piece_forms.specs.Places.{Where, seen}
 use Rattle.piece_forms.specs.Forms.{Verdict, Takes, Leaves, Refuses, Form, Gives, At, Known, InOrder, said, Passes}
-use Rattle.piece_forms.specs.Forms.{Stands, either, until}
+use Rattle.piece_forms.specs.Forms.{Stands, either, until, refused}
 
 -- what a form gives meets P, wherever it stands
 pub record Leads {A : Type 0} (f : Form A) (P : A → Type 0) : Type 0 where
@@ -62,11 +63,15 @@ either-leads : {A : Type 0} (go : A → Form A) (P Q : A → Type 0) → ((x : A
 either-leads go P Q on (true, x) h = on x h
 either-leads go P Q on (false, x) h = leads-given x h
 
-pub leads-until : {A : Type 0} (step : A → Form (Bool × A)) (P Q : A → Type 0)
-    → ((x : A) → P x → Leads (step x) (Onto P Q)) → ((x : A) → P x → Q x)
-    → (k : ℕ) (x : A) → P x → Leads (until step k x) Q
+pub leads-until : {A : Type 0} (last : A → Form A) (step : A → Form (Bool × A)) (P Q : A → Type 0)
+    → ((x : A) → P x → Leads (step x) (Onto P Q)) → ((x : A) → P x → Leads (last x) Q)
+    → (k : ℕ) (x : A) → P x → Leads (until last step k x) Q
 unfolding until
-leads-until step P Q goes ends zero x h = leads-given x (ends x h)
-leads-until step P Q goes ends (suc k) x h =
-    leads-then {f = step x} {g = λ r. either (until step k r.1) (Gives r.1) r.0} {Q = Q} (goes x h)
-    (either-leads (until step k) P Q (leads-until step P Q goes ends k))
+leads-until last step P Q goes ends zero x h = ends x h
+leads-until last step P Q goes ends (suc k) x h =
+    leads-then {f = step x} {g = λ r. either (until last step k r.1) (Gives r.1) r.0} {Q = Q} (goes x h)
+    (either-leads (until last step k) P Q (leads-until last step P Q goes ends k))
+
+-- where all is refused, nothing is given
+pub leads-refused : {A B : Type 0} {P : B → Type 0} (kind : Kind) (x : A) → Leads {A = B} (refused kind x) P
+leads-refused kind x = record { stands = λ line ps y n rest s. let given : fails kind s.0 ≡ Ok y = s.4.0 in absurd cc }

@@ -4,6 +4,6 @@
 pub use Rattle.piece_forms.proofs.Laws.{takes, again, explains}
 -- What is known of what stands in a form.
 pub use Rattle.piece_forms.proofs.Leads.{Leads, leads-given, leads-then, leads-known, Tells, leads-at, Onto}
-pub use Rattle.piece_forms.proofs.Leads.{leads-until}
+pub use Rattle.piece_forms.proofs.Leads.{leads-until, leads-refused}
 -- A loop over the steps of a form.
 pub use Rattle.piece_forms.proofs.Loops.{until-fails, until-goes, until-stops, until-out}

@@ -5,6 +5,7 @@ use Rattle.litmus_lexer.specs.Pieces.{Piece, Word, Sign, LineEnd}
 use Rattle.litmus_lexer.specs.declared.errors.Kind.{Kind}
 use Rattle.litmus_lexer.specs.declared.errors.Kind.TheVariants.{CutShort}
 use Rattle.litmus_lexer.specs.declared.errors.LitmusError.{LitmusError}
+use Rattle.litmus_lexer.specs.Reading.{fails}
 use Rattle.piece_forms.specs.Places.{Where, Beyond, InLine, seen, behind, line_behind, from, line_of}
 
 -- a piece is taken, or left to what comes after it in the form, and gives a value; or it is a fault of this kind
@@ -57,6 +58,11 @@ Stands (InOrder {A = Y} f g) line pieces x n rest = (y : Y) × (m : ℕ) × (mid
 
 -- ---- one piece
 
+-- what is found, seen by f
+abbrev pub mapped : {A B : Type 0} → (A → B) → Result A Kind → Result B Kind
+mapped f (Ok x) = Ok (f x)
+mapped f (Err kind) = Err kind
+
 abbrev pub taken : {A : Type 0} → Result A Kind → Verdict A
 taken (Ok x) = Takes x
 taken (Err kind) = Refuses kind
@@ -64,26 +70,22 @@ taken (Err kind) = Refuses kind
 -- a word that this test takes
 abbrev pub word : {A : Type 0} → Kind → (List ℕ → Result A Kind) → Piece → Verdict A
 word kind test (Word w) = taken (test w)
-word kind test (Sign b) = Refuses kind
-word kind test LineEnd = Refuses kind
+word kind test piece = Refuses kind
 
 -- this sign
 abbrev pub sign : Kind → ℕ → Piece → Verdict (Unit {0})
-sign kind wanted (Word w) = Refuses kind
 sign kind wanted (Sign b) = if b == wanted then Takes tt else Refuses kind
-sign kind wanted LineEnd = Refuses kind
+sign kind wanted piece = Refuses kind
 
 -- such a word, which may be missing
 abbrev pub is_word : (List ℕ → Bool) → Piece → Verdict Bool
 is_word test (Word w) = if test w then Takes true else Leaves false
-is_word test (Sign b) = Leaves false
-is_word test LineEnd = Leaves false
+is_word test piece = Leaves false
 
 -- the end of a line
 abbrev pub ends_line : Kind → Piece → Verdict (Unit {0})
-ends_line kind (Word w) = Refuses kind
-ends_line kind (Sign b) = Refuses kind
 ends_line kind LineEnd = Takes tt
+ends_line kind piece = Refuses kind
 
 -- ---- forms
 
@@ -116,12 +118,15 @@ either f g false = g
 abbrev pub turn : {A : Type 0} → (A → Form Bool) → (A → Form A) → A → Form (Bool × A)
 turn one_more step x = one_more x >>= either (step x >>= λ y. Gives (true, y)) (Gives (false, x))
 
--- steps until one says that it is the last, at most so many; after these the form stands with what they gave, so a
--- grammar allows more steps than its texts can have
-unfoldable pub until : {A : Type 0} → (A → Form (Bool × A)) → ℕ → A → Form A
-until step zero x = Gives x
-until step (suc k) x = step x >>= λ r. either (until step k r.1) (Gives r.1) r.0
+-- steps until one says that it is the last, at most so many; behind these comes a last form
+unfoldable pub until : {A : Type 0} → (A → Form A) → (A → Form (Bool × A)) → ℕ → A → Form A
+until last step zero x = last x
+until last step (suc k) x = step x >>= λ r. either (until last step k r.1) (Gives r.1) r.0
 
 -- steps as long as there is one more, at most so many
-abbrev pub many : {A : Type 0} → (A → Form Bool) → (A → Form A) → ℕ → A → Form A
-many one_more step = until (turn one_more step)
+abbrev pub many : {A : Type 0} → (A → Form A) → (A → Form Bool) → (A → Form A) → ℕ → A → Form A
+many last one_more step = until last (turn one_more step)
+
+-- this kind of fault, whatever comes
+abbrev pub refused : {A B : Type 0} → Kind → A → Form B
+refused kind x = Line >>= λ line. Known (fails kind line)

@@ -1,41 +1,11 @@
 -- Places in a text: the piece that stands next, and what stands in front.
 use Rattle.std.specs.Prelude.{ℕ, ◌+◌, List, [], ◌∷◌, Option, Some, None}
-use Rattle.litmus_lexer.specs.Pieces.{Piece, Word, Sign, LineEnd}
+use Rattle.litmus_lexer.specs.Pieces.{Piece, LineEnd}
 
 -- where a look goes: to the next piece behind the line ends that come first, or to the first piece, which may be one
 pub data Where : Type 0 where
   Beyond : Where
   InLine : Where
-
--- ---- behind line ends
-
--- the next piece, if there is one
-unfoldable pub next_piece : List Piece → Option Piece
-next_piece [] = None
-next_piece (LineEnd ∷ pieces) = next_piece pieces
-next_piece (Word w ∷ pieces) = Some (Word w)
-next_piece (Sign b ∷ pieces) = Some (Sign b)
-
--- what follows it
-unfoldable pub behind_next : List Piece → List Piece
-behind_next [] = []
-behind_next (LineEnd ∷ pieces) = behind_next pieces
-behind_next (Word w ∷ pieces) = pieces
-behind_next (Sign b ∷ pieces) = pieces
-
--- the pieces from it on
-unfoldable pub from_next : List Piece → List Piece
-from_next [] = []
-from_next (LineEnd ∷ pieces) = from_next pieces
-from_next (Word w ∷ pieces) = Word w ∷ pieces
-from_next (Sign b ∷ pieces) = Sign b ∷ pieces
-
--- how many lines end before it, or before the end of the text
-unfoldable pub ends_ahead : List Piece → ℕ
-ends_ahead [] = 0
-ends_ahead (LineEnd ∷ pieces) = 1 + ends_ahead pieces
-ends_ahead (Word w ∷ pieces) = 0
-ends_ahead (Sign b ∷ pieces) = 0
 
 -- ---- in the line
 
@@ -50,10 +20,27 @@ behind_first [] = []
 behind_first (piece ∷ pieces) = pieces
 
 unfoldable pub line_behind_first : ℕ → List Piece → ℕ
-line_behind_first line [] = line
 line_behind_first line (LineEnd ∷ pieces) = line + 1
-line_behind_first line (Word w ∷ pieces) = line
-line_behind_first line (Sign b ∷ pieces) = line
+line_behind_first line pieces = line
+
+-- ---- behind line ends
+
+-- the pieces from the next one on
+unfoldable pub from_next : List Piece → List Piece
+from_next (LineEnd ∷ pieces) = from_next pieces
+from_next pieces = pieces
+
+-- how many lines end before it, or before the end of the text
+unfoldable pub ends_ahead : List Piece → ℕ
+ends_ahead (LineEnd ∷ pieces) = 1 + ends_ahead pieces
+ends_ahead pieces = 0
+
+-- the next piece, if there is one, and what follows it
+abbrev pub next_piece : List Piece → Option Piece
+next_piece pieces = first_piece (from_next pieces)
+
+abbrev pub behind_next : List Piece → List Piece
+behind_next pieces = behind_first (from_next pieces)
 
 -- ---- where the look goes
 

@@ -14,12 +14,13 @@ use litmus_lexer::{Cursor, Kind, ReadError, Token};
 
 /// The next piece behind the line ends that come first, if there is one, and the position after
 /// it, or the end.
+#[tactic(auto, unfolding(crate::specs::Places::first_piece, crate::specs::Places::behind_first))]
 fn behind_line_ends<'a>(cursor: &Cursor<'a>) -> (Option<Token<'a>>, Cursor<'a>)
     ensures piece { option_map piece_of result.0 ≡ next_piece cursor.now.pieces }
     ensures rest { result.1.pieces ≡ behind_next cursor.now.pieces }
     ensures line { result.1.line ≡ cursor.now.line + ends_ahead cursor.now.pieces }
 {
-    let at = cursor.past_line_ends();
+    let at = from_next(cursor);
     match at.piece() {
         Some((token, after)) => (Some(token), after),
         None => (None, at),
@@ -35,7 +36,7 @@ pub fn from_next<'a>(cursor: &Cursor<'a>) -> Cursor<'a>
 }
 
 /// The next piece, if there is one, and the position after it, or the end.
-#[tactic(auto, unfolding(crate::specs::Places::next_piece, crate::specs::Places::behind_next, crate::specs::Places::ends_ahead))]
+#[tactic(auto, unfolding(crate::specs::Places::first_piece, crate::specs::Places::behind_first, crate::specs::Places::from_next, crate::specs::Places::ends_ahead))]
 pub fn ahead<'a>(cursor: &Cursor<'a>) -> (Option<Token<'a>>, Cursor<'a>)
     ensures piece { option_map piece_of result.0 ≡ next_piece cursor.now.pieces }
     ensures rest { result.1.pieces ≡ behind_next cursor.now.pieces }
@@ -88,7 +89,7 @@ pub fn expect_end<'a>(cursor: Cursor<'a>, kind: Kind) -> Result<Cursor<'a>, Read
 }
 
 /// The first piece, if there is one, and the position after it.
-#[tactic(auto, unfolding(crate::specs::Places::first_piece, crate::specs::Places::behind_first, crate::specs::Places::line_behind_first))]
+#[tactic(auto, unfolding(crate::specs::Places::first_piece, crate::specs::Places::behind_first, crate::specs::Places::line_behind_first, crate::specs::Places::from_next, crate::specs::Places::ends_ahead))]
 pub fn first<'a>(cursor: &Cursor<'a>) -> (Option<Token<'a>>, Cursor<'a>)
     ensures piece { option_map piece_of result.0 ≡ first_piece cursor.now.pieces }
     ensures rest { result.1.pieces ≡ behind_first cursor.now.pieces }
@@ -98,14 +99,16 @@ pub fn first<'a>(cursor: &Cursor<'a>) -> (Option<Token<'a>>, Cursor<'a>)
         Some((Token::Word(word), after)) => (Some(Token::Word(word)), after),
         Some((Token::Sign(sign), after)) => (Some(Token::Sign(sign)), after),
         Some((Token::LineEnd, after)) => (Some(Token::LineEnd), after),
-        None => (None, cursor.past_line_ends()),
+        None => (None, from_next(cursor)),
     }
 }
 
 /// The position after this sign of the line; anything else is a fault of this kind.
 pub fn expect_here<'a>(cursor: Cursor<'a>, kind: Kind, wanted: u8) -> Result<Cursor<'a>, ReadError>
-    ensures { Gives (λ at. (tt, at.line, at.pieces)) result
+    ensures read { Gives (λ at. (tt, at.line, at.pieces)) result
         (reads (here kind (sign kind wanted)) cursor.entry.line cursor.entry.pieces) }
+    // It takes no memory.
+    ensures sure { IfErr result (λ e. e ≢ Memory) }
 {
     match first(&cursor) {
         (Some(Token::Sign(found)), after) if found == wanted => Ok(after),
@@ -115,8 +118,10 @@ pub fn expect_here<'a>(cursor: Cursor<'a>, kind: Kind, wanted: u8) -> Result<Cur
 
 /// The next line, if nothing more stands in this one; anything else is a fault of this kind.
 pub fn end_line<'a>(cursor: Cursor<'a>, kind: Kind) -> Result<Cursor<'a>, ReadError>
-    ensures { Gives (λ at. (tt, at.line, at.pieces)) result
+    ensures read { Gives (λ at. (tt, at.line, at.pieces)) result
         (reads (line_end kind) cursor.entry.line cursor.entry.pieces) }
+    // It takes no memory.
+    ensures sure { IfErr result (λ e. e ≢ Memory) }
 {
     match first(&cursor) {
         (Some(Token::LineEnd), after) => Ok(after),

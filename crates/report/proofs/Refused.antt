@@ -1,9 +1,9 @@
 -- A text that is refused is no test.
-use Rattle.std.proofs.Common.{◌≡◌, ◌≢◌, ℕ, ◌<◌, List, [], ◌∷◌, ◌++◌, length, Option, Some, None, IfSome, Ok, Err}
+use Rattle.std.proofs.Common.{◌≡◌, ◌≢◌, ℕ, ◌<◌, List, length, Option, Some, None, IfSome, Ok, Err}
 use Rattle.std.proofs.Common.{ap, refl, sym, suc, ◌≤◌, nat_lt, replicate, Result, ◌∙◌, ⊎_elim}
 use Rattle.std.proofs.lemmas.Bool.{cases_lt, cond-true, lt-ltb}
 use Rattle.std.proofs.lemmas.List.{length-replicate}
-use Rattle.std.proofs.Common.{subst, ◌⊎◌, inl, inr, codes, length-append, arith}
+use Rattle.std.proofs.Common.{subst, ◌⊎◌, inl, inr, arith}
 use Rattle.byte_streams.specs.Whole.{ReadsAll}
 use Rattle.litmus_lexer.specs.declared.errors.Kind.{Kind}
 use Rattle.litmus_lexer.specs.declared.errors.Kind.TheVariants.{NoMemory as LackOfMemory, TooLarge, BadByte}
@@ -13,7 +13,8 @@ use Rattle.litmus_lexer.specs.declared.errors.Kind.TheVariants.{AddressAsValue, 
 use Rattle.litmus_lexer.specs.declared.errors.Kind.TheVariants.{CutShort}
 use Rattle.litmus_lexer.specs.declared.errors.LitmusError.{LitmusError}
 use Rattle.litmus_lexer.specs.declared.limits.TheConstants.{MOST_BYTES}
-use Rattle.litmus_reader.specs.Faults.{Fault, FaultBefore, empty, good_lines, too_large}
+use Rattle.litmus_reader.specs.Faults.{Fault, FaultBefore, good_lines, too_large}
+use Rattle.litmus_reader.proofs.Lemmas.{some_of_test, some_before_block}
 use Rattle.litmus_reader.specs.Grammar.{IsTest}
 use Rattle.litmus_reader.specs.Litmus.{Litmus}
 use Rattle.litmus_reader.specs.ReadingTest.{IsReadOrNoMemory, test_at}
@@ -84,17 +85,7 @@ module _ (options : LitmusOptions) (text : List ℕ) (error : LitmusError) where
         λ kind n before. (early kind n before).0 lacks,
       )
 
--- nothing is no test
-some_test : (text : List ℕ) (test : Litmus) → IsTest text test → 0 < length text
-some_test [] test is =
-    let title = is.opens.0.0 in
-    let count : 0 ≡ length (title.front ++ (codes "RISCV" ++ (title.gap ++ (test.name ++ title.back)))) =
-    ap length title.spelled in
-    let front = length-append title.front (codes "RISCV" ++ (title.gap ++ (test.name ++ title.back))) in
-    omega (arith, count, front)
-some_test (b ∷ text) test is = omega arith
-
--- nor are too many bytes
+-- too many bytes are no test
 refused_long : (text : List ℕ) → MOST_BYTES < length text →
     test_at text ≡ Err (record { line = 1; kind = TooLarge })
 unfolding test_at
@@ -126,15 +117,10 @@ unread known options before after Write is other = absurd is
 unread known options before after (Trace e) is other = absurd is
 unread known options before after BadConfig is other = absurd is
 
--- memory is refused only for bytes that there are
-some_bytes : (bytes : List ℕ) → ReadingAllocates bytes → 0 < length bytes
-some_bytes [] is = absurd (is.1 CutShort 1 (empty refl))
-some_bytes (b ∷ bytes) is = omega arith
-
 of_bytes : (options : LitmusOptions) (text : List ℕ) (e : RunError) → HasNoReportInMemory options text e →
     HasNoReport options text e
-of_bytes options text NoMemory is = ⊎_elim (λ allocates. some_bytes text allocates)
-    (λ run. some_test text run.0 run.1) is
+of_bytes options text NoMemory is = ⊎_elim (λ allocates. some_before_block text allocates.1)
+    (λ run. some_of_test text run.0 run.1) is
 of_bytes options text Read is = is
 of_bytes options text Write is = is
 of_bytes options text (Refused e) is = is

@@ -3,21 +3,22 @@ use Rattle.std.proofs.Common.{◌≡◌, ℕ, zero, suc, ◌<◌, ◌≤◌, Boo
 use Rattle.std.proofs.Common.{length, Option, Some, None, Result, Ok, Err, refl, sym, ap, subst, arith, length-append}
 use Rattle.std.specs.List.{list_any, AllByRecursion as Each}
 use Rattle.std.proofs.lemmas.Bool.{cond_both, ltb-true, leb-false}
-use Rattle.litmus_lexer.specs.Pieces.{Piece, Word, Sign, LineEnd, pieces_of}
+use Rattle.litmus_lexer.specs.Pieces.{Piece, Word, Sign, LineEnd}
 use Rattle.litmus_lexer.specs.Naming.{place_of}
 use Rattle.litmus_lexer.specs.Spelling.{small_of, is_location}
 use Rattle.litmus_lexer.specs.declared.errors.Kind.{Kind}
 use Rattle.litmus_lexer.specs.declared.errors.Kind.TheVariants.{TooLarge, BadCondition, CutShort}
 use Rattle.piece_forms.specs.Places.{Beyond}
-use Rattle.piece_forms.specs.Forms.{Verdict, Refuses, Form, ◌>>=◌, Gives, said, one, either, turn}
+use Rattle.piece_forms.specs.Forms.{Verdict, Form, ◌>>=◌, Gives, said, mapped, one, either, turn, refused}
 use Rattle.piece_forms.proofs.Lemmas.{Leads, leads-given, leads-then, Tells, leads-at, Onto, leads-until}
+use Rattle.piece_forms.proofs.Lemmas.{leads-refused}
 use Rattle.litmus_parser.specs.Names.{Names, same_name}
 use Rattle.litmus_parser.specs.Trees.{Tree, Is, Both, Either}
-use Rattle.litmus_parser.specs.Condition.{Sight, PartForm, Addresses, addresses, located, name, counted, start}
+use Rattle.litmus_parser.specs.Condition.{Sight, PartForm, counted, start}
 use Rattle.litmus_parser.specs.Condition.{rest_of_atom, rest_of_factor, join_of, further, joined, chain, expression}
-use Rattle.litmus_parser.specs.Condition.{too_deep, factor_with, inner, factor, keyword, condition}
-use Rattle.litmus_parser.specs.declared.atoms.Start.{Start}
-use Rattle.litmus_parser.specs.declared.atoms.Start.TheVariants.{OfThread, OfLocation, Parenthesis}
+use Rattle.litmus_parser.specs.Condition.{factor_with, inner, factor, keyword, condition}
+use Rattle.litmus_parser.specs.declared.items.Opening.{Opening}
+use Rattle.litmus_parser.specs.declared.items.Opening.TheVariants.{OfThread, OfLocation}
 use Rattle.litmus_parser.specs.declared.expressions.Connective.{Connective}
 use Rattle.litmus_parser.specs.declared.expressions.Connective.TheVariants.{And, Or}
 use Rattle.litmus_parser.specs.declared.syntax.Name.{Name}
@@ -25,10 +26,12 @@ use Rattle.litmus_parser.specs.declared.syntax.Name.TheVariants.{Register, Locat
 use Rattle.litmus_parser.specs.declared.syntax.Quantifier.{Quantifier}
 use Rattle.litmus_reader.specs.Seen.{seen_in}
 use Rattle.litmus_reader.specs.Litmus.{Litmus}
-use Rattle.litmus_parser.specs.Words.{location}
+use Rattle.litmus_parser.specs.Header.{text_pieces, preamble}
+use Rattle.litmus_parser.specs.Verdicts.{Bases, bases_of}
+use Rattle.litmus_parser.specs.Words.{location, opening_from, opening}
 use Rattle.litmus_parser.specs.Block.{block}
 use Rattle.litmus_parser.specs.Table.{table}
-use Rattle.litmus_reader.specs.Grammar.{body, IsTest}
+use Rattle.litmus_reader.specs.Grammar.{test as whole_test, IsTest}
 
 abbrev pub IsThere : ℕ → ℕ → Name → Type 0
 IsThere threads locations (Register t r) = t < threads
@@ -64,39 +67,41 @@ abbrev Adds : ℕ → Sight → Tree × Sight → Type 0
 Adds threads s x = (length s.0 ≤ length x.1.0) × AreThere threads (length x.1.0) x.0
 
 -- what a factor begins with is there
-abbrev StartsThere : ℕ → ℕ → Start → Type 0
-StartsThere threads locations (OfThread t) = t < threads
-StartsThere threads locations (OfLocation l) = l < locations
-StartsThere threads locations Parenthesis = Unit {0}
+abbrev StartsThere : ℕ → ℕ → Option Opening → Type 0
+StartsThere threads locations (Some (OfThread t)) = t < threads
+StartsThere threads locations (Some (OfLocation l)) = l < locations
+StartsThere threads locations None = Unit {0}
 
-abbrev Begins : ℕ → Names → Start × Names → Type 0
+abbrev Begins : ℕ → Names → Option Opening × Names → Type 0
 Begins threads before x = (length before ≤ length x.1) × StartsThere threads (length x.1) x.0
 
-abbrev Named : ℕ → Names → Result (Start × Names) Kind → Type 0
-Named threads before (Ok x) = Begins threads before x
+abbrev Named : ℕ → Names → Result (Opening × Names) Kind → Type 0
+Named threads before (Ok x) = Begins threads before (Some x.0, x.1)
 Named threads before (Err kind) = Unit {0}
 
 module _ (threads : ℕ) where
-  located_there : (w : List ℕ) (names : Names) → Named threads names (located (location BadCondition w names))
+  located_there : (w : List ℕ) (names : Names) → Named threads names (opening_from BadCondition threads None w names)
   unfolding location
   located_there w names =
       let place = place_of w names in
-      let M : Result (ℕ × Names) Kind → Type 0 = λ r. Named threads names (located r) in
+      let M : Result (ℕ × Names) Kind → Type 0 =
+      λ r. Named threads names (mapped (λ l. (OfLocation l.0, l.1)) r) in
       cond_both (not (is_location w)) _ _ M (λ _. tt) (λ _.
       cond_both (ltb place (length names)) _ _ M (λ e. (omega arith, ltb-true _ _ e)) (λ _.
       cond_both (leb 64 (length names)) _ _ M (λ _. tt)
       (λ _. let more = length-append names (w ∷ []) in (omega (arith, more), omega (arith, more)))))
 
-  name_there : (o : Option ℕ) (w : List ℕ) (names : Names) → Named threads names (name threads o w names)
+  name_there : (o : Option ℕ) (w : List ℕ) (names : Names) →
+      Named threads names (opening_from BadCondition threads o w names)
   name_there (Some t) w names =
       cond_both (leb threads t) _ _ (Named threads names) (λ _. tt) (λ e. (omega arith, leb-false _ _ e))
   name_there None w names = located_there w names
 
   module _ (depth : ℕ) (s : Sight) where
-    abbrev Looks : Verdict (Start × Sight) → Type 0
+    abbrev Looks : Verdict (Option Opening × Sight) → Type 0
     Looks = Tells (λ x. Begins threads s.0 (x.0, x.1.0))
 
-    counted_there : (r : Result (Start × Names) Kind) → Named threads s.0 r → Looks (counted s.1 r)
+    counted_there : (r : Result (Opening × Names) Kind) → Named threads s.0 r → Looks (counted s.1 r)
     counted_there (Ok x) h = cond_both (leb 256 s.1) _ _ Looks (λ _. tt) (λ _. h)
     counted_there (Err kind) h = tt
 
@@ -108,7 +113,7 @@ module _ (threads : ℕ) where
         on (Some LineEnd) = tt
         on (Some (Sign b)) = cond_both (eqb b 40) _ _ Looks
             (λ _. cond_both (eqb depth 0) _ _ Looks (λ _. tt) (λ _. (omega arith, tt))) (λ _. tt)
-        on (Some (Word w)) = counted_there (name threads (small_of 15 w) w s.0) (name_there (small_of 15 w) w s.0)
+        on (Some (Word w)) = counted_there (opening BadCondition threads w s.0) (name_there (small_of 15 w) w s.0)
 
   atom_there : (n : Name) (sight : Sight) →
       Leads {A = Tree × Sight} (rest_of_atom n >>= λ tree. Gives (tree, sight))
@@ -122,19 +127,19 @@ module _ (threads : ℕ) where
   abbrev Part : PartForm → Type 0
   Part part = (s : Sight) → Leads (part s) (Adds threads s)
 
-  module _ (holds : Addresses) (inside : PartForm) (within : Part inside) where
-    rest_there : (s : Sight) (x : Start × Sight) → Begins threads s.0 (x.0, x.1.0) →
-        Leads (rest_of_factor holds inside x) (Adds threads s)
-    rest_there s (OfThread t, sight) h =
+  module _ (bases : Bases) (inside : PartForm) (within : Part inside) where
+    rest_there : (s : Sight) (x : Option Opening × Sight) → Begins threads s.0 (x.0, x.1.0) →
+        Leads (rest_of_factor bases inside x) (Adds threads s)
+    rest_there s (Some (OfThread t), sight) h =
         leads-then (all-lead _) (λ u _. leads-then {P = λ v. Unit {0}} (all-lead _) (λ r _.
         wider (λ y e. subst (Adds threads s) (sym e.1) h) (atom_there (Register t r) sight)))
-    rest_there s (OfLocation l, sight) h =
+    rest_there s (Some (OfLocation l), sight) h =
         wider (λ y e. subst (Adds threads s) (sym e.1) h) (atom_there (Location l) sight)
-    rest_there s (Parenthesis, sight) h =
+    rest_there s (None, sight) h =
         leads-then (within sight) (λ e k. leads-then (all-lead _) (λ u _.
         leads-given e (omega (arith, h.0, k.0), k.1)))
 
-    factor_there : (depth : ℕ) → Part (factor_with holds threads depth inside)
+    factor_there : (depth : ℕ) → Part (factor_with bases threads depth inside)
     factor_there depth s = leads-then (start_there depth s) (λ x h. rest_there s x h)
 
   join_there : (c : Connective) (n : ℕ) (a b : Tree) → AreThere threads n a → AreThere threads n b →
@@ -145,7 +150,8 @@ module _ (threads : ℕ) where
   chain_there : (c : Connective) (part : PartForm) → Part part → Part (chain c part)
   chain_there c part there s =
       leads-then (there s) (λ x h.
-      leads-until (turn (further c) (joined c part)) (Adds threads s) (Adds threads s) turn_there (λ y k. k) 256 x h)
+      leads-until (refused TooLarge) (turn (further c) (joined c part)) (Adds threads s) (Adds threads s) turn_there
+      (λ y k. leads-refused TooLarge y) 256 x h)
     where
       turn_there : (x : Tree × Sight) → Adds threads s x →
           Leads (turn (further c) (joined c part) x) (Onto (Adds threads s) (Adds threads s))
@@ -162,35 +168,33 @@ module _ (threads : ℕ) where
                     (more_are_there threads (length x.1.0) (length right.1.0) g.0 x.0 h.1) g.1,
               ))) (λ y g. leads-given (true, y) g)
 
-  expression_there : (holds : Addresses) (depth : ℕ) → Part (expression (factor holds threads depth))
+  expression_there : (bases : Bases) (depth : ℕ) → Part (expression (factor bases threads depth))
   unfolding inner
-  expression_there holds zero =
-      chain_there Or _ (chain_there And _ (factor_there holds too_deep (λ s. no_way s) 0))
-    where
-      no_way : (s : Sight) → Leads (too_deep s) (Adds threads s)
-      no_way s = leads-at _ Beyond (λ piece. Refuses TooLarge) (Err CutShort) refuses
-        where
-          refuses : (o : Option Piece) → Tells (Adds threads s) (said (λ piece. Refuses TooLarge) (Err CutShort) o)
-          refuses None = tt
-          refuses (Some p) = tt
-  expression_there holds (suc depth) =
-      chain_there Or _ (chain_there And _ (factor_there holds (expression (factor holds threads depth))
-      (expression_there holds depth) (suc depth)))
+  expression_there bases zero =
+      chain_there Or _ (chain_there And _ (factor_there bases (refused TooLarge) (λ s. leads-refused TooLarge s) 0))
+  expression_there bases (suc depth) =
+      chain_there Or _ (chain_there And _ (factor_there bases (expression (factor bases threads depth))
+      (expression_there bases depth) (suc depth)))
 
-condition_there : (holds : Addresses) (threads : ℕ) (before : Names) → Leads (condition holds threads before)
+condition_there : (bases : Bases) (threads : ℕ) (before : Names) → Leads (condition bases threads before)
     (λ (x : Quantifier × Tree × Names). AreThere threads (length x.2) x.1)
 unfolding condition
-condition_there holds threads before =
+condition_there bases threads before =
     leads-then {P = λ q. Unit {0}} (all-lead keyword) (λ q _.
-    leads-then (expression_there threads holds 64 (before, 0)) (λ e h.
+    leads-then (expression_there threads bases 64 (before, 0)) (λ e h.
     leads-then {P = λ u. Unit {0}} (all-lead _) (λ u _. leads-given (q, e.0, e.1.0) h.1)))
 
-body_there : Leads body (λ x. AreThere x.1.0 (length x.2.2) x.2.1)
-unfolding body
-body_there =
+-- the names in its tree are there, and those that are seen are those of its tree
+abbrev IsNamed : Litmus → Type 0
+IsNamed test = AreThere test.threads (length test.locations) test.tree × (test.seen ≡ seen_in test.tree [])
+
+test_named : Leads whole_test IsNamed
+unfolding whole_test
+test_named =
+    leads-then {P = λ n. Unit {0}} (all-lead preamble) (λ n _.
     leads-then {P = λ b. Unit {0}} (all-lead (block [])) (λ b _.
     leads-then {P = λ t. Unit {0}} (all-lead (table b.0)) (λ t _.
-    leads-then (condition_there (addresses b.0) t.0 b.1) (λ c h. leads-given (b.0, t, c) h)))
+    leads-then (condition_there (bases_of b.0) t.0 b.1) (λ c h. leads-given _ (h, refl)))))
 
 each_behind : (P : Name → Type 0) (names : List Name) (name : Name) → Each P names → P name →
     Each P (names ++ name ∷ [])
@@ -211,5 +215,5 @@ seen_there threads locations (Either a b) names h e =
 pub names_there : (text : List ℕ) (test : Litmus) → IsTest text test →
     Each (IsThere test.threads (length test.locations)) test.seen
 names_there text test h =
-    rw (h.seen) (seen_there test.threads (length test.locations) test.tree []
-    (body_there.stands h.first (pieces_of h.lines) _ h.last h.end h.stands) tt)
+    let named = test_named.stands 1 (text_pieces text []) test h.last h.end h.stands in
+    rw named.1 (seen_there test.threads (length test.locations) test.tree [] named.0 tt)

@@ -11,20 +11,23 @@ use Rattle.std.specs.Cmp.{nat_cmp_total, unsigned_tied}
 use Rattle.std.proofs.lemmas.Bool.{cond_both, cond-true, cond-false, eqb-true, eq-eqb, ne_eqb, and_parts}
 use Rattle.std.proofs.lemmas.Bool.{leb-true, lt-ltb, eqb-false}
 use Rattle.physiological_order.specs.Order.{flat}
-use Rattle.litmus_lexer.specs.Pieces.{Piece, Word, Sign, LineEnd, between, pieces_of}
+use Rattle.litmus_lexer.specs.Pieces.{Piece, Word, Sign, LineEnd, between}
 use Rattle.litmus_lexer.specs.Spelling.{is_digit, small_of, register_of}
 use Rattle.litmus_parser.specs.Names.{Names, same_name}
 use Rattle.litmus_parser.specs.Block.{settable, rest_of_item, Block, added, whole_item, item_or_end, entry, block}
+use Rattle.litmus_parser.specs.Header.{text_pieces, preamble}
 use Rattle.litmus_parser.specs.Table.{table}
-use Rattle.litmus_parser.specs.Condition.{addresses, condition}
+use Rattle.litmus_parser.specs.Condition.{condition}
+use Rattle.litmus_parser.specs.Verdicts.{bases_of}
 use Rattle.litmus_parser.specs.declared.items.Opening.{Opening}
 use Rattle.litmus_parser.specs.declared.items.Opening.TheVariants.{OfThread, OfLocation}
 use Rattle.litmus_lexer.specs.declared.errors.Kind.{Kind}
 use Rattle.litmus_lexer.specs.declared.errors.Kind.TheVariants.{BadInitial, CutShort}
 use Rattle.litmus_lexer.specs.declared.errors.LitmusError.{LitmusError}
 use Rattle.piece_forms.specs.Places.{Beyond}
-use Rattle.piece_forms.specs.Forms.{Line, said, taken, word, one}
+use Rattle.piece_forms.specs.Forms.{Line, said, taken, word, one, refused}
 use Rattle.piece_forms.proofs.Lemmas.{Leads, leads-given, leads-then, leads-known, Tells, leads-at, Onto, leads-until}
+use Rattle.piece_forms.proofs.Lemmas.{leads-refused}
 use Rattle.sequential_machine.proofs.Names.{all-lead}
 use Rattle.litmus_parser.specs.declared.syntax.Name.{Name}
 use Rattle.litmus_parser.specs.declared.syntax.Name.TheVariants.{Register, Location}
@@ -32,9 +35,9 @@ use Rattle.litmus_parser.specs.declared.syntax.Setting.{Setting}
 use Rattle.litmus_parser.specs.declared.syntax.Setting.TheVariants.{Number, Address}
 use Rattle.litmus_parser.specs.declared.syntax.Item.{Item}
 use Rattle.litmus_reader.specs.Litmus.{Litmus, settings_of}
-use Rattle.litmus_reader.specs.Grammar.{body, IsTest}
+use Rattle.litmus_reader.specs.Grammar.{test as whole_test, IsTest}
 use Rattle.litmus_reader.specs.OpeningMemory.{Words, with_setting, words_opened}
-use Rattle.litmus_reader.specs.ThreadSteps.{or_zero, register_value, with_register, with_item, with_items}
+use Rattle.litmus_reader.specs.ThreadSteps.{register_value, with_register, with_item, with_items}
 use Rattle.sequential_machine.specs.Openings.{OpensAsSet}
 
 abbrev Settings : Type 0
@@ -117,7 +120,7 @@ set_length [] i x = refl
 set_length (z ∷ xs) zero x = refl
 set_length (z ∷ xs) (suc i) x = ap suc (set_length xs i x)
 
-none_set : (n i : ℕ) → or_zero (slice_get (replicate n 0) i) ≡ 0
+none_set : (n i : ℕ) → register_value (replicate n 0) i ≡ 0
 none_set zero i = refl
 none_set (suc n) zero = refl
 none_set (suc n) (suc i) = none_set n i
@@ -141,7 +144,7 @@ module _ (t : ℕ) where
   register_else xs q r n ne =
       cond_both (nat_lt 0 q && nat_lt q 32) (slice_set xs q n) xs
       (λ (ys : List ℕ). register_value ys r ≡ register_value xs r)
-      (λ _. ap or_zero (set_else xs q r n ne)) (λ _. refl)
+      (λ _. ap (λ (o : Option ℕ). unwrap_or o 0) (set_else xs q r n ne)) (λ _. refl)
 
   item_else : (r : ℕ) (name : Name) (n : ℕ) (xs : List ℕ) → name ≢ Register t r →
       register_value (with_item t name (Number n) xs) r ≡ register_value xs r
@@ -158,7 +161,7 @@ module _ (t : ℕ) where
       (cond-true (eqb t t) (with_register xs r n) xs (eq-eqb t t refl)
       ∙ cond-true (nat_lt 0 r && nat_lt r 32) (slice_set xs r n) xs
       (both_true (lt-ltb 0 r near.0) (lt-ltb r 32 near.1)))
-      ∙ ap or_zero (set_here xs r n (omega (arith, near.1, l)))
+      ∙ ap (λ (o : Option ℕ). unwrap_or o 0) (set_here xs r n (omega (arith, near.1, l)))
 
   item_address : (name : Name) (l : ℕ) (xs : List ℕ) → with_item t name (Address l) xs ≡ xs
   item_address (Register owner r) l xs = refl
@@ -334,20 +337,20 @@ entry_single b single = leads-then {P = λ o. Unit {0}} (all-lead _) (λ o _. on
         leads-then {P = λ m. Unit {0}} (all-lead _) (λ more _.
         leads-given (more, (all, i.1)) (onto more (all, i.1) h))))
 
-body_single : Leads body (λ x. AreSingle (settings_of x.0))
-unfolding body block
-body_single =
+test_single : Leads whole_test (λ test. AreSingle test.items)
+unfolding whole_test block
+test_single =
+    leads-then {P = λ n. Unit {0}} (all-lead preamble) (λ n _.
     leads-then {P = SingleSo} (leads-then {P = λ u. Unit {0}} (all-lead _) (λ u _.
-    leads-then (leads-until entry SingleSo SingleSo entry_single (λ b h. h) 65536 ([], []) tt) (λ b h.
+    leads-then (leads-until (refused BadInitial) entry SingleSo SingleSo entry_single (λ b h.
+    leads-refused BadInitial b) 65536 ([], []) tt) (λ b h.
     leads-then {P = λ v. Unit {0}} (all-lead _) (λ v _. leads-given b h)))) (λ b h.
     leads-then {P = λ t. Unit {0}} (all-lead (table b.0)) (λ t _.
-    leads-then {P = λ c. Unit {0}} (all-lead (condition (addresses b.0) t.0 b.1)) (λ c _.
-    leads-given (b.0, t, c) h)))
+    leads-then {P = λ c. Unit {0}} (all-lead (condition (bases_of b.0) t.0 b.1)) (λ c _. leads-given _ h))))
 
 pub opens_as_set : (text : List ℕ) (test : Litmus) → IsTest text test → OpensAsSet test
 opens_as_set text test h =
-    let single : AreSingle test.items =
-    subst AreSingle (sym h.items_are) (body_single.stands h.first (pieces_of h.lines) _ h.last h.end h.stands) in
+    let single = test_single.stands 1 (text_pieces text []) test h.last h.end h.stands in
     record {
       register_count = λ t. all_length t test.items (replicate 32 0) refl;
       register_set = λ t r n s. given (registers_open t r) test.items (replicate 32 0) n s.0 single refl s.1;

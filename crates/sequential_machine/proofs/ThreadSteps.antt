@@ -1,13 +1,14 @@
 -- Steps of one thread: its instructions without memory, up to its next memory instruction, and a memory instruction.
 use Rattle.std.proofs.Common.{◌≡◌, ℕ, eqb, List, [], ◌∷◌, Option, Some, None, refl, sym, ap₂, ◌∙◌, subst}
 use Rattle.std.proofs.lemmas.Bool.{cond_both, cond-true, eqb-true, eq-eqb}
+use Rattle.std.specs.Option.{option_map_or}
 use Rattle.physiological_order.specs.declared.operation.Op.{Op}
 use Rattle.physiological_order.specs.declared.operation.Op.TheVariants as op
 use Rattle.physiological_order.specs.Order.{Memory, flat_received, flat_after}
 use Rattle.litmus_parser.specs.declared.syntax.Cell.{Cell}
 use Rattle.litmus_parser.specs.declared.syntax.Instruction.{Instruction}
 use Rattle.litmus_parser.specs.declared.syntax.Instruction.TheVariants as does
-use Rattle.litmus_reader.specs.ThreadSteps.{Thread, register_value, after_local, goes_on, settled_thread}
+use Rattle.litmus_reader.specs.ThreadSteps.{Thread, register_value, after_local, settled_thread}
 use Rattle.litmus_reader.specs.ThreadSteps.{instruction_operation}
 use Rattle.litmus_reader.specs.ThreadSteps.{first_operation, next_operation, received_by, behind_first_cell, done_with}
 use Rattle.sequential_machine.specs.Threads.{Ready, ThreadIsAt, Goes}
@@ -71,7 +72,7 @@ first_of t cell rest is =
 own : (s : SequentialState) (t : ℕ) (cell : Cell) (rest : List Cell) → cell.thread ≡ t → s.left t ≡ cell ∷ cells_of t
     rest → Settles t rest →
     (after : Option (List ℕ)) → after_local cell.instruction (s.registers t) ≡ after →
-    Goes s t s.memory (goes_on after (λ registers. settled_thread t registers rest)
+    Goes s t s.memory (option_map_or (λ registers. settled_thread t registers rest) after
     (record { thread = t; registers = s.registers t; rest = cell ∷ rest }))
 own s t cell rest is l go None e =
     record {
@@ -100,8 +101,8 @@ settles t [] s l = record {
 }
 settles t (cell ∷ rest) s l =
     let stop : Thread = record { thread = t; registers = s.registers t; rest = cell ∷ rest } in
-    cond_both (eqb cell.thread t) (goes_on (after_local cell.instruction (s.registers t))
-    (λ registers. settled_thread t registers rest) stop) (settled_thread t (s.registers t) rest) (Goes s t s.memory)
+    cond_both (eqb cell.thread t) (option_map_or (λ registers. settled_thread t registers rest)
+    (after_local cell.instruction (s.registers t)) stop) (settled_thread t (s.registers t) rest) (Goes s t s.memory)
     (λ e. own s t cell rest (eqb-true cell.thread t e) (l ∙ first_of t cell rest (eqb-true cell.thread t e))
     (settles t rest) (after_local cell.instruction (s.registers t)) refl)
     (λ e. settles t rest s (l ∙ rw e refl))

@@ -9,16 +9,16 @@ loop-init c = rw c.new-items.ensures.items refl
 pub returns-in_err-more : goal.returns-in_err-more
 returns-in_err-more c =
     let p = err_from_is_err_and c.from_residual.result c.from_residual.ensures.1 in
-    rw (p.1, p.2) (until-fails _ 65536 c.loop.counter _ _ _ _ _ c.loop-test.true c.in_err-more.ensures
+    rw (p.1, p.2) (until-fails _ _ 65536 c.loop.counter _ _ _ _ _ c.loop-test.true c.in_err-more.ensures
     c.loop.invariant)
 
 pub returns-then-not-more : goal.returns-then-not-more
 returns-then-not-more c =
-    until-stops _ 65536 c.loop.counter _ _ _ _ _ _ _ c.loop-test.true (search rules) c.loop.invariant
+    until-stops _ _ 65536 c.loop.counter _ _ _ _ _ _ _ c.loop-test.true (search rules) c.loop.invariant
 
 pub loop-preserved : goal.loop-preserved
 loop-preserved c =
-    until-goes _ 65536 c.loop.counter _ _ _ _ _ _ _ c.loop-test.true (search rules) c.loop.invariant
+    until-goes _ _ 65536 c.loop.counter _ _ _ _ _ _ _ c.loop-test.true (search rules) c.loop.invariant
 
 pub returns : goal.returns
-returns c = until-out _ 65536 c.loop.counter _ _ _ _ c.loop-test.false c.loop.invariant
+returns c = rw c.fault.ensures (until-out _ _ 65536 c.loop.counter _ _ _ _ c.loop-test.false c.loop.invariant)

@@ -10,19 +10,19 @@ loop-thread-init c = let z : c.args.threads - 0 ≡ c.args.threads = omega arith
 pub returns-in_err-kept : goal.returns-in_err-kept
 returns-in_err-kept c =
     let p = err_from_is_err_and c.from_residual.result c.from_residual.ensures.1 in
-    rw (p.1, p.2) (until-fails _ c.args.threads c.loop-thread.thread _ _ _ _ _ c.loop-thread-test.true
+    rw (p.1, p.2) (until-fails _ _ c.args.threads c.loop-thread.thread _ _ _ _ _ c.loop-thread-test.true
     (column-fails _ _ _ _ _ _ c.in_err-kept.ensures) c.loop-thread.invariant)
 
 pub loop-thread-preserved : goal.loop-thread-preserved
 loop-thread-preserved c =
-    until-goes _ c.args.threads c.loop-thread.thread _ _ _ _ _ _ _ c.loop-thread-test.true
+    until-goes _ _ c.args.threads c.loop-thread.thread _ _ _ _ _ _ _ c.loop-thread-test.true
     (column-goes _ _ _ _ _ _ c.in_ok-kept.ensures) c.loop-thread.invariant
 
 pub returns : goal.returns
 returns c =
     let last : c.loop-thread.thread ≡ c.args.threads =
     omega (arith, c.loop-thread-test.false, c.loop-thread.auto.thread-end) in
-    until-out _ c.args.threads c.loop-thread.thread _ _ _ _ c.loop-thread-test.false c.loop-thread.invariant
+    until-out _ _ c.args.threads c.loop-thread.thread _ _ _ _ c.loop-thread-test.false c.loop-thread.invariant
     ∙ ap (λ (n : ℕ). Ok (
       (n, (c.loop-thread.cells.items, c.loop-thread.width)),
       c.loop-thread.at.line,

@@ -1,8 +1,10 @@
 use Rattle.std.proofs.Common.{◌≡◌, ◌+◌, ◌-◌, ◌*◌}
-use Rattle.piece_forms.specs.Forms.{many}
+use Rattle.litmus_lexer.specs.declared.errors.Kind.TheVariants.{TooLarge}
+use Rattle.piece_forms.specs.Forms.{many, refused}
 use Rattle.piece_forms.specs.Reading.{reads}
-use Rattle.litmus_parser.specs.Condition.{addresses, further, joined, part_of, chain}
+use Rattle.litmus_parser.specs.Condition.{further, joined, part_of, chain}
 use Rattle.litmus_parser.specs.TreeViews.{tree_of}
+use Rattle.litmus_parser.specs.Verdicts.{bases_of}
 use Rattle.litmus_parser.specs.declared.expressions.Connective.{Connective}
 use Rattle.litmus_parser.specs.declared.expressions.Connective.TheVariants.{And, Or}
 use Rattle.std.proofs.Common.{ℕ}
@@ -28,8 +30,8 @@ decreases-factor l = 7 * l.depth
 -- what is left to read is what all of it reads as
 abbrev pub invariant-expression-loop : goal.invariant-expression-loop
 invariant-expression-loop l =
-    reads (many (further l.fn.connective) (joined l.fn.connective
-    (part_of l.fn.connective (addresses l.fn.items) l.fn.threads l.fn.depth)) (256 - l.counter)
+    reads (many (refused TooLarge) (further l.fn.connective) (joined l.fn.connective
+    (part_of l.fn.connective (bases_of l.fn.items) l.fn.threads l.fn.depth)) (256 - l.counter)
     (tree_of l.left, (l.locations, l.atoms))) l.at.line l.at.pieces
-    ≡ reads (chain l.fn.connective (part_of l.fn.connective (addresses l.fn.items) l.fn.threads l.fn.depth)
+    ≡ reads (chain l.fn.connective (part_of l.fn.connective (bases_of l.fn.items) l.fn.threads l.fn.depth)
     (l.fn.locations, l.fn.atoms)) l.fn.cursor.line l.fn.cursor.pieces

@@ -1,9 +1,14 @@
-use Rattle.std.proofs.Common.{◌≡◌, ◌-◌}
-use Rattle.litmus_lexer.specs.Reading.{repeat_at}
-use Rattle.litmus_parser.specs.ReadingHeader.{header_line_at, cut_short, header_at}
+use Rattle.std.proofs.Common.{◌≡◌, ◌-◌, []}
+use Rattle.litmus_lexer.specs.declared.errors.Kind.TheVariants.{BadHeader, CutShort}
+use Rattle.piece_forms.specs.Forms.{one, line_end, many, refused}
+use Rattle.piece_forms.specs.Reading.{reads}
+use Rattle.litmus_parser.specs.Header.{text_pieces, line_or_block}
 use Rattle.litmus_parser.proofs.headers.header.Given as goal
 
 -- what is left to read is what all of it reads as
 abbrev pub invariant-loop : goal.invariant-loop
-invariant-loop l = repeat_at (65536 - l.counter) header_line_at cut_short (l.at.line, l.at.rest.now) ≡ header_at
-    (l.fn.cursor.line, l.fn.cursor.rest.now)
+invariant-loop l =
+    reads (many (refused CutShort) (λ _. one line_or_block) (λ _. line_end BadHeader) (65536 - l.counter) tt) l.at.line
+    (text_pieces l.at.rest.now [])
+    ≡ reads (many (refused CutShort) (λ _. one line_or_block) (λ _. line_end BadHeader) 65536 tt) l.fn.cursor.line
+    (text_pieces l.fn.cursor.rest.now [])

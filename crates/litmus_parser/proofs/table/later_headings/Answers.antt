@@ -6,18 +6,19 @@ use Rattle.litmus_parser.proofs.table.later_headings.Goals as goal
 pub returns-in_err-more-clause-read : goal.returns-in_err-more-clause-read
 returns-in_err-more-clause-read c =
     let p = err_from_is_err_and c.from_residual.result c.from_residual.ensures.1 in
-    rw (p.1, p.2) (until-fails _ 16 c.loop.counter _ _ _ _ _ c.loop-test.true c.in_err-more.ensures.read
+    rw (p.1, p.2) (until-fails _ _ 16 c.loop.counter _ _ _ _ _ c.loop-test.true c.in_err-more.ensures.read
     c.loop.invariant.left)
 
 pub returns-then-not-more-clause-read : goal.returns-then-not-more-clause-read
 returns-then-not-more-clause-read c =
-    until-stops _ 16 c.loop.counter _ _ _ _ _ _ _ c.loop-test.true (search rules) c.loop.invariant.left
+    until-stops _ _ 16 c.loop.counter _ _ _ _ _ _ _ c.loop-test.true (search rules) c.loop.invariant.left
 
 pub loop-preserved : goal.loop-preserved
 loop-preserved c = record {
-  left = until-goes _ 16 c.loop.counter _ _ _ _ _ _ _ c.loop-test.true (search rules) c.loop.invariant.left;
+  left = until-goes _ _ 16 c.loop.counter _ _ _ _ _ _ _ c.loop-test.true (search rules) c.loop.invariant.left;
   few = search rules;
 }
 
 pub returns-clause-read : goal.returns-clause-read
-returns-clause-read c = until-out _ 16 c.loop.counter _ _ _ _ c.loop-test.false c.loop.invariant.left
+returns-clause-read c =
+    rw c.fault.ensures (until-out _ _ 16 c.loop.counter _ _ _ _ c.loop-test.false c.loop.invariant.left)

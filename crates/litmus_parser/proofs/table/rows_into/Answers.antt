@@ -6,18 +6,18 @@ use Rattle.litmus_parser.proofs.table.rows_into.Goals as goal
 pub returns-in_err-more : goal.returns-in_err-more
 returns-in_err-more c =
     let p = err_from_is_err_and c.from_residual.result c.from_residual.ensures.1 in
-    rw (p.1, p.2) (until-fails _ 1025 c.loop.counter _ _ _ _ _ c.loop-test.true c.in_err-more.ensures.read
+    rw (p.1, p.2) (until-fails _ _ 1025 c.loop.counter _ _ _ _ _ c.loop-test.true c.in_err-more.ensures.read
     c.loop.invariant.left)
 
 pub returns-then-not-more : goal.returns-then-not-more
 returns-then-not-more c =
-    until-stops _ 1025 c.loop.counter _ _ _ _ _ _ _ c.loop-test.true (search rules) c.loop.invariant.left
+    until-stops _ _ 1025 c.loop.counter _ _ _ _ _ _ _ c.loop-test.true (search rules) c.loop.invariant.left
 
 pub loop-preserved : goal.loop-preserved
 loop-preserved c = record {
-  left = until-goes _ 1025 c.loop.counter _ _ _ _ _ _ _ c.loop-test.true (search rules) c.loop.invariant.left;
+  left = until-goes _ _ 1025 c.loop.counter _ _ _ _ _ _ _ c.loop-test.true (search rules) c.loop.invariant.left;
   few = search rules;
 }
 
 pub returns : goal.returns
-returns c = until-out _ 1025 c.loop.counter _ _ _ _ c.loop-test.false c.loop.invariant.left
+returns c = rw c.fault.ensures (until-out _ _ 1025 c.loop.counter _ _ _ _ c.loop-test.false c.loop.invariant.left)

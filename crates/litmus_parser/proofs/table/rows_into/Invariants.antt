@@ -1,5 +1,6 @@
 use Rattle.std.proofs.Common.{◌≡◌, ◌-◌, ◌≤◌, None}
-use Rattle.piece_forms.specs.Forms.{many}
+use Rattle.litmus_lexer.specs.declared.errors.Kind.TheVariants.{TooLarge}
+use Rattle.piece_forms.specs.Forms.{many, refused}
 use Rattle.piece_forms.specs.Reading.{reads}
 use Rattle.litmus_parser.specs.Verdicts.{bases_of}
 use Rattle.litmus_parser.specs.Table.{next_row, counted_row}
@@ -8,9 +9,10 @@ use Rattle.litmus_parser.proofs.table.rows_into.Given as goal
 -- what is left to read is what all of it reads as
 abbrev pub invariant-loop : goal.invariant-loop
 invariant-loop l = record {
-  left : reads (many next_row (counted_row (bases_of l.fn.items) l.fn.threads) (1025 - l.counter)
+  left : reads (many (refused TooLarge) next_row (counted_row (bases_of l.fn.items) l.fn.threads) (1025 - l.counter)
       (l.count, (l.cells.items, l.width))) l.at.line l.at.pieces
-      ≡ reads (many next_row (counted_row (bases_of l.fn.items) l.fn.threads) 1025 (0, (l.fn.cells.items, None)))
+      ≡ reads (many (refused TooLarge) next_row (counted_row (bases_of l.fn.items) l.fn.threads) 1025
+      (0, (l.fn.cells.items, None)))
       l.fn.cursor.line l.fn.cursor.pieces;
   few : l.count ≤ l.counter;
 }

@@ -1,5 +1,4 @@
-use Rattle.litmus_reader.proofs.Found.{found-told}
-use Rattle.litmus_reader.proofs.Only.{only-told}
+use Rattle.litmus_reader.proofs.Found.{found-told, only-told}
 use Rattle.litmus_reader.proofs.Fault.{fault-told, early-told}
 use Rattle.litmus_reader.proofs.reading.read.Goals as goal
 
@@ -13,4 +12,4 @@ pub returns-clause-fault : goal.returns-clause-fault
 returns-clause-fault c = fault-told _ _ c.read_whole.ensures.told
 
 pub returns-clause-early : goal.returns-clause-early
-returns-clause-early c = early-told _ _ c.read_whole.ensures.large c.read_whole.ensures.sure
+returns-clause-early c = early-told _ _ c.read_whole.ensures.told c.read_whole.ensures.early

@@ -1,5 +1,5 @@
 -- Lists by place: what is read after a write, lists that are alike at each place, and values of a number.
-use Rattle.std.proofs.Common.{◌≡◌, ◌≢◌, ℕ, zero, suc, ◌+◌, ◌<◌, ◌≤◌, List, [], ◌∷◌, length, set, get_or, Some, None}
+use Rattle.std.proofs.Common.{◌≡◌, ◌≢◌, ℕ, zero, suc, ◌+◌, ◌<◌, List, [], ◌∷◌, length, set, Some, None}
 use Rattle.std.proofs.Common.{sym, refl, ap, ap₂, ◌∙◌, subst, arith}
 use Rattle.std.specs.Prelude.{slice_get}
 use mathlib.Core.Logic.{dite}
@@ -13,10 +13,6 @@ one_further P n before here j lt =
     dite (ℕ_discrete j n) (λ (e : j ≡ n). subst P (sym e) here) (λ (ne : j ≢ n). before j (omega arith))
 
 module _ {X : Type 0} where
-  value_or : X → List X → X
-  value_or d [] = d
-  value_or d (x ∷ xs) = x
-
   pub some_is : {x y : X} → Some x ≡ Some y → x ≡ y
   some_is e = cc
 
@@ -29,11 +25,9 @@ module _ {X : Type 0} where
   set_here (z ∷ xs) (suc i) x l = set_here xs i x (omega arith)
 
   pub set_else : (xs : List X) (i j : ℕ) (x : X) → j ≢ i → slice_get (set xs i x) j ≡ slice_get xs j
-  set_else [] i j x ne = refl
   set_else (z ∷ xs) zero zero x ne = absurd (ne refl)
-  set_else (z ∷ xs) zero (suc j) x ne = refl
-  set_else (z ∷ xs) (suc i) zero x ne = refl
   set_else (z ∷ xs) (suc i) (suc j) x ne = set_else xs i j x (λ e. ne (ap suc e))
+  set_else _ _ _ x ne = refl
 
   -- lists of one length, one of which has at each place what the other has
   pub alike : (xs ys : List X) → length xs ≡ length ys →
@@ -43,11 +37,6 @@ module _ {X : Type 0} where
   alike (x ∷ xs) [] l h = absurd (omega arith)
   alike (x ∷ xs) (y ∷ ys) l h =
       ap₂ (λ a b. a ∷ b) (some_is (h 0 y refl)) (alike xs ys (omega arith) (λ k z e. h (suc k) z e))
-
-  pub past : (xs : List X) (k : ℕ) (d : X) → length xs ≤ k → get_or xs k d ≡ d
-  past [] k d l = refl
-  past (x ∷ xs) zero d l = absurd (omega arith)
-  past (x ∷ xs) (suc k) d l = past xs k d (omega arith)
 
   -- no value so far has the number
   pub not_so_far : (number : X → ℕ) (xs : List X) (i : ℕ) (x : X) (n : ℕ) → slice_get xs i ≡ Some x →

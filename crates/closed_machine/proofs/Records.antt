@@ -1,5 +1,6 @@
 -- The records of the cores of a reached state.
 use Rattle.std.proofs.Common.{◌≡◌, ℕ, zero, suc, ◌<◌, Bool, true, false, cond, eqb, List, [], ◌∷◌, length}
+use Rattle.std.proofs.lemmas.List.{get_or_past}
 use Rattle.std.proofs.Common.{get_or, Option, Some, sym, refl, ap, ◌∙◌, subst, arith}
 use Rattle.std.proofs.Common.{eq-eqb}
 use Rattle.std.specs.Prelude.{slice_get}
@@ -10,7 +11,7 @@ use Rattle.physiological_order.specs.declared.operation.Record.{Record}
 use Rattle.physiological_order.specs.Order.{of_core, Follows}
 use Rattle.machine_theorem.specs.States.{first}
 use Rattle.closed_machine.specs.Merged.{StandIn}
-use Rattle.closed_machine.proofs.Places.{none_some, alike, past}
+use Rattle.closed_machine.proofs.Places.{none_some, alike}
 
 -- a record of one core is one of all, and a record is one of its core's
 of_all : (j : ℕ) (xs : List Record) (k : ℕ) (r : Record) → slice_get (of_core j xs) k ≡ Some r →
@@ -67,5 +68,5 @@ all_placed log placed issued cores same numbers follows stands = alike placed lo
         let none : of_core r.core log ≡ [] =
         none_follow (of_core r.core log)
         (subst (λ ops. Follows 0 ops (of_core r.core log))
-        (past (first issued cores) r.core [] (let n = long issued cores in omega arith)) (follows r.core)) in
+        (get_or_past (first issued cores) r.core [] (let n = long issued cores in omega arith)) (follows r.core)) in
         none_some (sym (ap (λ (rs : List Record). slice_get rs own.0) none) ∙ own.1))

@@ -1,7 +1,6 @@
 //! Who owns a line in a closed machine.
-ghost use Rattle.std.specs.Prelude.{◌≡◌, ◌+◌, ◌*◌, ◌≤◌, ◌<◌, length, option_copied, option_to_list};
+ghost use Rattle.std.specs.Prelude.{◌≡◌, ◌+◌, ◌*◌, ◌≤◌, ◌<◌, option_copied, option_to_list};
 ghost use Rattle.private_cache.specs.CopyTable.{copy_of};
-ghost use Rattle.machine_table.specs.SetUp.{is_good};
 ghost use Rattle.machine_theorem.specs.Bags.{weigh};
 ghost use Rattle.machine_theorem.specs.Coherence.{owner_in};
 ghost use Rattle.machine_theorem.specs.Ownership.{owners, ownership_in};

@@ -6,18 +6,18 @@ use Rattle.litmus_lexer.specs.declared.errors.ReadError.{ReadError}
 use Rattle.litmus_lexer.specs.declared.errors.ReadError.TheVariants.{Memory, Fault}
 use Rattle.litmus_lexer.specs.Reading.{Fails, fault_at}
 use Rattle.text_lines.specs.Reading.{◌>>=◌}
-use Rattle.piece_forms.specs.Forms.{turn}
+use Rattle.piece_forms.specs.Forms.{Gives, turn}
 use Rattle.piece_forms.specs.Reading.{reads, judged}
 use Rattle.litmus_parser.specs.Verdicts.{Bases}
-use Rattle.litmus_parser.specs.Table.{Rows, column, always}
+use Rattle.litmus_parser.specs.Table.{Rows, column}
 
 module _ (bases : Bases) (threads : ℕ) (c : ℕ × Rows) (line : ℕ) (pieces : List Piece) where
   pub column-goes : (x : (ℕ × Rows) × ℕ × List Piece) → reads (column bases threads c) line pieces ≡ Ok x →
-      reads (turn always (column bases threads) c) line pieces ≡ Ok ((true, x.0), x.1, x.2)
+      reads (turn (λ c. Gives true) (column bases threads) c) line pieces ≡ Ok ((true, x.0), x.1, x.2)
   column-goes x e = rw e refl
 
   pub column-fails : (e : ReadError) → Fails e (reads (column bases threads c) line pieces) →
-      Fails e (reads (turn always (column bases threads) c) line pieces)
+      Fails e (reads (turn (λ c. Gives true) (column bases threads) c) line pieces)
   column-fails Memory h = tt
   column-fails (Fault f) h = rw h refl
 

@@ -38,9 +38,6 @@ abbrev pub separator : Piece → Verdict Bool
 separator (Sign b) = if b == BAR then Takes true else if b == SEMICOLON then Takes false else Refuses BadTable
 separator piece = Refuses BadTable
 
-abbrev pub another : ℕ → Form Bool
-another threads = here BadTable separator
-
 abbrev pub further_heading : ℕ → Form ℕ
 further_heading threads = here BadTable (heading threads) >>= λ _. Gives (threads + 1)
 
@@ -49,7 +46,7 @@ further_heading threads = here BadTable (heading threads) >>= λ _. Gives (threa
 unfoldable pub header : Form ℕ
 header = do
   _ ← one (heading 0)
-  threads ← many (refused BadTable) another further_heading MOST_THREADS 1
+  threads ← many (refused BadTable) (λ threads. here BadTable separator) further_heading MOST_THREADS 1
   _ ← line_end BadTable
   Gives threads
 
@@ -110,15 +107,12 @@ unfoldable pub column : Bases → ℕ → ℕ × Rows → Form (ℕ × Rows)
 column bases threads c =
     cell bases c.0 (if c.0 + 1 == threads then SEMICOLON else BAR) c.1 >>= λ rows. Gives (c.0 + 1, rows)
 
-abbrev pub always : ℕ × Rows → Form Bool
-always c = Gives true
-
 -- row := cell { "|" cell } ;
 -- and the end of the line; its shape is tested before its cells
 unfoldable pub row : Bases → ℕ → Rows → Form Rows
 row bases threads rows = do
   _ ← Test (has_shape (threads - 1)) BadTable
-  c ← many Gives always (column bases threads) threads (0, rows)
+  c ← many Gives (λ c. Gives true) (column bases threads) threads (0, rows)
   _ ← line_end BadTable
   Gives c.1
 
@@ -131,9 +125,6 @@ abbrev pub row_or_condition : ℕ → Piece → Verdict Bool
 row_or_condition count (Word w) = row_begins (is_some (quantifier_of w)) count
 row_or_condition count piece = row_begins false count
 
-abbrev pub next_row : ℕ × Rows → Form Bool
-next_row t = one (row_or_condition t.0)
-
 unfoldable pub counted_row : Bases → ℕ → ℕ × Rows → Form (ℕ × Rows)
 counted_row bases threads t = row bases threads t.1 >>= λ rows. Gives (t.0 + 1, rows)
 
@@ -141,7 +132,8 @@ counted_row bases threads t = row bases threads t.1 >>= λ rows. Gives (t.0 + 1,
 -- up to the condition; a row past the last one is refused, so the steps end with a keyword
 unfoldable pub rows : Bases → ℕ → Form (List Cell)
 rows bases threads =
-    many (refused TooLarge) next_row (counted_row bases threads) (MOST_ROWS + 1) (0, ([], None)) >>= λ t. Gives t.1.0
+    many (refused TooLarge) (λ t. one (row_or_condition t.0)) (counted_row bases threads) (MOST_ROWS + 1)
+    (0, ([], None)) >>= λ t. Gives t.1.0
 
 -- table := header rows
 -- the items are of threads that the header row names

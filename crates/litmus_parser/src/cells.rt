@@ -8,7 +8,7 @@ ghost use Rattle.piece_forms.specs.Forms.{Gives as Given, At, here, many};
 ghost use Rattle.piece_forms.specs.Reading.{reads};
 ghost use Rattle.litmus_lexer.specs.declared.errors.Kind.TheVariants.{BadInstruction};
 ghost use Rattle.litmus_parser.specs.Verdicts.{bases_of, meaning};
-ghost use Rattle.litmus_parser.specs.Table.{ends_here, has_shape, ends_cell, closes, filled, cell, column, always, row};
+ghost use Rattle.litmus_parser.specs.Table.{ends_here, has_shape, ends_cell, closes, filled, cell, column, row};
 
 use crate::forms::{Form, read_form};
 use crate::instructions::judge;
@@ -167,7 +167,7 @@ fn columns<'a>(
     cursor: Cursor<'a>,
 ) -> Result<(Option<Width>, Cursor<'a>), ReadError>
     ensures { Gives (λ r. ((threads, (cells.new.items, r.0)), r.1.line, r.1.pieces)) result
-        (reads (many Given always (column (bases_of items.now) threads) threads
+        (reads (many Given (λ c. Given true) (column (bases_of items.now) threads) threads
         (0, (cells.old.items, width))) cursor.entry.line cursor.entry.pieces) }
 {
     let mut width = width;

@@ -7,13 +7,9 @@ use Rattle.std.proofs.lemmas.Bool.Decides.{eqb_tells}
 use Rattle.std.proofs.lemmas.List.{append-nil, get_or-set_same, get_or-set_other}
 use Rattle.std.proofs.lemmas.Option.{slice_get_within}
 use Rattle.physiological_order.specs.declared.operation.Op.{Op}
-use Rattle.network.specs.declared.message.Node.TheVariants as node
 use Rattle.network.specs.declared.message.Message.{Message}
 use Rattle.network.specs.Mail.{Mail, sent}
-use Rattle.core_pts.specs.declared.attempt.IssueError.TheVariants as not_issued
-use Rattle.core_pts.specs.CoreTable as core_table
 use Rattle.core_pts.specs.CoreTable.{CoreState}
-use Rattle.llc_bank.specs.BankTable as bank_table
 use Rattle.machine_table.specs.declared.event.Event.{Event}
 use Rattle.machine_table.specs.declared.event.Event.TheVariants.{Issue, Deliver}
 use Rattle.machine_table.specs.declared.event.Answer.{Answer}

@@ -43,6 +43,19 @@ module _ (c : Config) (bank : ℕ) where
       go long true = word_long (dram_of c bank es) (e.0 / c.line_words) (e.0 % c.line_words) e.1 l long
       go long false = long l
 
+  -- a word that isn't the one that is set stays
+  word_stays : (lines : FinMap nat_cmp (List ℕ)) (line i v l k : ℕ) → (l ≡ line → k ≢ i) →
+      get_or (words_of (with_word lines line i v) l) k 0 ≡ get_or (words_of lines l) k 0
+  word_stays lines line i v l k apart =
+      ⊎_elim
+      (λ (q : l ≡ line). subst (λ (j : ℕ). get_or (words_of (with_word lines line i v) j) k 0 ≡
+      get_or (words_of lines j) k 0) (sym q)
+      (ap (λ ws. get_or ws k 0) (words-insert_same lines line (set (words_of lines line) i v))
+      ∙ get_or-set_other (words_of lines line) i k v 0 (apart q)))
+      (λ (ne : l ≡ line → ⊥). ap (λ ws. get_or ws k 0)
+      (words-insert_other lines line l (set (words_of lines line) i v) ne))
+      (cases_eq l line)
+
   -- no word is set behind those that lines have
   pub dram_zeros : 0 < c.line_words → (es : List (ℕ × ℕ)) (l k : ℕ) → c.line_words ≤ k →
       get_or (words_of (dram_of c bank es) l) k 0 ≡ 0
@@ -61,15 +74,7 @@ module _ (c : Config) (bank : ℕ) where
 
       go : ((j : ℕ) → get_or (words_of lines j) k 0 ≡ 0) → (b : Bool) →
           get_or (words_of (cond b (with_word lines line (e.0 % c.line_words) e.1) lines) l) k 0 ≡ 0
-      go zeros true =
-          ⊎_elim
-          (λ (q : l ≡ line). subst (λ (j : ℕ). get_or (words_of (with_word lines line (e.0 % c.line_words) e.1) j) k
-          0 ≡ 0) (sym q)
-          (ap (λ ws. get_or ws k 0) (words-insert_same lines line (set (words_of lines line) (e.0 % c.line_words) e.1))
-          ∙ get_or-set_other (words_of lines line) (e.0 % c.line_words) k e.1 0 apart ∙ zeros line))
-          (λ (ne : l ≡ line → ⊥). ap (λ ws. get_or ws k 0) (words-insert_other lines line l
-          (set (words_of lines line) (e.0 % c.line_words) e.1) ne) ∙ zeros l)
-          (cases_eq l line)
+      go zeros true = word_stays lines line (e.0 % c.line_words) e.1 l k (λ q. apart) ∙ zeros l
       go zeros false = zeros l
 
   module _ (some : 0 < c.line_words) (most : c.line_words ≤ 8) where
@@ -87,20 +92,9 @@ module _ (c : Config) (bank : ℕ) where
     others : (lines : FinMap nat_cmp (List ℕ)) (a d v : ℕ) → a ≢ d →
         word (with_word lines (d / c.line_words) (d % c.line_words) v) a ≡ word lines a
     others lines a d v ne =
-        ⊎_elim
-        (λ (e : a / c.line_words ≡ d / c.line_words).
-        let apart : a % c.line_words ≢ d % c.line_words = λ q. ne (sym (div-add-mod' a c.line_words)
-        ∙ ap (λ (n : ℕ). n * c.line_words + a % c.line_words) e
-        ∙ ap (λ (n : ℕ). d / c.line_words * c.line_words + n) q ∙ div-add-mod' d c.line_words) in
-        subst (λ (k : ℕ). get_or (words_of (with_word lines (d / c.line_words) (d % c.line_words) v) k)
-        (a % c.line_words) 0 ≡ get_or (words_of lines k) (a % c.line_words) 0) (sym e)
-        (ap (λ ws. get_or ws (a % c.line_words) 0) (words-insert_same lines (d / c.line_words)
-        (set (words_of lines (d / c.line_words)) (d % c.line_words) v))
-        ∙ get_or-set_other (words_of lines (d / c.line_words)) (d % c.line_words) (a % c.line_words) v 0 apart))
-        (λ (nl : a / c.line_words ≡ d / c.line_words → ⊥). ap (λ ws. get_or ws (a % c.line_words) 0)
-        (words-insert_other lines (d / c.line_words) (a / c.line_words) (set (words_of lines (d / c.line_words))
-        (d % c.line_words) v) nl))
-        (cases_eq (a / c.line_words) (d / c.line_words))
+        word_stays lines (d / c.line_words) (d % c.line_words) v (a / c.line_words) (a % c.line_words)
+        (λ e q. ne (sym (div-add-mod' a c.line_words) ∙ ap (λ (n : ℕ). n * c.line_words + a % c.line_words) e
+        ∙ ap (λ (n : ℕ). d / c.line_words * c.line_words + n) q ∙ div-add-mod' d c.line_words))
 
     pub dram_word : (es : List (ℕ × ℕ)) (a : ℕ) → (a / c.line_words) % c.banks ≡ bank → word (dram_of c bank es)
         a ≡ unwrap_or (find nat_cmp a es) 0

@@ -15,7 +15,6 @@ use Rattle.dram_mts.specs.Table.{dram_has_case}
 use Rattle.machine_table.specs.declared.config.Config.{Config}
 use Rattle.machine_table.specs.declared.event.Answer.{Answer}
 use Rattle.machine_table.specs.declared.event.Event.TheVariants as event
-use Rattle.machine_table.specs.declared.event.Refusal.TheVariants as refusal
 use Rattle.machine_table.specs.Machine.{Machine, with_core, with_bank, with_dram}
 use Rattle.machine_table.specs.Posted.{can_post, left}
 use Rattle.machine_table.specs.Step as step

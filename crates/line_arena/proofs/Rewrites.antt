@@ -155,8 +155,7 @@ module _ {X : Type 0} where
       let at_l : (l : ℕ) → l < spare + 1 → get_or (rings_of d) l [] ≡ rewritten x (Some w) (get_or rs l []) =
       λ l lt. ap (λ zs. get_or zs l []) are ∙ get_or-map (rewritten x (Some w)) rs l [] [] (omega arith) in
       let absent : Has (get_or rs spare []) x → ⊥ = λ u. one_list c.block c.capacity hs rs h.tied.tied p.0 spare x x
-      (omega arith) (omega arith) (λ i. absurd (omega arith)) on u refl in
-      (
+      (omega arith) (omega arith) (λ i. absurd (omega arith)) on u refl in (
         record {
           tied = record { tied = tied; small = h.tied.small };
           many = h.many;

@@ -43,9 +43,12 @@ pub data Outcome (m : Machine) : Event → Answer × Machine → Type 0 where
   refuses : {event : Event} (why : Refusal) → RefusedSo m why m → Outcome m event (refused m why)
   -- a core is given its next operation
   issues : (c : ℕ) (op : Op) (core after : CoreState) → slice_get m.cores c ≡ Some core →
-      core_table.issue core op ≡ (Ok tt, after) → Outcome m (Issue c op) (Issued, record (with_core m c after) {
-        issued = slice_set m.issued c (slice_index_or m.issued c [] ++ op ∷ []);
-      })
+      core_table.issue core op ≡ (Ok tt, after) → Outcome m (Issue c op) (
+        Issued,
+        record (with_core m c after) {
+          issued = slice_set m.issued c (slice_index_or m.issued c [] ++ op ∷ []);
+        },
+      )
   -- a core completes its open operation
   completes : (c : ℕ) (op : Op) (received : Option ℕ) (ts : ℕ) (core after : CoreState) →
       slice_get m.cores c ≡ Some core → core_step core step.Attempting ≡ Completes op received ts after →

@@ -156,15 +156,20 @@ module _ (config : Config) (opening : FinMap nat_cmp ℕ) (a : State) (s : IsKep
         issue_put a m (same a.bag bag) c op core (listed a.cores config.cores c lt)
             (listed a.issued config.cores c lt),
         refl,
-      ) (event.Issue c op, finds m (λ x. issued m c op (core_table.issue x op)) (first_at a.cores config.cores c lt)
-      ∙ ap (issued m c op) is)
+      ) (
+        event.Issue c op,
+        finds m (λ x. issued m c op (core_table.issue x op)) (first_at a.cores config.cores c lt)
+            ∙ ap (issued m c op) is,
+      )
   move_event b (completes c op received ts core lt is) =
       let bag : SameBag a.bag a.bag = λ h. refl in
       let m = ready a.bag bag in
       leads a.bag bag b _
-      (completion_put a m (same a.bag bag) c op received ts (a.cores c) core (listed a.cores config.cores c lt), refl)
-      (event.Attempt c, finds m (λ x. tried m c x (core_step x step.Attempting)) (first_at a.cores config.cores c lt)
-      ∙ ap (tried m c (a.cores c)) is)
+      (completion_put a m (same a.bag bag) c op received ts (a.cores c) core (listed a.cores config.cores c lt), refl) (
+        event.Attempt c,
+        finds m (λ x. tried m c x (core_step x step.Attempting)) (first_at a.cores config.cores c lt)
+            ∙ ap (tried m c (a.cores c)) is,
+      )
   move_event b (core_steps c act rest done lt beside is to) =
       let g = given_so (node.Core c) (core_has_case (a.cores c)) (message_of act) rest beside in
       let m = ready g.xs g.bag in

@@ -3,8 +3,8 @@
 //!
 //! The words are `round`, `seed`, `large_seed`, `round_events` and `seed_events`, and three numbers follow each: cores,
 //! words, and operations of a core. Several may stand one after the other. Each prints how many operations were
-//! completed; the last two keep the events and print how many there were. The caches and banks of `large_seed` are the
-//! largest that there may be, and the banks the most.
+//! completed; the last two keep the events and print how many there were. `large_seed` has the most banks, and the largest
+//! caches and banks, that there may be.
 #![tactic(auto)]
 
 ghost use Rattle.std.specs.Prelude.{◌≡◌, length};

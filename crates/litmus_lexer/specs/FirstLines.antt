@@ -30,7 +30,7 @@ text_behind p text = drop (prefix_len p text) text
 abbrev pub are_blanks : List ℕ → Bool
 are_blanks text = prefix_len is_blank text == length text
 
--- the same, read from the front
+-- a title, read from the front: what follows RISCV
 abbrev pub behind_riscv : List ℕ → Option (List ℕ)
 behind_riscv (a ∷ b ∷ c ∷ d ∷ e ∷ rest) =
     if a == 82 && b == 73 && c == 83 && d == 67 && e == 86 then Some rest else None

@@ -47,7 +47,7 @@ start threads depth sight (Sign b) =
     else Refuses BadCondition
 start threads depth sight LineEnd = Refuses BadCondition
 
--- a register other than x0 that bases no address
+-- a register other than x0 that is no address register
 abbrev pub value_register : Bases → ℕ → Option ℕ → Result ℕ Kind
 value_register bases thread None = Err BadCondition
 value_register bases thread (Some r) = if r == 0 then Err BadCondition else value_in bases thread r

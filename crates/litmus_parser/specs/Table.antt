@@ -42,7 +42,7 @@ abbrev pub further_heading : ℕ → Form ℕ
 further_heading threads = here BadTable (heading threads) >>= λ _. Gives (threads + 1)
 
 -- header := P0 { "|" PT } ;
--- and the end of the line; a heading past the last one is refused, so the steps end with ;
+-- and the end of the line; a heading after MOST_THREADS of them is refused, so the steps end with ;
 unfoldable pub header : Form ℕ
 header = do
   _ ← one (heading 0)
@@ -129,7 +129,7 @@ unfoldable pub counted_row : Bases → ℕ → ℕ × Rows → Form (ℕ × Rows
 counted_row bases threads t = row bases threads t.1 >>= λ rows. Gives (t.0 + 1, rows)
 
 -- rows := { row }
--- up to the condition; a row past the last one is refused, so the steps end with a keyword
+-- up to the condition; a row after MOST_ROWS of them is refused, so the steps end with a keyword
 unfoldable pub rows : Bases → ℕ → Form (List Cell)
 rows bases threads =
     many (refused TooLarge) (λ t. one (row_or_condition t.0)) (counted_row bases threads) (MOST_ROWS + 1)

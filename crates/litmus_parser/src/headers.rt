@@ -66,7 +66,8 @@ fn header_line<'a>(cursor: HeaderLines<'a>) -> Result<(bool, HeaderLines<'a>), R
 /// The first line of the initial block.
 fn header<'a>(cursor: HeaderLines<'a>) -> Result<HeaderLines<'a>, ReadError>
     ensures read { Gives (λ r. (tt, r.line, pieces_of r.rest.now)) result
-        (reads (many (refused Short) (λ _. one line_or_block) (λ _. line_end BadHeader) MOST_BYTES tt)
+        (reads (many (refused Short) (λ _. one line_or_block) (λ _. line_end BadHeader)
+        MOST_BYTES tt)
         cursor.entry.line (text_pieces cursor.entry.rest.now [])) }
     ensures sure { IfErr result TakesNoMemory }
 {

@@ -5,7 +5,7 @@ ghost use Rattle.litmus_lexer.specs.Pieces.{Piece};
 ghost use Rattle.litmus_parser.specs.Shapes.{IsShaped};
 ghost use Rattle.litmus_parser.specs.Table.{has_shape};
 
-/// A row has its shape exactly where `bars` bars stand in it, then a semicolon, and nothing after it in the line.
+/// A row has its shape exactly if `bars` bars stand in front of its first semicolon, and the line ends after that.
 pub fn rows_have_this_shape()
     ensures shaped { (bars : ℕ) (pieces : List Piece) → IsShaped bars pieces →
         has_shape bars pieces ≡ true }

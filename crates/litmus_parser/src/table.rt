@@ -83,7 +83,8 @@ fn later_heading<'a>(thread: u8, cursor: Cursor<'a>) -> Result<Cursor<'a>, ReadE
 fn next_heading<'a>(threads: u8, cursor: Cursor<'a>) -> Result<(bool, u8, Cursor<'a>), ReadError>
     requires { threads ≤ MOST_THREADS }
     ensures read { Gives (λ r. ((r.0, r.1), r.2.line, r.2.pieces)) result
-        (reads (turn (λ c. here BadTable separator) further_heading threads) cursor.entry.line cursor.entry.pieces) }
+        (reads (turn (λ c. here BadTable separator) further_heading threads) cursor.entry.line
+        cursor.entry.pieces) }
     ensures few { IfOk result (λ r. (threads ≤ r.1) × (r.1 ≤ MOST_THREADS)) }
 {
     let (more, after) = separator(cursor)?;
@@ -97,7 +98,8 @@ fn next_heading<'a>(threads: u8, cursor: Cursor<'a>) -> Result<(bool, u8, Cursor
 /// The headings `P0 | P1 | ..` after the first: how many threads there are.
 fn later_headings<'a>(cursor: Cursor<'a>) -> Result<(u8, Cursor<'a>), ReadError>
     ensures read { Gives view_read result
-        (reads (many (refused BadTable) (λ c. here BadTable separator) further_heading MOST_THREADS 1)
+        (reads (many (refused BadTable) (λ c. here BadTable separator) further_heading
+        MOST_THREADS 1)
         cursor.entry.line cursor.entry.pieces) }
     ensures few { IfOk result (λ r. (0 < r.0) × (r.0 ≤ MOST_THREADS)) }
 {
@@ -216,7 +218,8 @@ fn rows_into<'a>(
     cursor: Cursor<'a>,
 ) -> Result<(u16, Option<Width>, Cursor<'a>), ReadError>
     ensures { Gives (λ r. ((r.0, (cells.new.items, r.1)), r.2.line, r.2.pieces)) result
-        (reads (many (refused TooLarge) (λ t. one (row_or_condition t.0)) (counted_row (bases_of items.now) threads)
+        (reads (many (refused TooLarge) (λ t. one (row_or_condition t.0))
+        (counted_row (bases_of items.now) threads)
         (MOST_ROWS + 1) (0, (cells.old.items, None))) cursor.entry.line cursor.entry.pieces) }
 {
     let mut count = 0;

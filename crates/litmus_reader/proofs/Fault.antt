@@ -21,7 +21,7 @@ use Rattle.litmus_parser.specs.Extents.{reach}
 use Rattle.litmus_parser.specs.Header.{text_pieces, preamble, TakesNoMemory}
 use Rattle.litmus_reader.specs.Litmus.{Litmus}
 use Rattle.litmus_reader.specs.TestViews.{test_of}
-use Rattle.litmus_reader.specs.Grammar.{test as whole_test}
+use Rattle.litmus_reader.specs.Grammar.{whole_test}
 use Rattle.litmus_reader.specs.ReadingTest.{is_cut_short, ended_by, test_at, IsReadOrNoMemory}
 use Rattle.litmus_reader.specs.Faults.{FaultBefore, FaultIn, good_lines, Fault, too_large, in_part, bad_byte}
 use Rattle.litmus_reader.specs.Faults.{cut_short}

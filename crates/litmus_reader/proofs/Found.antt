@@ -14,7 +14,7 @@ use Rattle.litmus_parser.specs.Extents.{is_allowed, reach}
 use Rattle.litmus_parser.specs.Header.{text_pieces}
 use Rattle.litmus_reader.specs.Litmus.{Litmus}
 use Rattle.litmus_reader.specs.TestViews.{test_of}
-use Rattle.litmus_reader.specs.Grammar.{test as whole_test, IsTest}
+use Rattle.litmus_reader.specs.Grammar.{whole_test, IsTest}
 use Rattle.litmus_reader.specs.ReadingTest.{is_cut_short, ended_by, test_at, IsReadOrNoMemory}
 use Rattle.litmus_reader.specs.declared.contents.Test.{Test}
 use Rattle.litmus_reader.proofs.Reaching.{reaches}

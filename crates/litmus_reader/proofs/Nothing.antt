@@ -7,7 +7,7 @@ use Rattle.piece_forms.specs.Places.{first_piece, from_next, ends_ahead}
 use Rattle.piece_forms.proofs.Lemmas.{again, explains}
 use Rattle.litmus_parser.specs.Header.{text_pieces, title, preamble}
 use Rattle.litmus_reader.specs.Litmus.{Litmus}
-use Rattle.litmus_reader.specs.Grammar.{test as whole_test, IsTest}
+use Rattle.litmus_reader.specs.Grammar.{whole_test, IsTest}
 use Rattle.litmus_reader.specs.Faults.{FaultBefore, good_lines}
 
 nothing_ends : FaultBefore [] CutShort 1

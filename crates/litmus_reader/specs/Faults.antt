@@ -8,7 +8,7 @@ use Rattle.piece_forms.specs.Faults.{Cause}
 use Rattle.litmus_parser.specs.Extents.{is_allowed, line_feeds, inner_line_feeds, good, reach}
 use Rattle.litmus_parser.specs.Header.{text_pieces, preamble}
 use Rattle.litmus_reader.specs.Litmus.{Litmus}
-use Rattle.litmus_reader.specs.Grammar.{test as whole_test, IsTest}
+use Rattle.litmus_reader.specs.Grammar.{whole_test, IsTest}
 
 -- What is wrong before the initial block, and in which line.
 abbrev pub FaultBefore : List ℕ → Kind → ℕ → Type 0
@@ -30,7 +30,7 @@ IsTestOrBeginning text = ((test : Litmus) × IsTest text test) ⊎ ((n : ℕ) ×
 pub data Fault (text : List ℕ) : Kind → ℕ → Type 0 where
   -- the text is longer than 65536 bytes
   too_large : MOST_BYTES < length text → Fault text TooLarge 1
-  -- a part of its good lines has a fault
+  -- its good lines can't go on, for another reason than their end
   in_part : {kind : Kind} {n : ℕ} → length text ≤ MOST_BYTES → FaultIn (good_lines text) kind n →
       kind ≢ CutShort → Fault text kind n
   -- a byte isn't allowed; the first such one stands in this line, and the lines before it have no fault of their own

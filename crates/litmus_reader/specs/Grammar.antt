@@ -14,8 +14,8 @@ use Rattle.litmus_reader.specs.Litmus.{Litmus, settings_of}
 use Rattle.litmus_reader.specs.Seen.{seen_in}
 
 -- test := preamble block table condition
-unfoldable pub test : Form Litmus
-test = do
+unfoldable pub whole_test : Form Litmus
+whole_test = do
   name ← preamble
   b ← block []
   t ← table b.0
@@ -31,10 +31,10 @@ test = do
     seen = seen_in c.1 [];
   })
 
--- the pieces of the text stand in the form of a test
-pub record IsTest (text : List ℕ) (says : Litmus) : Type 0 where
+-- at most 65,536 allowed bytes, whose pieces stand in the form of this test
+pub record IsTest (text : List ℕ) (test : Litmus) : Type 0 where
   pub length_is : length text ≤ MOST_BYTES
   pub allowed : list_all is_allowed text ≡ true
   pub last : ℕ
   pub end : List Piece
-  pub stands : Stands test 1 (text_pieces text []) says last end
+  pub stands : Stands whole_test 1 (text_pieces text []) test last end

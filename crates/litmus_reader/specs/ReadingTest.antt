@@ -9,7 +9,7 @@ use Rattle.piece_forms.specs.Reading.{reads}
 use Rattle.litmus_parser.specs.Extents.{reach}
 use Rattle.litmus_parser.specs.Header.{text_pieces}
 use Rattle.litmus_reader.specs.Litmus.{Litmus}
-use Rattle.litmus_reader.specs.Grammar.{test as whole_test}
+use Rattle.litmus_reader.specs.Grammar.{whole_test}
 
 abbrev pub is_cut_short : Kind → Bool
 is_cut_short CutShort = true

@@ -9,7 +9,7 @@ ghost use Rattle.litmus_reader.specs.Litmus.{Litmus};
 ghost use Rattle.litmus_reader.specs.TestViews.{test_of};
 ghost use Rattle.litmus_reader.specs.Seen.{seen_in, with_name};
 ghost use Rattle.litmus_reader.specs.ReadingTest.{is_cut_short, test_at, IsReadOrNoMemory};
-ghost use Rattle.litmus_reader.specs.Grammar.{test as whole_test, IsTest};
+ghost use Rattle.litmus_reader.specs.Grammar.{whole_test, IsTest};
 ghost use Rattle.litmus_reader.specs.Faults.{FaultBefore, good_lines, Fault};
 ghost use Rattle.litmus_lexer.specs.declared.errors.Kind.TheVariants.{NoMemory};
 ghost use Rattle.litmus_parser.specs.Header.{text_pieces, preamble};
@@ -50,7 +50,7 @@ fn see(seen: &mut Vec<Name>, expr: &Expr) -> Result<(), AllocError>
 }
 
 /// The parts of a text, one after the other.
-#[tactic(auto, unfolding(crate::specs::Grammar::test))]
+#[tactic(auto, unfolding(crate::specs::Grammar::whole_test))]
 fn parts<'a>(alloc: Global, text: &'a [u8]) -> Result<(Test, Cursor<'a>), ReadError>
     requires { length text.now ≤ MOST_BYTES }
     ensures read { Gives (λ r. (test_of r.0, r.1.line, r.1.pieces)) result

@@ -118,7 +118,7 @@ either f g false = g
 abbrev pub turn : {A : Type 0} → (A → Form Bool) → (A → Form A) → A → Form (Bool × A)
 turn one_more step x = one_more x >>= either (step x >>= λ y. Gives (true, y)) (Gives (false, x))
 
--- steps until one says that it is the last, at most so many; behind these comes a last form
+-- steps until one says that it is the last; if none of so many does, the last form follows
 unfoldable pub until : {A : Type 0} → (A → Form A) → (A → Form (Bool × A)) → ℕ → A → Form A
 until last step zero x = last x
 until last step (suc k) x = step x >>= λ r. either (until last step k r.1) (Gives r.1) r.0

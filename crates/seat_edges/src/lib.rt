@@ -79,8 +79,8 @@ pub fn takes_move_on()
     ensures begins { TakesBegin }
 {}
 
-/// A turn with a full hand takes nothing. A seat that isn't stopped, has an empty hand and holds no message but ones
-/// that wait, takes a message in its turn, or has found each slot that comes in empty.
+/// A turn with a full hand takes nothing. A seat that isn't stopped, whose hand is empty and whose held messages all
+/// wait, takes a message in its turn, or has found every incoming slot empty.
 pub fn turns_take_into_empty_hands()
     ensures full_cores { FullCoreHandsTakeNothing }
     ensures full_banks { FullBankHandsTakeNothing }

@@ -31,7 +31,7 @@ use Rattle.litmus_parser.specs.Verdicts.{Bases, bases_of}
 use Rattle.litmus_parser.specs.Words.{location, opening_from, opening}
 use Rattle.litmus_parser.specs.Block.{block}
 use Rattle.litmus_parser.specs.Table.{table}
-use Rattle.litmus_reader.specs.Grammar.{test as whole_test, IsTest}
+use Rattle.litmus_reader.specs.Grammar.{whole_test, IsTest}
 
 abbrev pub IsThere : ℕ → ℕ → Name → Type 0
 IsThere threads locations (Register t r) = t < threads

@@ -35,7 +35,7 @@ use Rattle.litmus_parser.specs.declared.syntax.Setting.{Setting}
 use Rattle.litmus_parser.specs.declared.syntax.Setting.TheVariants.{Number, Address}
 use Rattle.litmus_parser.specs.declared.syntax.Item.{Item}
 use Rattle.litmus_reader.specs.Litmus.{Litmus, settings_of}
-use Rattle.litmus_reader.specs.Grammar.{test as whole_test, IsTest}
+use Rattle.litmus_reader.specs.Grammar.{whole_test, IsTest}
 use Rattle.litmus_reader.specs.OpeningMemory.{Words, with_setting, words_opened}
 use Rattle.litmus_reader.specs.ThreadSteps.{register_value, with_register, with_item, with_items}
 use Rattle.sequential_machine.specs.Openings.{OpensAsSet}

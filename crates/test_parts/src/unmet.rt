@@ -75,8 +75,9 @@ fn a_full_set_takes_no_line(rt: HostRuntime) {
     assert_eq!(rt; is_full(rt.alloc()), Ok(true));
 }
 
-/// Whether a copy that was written is leased up to 20, upgraded with 25 and downgraded with 30, and keeps all else; and
-/// whether each is refused for a line without a copy.
+/// Whether a copy that was written is leased up to 20, upgraded with 25 and, once it was written again, downgraded with
+/// 30, and keeps all else but that it was written; whether it stays the least recently used one; and whether each is
+/// refused for a line without a copy.
 fn is_changed(alloc: Global) -> Result<bool, AllocError> {
     let mut cache = Cache::new(alloc, Geometry { sets: 1, ways: 2 })?;
     let (line, other) = (LineNo(3), LineNo(8));
@@ -93,7 +94,10 @@ fn is_changed(alloc: Global) -> Result<bool, AllocError> {
     let mut is_right = cache.renew(other, 20) == Err(CacheError::NotHere)
         && cache.upgrade(other, 20) == Err(CacheError::NotHere)
         && cache.downgrade(other, 20) == Err(CacheError::NotHere);
-    cache.put(line, written);
+    if cache.place(line) {
+        cache.put(line, written);
+    }
+    is_right &= cache.fill(LineNo(5), CopyState::Shared, timed) == Ok(());
     is_right &= cache.renew(line, 20) == Ok(());
     is_right &= cache.find(line).copied() == Some(LineCopy { rts: 20, ..written });
     is_right &= cache.upgrade(line, 25) == Ok(());
@@ -103,8 +107,13 @@ fn is_changed(alloc: Global) -> Result<bool, AllocError> {
         ..arrived
     };
     is_right &= cache.find(line).copied() == Some(upgraded);
+    is_right &= cache.victim(other) == Some(line);
+    if cache.place(line) {
+        cache.put(line, LineCopy { rts: 25, ..written });
+    }
     is_right &= cache.downgrade(line, 30) == Ok(());
-    Ok(is_right && cache.find(line).copied() == Some(LineCopy { rts: 30, ..arrived }))
+    is_right &= cache.find(line).copied() == Some(LineCopy { rts: 30, ..arrived });
+    Ok(is_right && cache.victim(other) == Some(LineNo(5)))
 }
 
 #[test]

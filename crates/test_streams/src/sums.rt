@@ -14,8 +14,8 @@ forall flag_1=0 /\\ (data=1 \\/ 1:x7=3)
 
 const GREATEST: u64 = 18446744073709551615;
 
-// Completed operations, write-backs and stale hits: three times 2^64 - 1 each; renewals three times 2^128 - 1, upgrades
-// three times 8, and flushes three times 2^63.
+// Completed operations, write-backs and stale hits: three times 2^64 - 1 each; renewals 2^128 - 1, since
+// their sum is greater; upgrades three times 8, and flushes three times 2^63.
 const REPORT: &[u8] = b"test L
 threads 2
 runs 3

@@ -1,7 +1,7 @@
 //! Laws for callers: of new seats, of turns and the end that they decide, and of a machine that was closed. The
 //! functions do nothing: their contracts are the laws.
 ghost use Rattle.std.specs.Prelude.{◌≡◌, ◌≢◌, ◌⊎◌, ◌<◌, ◌≤◌, ℕ, Bool, true, false, List, [], length, slice_index_or};
-ghost use Rattle.std.specs.Prelude.{Some, Result, Ok, Err};
+ghost use Rattle.std.specs.Prelude.{Result, Ok, Err};
 ghost use Rattle.machine_theorem.specs.Consistency.{IsConsistent};
 ghost use Rattle.machine_table.specs.declared.event.Refusal.{Refusal};
 ghost use Rattle.machine_table.specs.declared.event.Refusal.TheVariants.{NoMemory, NoRoom};
@@ -59,16 +59,15 @@ pub fn turns_report_what_calls_answered<P: Program>()
         (Moved turn.moved) }
 {}
 
-/// What follows what the calls of a turn answer. An attempt that is refused for another reason than NoRoom is followed
+/// Which evictions the calls of a turn make, and when. An attempt that is refused for another reason than NoRoom is followed
 /// by no eviction, and the step comes to that refusal. One refused by NoRoom is followed by the eviction of the victim
-/// of the open operation's line, if there is one. A bank's turn first evicts the line that makes room, if there is one.
+/// of the open operation's line, if there is one, and else by nothing. A bank's turn first evicts the line that makes room, if there is one.
 /// Then each seat has its own turn.
 pub fn turns_make_these_calls<P: Program>()
     ensures refused { (r : Refusal) (p q : CoreSeat) (done : Result Bool Refusal) → r ≢ NoRoom →
         AfterRefusal r p done q → (done ≡ Err r) × (q ≡ p) }
-    ensures no_room { (p q : CoreSeat) (done : Result Bool Refusal) (line : ℕ) →
-        victim_of_seat p p.part.core.open_op ≡ Some line → AfterRefusal NoRoom p done q →
-        (done ≡ Ok false) × VictimLeft (Some line) p q }
+    ensures no_room { (p q : CoreSeat) (done : Result Bool Refusal) → AfterRefusal NoRoom p done q →
+        (done ≡ Ok false) × VictimLeft (victim_of_seat p p.part.core.open_op) p q }
     ensures turned { (m : Machine) (p q : CoreSeat) (before after : P) (told : Told)
         (turn : CoreHadTurn P.acts m p before told q after) →
         CoreTurns m turn.between turn.moved q }

@@ -1,8 +1,7 @@
-use Rattle.std.proofs.Common.{◌≡◌, ◌≢◌, Bool, Result, Err, refl, subst}
+use Rattle.std.proofs.Common.{◌≡◌, ◌≢◌, Bool, Result, Err, refl}
 use Rattle.machine_table.specs.declared.event.Refusal.{Refusal}
 use Rattle.machine_table.specs.declared.event.Refusal.TheVariants as refusal
 use Rattle.mailboxes.specs.declared.core_seat.CoreSeat.{CoreSeat}
-use Rattle.thread_driver.specs.Calls.{VictimLeft}
 use Rattle.thread_driver.specs.Turns.{AfterRefusal}
 use Rattle.thread_driver.proofs.laws.turns_make_these_calls.Goals as goal
 
@@ -15,4 +14,4 @@ pub returns-clause-refused : goal.returns-clause-refused
 returns-clause-refused g c = refused
 
 pub returns-clause-no_room : goal.returns-clause-no_room
-returns-clause-no_room g c = λ p q done line is after. (after.0, subst (λ o. VictimLeft o p q) is after.1)
+returns-clause-no_room g c = λ p q done after. after

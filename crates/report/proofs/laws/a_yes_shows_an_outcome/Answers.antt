@@ -4,6 +4,7 @@ use Rattle.std.specs.List.{AllByRecursion, filter}
 use Rattle.std.proofs.lemmas.Bool.{ltb-true}
 use Rattle.std.proofs.lemmas.List.Sums.{length-filter}
 use Rattle.litmus_reader.specs.Litmus.{Litmus}
+use Rattle.litmus_reader.specs.Grammar.{whole_test, IsTest}
 use Rattle.litmus_reader.specs.Seen.{seen_in}
 use Rattle.litmus_reader.specs.Truth.{holds, value_of}
 use Rattle.litmus_reader.proofs.Lemmas.{truth-is}
@@ -14,6 +15,16 @@ use Rattle.report_text.specs.declared.run_end.RunEnd.{RunEnd}
 use Rattle.sequential_machine.specs.SequentialMachine.{SequentialState, Steps, IsOutcome, sequential_opening, value_at}
 use Rattle.worker_driver.specs.Outcomes.{HasOutcome}
 use Rattle.report.proofs.laws.a_yes_shows_an_outcome.Goals as goal
+
+-- the names that are seen are those of the tree: so says the last form of a test
+seen_of_test : (text : List ℕ) (test : Litmus) → IsTest text test → test.seen ≡ seen_in test.tree []
+unfolding whole_test
+seen_of_test text test h =
+    let behind_name = h.stands.4 in
+    let behind_block = behind_name.4 in
+    let behind_table = behind_block.4 in
+    let given = behind_table.4 in
+    subst (λ (t : Litmus). t.seen ≡ seen_in t.tree []) given.0 refl
 
 module _ (test : Litmus) (seen : test.seen ≡ seen_in test.tree []) where
   abbrev Shows : Type 0
@@ -50,5 +61,5 @@ module _ (test : Litmus) (seen : test.seen ≡ seen_in test.tree []) where
           some)
 
 pub returns : goal.returns
-returns c = λ text test runs is each yes_. first_held test is.seen runs each
+returns c = λ text test runs is each yes_. first_held test (seen_of_test text test is) runs each
     (subst (λ n. 0 < n) (sym (length-filter (condition_holds test) runs)) (ltb-true 0 (runs_held test runs) yes_))

@@ -194,7 +194,6 @@ fn sent<C: StepChoice>(
 }
 
 /// Moves the message out of the slot that is out with the seat, and gives it back empty.
-#[inline(never)]
 pub fn receive(table: &SlotTable, seat: &mut SlotSeat, slot: usize) -> Message
     requires table { Belongs seat.old.table_id table.now.table_id table.now.key }
     requires slot { (slot < slot_count table.now.key) × (seat.old.me.0.spent ≡ false) ×

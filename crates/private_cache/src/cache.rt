@@ -253,7 +253,8 @@ impl Cache {
         Some(LineNo(oldest))
     }
 
-    /// The copy to evict to make room for a line that has no copy here. The call doesn't look for one.
+    /// The copy to evict to make room for a line that has no copy here, `None` if there is a place for it. The call
+    /// doesn't look for a copy.
     #[inline(always)]
     pub fn victim_of_absent(&self, line: LineNo) -> Option<LineNo>
         requires { copy_of self.now line ≡ None }

@@ -13,3 +13,5 @@ pub use Rattle.protocol.proofs.Cases.{messages_have_cases}
 pub use Rattle.protocol.proofs.Lines.{with_at_cases, with_at_other, with_at_same}
 pub use Rattle.protocol.proofs.Completions.{with_at_id}
 pub use Rattle.protocol.proofs.Cores.{Some_injective}
+-- The records of a core, with one more record of this core or of another.
+pub use Rattle.protocol.proofs.Headline.{of_core-own, of_core-other}

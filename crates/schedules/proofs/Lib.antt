@@ -10,7 +10,6 @@ mod GivenSteps
 mod RoundSteps
 mod SeedSteps
 mod SeedEntries
-mod InProgram
 mod TableSteps
 mod ServiceSteps
 mod RunLaws

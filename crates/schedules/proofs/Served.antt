@@ -1,5 +1,5 @@
 -- Whatever the end of a run, each core was issued what its program gave, and the program was told of each record.
-use Rattle.std.proofs.Common.{◌≡◌, ℕ, ◌+◌, ◌<◌, ◌==◌, Bool, true, false, ◌||◌, ◌&&◌, not, List, [], ◌++◌, length}
+use Rattle.std.proofs.Common.{◌≡◌, ℕ, ◌+◌, ◌<◌, ◌==◌, Bool, true, false, ◌||◌, ◌&&◌, not, List, [], ◌∷◌, ◌++◌, length}
 use Rattle.std.proofs.Common.{map, get_or, Option, Some, None, refl, sym, ap, ◌∙◌, subst, ⊎_elim, arith}
 use Rattle.std.proofs.Common.{append-nil, append_assoc}
 use Rattle.std.specs.Prelude.{slice_get, option_map}
@@ -33,13 +33,22 @@ use Rattle.schedules.specs.Runs.{are_over}
 use Rattle.schedules.specs.RunEvents.{FollowsPlan, stays, moves, makes, Ended}
 use Rattle.machine_theorem.specs.Service.{AreServed}
 use Rattle.schedules.specs.GivenSteps.{GivesSteps}
-use Rattle.schedules.proofs.InProgram.{behind}
 use Rattle.schedules.proofs.TableSteps.{op_at, IsQuiet, Opens, IsDone, is_completion}
 use Rattle.schedules.proofs.TableSteps.{not_completed, issue_does, attempt_does, advance_stays, delivery_stays}
 use Rattle.schedules.proofs.TableSteps.{cache_eviction_stays, bank_eviction_stays}
 use Rattle.schedules.proofs.ServiceSteps.{Serving, served_none, served_quiet, served_issue, served_done}
 use Rattle.schedules.proofs.ServiceSteps.{served_advance}
 use Rattle.schedules.proofs.RunLaws.{moves_keeps, made_by}
+
+-- behind the first of the records
+pub behind : (rs more : List Record) (k : ℕ) (ops : List Op) → Stand k ops (rs ++ more) →
+    Stand (k + length rs) ops more
+behind [] more k ops follows =
+    let here : k ≡ k + 0 = omega arith in
+    subst (λ (n : ℕ). Stand n ops more) here follows
+behind (r ∷ rs) more k ops follows =
+    let count : k + 1 + length rs ≡ k + length (r ∷ rs) = omega arith in
+    subst (λ (n : ℕ). Stand n ops more) count (behind rs more (k + 1) ops follows.2)
 
 -- a core that isn't there has no open operation
 has_core : (cores : List CoreState) (c : ℕ) (o : Option CoreState) (op : Op) → slice_get cores c ≡ o →

@@ -11,10 +11,10 @@ use Rattle.physiological_order.specs.Order.{of_core}
 use Rattle.physiological_order.proofs.Lemmas.{each_push}
 use Rattle.programs.specs.declared.steps.Step.TheVariants as step
 use Rattle.machine_table.specs.Machine.{Machine}
+use Rattle.protocol.proofs.Lemmas.{of_core-own, of_core-other}
 use Rattle.machine_theorem.proofs.Lemmas.{get-set_same, get-set_other}
 use Rattle.programs.specs.Acts.{Acts, next_of, next_in, done_of, done_in}
 use Rattle.programs.specs.Performs.{Performs, Told, rests, advances, does}
-use Rattle.schedules.proofs.InProgram.{of_core-own, of_core-other}
 use Rattle.schedules.proofs.TableSteps.{op_at, IsQuiet, Opens, IsDone}
 
 module _ {P : Type 0} (acts : Acts P) where

@@ -1,0 +1,75 @@
+#!/usr/bin/env python3
+"""Counts the numbers from 2 on that the code of the production crates has.
+
+    scripts/literals.py            lists them: crate, number, how often
+    scripts/literals.py --check    compares them with tests/literals.table, and fails if they differ
+
+A body that does something else past some size may meet each clause, but needs a number for it. So each number has its
+reason in the table, and one more, or another one, fails. Clauses, comments, texts and the numbers of errors
+(`Kind::BadTable => 7,`) don't count.
+"""
+import re
+import sys
+from collections import Counter
+from pathlib import Path
+
+TOP = Path(__file__).resolve().parent.parent
+TABLE = TOP / "tests/literals.table"
+NOT_PRODUCTION = ("test_", "bench", "play_", "event_text", "guide_uses")
+TEXT = r"//.*|b?'(?:\\.|[^'\\])'|\"(?:\\[^']|[^\"\\])*\""
+QUIET = re.compile(TEXT + r"|#!?\[[^]]*\]|(?:Kind|Refusal|\w+Error)::\w+(?:\(_\))? => \d+,")
+CLAUSE = re.compile(r"\b(?:ensures|requires)\b[^{]*\{|\bghost [^;{]*[;{]")
+NUMBER = re.compile(r"(?<![\w.])(0x[\da-f_]+|\d[\d_]*?)(?:_?[ui](?:8|16|32|64|128|size))?(?!\w)")
+ROW = re.compile(r"(\w+) \| (\d+) \| (\d+) \| \S")
+
+
+def past_brace(text, at):
+    """The end of the block whose first brace lies before the place `at`."""
+    depth = 1
+    while depth:
+        depth += {"{": 1, "}": -1}.get(text[at], 0)
+        at += 1
+    return at
+
+
+def without_clauses(text):
+    """The code of a source file without what it says of itself."""
+    kept, at = [], 0
+    while clause := CLAUSE.search(text, at):
+        kept.append(text[at:clause.start()])
+        at = clause.end() if clause.group().endswith(";") else past_brace(text, clause.end())
+    return "".join(kept) + text[at:]
+
+
+def numbers():
+    """The numbers of all production crates, as (crate, number), each with how often it stands there."""
+    found = Counter()
+    for file in sorted((TOP / "crates").glob("*/src/**/*.rt")):
+        crate = file.relative_to(TOP / "crates").parts[0]
+        if not crate.startswith(NOT_PRODUCTION):
+            code = without_clauses(QUIET.sub(" ", file.read_text(encoding="utf-8")))
+            found.update((crate, int(each.replace("_", ""), 0)) for each in NUMBER.findall(code))
+    return Counter({each: count for each, count in found.items() if each[1] > 1})
+
+
+def main():
+    found = numbers()
+    if sys.argv[1:] != ["--check"]:
+        for (crate, number), count in sorted(found.items()):
+            print(f"{crate} | {number} | {count}")
+        return
+    rows = [ROW.match(line) for line in TABLE.read_text(encoding="utf-8").splitlines()]
+    wanted = Counter({(row[1], int(row[2])): int(row[3]) for row in rows if row})
+    for crate, number in sorted(found.keys() | wanted.keys()):
+        count, listed = found[crate, number], wanted[crate, number]
+        if count != listed:
+            print(f"literals.py: {number} stands {count} times in the code of {crate}, and {listed} times in "
+                  "tests/literals.table")
+    if found != wanted or not found:
+        raise SystemExit(1)
+    print(f"{sum(found.values())} numbers from 2 on, each with its reason in tests/literals.table")
+
+
+if sys.argv[1:2] in (["-h"], ["--help"]):
+    raise SystemExit(print(__doc__))
+main()

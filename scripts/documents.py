@@ -8,8 +8,7 @@ or tests them. The pages are those at the top, docs/*.md, examples/README.md and
 A table stands between the lines `<!-- table NAME -->` and `<!-- end -->`. A quotation stands between the lines
 `<!-- source FILE ITEM .. -->` and `<!-- end -->`: a file of crates/ and the functions or types of it that are quoted,
 each with the comment above it. The script also tests that each path of a file that a document names or links to is
-there, that of a crate's proofs only proofs/Lemmas.antt is open to the crates above, and that the rules of the grammar
-in docs/TEXTS.md are those above the forms of litmus tests.
+there, and that of a crate's proofs only proofs/Lemmas.antt is open to the crates above.
 """
 import re
 import sys
@@ -288,15 +287,6 @@ def open_proofs():
                 yield "%s opens %s: crates above use proofs/Lemmas.antt alone" % (lib.relative_to(CRATES), name)
 
 
-def other_rules():
-    """The rules of docs/TEXTS.md that no form of a litmus test has above it, and those of forms that the page lacks."""
-    shown = re.findall(r"^(\w+ := .+)$", (TOP / "docs/TEXTS.md").read_text(encoding="utf-8"), re.M)
-    had = [rule for file in sorted(CRATES.glob("litmus_*/specs/*.antt")) for rule in re.findall(
-        r"^-- (\w+ := .+)\n(?:-- .+\n)*(?:abbrev|unfoldable) pub", file.read_text(encoding="utf-8"), re.M)]
-    for rule in sorted(set(shown) ^ set(had)):
-        yield "%s has the rule %s" % ("TEXTS.md alone" if rule in shown else "a form alone", rule)
-
-
 def pages():
     """The documents whose quotations, paths and links the script tests."""
     return [page for place in ("*.md", "docs/*.md", "examples/README.md", "crates/*/README.md")
@@ -322,7 +312,7 @@ def main():
     for document in pages():
         written(document, with_quotations, check, faults)
         faults += list(missing_paths(document)) + list(missing_links(document))
-    faults += list(open_proofs()) + list(other_rules())
+    faults += list(open_proofs())
     for fault in faults:
         print("documents.py: " + fault)
     raise SystemExit(1 if faults else 0)

@@ -286,6 +286,7 @@ def at_limits():
     yield "560 items, and 256 names", "RISCV A\n{\n" + items + "}\n" + THREADS + f"forall {seen}\n"
     yield "256 atoms", FRONT + "forall\n" + "x=0 /\\\n" * 255 + "x=0\n"
     yield "256 atoms, the last one false", FRONT + "forall\n" + "x=0 /\\\n" * 255 + "x=1\n"
+    yield "65 parentheses side by side", FRONT + "exists " + " /\\ ".join(["(x=0)"] * 65) + "\n"
     yield "parentheses 64 deep", FRONT + "exists\n" + "(\n" * 64 + "x=0" + ")" * 64 + "\n"
 
 
@@ -317,6 +318,9 @@ def past_limits():
         kind = "2 TooLarge" if behind == "x" else "13 BadCondition"
         yield f"line 260: {kind}", FRONT + "exists " + " /\\\n".join(["x=0"] * 256 + [behind]) + "\n"
     yield "line 69: 2 TooLarge", FRONT + "exists\n" + "(\n" * 65 + "x=0" + ")" * 65 + "\n"
+    for atom, connective in (("x=0", "/\\"), ("0:x7=0", "\\/")):
+        parts = (f" {connective}\n".join([atom] * count) for count in (128, 129))
+        yield "line 260: 2 TooLarge", FRONT + "exists (" + f") {connective}\n(".join(parts) + ")\n"
 
 
 def limits(tester):

@@ -9,7 +9,7 @@ class Test:
 
     def __init__(self, text):
         self.name = text.split("\n")[0].split()[1]
-        opening, rest = text.split("{", 1)[1].split("}", 1)
+        opening, rest = re.split(r"^[ \t\r]*{", text, maxsplit=1, flags=re.M)[1].split("}", 1)
         self.words = {}    # location -> word number, in the order of first naming
         self.memory = {}   # word number -> opening value
         self.start = {}    # (thread, register) -> opening value, or word number of an address register

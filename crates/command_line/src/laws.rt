@@ -29,7 +29,7 @@ pub fn numbers_in_range_are_taken()
         GivesNumber rows (codes "runs") 1 1000000 options.runs }
 {}
 
-/// Refused words have the number 1, and want of memory the number 2.
+/// Refused words have the number 1, and lack of memory the number 2.
 pub fn refusals_have_these_numbers()
     ensures refused { (text : String Global) → words_number (Refused text) ≡ 1 }
     ensures no_memory { words_number NoMemory ≡ 2 }

@@ -7,7 +7,8 @@ allocation answered by `?` or by an arm such as `Err(AllocError) => ..`.
 
 No contract can say that an allocation really failed. So a place that answers so by itself needs a reason, which the
 table has. A place that isn't there might be one that gives up past some size. So might one that asks for an amount that
-a condition, a product or a greatest number makes: it is listed, too.
+it works out: each is listed, with what its function binds to the names in it, unless the amount is a number, the length
+of a list or a parameter.
 """
 import re
 import sys
@@ -20,7 +21,10 @@ NOT_PRODUCTION = ("test_", "bench", "play_", "event_text", "guide_uses")
 WANT = r"(?:\bAllocError\b|\b(?:ReadError::Memory|Stop::Refused|[A-Z]\w*::NoMemory)\b|\bErr\(NoMemory\)|= NoMemory;)"
 PASSED_ON = re.compile(r"\s*(?:Err\()?(?:AllocError|(?:\w+::)+(?:NoMemory|Memory))\)?\s*")
 SKIPPED = re.compile(r"\s*(ghost |ensures\b|requires\b|impl\b|\) ->|[^=]*[≡≢])")
-AMOUNT = re.compile(r"\b(?:reserve|with_capacity|from_elem)\w*\(.*(?:\bMAX\b|\bif\b|<<|\*|_mul|_pow)")
+CALL = re.compile(r"(?<!fn )\b(?:reserve|with_capacity|from_elem)\w*(?:::<.*?>)?(?=\()")
+BOUND = re.compile(r"\s*(?:let (?P<pattern>.*?)(?:: .*?)?|(?P<name>\w+)) [-+*/%&|^<>]*=(?!=)")
+PARAMETER = re.compile(r"(?:^\s*|\(|, )(?:mut )?(\w+): ")
+PLAIN = re.compile(r"(?:[\d_]+|(?:\w+\.)+len\(\)|(?P<name>\w+)(?:\.\w+)*)(?: as usize)?")
 IMPORT = re.compile(r"\s*(pub )?use ")
 FUNCTION = re.compile(r"\s*(?:pub(?:\(crate\))? )?(?:const )?fn (\w+)")
 TYPES = re.compile(r"Result<[^;{]*?AllocError>|#\[.*\]")
@@ -43,20 +47,76 @@ def answers(line):
     return 0 if PASSED_ON.fullmatch(pattern) else len(re.findall(WANT, value))
 
 
+def amount_of(line, at):
+    """The last argument of the call whose parenthesis opens there; `..`, if that doesn't close in the line."""
+    depth, begun = 0, at + 1
+    for end in range(at, len(line)):
+        depth += (line[end] in "([{") - (line[end] in ")]}")
+        if depth == 0:
+            return line[begun:end].strip()
+        if depth == 1 and line[end] == ",":
+            begun = end + 1
+    return ".."
+
+
+class Names:
+    """What a function binds to names: its parameters, and the lines that bind the others or change them."""
+
+    def __init__(self):
+        self.parameters, self.bound, self.whole = set(), {}, True
+
+    def parameter(self, line):
+        self.parameters |= {"self", *PARAMETER.findall(line)}
+
+    def bind(self, line, depth):
+        if not self.whole:
+            self.last[0] += " " + line
+            self.whole = depth <= self.depth
+            return
+        binds = BOUND.match(line)
+        self.whole, self.depth, self.last = not binds or line.endswith(";"), depth, [line]
+        for name in re.findall(r"\w+", (binds["pattern"] or binds["name"]) if binds else ""):
+            self.bound.setdefault(name, []).append(self.last)
+
+    def is_plain(self, amount):
+        plain = PLAIN.fullmatch(amount)
+        return plain and (plain["name"] is None or plain["name"] in self.parameters - self.bound.keys())
+
+    def amounts(self, line):
+        """What the line asks room for by amounts that are worked out, each behind what binds the names in it."""
+        for call in CALL.finditer(line):
+            amount = amount_of(line, call.end())
+            if amount and not self.is_plain(amount):
+                lines, names = [], re.findall(r"\w+", amount)
+                for name in names:
+                    for each in self.bound.get(name, ()):
+                        if each not in lines:
+                            lines.append(each)
+                            names.extend(re.findall(r"\w+", each[0]))
+                yield " > ".join([*(each for each, in reversed(lines)), line])
+
+
 def places_of(text):
     """The places of a source file as (function, code): the code is the blocks around the answer, from the outermost of
     the function on, and the answer's own line."""
-    function, around = "-", []
+    function, around, heads, names = "-", [], False, Names()
     for line in text.splitlines():
         line = re.sub(r"//.*", "", line).rstrip()
-        if not line:
+        if not line or SKIPPED.match(line):
             continue
         depth = len(line) - len(line.lstrip())
         around = [each for each in around if each[0] < depth]
         named = FUNCTION.match(line)
         if named:
-            function, around = named.group(1), []
-        for _ in range(answers(line) + bool(AMOUNT.search(line))):
+            function, around, heads, names = named.group(1), [], True, Names()
+        if heads:
+            names.parameter(line)
+            heads = not line.endswith("{")
+        else:
+            for amount in names.amounts(line.strip()):
+                yield function, amount
+            names.bind(line.strip(), depth)
+        for _ in range(answers(line)):
             own = [] if re.match(r"\s*return\b", line) else [line.strip()]
             yield function, " > ".join([code for _, code in around] + own)
         if line.endswith(" {") and not named and line.strip() != "{":

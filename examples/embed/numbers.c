@@ -81,6 +81,17 @@ static int trace(const char *text, const struct tardis_options *options, size_t 
     return tardis_run_trace(text, strlen(text), options, buffer, size, &length);
 }
 
+/* What a caller in another language, which has no header, writes for the header's names. */
+static void names(void) {
+    MUST(TARDIS_DONE == 0 && TARDIS_NO_MEMORY == 3 && TARDIS_BAD_TEST == 4 && TARDIS_BAD_LINE == 5);
+    MUST(TARDIS_BAD_MACHINE == 6 && TARDIS_NOT_DONE == 7 && TARDIS_SHORT_BUFFER == 8 && TARDIS_NULL == 9);
+    MUST(TARDIS_BAD_OPERATION == 10 && TARDIS_BAD_RECORD == 11);
+    MUST(TARDIS_LEGAL == 0 && TARDIS_MISSING_NUMBER == 1 && TARDIS_OUT_OF_PROGRAM_ORDER == 2);
+    MUST(TARDIS_WRONG_VALUE == 3 && TARDIS_BAD_CORE == 4 && TARDIS_BAD_KIND == 5);
+    MUST(TARDIS_BAD_ADDRESS == 6 && TARDIS_BAD_PLACE == 7);
+    MUST(TARDIS_LOAD == 0 && TARDIS_STORE == 1 && TARDIS_SWAP == 2);
+}
+
 static void checks(void) {
     MUST(check(TRACE, RECORDS, 1000) == TARDIS_DONE && has("legal\n"));
     MUST(check(TRACE, "0 0 W 0x0 1 1 0\n1 0 R 0x0 0 1 1\n", 1000) == TARDIS_NOT_DONE && has("wrong value 1\n"));
@@ -279,6 +290,7 @@ static void refusals(void) {
 int main(void) {
     memset(buffer, '~', sizeof buffer);
     types();
+    names();
     checks();
     runs();
     nulls();

@@ -30,6 +30,11 @@ IsNumberOf (Some text) least most other value = WritesWithin text least most val
 abbrev pub HasNumber : List Row → Text → ℕ → ℕ → ℕ → ℕ → Type 0
 HasNumber rows name least most other value = IsNumberOf (one_of name rows) least most other value
 
+-- if the words have the option with a number from least to most, the option has that number
+abbrev pub GivesNumber : List Row → Text → ℕ → ℕ → ℕ → Type 0
+GivesNumber rows name least most value =
+    (text : Text) (n : ℕ) → one_of name rows ≡ Some text → WritesWithin text least most n → value ≡ n
+
 abbrev pub HasAnyNumber : List Row → Text → ℕ → ℕ → Type 0
 HasAnyNumber rows name other value = HasNumber rows name 0 18446744073709551615 other value
 

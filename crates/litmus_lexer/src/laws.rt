@@ -2,7 +2,7 @@
 
 ghost use Rattle.std.specs.Prelude.{◌≡◌, ◌+◌, ◌^◌, [], ◌∷◌, codes};
 ghost use Rattle.std.specs.List.{filter, range_with_len};
-ghost use Rattle.litmus_lexer.specs.FirstLines.{is_title_byte};
+ghost use Rattle.litmus_lexer.specs.FirstLines.{is_key, is_title_byte};
 ghost use Rattle.litmus_lexer.specs.Pieces.{is_blank, is_letter, is_slash};
 ghost use Rattle.litmus_lexer.specs.Spelling.{is_digit, is_name_byte};
 ghost use Rattle.litmus_lexer.specs.declared.limits.TheConstants as limit;
@@ -39,8 +39,8 @@ pub fn signs_are_these_characters()
     ensures closing_parenthesis { codes ")" ≡ sign.CLOSING_PARENTHESIS ∷ [] }
 {}
 
-/// Which bytes are blanks and parts of words, of names of tests, of keys and locations, and of numbers: of all 256, in
-/// order.
+/// Which bytes are blanks and parts of words, of names of tests, of keys and locations, and of numbers, and which begin
+/// a key: of all 256, in order.
 pub fn bytes_are_of_these_kinds()
     ensures blanks { filter is_blank (range_with_len 0 256) ≡ 9 ∷ 13 ∷ 32 ∷ [] }
     ensures words { filter is_letter (range_with_len 0 256) ≡
@@ -50,5 +50,7 @@ pub fn bytes_are_of_these_kinds()
         codes "+-.0123456789ABCDEFGHIJKLMNOPQRSTUVWXYZ[]_abcdefghijklmnopqrstuvwxyz" }
     ensures names { filter is_name_byte (range_with_len 0 256) ≡
         codes "0123456789ABCDEFGHIJKLMNOPQRSTUVWXYZ_abcdefghijklmnopqrstuvwxyz" }
+    ensures keys { filter (λ b. is_key (b ∷ [])) (range_with_len 0 256) ≡
+        codes "ABCDEFGHIJKLMNOPQRSTUVWXYZabcdefghijklmnopqrstuvwxyz" }
     ensures digits { filter is_digit (range_with_len 0 256) ≡ codes "0123456789" }
 {}

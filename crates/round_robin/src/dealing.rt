@@ -1,11 +1,11 @@
 //! Deals a list to hands.
-ghost use Rattle.std.specs.Prelude.{◌≡◌, ℕ, ◌+◌, ◌<◌, ◌≤◌, ◌^◌, [], length, map, IfOk, All};
+ghost use Rattle.std.specs.Prelude.{◌≡◌, ℕ, ◌+◌, ◌/◌, ◌<◌, ◌≤◌, ◌^◌, [], length, map, IfOk, All};
 ghost use Rattle.std.specs.Vec.{vec_capacity};
 ghost use Rattle.round_robin.specs.Dealing.{HaveRoom, IsDealtInTurn, total_length};
 
 use std::alloc::{AllocError, Global};
 
-/// `hands` empty hands, with room for their shares of `items` items. AllocError if memory for them can't be allocated.
+/// `hands` empty hands, each with room for its share of `items` items and no more. AllocError if memory for them can't be allocated.
 pub fn empty_hands<T: Drop>(
     alloc: Global,
     hands: usize,
@@ -15,6 +15,7 @@ pub fn empty_hands<T: Drop>(
     ensures long { IfOk result (λ r. length r.items ≡ hands) }
     ensures room { IfOk result (λ r. HaveRoom items r.items) }
     ensures capacity { IfOk result (λ r. hands ≤ vec_capacity r) }
+    ensures exact { IfOk result (λ r. All (λ v. vec_capacity v ≡ items / hands + 1) r.items) }
 {
     let Some(room) = (items / hands).checked_add(1) else {
         return Err(AllocError);
@@ -27,6 +28,7 @@ fn roomy_hands<T: Drop>(alloc: Global, hands: usize, room: usize) -> Result<Vec<
     ensures long { IfOk result (λ r. length r.items ≡ hands) }
     ensures empty { IfOk result (λ r. All (λ v. (v.items ≡ []) × (room ≤ vec_capacity v)) r.items) }
     ensures capacity { IfOk result (λ r. hands ≤ vec_capacity r) }
+    ensures exact { IfOk result (λ r. All (λ v. vec_capacity v ≡ room) r.items) }
 {
     let mut dealt = Vec::with_capacity(alloc, hands)?;
     for _ in 0..hands {

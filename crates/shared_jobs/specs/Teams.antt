@@ -1,5 +1,7 @@
 -- Workers of a batch.
 use Rattle.std.specs.Prelude.{◌≡◌, ◌⊎◌, ◌<◌, ◌≤◌, ◌++◌, ◌∷◌, ℕ, List, [], map}
+use Rattle.std.specs.Int.{div_ceil}
+use Rattle.std.specs.VecDeque.{deque_capacity}
 use Rattle.drawn_numbers.specs.declared.numbers.Numbers.{Numbers}
 use Rattle.drawn_numbers.specs.Drawers.{IsDrawerOf}
 use Rattle.shared_jobs.specs.declared.workers.Stop.{Stop}
@@ -15,6 +17,10 @@ IsAtWork numbers gives count w =
 -- the worker can claim jobs by these numbers, has drawn none of them, and has no result yet
 abbrev pub IsNewWorker : {X : Type 0} → Numbers → Worker X → Type 0
 IsNewWorker numbers w = IsDrawerOf numbers w.drawer × (w.results.items ≡ []) × (w.drawer.drawn.items ≡ [])
+
+-- the worker has room for an equal share of the jobs, or for no result if memory for these was refused
+abbrev pub HasShare : {X : Type 0} → ℕ → ℕ → Worker X → Type 0
+HasShare count workers w = (deque_capacity w.results ≡ div_ceil count workers) ⊎ (deque_capacity w.results ≡ 0)
 
 -- the numbers that the worker drew are those of its results, in order, and then these
 abbrev pub HasDone : {X : Type 0} → Worker X → List ℕ → Type 0

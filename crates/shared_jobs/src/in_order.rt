@@ -1,5 +1,5 @@
 //! The results of all workers, in the order of their jobs.
-ghost use Rattle.std.specs.Prelude.{◌≡◌, ◌≤◌, ◌++◌, [], length, IfOk, IfSome, None, All, vec_capacity};
+ghost use Rattle.std.specs.Prelude.{◌≡◌, ◌++◌, [], length, IfOk, IfSome, None, All, vec_capacity};
 ghost use Rattle.shared_jobs.specs.Results.{AllGiven, AreGiven, HasOtherFront, numbered_result};
 
 use crate::gate::Gate;
@@ -8,8 +8,8 @@ use crate::workers::Worker;
 use std::alloc::AllocError;
 use std::collections::VecDeque;
 
-/// The results of the jobs 0 to `count - 1`, in this order, one after the other in a list that has room for them. If
-/// no worker has a job's result in front, the call runs the job. AllocError if memory for such a job can't be
+/// The results of the jobs 0 to `count - 1`, in this order, one after the other in a list that has room for them alone.
+/// If no worker has a job's result in front, the call runs the job. AllocError if memory for such a job can't be
 /// allocated.
 pub fn in_order<X: Drop, S: Drop, J: Jobs<X, S>, G: Gate>(
     jobs: &J,
@@ -19,8 +19,9 @@ pub fn in_order<X: Drop, S: Drop, J: Jobs<X, S>, G: Gate>(
     mut results: Vec<X>,
 ) -> Result<Vec<X>, AllocError>
     requires given { All (λ w. AllGiven (J.gives jobs.now) w.results.items) team.items }
-    requires room { (results.items ≡ []) × (count ≤ vec_capacity results) }
+    requires room { (results.items ≡ []) × (vec_capacity results ≡ count) }
     ensures long { IfOk result (λ v. length v.items ≡ count) }
+    ensures room { IfOk result (λ v. vec_capacity v ≡ count) }
     ensures given { IfOk result (λ v. AreGiven (J.gives jobs.now) v.items) }
 {
     let mut state = None;
@@ -28,7 +29,7 @@ pub fn in_order<X: Drop, S: Drop, J: Jobs<X, S>, G: Gate>(
         let result = match take_one(jobs, team.as_mut_slice(), number) {
             Some(result) => result,
             None => {
-                let (result, next) = run_left(jobs, gate, state, number)?;
+                let (result, next) = run_left(jobs, gate, team.as_slice(), state, number)?;
                 state = Some(next);
                 result
             }

@@ -1,7 +1,9 @@
 //! Jobs, and running one.
-ghost use Rattle.std.specs.Prelude.{ℕ, IfOk, IfSome};
+ghost use Rattle.std.specs.Prelude.{ℕ, All, IfOk, IfSome};
+ghost use Rattle.shared_jobs.specs.Results.{HasOtherFront};
 
 use crate::gate::Gate;
+use crate::workers::Worker;
 use std::alloc::AllocError;
 
 /// Jobs by number, from 0 on, each with a result. Any thread may run any of them, in any order (README.md). A worker
@@ -41,14 +43,17 @@ pub fn run_one<X: Drop, S: Drop, J: Jobs<X, S>, G: Gate>(
     done
 }
 
-/// Runs the job of this number by the state that there is, or by one that the call opens.
+/// Runs the job of this number, whose result no worker has in front, by the state that there is, or by one that the call
+/// opens.
 pub fn run_left<X: Drop, S: Drop, J: Jobs<X, S>, G: Gate>(
     jobs: &J,
     gate: &G,
+    _team: &[Worker<X>],
     state: Option<S>,
     number: u64,
 ) -> Result<(X, S), AllocError>
-    requires { IfSome state (J.ready jobs.now) }
+    requires missing { All (λ w. HasOtherFront number w.results.items) _team.now }
+    requires ready { IfSome state (J.ready jobs.now) }
     ensures given { IfOk result (λ done. J.gives jobs.now number done.0) }
     ensures ready { IfOk result (λ done. J.ready jobs.now done.1) }
 {

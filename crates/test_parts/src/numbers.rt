@@ -1,11 +1,12 @@
-//! The numbers of refusals and errors.
+//! The numbers of refusals and errors, and how large an arena may be.
 use core_pts::IssueError;
 use drawn_numbers::DrawError;
-use line_arena::ArenaError;
+use line_arena::{Arena, ArenaError};
 use llc_bank::EvictError;
 use machine_table::{OpenError, Refusal};
 use network::{PartError, SendError};
 use private_cache::CacheError;
+use std::alloc::Global;
 
 #[test]
 fn errors_have_these_numbers(rt: HostRuntime) {
@@ -33,5 +34,27 @@ fn errors_have_these_numbers(rt: HostRuntime) {
     assert_eq!(rt;
         (refusals, pairs, CacheError::Pinned.number()),
         ([1, 2, 3, 4, 5, 6, 7, 8, 9], [[1, 2]; 8], 3)
+    );
+}
+
+/// Whether an arena with cells for these many bytes, and with these many lists, is too large.
+fn is_too_large(alloc: Global, cells: u32, lists: u32) -> bool {
+    matches!(
+        Arena::<u8>::new(alloc, cells, lists),
+        Err(ArenaError::TooLarge)
+    )
+}
+
+#[test]
+fn arenas_have_limits(rt: HostRuntime) {
+    let alloc = rt.alloc();
+    assert_eq!(rt;
+        [
+            is_too_large(alloc, 16_777_216, 1),
+            is_too_large(alloc, 16_777_217, 1),
+            is_too_large(alloc, 1, 1_048_576),
+            is_too_large(alloc, 1, 1_048_577),
+        ],
+        [false, true, false, true]
     );
 }

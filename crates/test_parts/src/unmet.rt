@@ -54,10 +54,16 @@ fn endpoints_are_those_of_each_kind(rt: HostRuntime) {
     assert_eq!(rt; first_wrong(), None);
 }
 
-/// Whether a set of two ways takes two lines, refuses the third, and keeps the two.
+/// Whether a set of two ways takes two lines, refuses the third, and keeps the two; whether it takes the first one again,
+/// which then is the most recently used.
 fn is_full(alloc: Global) -> Result<bool, AllocError> {
     let mut cache = Cache::new(alloc, Geometry { sets: 1, ways: 2 })?;
-    for (line, filled) in [(3, Ok(())), (8, Ok(())), (5, Err(CacheError::NoRoom))] {
+    for (line, filled) in [
+        (3, Ok(())),
+        (8, Ok(())),
+        (5, Err(CacheError::NoRoom)),
+        (3, Ok(())),
+    ] {
         let zeros = TimedLine {
             wts: 1,
             rts: 11,
@@ -67,7 +73,8 @@ fn is_full(alloc: Global) -> Result<bool, AllocError> {
             return Ok(false);
         }
     }
-    Ok(cache.lines()?.as_slice() == [LineNo(3), LineNo(8)].as_slice())
+    let victim = cache.victim(LineNo(5));
+    Ok(victim == Some(LineNo(8)) && cache.lines()?.as_slice() == [LineNo(3), LineNo(8)].as_slice())
 }
 
 #[test]

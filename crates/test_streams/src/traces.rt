@@ -2,7 +2,7 @@
 use crate::limited::Limited;
 use byte_streams::FromRead;
 use network::Counts;
-use physiological_order::Op;
+use physiological_order::{Op, WordAddr};
 use programs::End;
 use report::{TraceEnd, trace_text};
 use std::alloc::Global;
@@ -113,8 +113,8 @@ fn faults_before_a_failure(rt: HostRuntime) {
     assert!(rt; brought == Err(bad) && cut == Err((0, Kind::Read)) && record == Err(bad));
 }
 
-// The last lines of the report on a load that received 7, where nobody wrote.
-const REPORT: &[u8] = b"stale-hits 0\norder wrong value 0\n";
+// The last lines of the report on a load that received 7, where nobody wrote, and on a word that is left as 9.
+const REPORT: &[u8] = b"stale-hits 0\norder wrong value 0\nword 0x0 9\n";
 
 // A caller gives records of its own, and the report has a check's verdict on them.
 #[test]
@@ -134,7 +134,7 @@ fn a_report_checks_its_records(rt: HostRuntime) -> Result<(), Fail> {
         counts: Counts::zeros(),
         stale: 0,
     };
-    let report = trace_text(alloc, trace, &run, &records, &[])?;
+    let report = trace_text(alloc, trace, &run, &records, &[(WordAddr::at(0), 9)])?;
     assert!(rt; report.as_slice().ends_with(REPORT));
     Ok(())
 }

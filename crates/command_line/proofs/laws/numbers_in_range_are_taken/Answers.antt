@@ -1,0 +1,11 @@
+use Rattle.command_line.proofs.Ranges.{taken}
+use Rattle.command_line.proofs.laws.numbers_in_range_are_taken.Goals as goal
+
+pub returns-clause-workers : goal.returns-clause-workers
+returns-clause-workers c = λ rows options t. taken _ 1 16 _ options.workers t.2
+
+pub returns-clause-limit : goal.returns-clause-limit
+returns-clause-limit c = λ rows options t. taken _ 1 4294967295 _ options.limit t.3
+
+pub returns-clause-runs : goal.returns-clause-runs
+returns-clause-runs c = λ rows options t. taken _ 1 1000000 _ options.runs t.0

@@ -1,4 +1,4 @@
-use Rattle.std.proofs.Common.{◌≡◌, ◌+◌, length, set, Some, None, sym, ap, subst, ◌∙◌, arith, length-set}
+use Rattle.std.proofs.Common.{◌≡◌, ◌+◌, length, set, Some, None, refl, sym, ap, subst, ◌∙◌, arith, length-set}
 use Rattle.std.proofs.Common.{get_or-set_same}
 use Rattle.std.proofs.lemmas.List.{get_or_read, set-set}
 use Rattle.line_arena.specs.Rings.{no_head, node, at, with_next, edit}
@@ -15,8 +15,9 @@ set_next-requires g c =
     t.cells in
     let free = get_or-set_same s.block x None None (omega (arith, c.requires.cell.0, long, cells)) in
     let is = get_or_read s.heads.items l h c.requires.list c.index-head.ensures no_head in
-    λ low. subst (λ cs. IsFilled cs h.last) (sym (c.set_links.ensures ∙ sym (set-set s.block x None (Some n))))
-    (last_near (set s.block x None) s.capacity s.heads.items t l x h n c.requires.list free is low)
+    λ low. let near = last_near (set s.block x None) s.capacity s.heads.items t l x h n c.requires.list free is low in
+    subst (λ cs. IsFilled cs h.last) (sym (c.set_links.ensures ∙ sym (set-set s.block x None (Some n))))
+    (near.0, near.1)
 
 pub returns-clause-tied : goal.returns-clause-tied
 returns-clause-tied g c =
@@ -66,13 +67,17 @@ returns-clause-uses g c =
     c.args.cell in
     let l = c.args.list in
     let n = node h.last (s.capacity + l) l (at s.block x).item in let gone = set s.block x None in
-    let put = set gone x (Some n) in
+    let put = set gone x (Some n) in let all = length s.heads.items in
     let long : length put ≡ s.capacity = length-set gone x (Some n) ∙ t.cells in let many = t.cells in
+    let free = get_or-set_same s.block x None None
+    (omega (arith, c.requires.cell.0, length-set s.block x None, many)) in
+    let is = get_or_read s.heads.items l h c.requires.list c.index-head.ensures no_head in
     let cells = c.set_next.ensures ∙ ap (λ cs. edit s.capacity (with_next x) cs h.last) (c.set_links.ensures
     ∙ sym (set-set s.block x None (Some n))) in
-    subst (λ ds. Kept x gone ds × IsFilled ds x) (sym cells) (
-      kept_edit s.capacity (with_next x) gone put h.last x long (kept_set gone x (Some n)),
-      edit_filled s.capacity (with_next x) put h.last x long (
+    subst (λ ds. Kept all x gone ds × IsFilled ds x) (sym cells) (
+      kept_edit all l s.capacity (with_next x) gone put h.last x long (λ m. refl) c.requires.list
+          (last_near gone s.capacity s.heads.items t l x h n c.requires.list free is) (kept_set all gone x (Some n)),
+      edit_filled s.capacity (with_next x) put h.last x long (λ m. refl) (
         n,
         get_or-set_same gone x (Some n) None
             (omega (arith, many, c.requires.cell.0)),

@@ -8,7 +8,7 @@ use Rattle.line_arena.specs.declared.node.Node.{Node}
 use Rattle.line_arena.specs.declared.node.Head.{Head}
 use Rattle.line_arena.specs.declared.chains.Chains.{Chains}
 use Rattle.line_arena.specs.Filled.{IsFilled}
-use Rattle.line_arena.specs.Rings.{no_head, or_blank, at, IsRing, Tied, rings}
+use Rattle.line_arena.specs.Rings.{no_head, IsRing, Tied, rings}
 use Rattle.line_arena.specs.Chains.{AreEmpty, empty_head, rings_of, total, IsTied}
 use Rattle.line_arena.specs.Arenas.{IsArena}
 use Rattle.line_arena.proofs.Starts.{none_at, tied_new, total_zero}
@@ -39,9 +39,9 @@ module _ {X : Type 0} where
     pub heads : AreEmpty c.capacity (length c.heads.items) d.heads.items
     pub capacity : d.capacity ≡ c.capacity
 
-  -- no cell counts as used
+  -- no cell counts as used, nor as free after that
   abbrev pub unused : Chains X → Chains X
-  unused c = record { block = c.block; heads = c.heads; capacity = c.capacity; used = 0 }
+  unused c = record c { used = 0; spares = 0 }
 
   same_node : (a b : Node X) → Some a ≡ Some b → a ≡ b
   same_node a b e = cc
@@ -58,8 +58,8 @@ module _ {X : Type 0} where
     on = refl;
   })
 
-  pub halfway_first : (spare : ℕ) (c : Chains X) → IsArena spare c → IsHalfway 0 c c
-  halfway_first spare c a = record {
+  pub halfway_first : (c : Chains X) → IsArena c → IsHalfway 0 c c
+  halfway_first c a = record {
     bound = omega arith;
     before = λ y lt. absurd (omega (arith, lt));
     after = λ y le. refl;
@@ -70,32 +70,19 @@ module _ {X : Type 0} where
     sizes = (refl, refl);
   }
 
-  -- the next cell is there, on a list that there is
-  pub halfway_cell : (spare k : ℕ) (c d : Chains X) → IsArena spare c → IsHalfway k c d → k < d.used →
+  -- the next cell is there
+  pub halfway_cell : (k : ℕ) (c d : Chains X) → IsArena c → IsHalfway k c d → k < d.used →
       IsFilled d.block k
-  halfway_cell spare k c d a h low =
+  halfway_cell k c d a h low =
       let used = h.sizes.1 in let full = a.uses.0 k (omega (arith, low, used)) in
       (full.0, h.after k (omega arith) ∙ full.1)
 
-  pub halfway_list : (spare k : ℕ) (c d : Chains X) (n : Node X) → IsArena spare c → IsHalfway k c d → k < d.used →
-      get_or d.block k None ≡ Some n → n.list < length c.heads.items
-  halfway_list spare k c d n a h low is = (a.tied.tied.on k n (sym (h.after k (omega arith)) ∙ is)).0
-
-  pub halfway_at : (spare k : ℕ) (c d : Chains X) → IsArena spare c → IsHalfway k c d → k < d.used →
-      (at d.block k).list < length d.heads.items
-  halfway_at spare k c d a h low =
-      let full = halfway_cell spare k c d a h low in let many = h.many in
-      let on = halfway_list spare k c d full.0 a h low full.1 in
-      let same : (at d.block k).list ≡ full.0.list = ap (λ o. (or_blank o).list) full.1 in omega
-      (arith, on, same, many)
-
-  pub halfway_next : (spare at : ℕ) (n : Node X) (c d e : Chains X) → IsArena spare c → IsHalfway at c d →
+  pub halfway_next : (at : ℕ) (n : Node X) (c d e : Chains X) → IsArena c → IsHalfway at c d →
       at < d.used → get_or d.block at None ≡ Some n →
       e.block ≡ set d.block at None → e.heads.items ≡ set d.heads.items n.list (empty_head (d.capacity + n.list)) →
       (e.capacity ≡ d.capacity) × (e.used ≡ d.used) → IsHalfway (at + 1) c e
-  halfway_next spare at n c d e a h low there block heads sizes =
+  halfway_next at n c d e a h low there block heads sizes =
       let is : get_or c.block at None ≡ Some n = sym (h.after at (omega arith)) ∙ there in
-      let in_lists = halfway_list spare at c d n a h low there in
       let used = h.sizes.1 in let cells = a.tied.tied.cells in let most = a.total.1 in
       let in_cells : at < length c.block = omega (arith, low, used, cells, most) in
       let long_block : length e.block ≡ length d.block = ap length block ∙ length-set d.block at None in
@@ -114,7 +101,7 @@ module _ {X : Type 0} where
             (omega (arith, le, i))) ∙ h.after y (omega (arith, le));
         heads = λ l lt. elim (cases_eq l n.list) [
           | inl i ↦ inl (ap (λ k. get_or e.heads.items k no_head) i ∙ ap (λ hs. get_or hs n.list no_head) heads
-              ∙ get_or-set_same d.heads.items n.list _ no_head (omega (arith, in_lists, dm))
+              ∙ get_or-set_same d.heads.items n.list _ no_head (omega (arith, lt, i, dm))
               ∙ (λ j. empty_head (h.sizes.0 j + sym i j)))
           | inr ne ↦ elim (h.heads l lt) [
             | inl was ↦ inl (ap (λ hs. get_or hs l no_head) heads
@@ -137,9 +124,9 @@ module _ {X : Type 0} where
         sizes = (sizes.0 ∙ h.sizes.0, sizes.1 ∙ h.sizes.1);
       }
 
-  pub halfway_cells : (spare at : ℕ) (c d : Chains X) → IsArena spare c → IsHalfway at c d → c.used ≤ at →
+  pub halfway_cells : (at : ℕ) (c d : Chains X) → IsArena c → IsHalfway at c d → c.used ≤ at →
       d.block ≡ replicate c.capacity None
-  halfway_cells spare at c d a h past =
+  halfway_cells at c d a h past =
       ext_get_or None d.block (replicate c.capacity None)
       (h.long ∙ a.tied.tied.cells ∙ sym (length-replicate {A = Option (Node X)} c.capacity None))
       (λ y lt. elim (cases_lt y at) [
@@ -147,9 +134,9 @@ module _ {X : Type 0} where
         | inr le ↦ h.after y le ∙ a.uses.1 y (omega (arith, le, past))
       ] ∙ sym (none_at c.capacity y))
 
-  pub halfway_heads : (spare at : ℕ) (c d : Chains X) → IsArena spare c → IsHalfway at c d → c.used ≤ at →
+  pub halfway_heads : (at : ℕ) (c d : Chains X) → IsArena c → IsHalfway at c d → c.used ≤ at →
       AreEmpty c.capacity (length c.heads.items) d.heads.items
-  halfway_heads spare at c d a h past = record {
+  halfway_heads at c d a h past = record {
     many = h.many;
     each = λ l lt. elim (h.heads l lt) [
       | inl is ↦ is
@@ -159,18 +146,18 @@ module _ {X : Type 0} where
   }
 
   -- once all cells were taken out, the lists are as new
-  pub halfway_last : (spare k : ℕ) (c d : Chains X) → IsArena spare c → IsHalfway k c d → d.used ≤ k →
+  pub halfway_last : (k : ℕ) (c d : Chains X) → IsArena c → IsHalfway k c d → d.used ≤ k →
       IsEmptied c (unused d)
-  halfway_last spare k c d a h past = let used = h.sizes.1 in let all : c.used ≤ k = omega (arith, past, used) in
+  halfway_last k c d a h past = let used = h.sizes.1 in let all : c.used ≤ k = omega (arith, past, used) in
       record {
-        cells = halfway_cells spare k c d a h all;
-        heads = halfway_heads spare k c d a h all;
+        cells = halfway_cells k c d a h all;
+        heads = halfway_heads k c d a h all;
         capacity = h.sizes.0;
       }
 
-  pub emptied_tied : (spare : ℕ) (c d : Chains X) → IsArena spare c → IsEmptied c d →
+  pub emptied_tied : (c d : Chains X) → IsArena c → IsEmptied c d →
       (IsTied d × (rings_of d ≡ replicate (length c.heads.items) [])) × (total d.heads.items ≡ 0)
-  emptied_tied spare c d a e =
+  emptied_tied c d a e =
       let hs = d.heads.items in let m = length c.heads.items in let new = tied_new {X = X} c.capacity m hs e.heads in
       let tied : Tied d.block d.capacity hs (rings_of d) =
       subst (λ n. Tied d.block n hs (rings_of d)) (sym e.capacity)

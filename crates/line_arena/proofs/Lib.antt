@@ -4,6 +4,7 @@ mod Edits
 mod EmptiedCells
 mod EmptiedLists
 mod Finds
+mod FreeCells
 mod Lent
 mod Links
 mod ListLaws

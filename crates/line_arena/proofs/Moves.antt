@@ -12,23 +12,32 @@ use Rattle.line_arena.specs.Rings.{IsApart, Tied, rings}
 use Rattle.line_arena.specs.CellLists.{without, find_cell, look_up}
 use Rattle.line_arena.proofs.Finds.{find_absent, find_part, look_at_list}
 use Rattle.line_arena.proofs.Links.{has_left, has_right, apart_split, parted}
-use Rattle.line_arena.proofs.Edits.{edit_other, edit_same, last_in, first_in}
+use Rattle.line_arena.proofs.Edits.{edit_other, edit_same, last_in, first_in, within}
 use Rattle.line_arena.proofs.Ties.{on_list, one_list, rings_are, attached, detached}
 use Rattle.std.proofs.Common.{eq-eqb, ne_eqb}
 use Rattle.std.proofs.lemmas.List.Sums.{sum_by-set}
 use Rattle.line_arena.specs.Chains.{total}
 
 module _ {X : Type 0} where
-  pub edit_filled : (cap : ℕ) (f : Node X → Node X) (cs : List (Option (Node X))) (a y : ℕ) → length cs ≡ cap →
-      IsFilled cs y → IsFilled (edit cap f cs a) y
-  edit_filled cap f cs a y long full = elim (cases_eq y a) [
+  -- the cell a is a used one, and its node names the list l
+  abbrev pub IsOn : ℕ → List (Option (Node X)) → ℕ → Type 0
+  IsOn l cs a = (n : Node X) × (get_or cs a None ≡ Some n) × (n.list ≡ l)
+
+  pub edit_on : (cap : ℕ) (f : Node X → Node X) (cs : List (Option (Node X))) (a y l : ℕ) → length cs ≡ cap →
+      ((m : Node X) → (f m).list ≡ m.list) → IsOn l cs y → IsOn l (edit cap f cs a) y
+  edit_on cap f cs a y l long keeps on = elim (cases_eq y a) [
     | inl e ↦ (
-      f full.0,
-      subst (λ z. get_or (edit cap f cs z) y None ≡ Some (f full.0)) e
-          (edit_same cap f cs y full.0 long full.1),
+      f on.0,
+      subst (λ z. get_or (edit cap f cs z) y None ≡ Some (f on.0)) e (edit_same cap f cs y on.0 long on.1),
+      keeps on.0 ∙ on.2,
     )
-    | inr ne ↦ (full.0, edit_other cap f cs a y ne ∙ full.1)
+    | inr ne ↦ (on.0, edit_other cap f cs a y ne ∙ on.1, on.2)
   ]
+
+  pub edit_filled : (cap : ℕ) (f : Node X → Node X) (cs : List (Option (Node X))) (a y : ℕ) → length cs ≡ cap →
+      ((m : Node X) → (f m).list ≡ m.list) → IsFilled cs y → IsFilled (edit cap f cs a) y
+  edit_filled cap f cs a y long keeps full =
+      let on = edit_on cap f cs a y full.0.list long keeps (full.0, full.1, refl) in (on.0, on.1)
 
   pub edit_none : (cap : ℕ) (f : Node X → Node X) (cs : List (Option (Node X))) (a y : ℕ) → length cs ≡ cap →
       get_or cs y None ≡ None → get_or (edit cap f cs a) y None ≡ None
@@ -70,9 +79,9 @@ module _ {X : Type 0} (cs : List (Option (Node X))) (cap : ℕ) (heads : List He
   attach_made l x it h first ds lt small free eh ef ed =
       rw (ed, ef, eh) (from_tied _ _ _ (attached cs cap heads rs t l x it lt small free))
 
-  -- the last cell of a list is a used one
+  -- the last cell of a list is a used one, and on it
   pub last_near : (l x : ℕ) (h : Head) (n : Node X) → l < length heads → get_or cs x None ≡ None →
-      h ≡ get_or heads l no_head → h.last < cap → IsFilled (set cs x (Some n)) h.last
+      h ≡ get_or heads l no_head → h.last < cap → IsOn l (set cs x (Some n)) h.last
   last_near l x h n lt free eh low =
       let r = get_or rs l [] in
       let e : h.last ≡ last_of (cap + l) r = ap (λ h. h.last) eh ∙ (t.ring l lt).last in
@@ -82,21 +91,18 @@ module _ {X : Type 0} (cs : List (Option (Node X))) (cap : ℕ) (heads : List He
             let s = on_list cs cap heads rs t l h.last lt (subst (Has r) (sym e) w) in
             let ne : h.last ≢ x = λ i. let two : Some (node s.0 s.1 l s.2) ≡ None =
             sym s.3 ∙ ap (λ k. get_or cs k None) i ∙ free in cc in
-            (node s.0 s.1 l s.2, get_or-set_other cs x h.last (Some n) None ne ∙ s.3)
+            (node s.0 s.1 l s.2, get_or-set_other cs x h.last (Some n) None ne ∙ s.3, refl)
       ]
 
-  module _ (x : ℕ) (nd : Node X) (here : get_or cs x None ≡ Some nd) where
+  module _ (x : ℕ) (nd : Node X) (here : get_or cs x None ≡ Some nd) (lt : nd.list < length heads) where
     abbrev l : ℕ
     l = nd.list
-
-    lt : l < length heads
-    lt = (t.on x nd here).0
 
     abbrev r : List (ℕ × Option X)
     r = get_or rs l []
 
     parts : (us : List (ℕ × Option X)) × (it : Option X) × (bs : List (ℕ × Option X)) × (r ≡ us ++ (x, it) ∷ bs)
-    parts = parted r x (t.on x nd here).1
+    parts = parted r x (t.on x nd here lt)
 
     node_is : nd ≡ node (last_of (cap + l) parts.0) (first_of parts.2 (cap + l)) l parts.1
     node_is = ap or_blank (sym here ∙ (detached cs cap heads rs t l x parts.1 parts.0 parts.2 lt parts.3).0)
@@ -104,12 +110,12 @@ module _ {X : Type 0} (cs : List (Option (Node X))) (cap : ℕ) (heads : List He
     cut : (Has parts.0 x → ⊥) × (Has parts.2 x → ⊥) × IsApart (parts.0 ++ parts.2)
     cut = apart_split parts.0 (x, parts.1) parts.2 (subst IsApart parts.3 (t.ring l lt).apart)
 
-    near : (y : ℕ) → Has r y → y ≢ x → IsFilled (set cs x None) y
+    near : (y : ℕ) → Has r y → y ≢ x → IsOn l (set cs x None) y
     near y w ne = let s =
-        on_list cs cap heads rs t l y lt w in (node s.0 s.1 l s.2, get_or-set_other cs x y None None ne ∙ s.3)
+        on_list cs cap heads rs t l y lt w in (node s.0 s.1 l s.2, get_or-set_other cs x y None None ne ∙ s.3, refl)
 
-    -- the neighbours are used cells, or the end of the list
-    pub prev_near : nd.prev < cap → IsFilled (set cs x None) nd.prev
+    -- the neighbours are used cells of the list, or its end
+    pub prev_near : nd.prev < cap → IsOn l (set cs x None) nd.prev
     prev_near low =
         let e : nd.prev ≡ last_of (cap + l) parts.0 = ap (λ n. n.prev) node_is in
         elim (last_in (cap + l) parts.0) [
@@ -119,7 +125,7 @@ module _ {X : Type 0} (cs : List (Option (Node X))) (cap : ℕ) (heads : List He
               nd.prev v)) (λ i. cut.0 (subst (Has parts.0) i v))
         ]
 
-    pub next_near : nd.next < cap → IsFilled (set cs x None) nd.next
+    pub next_near : nd.next < cap → IsOn l (set cs x None) nd.next
     next_near low =
         let e : nd.next ≡ first_of parts.2 (cap + l) = ap (λ n. n.next) node_is in
         elim (first_in parts.2 (cap + l)) [
@@ -132,9 +138,6 @@ module _ {X : Type 0} (cs : List (Option (Node X))) (cap : ℕ) (heads : List He
     pub some : 1 ≤ (get_or heads l no_head).count
     some = let c = (t.ring l lt).count ∙ ap length parts.3 in
         omega (arith, c, length-append parts.0 ((x, parts.1) ∷ parts.2))
-
-    pub on_one : l < length heads
-    on_one = lt
 
     -- the lists without the cell
     lists_without : set rs l (parts.0 ++ parts.2) ≡ map (without x) rs
@@ -150,7 +153,7 @@ module _ {X : Type 0} (cs : List (Option (Node X))) (cap : ℕ) (heads : List He
               ∙ sym (ap (λ k. without x (get_or rs k [])) i) ∙ sym (get_or-map (without x) rs m [] [] in_rs)
           | inr ne ↦ get_or-set_other rs l m (parts.0 ++ parts.2) [] ne
               ∙ sym (without_absent x (get_or rs m []) (λ w. one_list cs cap heads rs t l m x x lt (omega arith) ne
-              (t.on x nd here).1 w refl)) ∙ sym (get_or-map (without x) rs m [] [] in_rs)
+              (t.on x nd here lt) w refl)) ∙ sym (get_or-map (without x) rs m [] [] in_rs)
         ])
 
     -- what the look-up finds at the cell
@@ -160,7 +163,7 @@ module _ {X : Type 0} (cs : List (Option (Node X))) (cap : ℕ) (heads : List He
         look_at_list x parts.1 rs l (omega (arith, lt)) (ap (find_cell x) parts.3 ∙ find_part x parts.1 parts.0
         parts.2 cut.0) (λ m mt ne.
         find_absent x (get_or rs m []) (λ w. one_list cs cap heads rs t l m x x lt (omega arith) ne
-        (t.on x nd here).1 w refl))
+        (t.on x nd here lt) w refl))
         ∙ ap (λ (n : Node X). Some n.item) (sym node_is)
 
     pub detach_made : (h : Head) (first last : ℕ) (ds : List (Option (Node X))) → h ≡ get_or heads l no_head →
@@ -173,21 +176,30 @@ module _ {X : Type 0} (cs : List (Option (Node X))) (cap : ℕ) (heads : List He
         rw (ed, el, ef, eh, node_is) (base.0, base.1 ∙ lists_without)
 
 module _ {X : Type 0} where
-  -- the cells other than x are used as before
-  abbrev pub Kept : ℕ → List (Option (Node X)) → List (Option (Node X)) → Type 0
-  Kept x cs ds =
+  -- the cells other than x are used as before, and those of the number l unchanged
+  abbrev pub Kept : ℕ → ℕ → List (Option (Node X)) → List (Option (Node X)) → Type 0
+  Kept l x cs ds =
       (y : ℕ) → y ≢ x → (IsFilled cs y → IsFilled ds y) × (get_or cs y None ≡ None → get_or ds y None ≡ None)
+      × ((n : Node X) → get_or cs y None ≡ Some n → n.list ≡ l → get_or ds y None ≡ Some n)
 
-  pub kept_set : (cs : List (Option (Node X))) (x : ℕ) (o : Option (Node X)) → Kept x cs (set cs x o)
-  kept_set cs x o y ne = let same =
-      get_or-set_other cs x y o None ne in ((λ full. (full.0, same ∙ full.1)), λ none. same ∙ none)
+  pub kept_set : (l : ℕ) (cs : List (Option (Node X))) (x : ℕ) (o : Option (Node X)) → Kept l x cs (set cs x o)
+  kept_set l cs x o y ne = let same = get_or-set_other cs x y o None ne in
+      ((λ full. (full.0, same ∙ full.1)), (λ none. same ∙ none), λ n is _. same ∙ is)
 
-  pub kept_edit : (cap : ℕ) (f : Node X → Node X) (cs ds : List (Option (Node X))) (a x : ℕ) → length ds ≡ cap →
-      Kept x cs ds → Kept x cs (edit cap f ds a)
-  kept_edit cap f cs ds a x long k y ne = (
-    (λ full. edit_filled cap f ds a y long ((k y ne).0 full)),
-    λ none.
-        edit_none cap f ds a y long ((k y ne).1 none),
+  -- an edit of a cell of another number
+  pub kept_edit : (l m cap : ℕ) (f : Node X → Node X) (cs ds : List (Option (Node X))) (a x : ℕ) → length ds ≡ cap →
+      ((n : Node X) → (f n).list ≡ n.list) → m < l → (a < cap → IsOn m ds a) → Kept l x cs ds →
+      Kept l x cs (edit cap f ds a)
+  kept_edit l m cap f cs ds a x long keeps low on k y ne = (
+    (λ full. edit_filled cap f ds a y long keeps ((k y ne).0 full)),
+    (λ none. edit_none cap f ds a y long ((k y ne).1 none)),
+    λ n is at. let was = (k y ne).2 n is at in elim (cases_eq y a) [
+      | inr other ↦ edit_other cap f ds a y other ∙ was
+      | inl i ↦
+          let o = on (omega (arith, within ds y n was, long, i)) in
+          let same : n.list ≡ o.0.list = ap (λ q. (or_blank q).list) (sym was ∙ ap (λ k. get_or ds k None) i ∙ o.1) in
+          absurd (omega (arith, same, o.2, at, low))
+    ],
   )
 
 pub total_down : (heads : List Head) (l : ℕ) (h k : Head) → l < length heads → h ≡ get_or heads l no_head →

@@ -1,6 +1,6 @@
 -- No cell occurs twice on a caller's lists.
-use Rattle.std.proofs.Common.{◌≡◌, ℕ, ◌<◌, zero, suc, inl, inr, List, [], ◌∷◌, get_or, Option, Some, None, refl, sym}
-use Rattle.std.proofs.Common.{ap, subst, ◌∙◌, arith}
+use Rattle.std.proofs.Common.{◌≡◌, ℕ, ◌<◌, zero, suc, inl, inr, List, [], ◌∷◌, length, get_or, Option, Some, None, refl}
+use Rattle.std.proofs.Common.{sym, ap, subst, ◌∙◌, arith}
 use Rattle.std.proofs.lemmas.Bool.{cases_lt, cases_eq}
 use Rattle.std.proofs.lemmas.List.{get_or_past}
 use Rattle.line_arena.specs.declared.chains.Chains.{Chains}
@@ -39,43 +39,42 @@ module _ {X : Type 0} where
             (λ i j. one_place r i j x d.1) i j e f
       ] e f
 
-  module _ (spare : ℕ) (c : Chains X) (h : IsArena spare c) where
-    low : (l i x : ℕ) → cell_in (get_or (shown spare (rings_of c)) l []) i ≡ Some x → l < spare
+  module _ (c : Chains X) (h : IsArena c) where
+    low : (l i x : ℕ) → cell_in (get_or (shown (rings_of c)) l []) i ≡ Some x → l < length c.heads.items
     low l i x e =
-        let many = h.many in let n = h.tied.tied.many in let long = length-shown spare (rings_of c) (omega arith) in
-        elim (cases_lt l spare) [
+        let n = h.tied.tied.many in let long = length-shown (rings_of c) in
+        elim (cases_lt l (length c.heads.items)) [
           | inl lt ↦ lt
           | inr le ↦ (let two : None ≡ Some x =
-              sym (ap (λ zs. cell_in zs i) (get_or_past (shown spare (rings_of c)) l [] (omega arith))) ∙ e in cc)
+              sym (ap (λ zs. cell_in zs i) (get_or_past (shown (rings_of c)) l [] (omega arith))) ∙ e in cc)
         ]
 
-    seen_at : (l i x : ℕ) → cell_in (get_or (shown spare (rings_of c)) l []) i ≡ Some x →
+    seen_at : (l i x : ℕ) → cell_in (get_or (shown (rings_of c)) l []) i ≡ Some x →
         cell_in (values (get_or (rings_of c) l [])) i ≡ Some x
-    seen_at l i x e = let many = h.many in let n = h.tied.tied.many in
-        ap (λ zs. cell_in zs i) (sym (shown_at spare (rings_of c) l (low l i x e) (omega arith))) ∙ e
+    seen_at l i x e = let n = h.tied.tied.many in let ll = low l i x e in
+        ap (λ zs. cell_in zs i) (sym (shown_at (rings_of c) l (omega arith))) ∙ e
 
-    once_at : (l m i j x : ℕ) → cell_in (get_or (shown spare (rings_of c)) l []) i ≡ Some x →
-        cell_in (get_or (shown spare (rings_of c)) m []) j ≡ Some x → (l ≡ m) × (i ≡ j)
+    once_at : (l m i j x : ℕ) → cell_in (get_or (shown (rings_of c)) l []) i ≡ Some x →
+        cell_in (get_or (shown (rings_of c)) m []) j ≡ Some x → (l ≡ m) × (i ≡ j)
     once_at l m i j x e f =
-        let many = h.many in let ll = low l i x e in let ml = low m j x f in let rs = rings_of c in
+        let ll = low l i x e in let ml = low m j x f in let rs = rings_of c in
         let a = seen_at l i x e in let b = seen_at m j x f in
         elim (cases_eq m l) [
           | inl s ↦ (
             sym s,
-            one_place (get_or rs l []) i j x (h.tied.tied.ring l (omega arith)).apart a
+            one_place (get_or rs l []) i j x (h.tied.tied.ring l ll).apart a
                 (subst (λ k. cell_in (values (get_or rs k [])) j ≡ Some x) s b),
           )
-          | inr ne ↦ absurd (one_list c.block c.capacity c.heads.items rs h.tied.tied l m x x (omega arith)
-              (omega arith) ne (has_cell (get_or rs l []) i x a) (has_cell (get_or rs m []) j x b) refl)
+          | inr ne ↦ absurd (one_list c.block c.capacity c.heads.items rs h.tied.tied l m x x ll ml ne
+              (has_cell (get_or rs l []) i x a) (has_cell (get_or rs m []) j x b) refl)
         ]
 
-    pub once : IsOnce (shown spare (rings_of c))
+    pub once : IsOnce (shown (rings_of c))
     once = record { once = once_at }
 
-    below_at : (l i x : ℕ) → cell_in (get_or (shown spare (rings_of c)) l []) i ≡ Some x → x < c.capacity
-    below_at l i x e = let many = h.many in let ll = low l i x e in
-        below c.block c.capacity c.heads.items (rings_of c) h.tied.tied l x (omega arith)
+    below_at : (l i x : ℕ) → cell_in (get_or (shown (rings_of c)) l []) i ≡ Some x → x < c.capacity
+    below_at l i x e = below c.block c.capacity c.heads.items (rings_of c) h.tied.tied l x (low l i x e)
         (has_cell (get_or (rings_of c) l []) i x (seen_at l i x e))
 
-    pub are_cells : AreCells (model spare c)
+    pub are_cells : AreCells (model c)
     are_cells = record { below = below_at }

@@ -12,12 +12,12 @@ use Rattle.line_arena.specs.Rings.{no_head, node, or_blank, at, with_item, with_
 use Rattle.line_arena.specs.Rings.{Has, IsApart, IsRing, Tied, rings}
 use Rattle.line_arena.specs.CellLists.{look_up, rewritten}
 use Rattle.line_arena.specs.Chains.{rings_of}
-use Rattle.line_arena.specs.Arenas.{values, AllSome, AllNone, IsArena, lists_of, model, shown}
+use Rattle.line_arena.specs.Arenas.{values, AllSome, IsArena, lists_of, model, shown}
 use Rattle.line_arena.proofs.Edits.{within}
-use Rattle.line_arena.proofs.Ties.{one_list, rings_are}
+use Rattle.line_arena.proofs.Ties.{rings_are}
+use Rattle.line_arena.proofs.FreeCells.{spare_same}
 use Rattle.line_arena.proofs.Shows.{shown_mapped}
 use Rattle.line_arena.proofs.Places.{place, found_is_held}
-use Rattle.line_arena.proofs.Links.{has_right}
 
 module _ {X : Type 0} (x : ℕ) (o : Option X) where
   abbrev R : List (ℕ × Option X) → List (ℕ × Option X)
@@ -98,19 +98,15 @@ module _ {X : Type 0} (x : ℕ) (o : Option X) where
                 count = g.count ∙ sym (length_r r);
                 apart = apart_r r g.apart;
               });
-          on = λ y q is. elim (cases_eq y x) [
+          on = λ y q is low. elim (cases_eq y x) [
             | inl i ↦
                 let w : q.list ≡ n.list =
                 ap (λ z. (or_blank z).list) (sym is ∙ ap (λ k. get_or ds k None) i ∙ x_is) in
-                let s = t.on x n here in
-                subst (λ k. (k < length heads) × Has (get_or ss k []) y) (sym w) (
-                  s.0,
-                  subst (λ zs. Has zs y) (sym (at_l n.list s.0))
-                      (has_l (get_or rs n.list []) y (subst (Has (get_or rs n.list [])) (sym i) s.1)),
-                )
-            | inr ne ↦
-                let s = t.on y q (sym (y_is y ne) ∙ is) in
-                (s.0, subst (λ zs. Has zs y) (sym (at_l q.list s.0)) (has_l (get_or rs q.list []) y s.1))
+                let listed : n.list < length heads = omega (arith, low, w) in
+                subst (λ k. Has (get_or ss k []) y) (sym w) (subst (λ zs. Has zs y) (sym (at_l n.list listed))
+                (has_l (get_or rs n.list []) y (subst (Has (get_or rs n.list [])) (sym i) (t.on x n here listed))))
+            | inr ne ↦ subst (λ zs. Has zs y) (sym (at_l q.list low))
+                (has_l (get_or rs q.list []) y (t.on y q (sym (y_is y ne) ∙ is) low))
           ];
         } in
         let e = rings_are ds cap heads ss m in (subst (Tied ds cap heads) (sym e) m, e)
@@ -129,56 +125,48 @@ module _ {X : Type 0} where
   values_r x w [] h = refl
   values_r x w (a ∷ xs) h = let rest = values_r x w xs h.1 in let some = h.0.1 in grind arith
 
-  pub arena_written : (spare : ℕ) (c : Chains X) (h : IsArena spare c) (x : ℕ) (v w : X) →
-      look_up x (shown spare (rings_of c)) ≡ Some v
-      → let d : Chains X =
-      record { block = with_value_of c.block x w; heads = c.heads; capacity = c.capacity; used = c.used } in
-      IsArena spare d × (model spare d ≡ lists_of (map (rewritten x w) (shown spare (rings_of c))) c.capacity)
-  arena_written spare c h x v w e =
-      let p = place spare c h x v e in let here = found_is_held spare c h x v e in
+  pub arena_written : (c : Chains X) (h : IsArena c) (x : ℕ) (v w : X) → look_up x (shown (rings_of c)) ≡ Some v →
+      let d : Chains X = record c { block = with_value_of c.block x w } in
+      IsArena d × (model d ≡ lists_of (map (rewritten x w) (shown (rings_of c))) c.capacity)
+  arena_written c h x v w e =
+      let p = place c h x v e in let here = found_is_held c h x v e in
       let nd = node (last_of (c.capacity + p.0) p.2) (first_of p.3 (c.capacity + p.0)) p.0 (Some v) in
       let rs = rings_of c in let hs = c.heads.items in
       let is : at c.block x ≡ nd = ap or_blank here in
       let made = tied_r x (Some w) c.block nd here c.capacity hs h.tied.tied in
-      let d : Chains X =
-      record { block = with_value_of c.block x w; heads = c.heads; capacity = c.capacity; used = c.used } in
+      let new = Some (with_item (Some w) (at c.block x)) in
+      let d : Chains X = record c { block = with_value_of c.block x w } in
       let same : set c.block x (Some (with_item (Some w) nd)) ≡ d.block =
       ap (λ (m : Node X). set c.block x (Some (with_item (Some w) m))) (sym is) in
       let tied : Tied d.block c.capacity hs (rings d.block hs) =
       subst (λ bs. Tied bs c.capacity hs (rings bs hs)) same made.0 in
       let are : rings_of d ≡ map (rewritten x (Some w)) rs = ap (λ bs. rings bs hs) (sym same) ∙ made.1 in
-      let many = h.many in let n = h.tied.tied.many in let long = length-map rs (rewritten x (Some w)) in let low =
-      p.1 in
-      let again = ap length are in
-      let on : Has (get_or rs p.0 []) x =
-      subst (λ zs. Has zs x) (sym p.4) (has_right p.2 ((x, Some v) ∷ p.3) x (inl refl)) in
-      let at_l : (l : ℕ) → l < spare + 1 → get_or (rings_of d) l [] ≡ rewritten x (Some w) (get_or rs l []) =
-      λ l lt. ap (λ zs. get_or zs l []) are ∙ get_or-map (rewritten x (Some w)) rs l [] [] (omega arith) in
-      let absent : Has (get_or rs spare []) x → ⊥ = λ u. one_list c.block c.capacity hs rs h.tied.tied p.0 spare x x
-      (omega arith) (omega arith) (λ i. absurd (omega arith)) on u refl in (
+      let n = h.tied.tied.many in let low = p.1 in (
         record {
           tied = record { tied = tied; small = h.tied.small };
-          many = h.many;
           total = h.total;
           uses = (
             (λ y lt. elim (cases_eq y x) [
               | inl i ↦ subst (IsFilled d.block) (sym i) (
                 with_item (Some w) (at c.block x),
-                get_or-set_same c.block x
-                    (Some (with_item (Some w) (at c.block x))) None (within c.block x nd here),
+                get_or-set_same c.block x new None (within c.block x nd here),
               )
-              | inr ne ↦ let f = h.uses.0 y lt in
-                  (f.0, get_or-set_other c.block x y (Some (with_item (Some w) (at c.block x))) None ne ∙ f.1)
+              | inr ne ↦ let f = h.uses.0 y lt in (f.0, get_or-set_other c.block x y new None ne ∙ f.1)
             ]),
-            λ y le. get_or-set_other c.block x y (Some (with_item (Some w) (at c.block x))) None
+            λ y le. get_or-set_other c.block x y new None
                 (λ i. let two : Some nd ≡ None = sym here ∙ sym (ap (λ k. get_or c.block k None) i) ∙ h.uses.1 y le in
                 cc) ∙ h.uses.1 y le,
           );
-          loaded = λ l lt. subst AllSome (sym (at_l l (omega arith))) (some_r x w (get_or rs l []) (h.loaded l lt));
-          spare = subst AllNone (sym (at_l spare (omega arith) ∙ absent_r x (Some w) (get_or rs spare []) absent))
-              h.spare;
+          loaded = λ l lt. subst AllSome (sym (ap (λ zs. get_or zs l []) are
+              ∙ get_or-map (rewritten x (Some w)) rs l [] [] (omega arith)))
+              (some_r x w (get_or rs l []) (h.loaded l lt));
+          spare = spare_same (length hs) c.spares c.free c.block d.block (λ y m there at_end. elim (cases_eq y x) [
+            | inr ne ↦ get_or-set_other c.block x y new None ne ∙ there
+            | inl i ↦ let same : p.0 ≡ m.list =
+                ap (λ o. (or_blank o).list) (sym here ∙ sym (ap (λ k. get_or c.block k None) i) ∙ there) in
+                absurd (omega (arith, same, at_end, low))
+          ]) h.spare;
         },
-        ap (λ ls. lists_of ls c.capacity) (ap (shown spare) are
-            ∙ shown_mapped (rewritten x (Some w)) (rewritten x w) spare rs (omega arith)
-            (λ l lo. values_r x w (get_or rs l []) (h.loaded l lo))),
+        ap (λ ls. lists_of ls c.capacity) (ap shown are ∙ shown_mapped (rewritten x (Some w)) (rewritten x w) rs
+            (λ l lo. values_r x w (get_or rs l []) (h.loaded l (omega (arith, lo, n))))),
       )

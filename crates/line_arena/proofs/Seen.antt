@@ -1,9 +1,8 @@
 -- What a caller's look-up tells of the cells.
-use Rattle.std.proofs.Common.{◌≡◌, ℕ, ◌+◌, ◌<◌, zero, suc, inl, inr, true, true≢false, List, [], ◌∷◌, map, length}
-use Rattle.std.proofs.Common.{get_or, replicate, take, if◌then◌else◌, Option, Some, None, is_some, refl, sym}
+use Rattle.std.proofs.Common.{◌≡◌, ℕ, ◌<◌, zero, suc, inl, inr, true, true≢false, List, [], ◌∷◌, map, length}
+use Rattle.std.proofs.Common.{get_or, replicate, if◌then◌else◌, Option, Some, None, is_some, refl, sym}
 use Rattle.std.proofs.Common.{ap, ◌∙◌, arith, ne_eqb}
 use Rattle.std.proofs.lemmas.Bool.{cases_eq}
-use Rattle.std.proofs.lemmas.List.{take-replicate}
 use Rattle.line_arena.specs.declared.chains.Chains.{Chains}
 use Rattle.line_arena.specs.Filled.{IsFilled}
 use Rattle.line_arena.specs.Rings.{Has}
@@ -46,34 +45,32 @@ module _ {X : Type 0} where
   find_value x v [] h e = cc
   find_value x v (a ∷ xs) h e = let rest = find_value x v xs h.1 in let some = h.0.1 in grind arith
 
-  module _ (spare : ℕ) (c : Chains X) (h : IsArena spare c) (x : ℕ) (v : X)
-      (e : look_up x (shown spare (rings_of c)) ≡ Some v) where
-    pub here : (l : ℕ) × (l < spare) × (find_cell x (get_or (rings_of c) l []) ≡ Some (Some v))
+  module _ (c : Chains X) (h : IsArena c) (x : ℕ) (v : X) (e : look_up x (shown (rings_of c)) ≡ Some v) where
+    pub here : (l : ℕ) × (l < length c.heads.items) × (find_cell x (get_or (rings_of c) l []) ≡ Some (Some v))
     here =
-        let many = h.many in let n = h.tied.tied.many in let long = length-shown spare (rings_of c) (omega arith) in
-        let q = look_in x v (shown spare (rings_of c)) e in let low : q.0 < spare = omega (arith, q.1) in (
+        let n = h.tied.tied.many in let long = length-shown (rings_of c) in
+        let q = look_in x v (shown (rings_of c)) e in let low : q.0 < length c.heads.items = omega (arith, q.1) in (
           q.0,
           low,
           find_value x v (get_or (rings_of c) q.0 []) (h.loaded q.0 low)
-              (ap (find_cell x) (sym (shown_at spare (rings_of c) q.0 low (omega arith))) ∙ q.2),
+              (ap (find_cell x) (sym (shown_at (rings_of c) q.0 (omega arith))) ∙ q.2),
         )
 
     -- the cell is a used one, and has the value
     pub seen : IsFilled c.block x × (look_up x (rings_of c) ≡ Some (Some v))
     seen =
-        let many = h.many in let n = h.tied.tied.many in let l = here.0 in let low = here.1 in
+        let n = h.tied.tied.many in let l = here.0 in let low = here.1 in
         let on = find_has x (get_or (rings_of c) l []) (Some v) here.2 in (
-          filled_at spare c h l x (omega arith) on,
+          filled_at c h l x low on,
           look_at_list x (Some v) (rings_of c) l (omega arith) here.2
               (λ m mt ne. find_absent x (get_or (rings_of c) m []) (λ w.
-              one_list c.block c.capacity c.heads.items (rings_of c) h.tied.tied l m x x (omega arith)
-              (omega arith) ne on w refl)),
+              one_list c.block c.capacity c.heads.items (rings_of c) h.tied.tied l m x x low (omega arith) ne on w
+              refl)),
         )
 
   empty_values : (n : ℕ) → map (values {X = X}) (replicate n []) ≡ replicate n []
   empty_values zero = refl
   empty_values (suc n) = ap (λ zs. [] ∷ zs) (empty_values n)
 
-  pub shown_new : (n : ℕ) (rs : List (List (ℕ × Option X))) → rs ≡ replicate (n + 1) [] → shown n rs ≡ replicate n []
-  shown_new n rs e = ap (λ zs. map values (take n zs)) e ∙ ap (map values) (take-replicate n (n + 1) [] (omega arith))
-      ∙ empty_values n
+  pub shown_new : (n : ℕ) (rs : List (List (ℕ × Option X))) → rs ≡ replicate n [] → shown rs ≡ replicate n []
+  shown_new n rs e = ap shown e ∙ empty_values n

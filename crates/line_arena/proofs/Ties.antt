@@ -91,7 +91,7 @@ module _ {X : Type 0} (cs : List (Option (Node X))) (cap : ℕ) (heads : List He
   retied : (ds : List (Option (Node X))) (l : ℕ) (new : Head) (zs : List (ℕ × Option X)) → l < length heads →
       length ds ≡ cap → IsRing ds cap l new zs →
       ((m y : ℕ) → m < length heads → m ≢ l → Has (r m) y → get_or ds y None ≡ get_or cs y None) →
-      ((y : ℕ) (q : Node X) → get_or ds y None ≡ Some q → (q.list < length heads) × (q.list ≡ l → Has zs y)
+      ((y : ℕ) (q : Node X) → get_or ds y None ≡ Some q → q.list < length heads → (q.list ≡ l → Has zs y)
       × (q.list ≢ l → Has (r q.list) y)) → Tied ds cap (set heads l new) (set rs l zs)
   retied ds l new zs lt long ring others on =
       let many = t.many in let heads_long = length-set heads l new in
@@ -110,13 +110,11 @@ module _ {X : Type 0} (cs : List (Option (Node X))) (cap : ℕ) (heads : List He
                 apart = k.apart;
               }))
         ];
-        on = λ y q is. (let o = on y q is in (
-          omega (arith, o.0),
-          elim (cases_eq q.list l) [
-            | inl i ↦ rw (i, here) (o.1 i)
-            | inr ne ↦ rw (get_or-set_other rs l q.list zs [] ne) (o.2 ne)
-          ],
-        ));
+        on = λ y q is low. (let o = on y q is (omega (arith, low, heads_long)) in
+            elim (cases_eq q.list l) [
+              | inl i ↦ rw (i, here) (o.0 i)
+              | inr ne ↦ rw (get_or-set_other rs l q.list zs [] ne) (o.1 ne)
+            ]);
       }
 
   -- a cell that is on no list is put at the end of the list l
@@ -166,16 +164,13 @@ module _ {X : Type 0} (cs : List (Option (Node X))) (cap : ℕ) (heads : List He
         | inl j ↦ high y (below m y mt w) (i ∙ g.last ∙ j)
         | inr v ↦ one_list l m y (last_of e us) lt mt ne v w (i ∙ g.last)
       ]) ∙ keep1 y (apart m y mt w))
-      (λ y q is. (let b = edit_back cap (with_next x) c1 p (long1 ∙ cells) (λ m. refl) y q is in
+      (λ y q is ql. (let b = edit_back cap (with_next x) c1 p (long1 ∙ cells) (λ m. refl) y q is in
       elim (cases_eq y x) [
         | inl i ↦ (let w : q.list ≡ l = b.2 ∙ ap (λ o. (or_blank o).list) (sym b.1 ∙ ap (λ k. get_or c1 k None) i
             ∙ get_or-set_same cs x (Some n) None (omega arith)) in
-            (omega arith, (λ _. has_right us ((x, it) ∷ []) y (inl (sym i))), λ ne. absurd (ne w)))
-        | inr ne ↦ (let o = t.on y b.0 (sym (keep1 y ne) ∙ b.1) in let on = rw (← b.2) at o.1 in let low = b.2 in (
-          omega (arith, o.0),
-          (λ e. has_left us ((x, it) ∷ []) y (rw e at on)),
-          λ _. on,
-        ))
+            ((λ _. has_right us ((x, it) ∷ []) y (inl (sym i))), λ ne. absurd (ne w)))
+        | inr ne ↦ (let o = t.on y b.0 (sym (keep1 y ne) ∙ b.1) (omega (arith, ql, b.2)) in
+            let on = rw (← b.2) at o in ((λ e. has_left us ((x, it) ∷ []) y (rw e at on)), λ _. on))
       ]))
 
   -- a cell of the list l is taken off, between us and bs
@@ -254,16 +249,16 @@ module _ {X : Type 0} (cs : List (Option (Node X))) (cap : ℕ) (heads : List He
             ∙ edit_other cap (with_next n) c1 p y
             (λ i. elim (last_in e us) [ inl j ↦ high y yl (i ∙ j) | inr v ↦ other p (on_us p v) i ])
             ∙ keep1 y (other x on_x))
-            (λ y q is.
+            (λ y q is ql.
             let b = edit_back cap (with_prev p) c2 n long2 (λ m. refl) y q is in
             let a = edit_back cap (with_next n) c1 p (long1 ∙ cells) (λ m. refl) y b.0 b.1 in
             elim (cases_eq y x) [
               | inl i ↦
                   let two : Some a.0 ≡ None = sym a.1 ∙ ap (λ k. get_or c1 k None) i
                   ∙ get_or-set_same cs x None None (within cs x (node p n l it) here) in cc
-              | inr ne ↦ (let o = t.on y a.0 (sym (keep1 y ne) ∙ a.1) in let same : q.list ≡ a.0.list = b.2 ∙ a.2 in
-                  let on = rw (← same) at o.1 in (
-                    omega (arith, o.0),
+              | inr ne ↦ (let same : q.list ≡ a.0.list = b.2 ∙ a.2 in
+                  let o = t.on y a.0 (sym (keep1 y ne) ∙ a.1) (omega (arith, ql, same)) in
+                  let on = rw (← same) at o in (
                     (λ i. elim (has_either us ((x, it) ∷ bs) y (rw parts at (rw i at on))) [
                       | inl w ↦ has_left us bs y w
                       | inr w ↦ elim w [ inl j ↦ absurd (ne (sym j)) | inr v ↦ has_right us bs y v ]

@@ -1,11 +1,12 @@
 -- What a contract sees of an arena: its lists, each of pairs of a cell and its value, and how many cells it has.
 use Rattle.std.specs.Prelude.{◌≡◌, ◌≢◌, ℕ, Bool, cond, not, is_some, zero, suc, ◌+◌, ◌-◌, ◌<◌, ◌≤◌, List, [], ◌∷◌}
-use Rattle.std.specs.Prelude.{map, take, length, get_or, sum_by, Option, Some, None, refl}
+use Rattle.std.specs.Prelude.{map, length, get_or, sum_by, Option, Some, None, refl}
 use Rattle.std.specs.Coded.{Coded, code_by, coded×, coded_list, coded_ℕ}
 use Rattle.line_arena.specs.declared.chains.Chains.{Chains}
 use Rattle.line_arena.specs.Filled.{IsFilled}
 use Rattle.line_arena.specs.CellLists.{look_up, append_to, without}
 use Rattle.line_arena.specs.Chains.{total, rings_of, IsTied}
+use Rattle.line_arena.specs.Rings.{Spare}
 
 pub record Lists (X : Type 0) : Type 0 where
   pub lists : List (List (ℕ × X))
@@ -50,39 +51,29 @@ module _ {X : Type 0} where
   AllSome [] = Unit {0}
   AllSome (a ∷ xs) = ((v : X) × (a.1 ≡ Some v)) × AllSome xs
 
-  abbrev pub AllNone : List (ℕ × Option X) → Type 0
-  AllNone [] = Unit {0}
-  AllNone (a ∷ xs) = (a.1 ≡ None) × AllNone xs
-
-  -- the caller's lists come first, and the list of the free cells that were used comes last
-  pub record IsArena (lists : ℕ) (c : Chains X) : Type 0 where
+  -- a used cell is on a list, or it is free and names the next free one
+  pub record IsArena (c : Chains X) : Type 0 where
     pub tied : IsTied c
-    pub many : length c.heads.items ≡ lists + 1
-    pub total : (total c.heads.items ≡ c.used) × (c.used ≤ c.capacity)
+    pub total : (total c.heads.items + c.spares ≡ c.used) × (c.used ≤ c.capacity)
     pub uses : ((y : ℕ) → y < c.used → IsFilled c.block y) × ((y : ℕ) → c.used ≤ y → get_or c.block y None ≡ None)
-    pub loaded : (l : ℕ) → l < lists → AllSome (get_or (rings_of c) l [])
-    pub spare : AllNone (get_or (rings_of c) lists [])
+    pub loaded : (l : ℕ) → l < length c.heads.items → AllSome (get_or (rings_of c) l [])
+    pub spare : Spare c.block (length c.heads.items) c.spares c.free
 
-  -- the cell x, which was used, is on no list now
-  pub record Lacks (lists x : ℕ) (c : Chains X) : Type 0 where
+  -- the cell x, which was used, is on no list and not free now
+  pub record Lacks (x : ℕ) (c : Chains X) : Type 0 where
     pub tied : IsTied c
-    pub many : length c.heads.items ≡ lists + 1
-    pub total : (total c.heads.items + 1 ≡ c.used) × (c.used ≤ c.capacity)
+    pub total : (total c.heads.items + c.spares + 1 ≡ c.used) × (c.used ≤ c.capacity)
     pub gap : (x < c.used) × (get_or c.block x None ≡ None)
     pub uses : (y : ℕ) → y ≢ x → (y < c.used → IsFilled c.block y) × (c.used ≤ y → get_or c.block y None ≡ None)
-    pub loaded : (l : ℕ) → l < lists → AllSome (get_or (rings_of c) l [])
-    pub spare : AllNone (get_or (rings_of c) lists [])
+    pub loaded : (l : ℕ) → l < length c.heads.items → AllSome (get_or (rings_of c) l [])
+    pub spare : Spare c.block (length c.heads.items) c.spares c.free
 
-  -- a list of the caller's takes a value, and the list of the free cells takes none
-  abbrev pub Suits : ℕ → ℕ → Option X → Type 0
-  Suits lists l it = (l < lists → (v : X) × (it ≡ Some v)) × (l ≡ lists → it ≡ None)
+  -- the lists with their values
+  abbrev pub shown : List (List (ℕ × Option X)) → List (List (ℕ × X))
+  shown rs = map values rs
 
-  -- the lists of rs, without the last
-  abbrev pub shown : ℕ → List (List (ℕ × Option X)) → List (List (ℕ × X))
-  shown lists rs = map values (take lists rs)
-
-  abbrev pub model : ℕ → Chains X → Lists X
-  model lists c = lists_of (shown lists (rings_of c)) c.capacity
+  abbrev pub model : Chains X → Lists X
+  model c = lists_of (shown (rings_of c)) c.capacity
 
   -- the cell in the place i of a list
   abbrev pub cell_in : List (ℕ × X) → ℕ → Option ℕ

@@ -7,10 +7,4 @@ use Rattle.line_arena.specs.contracts.chains.Chains.{the_row}
 
 abbrev pub lends_value : (R : RattleType) → MutBor (Chains R.Denot) → ℕ → MutBor R.Denot → Fml
 lends_value R c x r = Lends (the_row R) R c r (λ w.
-    record {
-      block = with_value_of c.now.block x w;
-      heads = c.now.heads;
-      capacity =
-          c.now.capacity;
-      used = c.now.used;
-    })
+    record c.now { block = with_value_of c.now.block x w })

@@ -1,6 +1,7 @@
 -- What holds of the fields of the lists.
-use Rattle.std.specs.Prelude.{◌≡◌, ◌≢◌, ℕ, ◌+◌, ◌^◌, ◌<◌, ◌≤◌, List, length, get_or, sum_by, set, Option, None}
+use Rattle.std.specs.Prelude.{◌≡◌, ◌≢◌, ℕ, ◌+◌, ◌^◌, ◌<◌, ◌≤◌, List, length, get_or, sum_by, set, Option, Some, None}
 use Rattle.line_arena.specs.declared.node.Head.{Head}
+use Rattle.line_arena.specs.declared.node.Node.{Node}
 use Rattle.line_arena.specs.declared.chains.Chains.{Chains}
 use Rattle.line_arena.specs.Filled.{IsFilled}
 use Rattle.line_arena.specs.Rings.{no_head, Tied, rings}
@@ -24,18 +25,20 @@ module _ {X : Type 0} where
 
   -- the lists' fields, with the node of the cell x taken out
   abbrev pub emptied : ℕ → Chains X → Chains X
-  emptied x c = record { block = set c.block x None; heads = c.heads; capacity = c.capacity; used = c.used }
+  emptied x c = record c { block = set c.block x None }
 
   pub record IsTied (c : Chains X) : Type 0 where
     pub tied : Tied c.block c.capacity c.heads.items (rings_of c)
     pub small : (c.capacity ≤ 2 ^ 24) × (length c.heads.items ≤ 2 ^ 21)
 
-  -- cells other than x are used as before
+  -- cells other than x are used as before, and free ones unchanged
   abbrev pub SameUse : ℕ → Chains X → Chains X → Type 0
   SameUse x c d = (y : ℕ) → y ≢ x
       → (IsFilled c.block y → IsFilled d.block y) × (get_or c.block y None ≡ None → get_or d.block y None ≡ None)
+      × ((n : Node X) → get_or c.block y None ≡ Some n → n.list ≡ length c.heads.items → get_or d.block y None ≡ Some n)
 
   pub record SameSizes (c d : Chains X) : Type 0 where
     pub capacity : d.capacity ≡ c.capacity
     pub used : d.used ≡ c.used
+    pub free : (d.free ≡ c.free) × (d.spares ≡ c.spares)
     pub lists : length d.heads.items ≡ length c.heads.items

@@ -71,13 +71,19 @@ module _ {X : Type 0} where
     pub count : h.count ≡ length xs
     pub apart : IsApart xs
 
-  -- each list is a ring, and each used cell is on its list
+  -- each list is a ring, and each used cell of a list is on it
   pub record Tied (cs : List (Option (Node X))) (cap : ℕ) (heads : List Head) (rs : List (List (ℕ × Option X))) : Type
       0 where
     pub cells : length cs ≡ cap
     pub many : length rs ≡ length heads
     pub ring : (l : ℕ) → l < length heads → IsRing cs cap l (get_or heads l no_head) (get_or rs l [])
-    pub on : (x : ℕ) (n : Node X) → get_or cs x None ≡ Some n → (n.list < length heads) × Has (get_or rs n.list []) x
+    pub on : (x : ℕ) (n : Node X) → get_or cs x None ≡ Some n → n.list < length heads → Has (get_or rs n.list []) x
+
+  -- n cells of the number l without a value from a on, each after the one before it, and none twice
+  abbrev pub Spare : List (Option (Node X)) → ℕ → ℕ → ℕ → Type 0
+  Spare cs l zero a = ⊤
+  Spare cs l (suc n) a = (m : Node X) × (get_or cs a None ≡ Some m) × (m.list ≡ l) × (m.item ≡ None)
+      × Spare (set cs a None) l n m.next
 
   -- the lists that the heads begin
   unfoldable pub rings : List (Option (Node X)) → List Head → List (List (ℕ × Option X))

@@ -51,7 +51,6 @@ impl ArenaError {
 /// Contracts see the lists, each of pairs of a cell and its value, and the number of cells.
 pub struct Arena<T> {
     chains: Chains<T>,
-    lists: u32,
 }
 
 impl<T> Model for Arena<T> {
@@ -61,9 +60,9 @@ impl<T> Model for Arena<T> {
 
     ghost coded = { lists_code T.code };
 
-    ghost view = { λ a. model a.lists a.chains };
+    ghost view = { λ a. model a.chains };
 
-    ghost invariant = { λ a. IsArena a.lists a.chains };
+    ghost invariant = { λ a. IsArena a.chains };
 }
 
 impl<T> Arena<T> {
@@ -82,8 +81,8 @@ impl<T> Arena<T> {
         if lists > 1_048_576 {
             return Err(ArenaError::TooLarge);
         }
-        match Chains::new(alloc, cells, lists + 1) {
-            Ok(chains) => Ok(Arena { chains, lists }),
+        match Chains::new(alloc, cells, lists) {
+            Ok(chains) => Ok(Arena { chains }),
             Err(_) => Err(ArenaError::NoMemory),
         }
     }
@@ -97,10 +96,10 @@ impl<T> Arena<T> {
         ensures refused { IfErr result (λ x. (x ≡ item) × (self.new ≡ self.old)) }
         ensures full { IsErr result ↔ (free_cells self.old ≡ 0) }
     {
-        match self.chains.take_free(self.lists) {
+        match self.chains.take_free() {
             None => Err(item),
             Some(cell) => {
-                self.chains.fill(self.lists, list, cell, Some(item));
+                self.chains.fill(list, cell, item);
                 Ok(Cell(cell))
             }
         }
@@ -113,8 +112,8 @@ impl<T> Arena<T> {
         ensures value { look_up cell self.old.lists ≡ Some result }
         ensures after { self.new ≡ unlinked cell self.old }
     {
-        let item = self.chains.lift(self.lists, cell.0);
-        self.chains.fill(self.lists, self.lists, cell.0, None);
+        let item = self.chains.lift(cell.0);
+        self.chains.release(cell.0);
         item.unwrap()
     }
 
@@ -127,8 +126,8 @@ impl<T> Arena<T> {
         ensures value { look_up cell self.old.lists ≡ Some result }
         ensures after { self.new ≡ pushed list (cell, item) (unlinked cell self.old) }
     {
-        let before = self.chains.lift(self.lists, cell.0);
-        self.chains.fill(self.lists, list, cell.0, Some(item));
+        let before = self.chains.lift(cell.0);
+        self.chains.fill(list, cell.0, item);
         before.unwrap()
     }
 
@@ -140,7 +139,7 @@ impl<T> Arena<T> {
         ensures { IfSome (look_up cell self.old.lists) (λ item.
             self.new ≡ pushed list (cell, item) (unlinked cell self.old)) }
     {
-        self.chains.relink(self.lists, list, cell.0);
+        self.chains.relink(list, cell.0);
     }
 
     /// Takes all cells off their lists and drops their values, so that all lists are empty and all cells free. Its
@@ -150,7 +149,7 @@ impl<T> Arena<T> {
         T: Drop,
         ensures { self.new ≡ lists_of (replicate (length self.old.lists) []) self.old.cells }
     {
-        self.chains.empty_lists(self.lists);
+        self.chains.empty_lists();
     }
 
     /// The first cell of a list, if it has one.
@@ -213,7 +212,7 @@ impl<T> Arena<T> {
         if cell.0 >= self.chains.used {
             return false;
         }
-        self.chains.is_full(cell.0)
+        self.chains.is_on_list(cell.0)
     }
 
     /// How many cells are free: those that are on no list.
@@ -221,7 +220,7 @@ impl<T> Arena<T> {
         ensures value { result ≡ free_cells self.now }
         ensures nowhere { result ≡ absent_cells self.now }
     {
-        self.chains.free(self.lists)
+        self.chains.free()
     }
 
     /// How many lists there are. No cell is on them twice, and each is one of the arena's.
@@ -230,13 +229,13 @@ impl<T> Arena<T> {
         ensures once { IsOnce self.now.lists }
         ensures cells { AreCells self.now }
     {
-        self.lists
+        self.chains.lists()
     }
 }
 
 impl<T: Drop> Drop for Arena<T> {
     fn drop(self) {
-        let Arena { chains, lists: _ } = self;
+        let Arena { chains } = self;
         chains.clear();
     }
 }

@@ -1,9 +1,9 @@
 //! The lists of cells. Each is linked both ways inside the block, from its head and back to it.
 //!
 //! The end of the list l has the number `capacity + l`, so what is before the first cell and after the last one has a
-//! number too. The free cells that were used are one more list, the last. Its cells hold no value.
+//! number too. The free cells that were used are linked one way, from the last one that came free.
 ghost use Rattle.std.specs.Prelude.{◌≡◌, ℕ, ◌+◌, ◌^◌, ◌<◌, ◌≤◌, [], ◌∷◌, ◌++◌, if◌then◌else◌, nat_lt, length, get_or};
-ghost use Rattle.std.specs.Prelude.{slice_set, map, replicate, IfOk, IfSome, OnSome, IfNone, IsNone, is_some, ◌↔◌};
+ghost use Rattle.std.specs.Prelude.{slice_set, map, replicate, IfOk, IfSome, OnSome, IfNone, IsNone, ◌↔◌};
 ghost use Rattle.std.specs.Prelude.{Option, Some, None};
 ghost use Rattle.std.specs.Borrow.{sem};
 ghost use Rattle.line_arena.specs.declared.node.Node.{Node};
@@ -11,7 +11,7 @@ ghost use Rattle.line_arena.specs.Filled.{IsFilled};
 ghost use Rattle.line_arena.specs.Rings.{no_head, node, at, edit, with_next, with_prev};
 ghost use Rattle.line_arena.specs.CellLists.{look_up, without, append_to};
 ghost use Rattle.line_arena.specs.Chains.{AreEmpty, total, rings_of, emptied, empty_head, IsTied, SameUse, SameSizes};
-ghost use Rattle.line_arena.specs.Arenas.{IsArena, Lacks, Suits, shown, model, free_cells};
+ghost use Rattle.line_arena.specs.Arenas.{IsArena, Lacks, model, free_cells};
 
 use crate::block::Block;
 use crate::node::{Head, Node, Position};
@@ -24,6 +24,9 @@ pub struct Chains<T> {
     pub(crate) capacity: u32,
     // The cells from this one on were never used.
     pub(crate) used: u32,
+    // How many cells were used and are free, and the first of them.
+    spares: u32,
+    free: u32,
 }
 
 /// `inside` if the place is a cell, and `outside` if it is the end of a list.
@@ -95,7 +98,8 @@ impl<T> Chains<T> {
         requires { (cells ≤ 2 ^ 24) × (lists ≤ 2 ^ 21) }
         ensures tied { IfOk result (λ c. IsTied c) }
         ensures fields { IfOk result (λ c. (c.capacity ≡ cells) × (c.used ≡ 0)
-            × (c.block ≡ replicate cells None) × (length c.heads.items ≡ lists)) }
+            × (c.block ≡ replicate cells None) × (length c.heads.items ≡ lists)
+            × (c.spares ≡ 0)) }
         ensures empty { IfOk result (λ c. (rings_of c ≡ replicate lists []) ×
             (total c.heads.items ≡ 0)) }
     {
@@ -106,6 +110,8 @@ impl<T> Chains<T> {
             heads,
             capacity: cells,
             used: 0,
+            spares: 0,
+            free: 0,
         })
     }
 
@@ -121,6 +127,8 @@ impl<T> Chains<T> {
             heads: _,
             capacity: _,
             used,
+            spares: _,
+            free: _,
         } = self;
         let mut at = 0;
         while at < used {
@@ -130,10 +138,9 @@ impl<T> Chains<T> {
         block.release();
     }
 
-    /// Takes a node out of the block, with what it holds, and empties its list.
+    /// Takes a node out of the block, with what it holds, and empties its list if it is on one.
     fn empty_list(&mut self, cell: u32) -> Node<T>
         requires cell { IsFilled self.old.block cell }
-        requires list { (at self.old.block cell).list < length self.old.heads.items }
         requires small { self.old.capacity + length self.old.heads.items ≤ 2 ^ 31 }
         ensures node { get_or self.old.block cell None ≡ Some result }
         ensures block { self.new.block ≡ slice_set self.old.block cell None }
@@ -142,24 +149,26 @@ impl<T> Chains<T> {
         ensures sizes { SameSizes self.old self.new }
     {
         let node = self.block.take(cell as usize);
-        let end = self.capacity + node.list;
-        self.heads[node.list as usize] = Head {
-            first: end,
-            last: end,
-            count: 0,
-        };
+        if (node.list as usize) < self.heads.len() {
+            let end = self.capacity + node.list;
+            self.heads[node.list as usize] = Head {
+                first: end,
+                last: end,
+                count: 0,
+            };
+        }
         node
     }
 
     /// Takes all cells off their lists and drops what they hold. They count as never used then.
-    pub(crate) fn empty_lists(&mut self, spare: u32)
+    pub(crate) fn empty_lists(&mut self)
     where
         T: Drop,
-        requires { IsArena spare self.old }
+        requires { IsArena self.old }
         ensures tied { IsTied self.new }
         ensures fields { (self.new.capacity ≡ self.old.capacity) × (self.new.used ≡ 0)
             × (self.new.block ≡ replicate self.old.capacity None)
-            × (length self.new.heads.items ≡ length self.old.heads.items) }
+            × (length self.new.heads.items ≡ length self.old.heads.items) × (self.new.spares ≡ 0) }
         ensures empty { (rings_of self.new ≡ replicate (length self.old.heads.items) []) ×
             (total self.new.heads.items ≡ 0) }
     {
@@ -169,6 +178,7 @@ impl<T> Chains<T> {
             at += 1;
         }
         self.used = 0;
+        self.spares = 0;
     }
 
     /// Takes a cell off its list. The node stays in the block, with what it holds.
@@ -176,6 +186,7 @@ impl<T> Chains<T> {
     fn unhook(&mut self, cell: u32)
         requires tied { IsTied self.old }
         requires cell { IsFilled self.old.block cell }
+        requires on { (at self.old.block cell).list < length self.old.heads.items }
         ensures tied { IsTied (emptied cell self.new) }
         ensures value { look_up cell (rings_of self.old) ≡ Some (at self.new.block cell).item }
         ensures lists { rings_of (emptied cell self.new) ≡ map (without cell) (rings_of self.old) }
@@ -221,12 +232,13 @@ impl<T> Chains<T> {
         };
     }
 
-    /// Takes a used cell off its list, and its item out of it.
+    /// Takes a cell off its list, and its item out of it.
     #[inline(always)]
-    pub(crate) fn lift(&mut self, spare: u32, cell: u32) -> Option<T>
-        requires arena { IsArena spare self.old }
+    pub(crate) fn lift(&mut self, cell: u32) -> Option<T>
+        requires arena { IsArena self.old }
         requires cell { IsFilled self.old.block cell }
-        ensures lacks { Lacks spare cell self.new }
+        requires on { (at self.old.block cell).list < length self.old.heads.items }
+        ensures lacks { Lacks cell self.new }
         ensures value { look_up cell (rings_of self.old) ≡ Some result }
         ensures lists { rings_of self.new ≡ map (without cell) (rings_of self.old) }
         ensures sizes { (self.new.capacity ≡ self.old.capacity) × (self.new.used ≡ self.old.used) }
@@ -235,14 +247,13 @@ impl<T> Chains<T> {
         self.block.take(cell as usize).item
     }
 
-    /// Writes a cell that is on no list, with this item, and puts it at the end of a list.
+    /// Writes a cell that is on no list and not free, with this value, and puts it at the end of a list.
     #[inline(always)]
-    pub(crate) fn fill(&mut self, spare: u32, list: u32, cell: u32, item: Option<T>)
-        requires lacks { Lacks spare cell self.old }
-        requires list { list ≤ spare }
-        requires item { Suits spare list item }
-        ensures arena { IsArena spare self.new }
-        ensures lists { rings_of self.new ≡ append_to list (cell, item) (rings_of self.old) }
+    pub(crate) fn fill(&mut self, list: u32, cell: u32, item: T)
+        requires lacks { Lacks cell self.old }
+        requires list { list < length self.old.heads.items }
+        ensures arena { IsArena self.new }
+        ensures lists { rings_of self.new ≡ append_to list (cell, Some item) (rings_of self.old) }
         ensures sizes { (self.new.capacity ≡ self.old.capacity) × (self.new.used ≡ self.old.used) }
     {
         // `hook` writes the links.
@@ -250,20 +261,40 @@ impl<T> Chains<T> {
             prev: 0,
             next: 0,
             list,
-            item,
+            item: Some(item),
         };
         self.block.put(cell as usize, node);
         self.hook(list, cell);
     }
 
-    /// Moves a cell with its value from its list to the end of one of the caller's.
+    /// Makes a cell free that is on no list.
     #[inline(always)]
-    pub(crate) fn relink(&mut self, spare: u32, list: u32, cell: u32)
-        requires arena { IsArena spare self.old }
-        requires list { list < spare }
+    pub(crate) fn release(&mut self, cell: u32)
+        requires { Lacks cell self.old }
+        ensures arena { IsArena self.new }
+        ensures lists { rings_of self.new ≡ rings_of self.old }
+        ensures sizes { self.new.capacity ≡ self.old.capacity }
+    {
+        let node = Node {
+            prev: 0,
+            next: self.free,
+            list: self.lists(),
+            item: None,
+        };
+        self.block.put(cell as usize, node);
+        self.free = cell;
+        self.spares += 1;
+    }
+
+    /// Moves a cell with its value from its list to the end of one.
+    #[inline(always)]
+    pub(crate) fn relink(&mut self, list: u32, cell: u32)
+        requires arena { IsArena self.old }
+        requires list { list < length self.old.heads.items }
         requires cell { IsFilled self.old.block cell }
+        requires on { (at self.old.block cell).list < length self.old.heads.items }
         requires value { (v : T) × (look_up cell (rings_of self.old) ≡ Some (Some v)) }
-        ensures arena { IsArena spare self.new }
+        ensures arena { IsArena self.new }
         ensures lists { IfSome (look_up cell (rings_of self.old)) (λ item.
             rings_of self.new ≡ append_to list (cell, item) (map (without cell) (rings_of
             self.old))) }
@@ -289,26 +320,29 @@ impl<T> Chains<T> {
     }
 
     /// A cell that was used and is free.
-    fn reuse(&mut self, spare: u32) -> u32
-        requires arena { IsArena spare self.old }
-        requires some { 0 < (get_or self.old.heads.items spare no_head).count }
-        ensures lacks { Lacks spare result self.new }
-        ensures same { (shown spare (rings_of self.new) ≡ shown spare (rings_of self.old))
+    #[inline(always)]
+    fn reuse(&mut self) -> u32
+        requires arena { IsArena self.old }
+        requires some { 0 < self.old.spares }
+        ensures lacks { Lacks result self.new }
+        ensures same { (rings_of self.new ≡ rings_of self.old)
             × (self.new.capacity ≡ self.old.capacity) }
         ensures used { self.new.used ≡ self.old.used }
     {
-        let cell = self.heads[spare as usize].last;
-        let item = self.lift(spare, cell);
+        let cell = self.free;
+        self.free = self.next(cell);
+        let item = self.block.take(cell as usize).item;
         let None = item else { unreachable!() };
+        self.spares -= 1;
         cell
     }
 
     /// A cell that was never used.
-    fn unused(&mut self, spare: u32) -> u32
-        requires arena { IsArena spare self.old }
+    fn unused(&mut self) -> u32
+        requires arena { IsArena self.old }
         requires some { self.old.used < self.old.capacity }
-        ensures lacks { Lacks spare result self.new }
-        ensures same { (shown spare (rings_of self.new) ≡ shown spare (rings_of self.old))
+        ensures lacks { Lacks result self.new }
+        ensures same { (rings_of self.new ≡ rings_of self.old)
             × (self.new.capacity ≡ self.old.capacity) }
     {
         let cell = self.used;
@@ -317,33 +351,40 @@ impl<T> Chains<T> {
     }
 
     /// How many cells are free.
-    pub(crate) fn free(&self, spare: u32) -> u32
-        requires { IsArena spare self.now }
-        ensures { result ≡ free_cells (model spare self.now) }
+    pub(crate) fn free(&self) -> u32
+        requires { IsArena self.now }
+        ensures { result ≡ free_cells (model self.now) }
     {
-        self.heads[spare as usize].count + (self.capacity - self.used)
+        self.spares + (self.capacity - self.used)
     }
 
     /// A free cell, if there is one.
     #[inline(always)]
-    pub(crate) fn take_free(&mut self, spare: u32) -> Option<u32>
-        requires { IsArena spare self.old }
-        ensures lacks { IfSome result (λ x. Lacks spare x self.new) }
-        ensures same { OnSome result ((shown spare (rings_of self.new) ≡ shown spare (rings_of
-            self.old))
+    pub(crate) fn take_free(&mut self) -> Option<u32>
+        requires { IsArena self.old }
+        ensures lacks { IfSome result (λ x. Lacks x self.new) }
+        ensures same { OnSome result ((rings_of self.new ≡ rings_of self.old)
             × (self.new.capacity ≡ self.old.capacity)) }
         ensures none { IfNone result (self.new ≡ self.old) }
-        ensures full { IsNone result ↔ (free_cells (model spare self.old) ≡ 0) }
-        ensures used { OnSome result (0 < (get_or self.old.heads.items spare no_head).count →
-            self.new.used ≡ self.old.used) }
+        ensures full { IsNone result ↔ (free_cells (model self.old) ≡ 0) }
+        ensures used { OnSome result (0 < self.old.spares → self.new.used ≡ self.old.used) }
     {
-        if self.heads[spare as usize].count > 0 {
-            return Some(self.reuse(spare));
+        if self.spares > 0 {
+            return Some(self.reuse());
         }
         if self.used < self.capacity {
-            return Some(self.unused(spare));
+            return Some(self.unused());
         }
         None
+    }
+
+    /// How many lists there are.
+    #[inline(always)]
+    pub(crate) fn lists(&self) -> u32
+        requires { length self.now.heads.items ≤ 2 ^ 21 }
+        ensures { result ≡ length self.now.heads.items }
+    {
+        self.heads.len() as u32
     }
 
     /// How many cells a list has.
@@ -373,13 +414,13 @@ impl<T> Chains<T> {
         self.block.get(cell as usize).next
     }
 
-    /// Whether a used cell has a value.
-    pub(crate) fn is_full(&self, cell: u32) -> bool
+    /// Whether a used cell is on a list.
+    pub(crate) fn is_on_list(&self, cell: u32) -> bool
         requires { IsFilled self.now.block cell }
         ensures { (n : Node T) → get_or self.now.block cell None ≡ Some n →
-            result ≡ is_some n.item }
+            result ≡ nat_lt n.list (length self.now.heads.items) }
     {
-        self.block.get(cell as usize).item.is_some()
+        (self.block.get(cell as usize).list as usize) < self.heads.len()
     }
 
     /// The value of a cell that has one.

@@ -1,7 +1,6 @@
 -- What the index of a line in its set says of the definitions by recursion.
 use Rattle.std.proofs.Common.{◌≡◌, ◌≢◌, ℕ, zero, suc, ◌<◌, length, true, false, List, [], ◌∷◌}
-use Rattle.std.proofs.Common.{get_or, Some, None, refl, sym, ◌∙◌, arith}
-use Rattle.std.specs.List.{remove}
+use Rattle.std.proofs.Common.{get_or, Some, None, refl, arith}
 use Rattle.line_sets.specs.Order.{find, is_there, without, IsDistinct, IsFirstAt}
 
 module _ {X : Type 0} where
@@ -44,18 +43,8 @@ module _ {X : Type 0} where
   first-find (p ∷ ps) line zero d h = grind arith
   first-find (p ∷ ps) line (suc at) d h = let rest = first-find ps line at d h.1 in grind arith
 
-  pub first-without : (ps : List (ℕ × X)) (line at : ℕ) → IsDistinct ps → IsFirstAt ps line at →
-      without ps line ≡ remove ps at
-  first-without [] line at once h = absurd h
-  first-without (p ∷ ps) line zero once h = let rest = missing-without ps line in grind arith
-  first-without (p ∷ ps) line (suc at) once h = let rest = first-without ps line at once.1 h.1 in grind arith
-
   -- the index is one of the list's
   pub first-below : (ps : List (ℕ × X)) (line at : ℕ) → IsFirstAt ps line at → at < length ps
   first-below [] line at h = absurd h
   first-below (p ∷ ps) line zero h = omega arith
   first-below (p ∷ ps) line (suc at) h = let low = first-below ps line at h.1 in omega arith
-
-  pub removed : (ps qs : List (ℕ × X)) (line at : ℕ) → IsDistinct ps → IsFirstAt ps line at → qs ≡ remove ps at →
-      qs ≡ without ps line
-  removed ps qs line at once h e = e ∙ sym (first-without ps line at once h)

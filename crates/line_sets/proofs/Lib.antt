@@ -3,7 +3,7 @@ mod ListedChanges
 mod ListedSums
 mod OrderLaws
 mod RowLaws
-mod ShiftedPairs
+mod SwappedRows
 mod StoredSets
 mod TableLaws
 mod TaggedCells

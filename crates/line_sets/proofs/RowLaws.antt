@@ -46,6 +46,7 @@ pub record IsPlaced (places : List (Option ℕ)) (rows now : List (List (ℕ × 
   pub within : k < length rows
   pub row : (v : List (ℕ × ℕ)) → v ≡ get_or rows k v → set_at now i ≡ v
   pub written : (w : List (ℕ × ℕ)) → rows_of places (set rows k w) ≡ set now i w
+  pub read : (w : List (ℕ × ℕ)) → set_at (rows_of places (set rows k w)) i ≡ w
 
 pub placed : {places : List (Option ℕ)} {sets : List ℕ} {rows now : List (List (ℕ × ℕ))} {i k : ℕ} {o : Option ℕ} →
     rows_of places rows ≡ now → IsSpread places sets rows → i < length now → o ≡ get_or places i o → o ≡ Some k →
@@ -66,6 +67,8 @@ placed {places} {rows = rows} {now} {i} {k} {o} is spread h read some =
           (λ j lt ne. seen-written rows k w (get_or places j None)
           (λ e. ne (sym (spread.own j k e) ∙ spread.own i k at)))
           ∙ (λ n. set (is n) i ((ap (row_at (set rows k w)) at ∙ get_or-set_same rows k w [] within) n));
+      read = λ w. get_or-map (row_at (set rows k w)) places i None [] low ∙ ap (row_at (set rows k w)) at
+          ∙ get_or-set_same rows k w [] within;
     }
 
 -- a set that has none, at the place that the code reads

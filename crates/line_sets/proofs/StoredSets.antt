@@ -13,7 +13,7 @@ use Rattle.line_arena.specs.Arenas.{Lists, lists_of, pushed, unlinked, free_cell
 use Rattle.line_arena.specs.ListLaws.{LookUpLaws, WithoutLaws}
 use Rattle.line_sets.specs.Order.{find, put_last, put_in_place, without, IsDistinct}
 use Rattle.line_sets.specs.SetTable.{Sets, set_at, look, has_place, drop_line}
-use Rattle.line_sets.specs.Stored.{entries_of, tags_of, sets_of, Fits, IsStored}
+use Rattle.line_sets.specs.Stored.{entries_of, tags_of, sets_of, Fits, IsCut, IsStored}
 use Rattle.line_sets.proofs.Indices.{missing-find, missing-without}
 use Rattle.line_sets.proofs.ListedSums.{IsSwap, swap-put_last, swap-put_in_place, swap-without}
 use Rattle.line_sets.proofs.TaggedCells.{CellsOnce, cells-once, none_or_some, rewritten_none, on-line}
@@ -304,14 +304,14 @@ module _ {X : Type 0} where
 
   -- a cell is taken off, and its line out of its row
   pub cut-off : {ways : ℕ} {a b : Lists (ℕ × X)} {rows new : List (List (ℕ × ℕ))} {i line c : ℕ} →
-      IsFound ways a rows i line c → WithoutLaws (ℕ × X) → b ≡ unlinked c a →
-      new ≡ set rows i (without (set_at rows i) line) →
+      IsFound ways a rows i line c → WithoutLaws (ℕ × X) → b ≡ unlinked c a → new ≡ set rows i (set_at new i) →
+      IsCut (set_at rows i) line (set_at new i) →
       Becomes ways a b new i (without (set_at (sets_of a.lists) i) line) line None
-  cut-off {a = a} {rows = rows} {i = i} {line} {c} found laws is row_is =
+  cut-off {a = a} {new = new} {i = i} {line} {c} found laws is row_is cut =
       let fits = found.stored.fits i found.low in let cells = apart a.lists i found.once in
-      becomes (without (set_at rows i) line) (cell.without c (get_or a.lists i [])) found.stored found.low
+      becomes (set_at new i) (cell.without c (get_or a.lists i [])) found.stored found.low
       (swap-without (set_at (sets_of a.lists) i) line (distinct-at i found.stored found.low))
-      (is ∙ ap (λ us. lists_of us a.cells) (cut-lists found laws)) row_is (fits-cut line fits cells found.tag)
+      (is ∙ ap (λ us. lists_of us a.cells) (cut-lists found laws)) row_is (fits-cut line fits cells found.tag cut)
       (cut-entries (get_or a.lists i []) line c cells fits.lines (sym (fits.found line) ∙ found.tag)
       ∙ ap (λ us. without us line) (sym (entries-at a.lists i found.low)))
 
@@ -329,15 +329,12 @@ module _ {X : Type 0} where
       ∙ ap (λ us. put_last us line v) (sym (entries-at a.lists i fresh.low)))
 
   -- no line is taken out
-  pub nothing-cut : {ways : ℕ} {a : Lists (ℕ × X)} {rows new : List (List (ℕ × ℕ))} {now : Sets X} (i line : ℕ) →
+  pub nothing-cut : {ways : ℕ} {a : Lists (ℕ × X)} {rows : List (List (ℕ × ℕ))} {now : Sets X} (i line : ℕ) →
       IsStored ways a rows → table_of ways (sets_of a.lists) ≡ now → i < length now.sets →
-      find (set_at rows i) line ≡ None → new ≡ set rows i (without (set_at rows i) line) →
-      (new ≡ rows) × (now.sets ≡ drop_line now.sets i line)
-  nothing-cut {a = a} {rows} {new} {now} i line stored is h none row_is = (
-    row_is ∙ ap (set rows i) (missing-without (set_at rows i) line (ap is_some none)) ∙ set-get_or rows i [],
-    sym (ap (set now.sets i) (missing-without (set_at now.sets i) line
-        (ap is_some (is-missing i line stored is h none))) ∙ set-get_or now.sets i []),
-  )
+      find (set_at rows i) line ≡ None → now.sets ≡ drop_line now.sets i line
+  nothing-cut {now = now} i line stored is h none =
+      sym (ap (set now.sets i) (missing-without (set_at now.sets i) line
+      (ap is_some (is-missing i line stored is h none))) ∙ set-get_or now.sets i [])
 
   -- where a set has room, a cell is free
   sum-below : (ways : ℕ) (ls : List (List (ℕ × (ℕ × X)))) → ((j : ℕ) → j < length ls → length (get_or ls j []) ≤ ways)

@@ -8,10 +8,10 @@ use Rattle.line_arena.specs.CellLists.{find_cell, rewritten}
 use Rattle.line_arena.specs.CellLists as cell
 use Rattle.line_arena.specs.Arenas.{cell_in}
 use Rattle.line_sets.specs.Order.{find, is_there, put_last, put_in_place, without, IsDistinct}
-use Rattle.line_sets.specs.Stored.{entries_of, tags_of, Fits}
+use Rattle.line_sets.specs.Stored.{entries_of, tags_of, Fits, IsCut}
 use Rattle.line_sets.proofs.Indices.{missing-without}
 use Rattle.line_sets.proofs.OrderLaws.{find-put_last_same, find-put_last_other, find-without_same, find-without_other}
-use Rattle.line_sets.proofs.OrderLaws.{length-without_there, IsDistinct-put_last}
+use Rattle.line_sets.proofs.OrderLaws.{IsDistinct-put_last}
 use Rattle.line_sets.proofs.OrderLaws.{IsDistinct-without, length-without_exact}
 
 module _ {X : Type 0} where
@@ -227,16 +227,15 @@ module _ {X : Type 0} where
       (λ j. last-there row (tags_of xs) line c j h (fits.found j))
       fits.distinct (IsDistinct-put_last (tags_of xs) line c fits.lines)
 
-  pub fits-cut : {ways : ℕ} {row : List (ℕ × ℕ)} {xs : List (ℕ × (ℕ × X))} (line : ℕ) {c : ℕ} → Fits ways row xs →
-      CellsOnce xs → find row line ≡ Some c → Fits ways (without row line) (cell.without c xs)
-  fits-cut {ways} {row} {xs} line {c} fits once h =
+  pub fits-cut : {ways : ℕ} {row new : List (ℕ × ℕ)} {xs : List (ℕ × (ℕ × X))} (line : ℕ) {c : ℕ} → Fits ways row xs →
+      CellsOnce xs → find row line ≡ Some c → IsCut row line new → Fits ways new (cell.without c xs)
+  fits-cut {ways} {row} {new} {xs} line {c} fits once h cut =
       let tag = sym (fits.found line) ∙ h in
       let fewer = length-without_exact (tags_of xs) line fits.lines (ap is_some tag) in
-      let shorter = length-without_there row line (ap is_some h) in
-      let long = long-tags fits in let within = fits.within in let short = fits.short in
-      fits-by ways (without row line) (cell.without c xs) (without (tags_of xs) line)
+      let shorter = cut.fewer in let long = long-tags fits in let within = fits.within in let short = fits.short in
+      fits-by ways new (cell.without c xs) (without (tags_of xs) line)
       (cut-tags xs line c once fits.lines tag) (omega arith) (omega arith)
-      (λ j. without-found row (tags_of xs) line j (fits.found j)) (IsDistinct-without row line fits.distinct)
+      (λ j. cut.found j ∙ without-found row (tags_of xs) line j (fits.found j)) cut.distinct
       (IsDistinct-without (tags_of xs) line fits.lines)
 
   -- the lines after a cell with a new value is moved to the end

@@ -2,8 +2,14 @@
 -- lines and cells for each set.
 use Rattle.std.specs.Prelude.{◌≡◌, ℕ, ◌+◌, ◌*◌, ◌<◌, ◌≤◌, Bool, not, List, [], length, map, get_or}
 use Rattle.line_arena.specs.Arenas.{Lists}
-use Rattle.line_sets.specs.Order.{find, lines_passing, IsDistinct}
+use Rattle.line_sets.specs.Order.{find, lines_passing, without, IsDistinct}
 use Rattle.line_sets.specs.SetTable.{set_at}
+
+-- a row without one of its lines, in any order
+pub record IsCut (row : List (ℕ × ℕ)) (line : ℕ) (new : List (ℕ × ℕ)) : Type 0 where
+  pub fewer : length new + 1 ≡ length row
+  pub found : (other : ℕ) → find new other ≡ find (without row line) other
+  pub distinct : IsDistinct new
 
 module _ {X : Type 0} where
   -- the lines and values of a list of cells

@@ -1,6 +1,7 @@
 //! One row: lines, each with the cell where it is kept.
-ghost use Rattle.std.specs.Prelude.{◌≡◌, ◌<◌, ◌≤◌, ◌++◌, ◌∷◌, [], length, remove, take, ◌-◌, IfSome};
-ghost use Rattle.line_sets.specs.Order.{find, without, IsDistinct, IsIndexOf};
+ghost use Rattle.std.specs.Prelude.{◌≡◌, ◌<◌, ◌++◌, ◌∷◌, [], length, IfSome, None};
+ghost use Rattle.line_sets.specs.Order.{find, IsDistinct, IsIndexOf};
+ghost use Rattle.line_sets.specs.Stored.{IsCut};
 
 use std::marker::Model;
 
@@ -50,19 +51,6 @@ fn find_cell(entries: &[(u64, u32)], line: u64) -> Option<u32>
     }
 }
 
-/// Moves the pairs after an index, of so many, down by one.
-fn move_down(entries: &mut [(u64, u32)], count: usize, at: usize)
-    requires index { at < count }
-    requires within { count ≤ length entries.old }
-    ensures { take (count - 1) entries.new ≡ remove (take count entries.old) at }
-{
-    let mut to = at;
-    while to + 1 < count {
-        entries[to] = entries[to + 1];
-        to += 1;
-    }
-}
-
 impl Row {
     /// No lines.
     pub(crate) fn new() -> Row
@@ -92,19 +80,20 @@ impl Row {
         self.count += 1;
     }
 
-    /// Takes a line out, if it is there, and gives its cell.
+    /// Takes a line out, if it is there, and gives its cell. The last line takes its place.
     #[inline(always)]
     pub(crate) fn take(&mut self, line: u64) -> Option<u32>
         requires { IsDistinct self.old }
         ensures value { result ≡ find self.old line }
-        ensures items { self.new ≡ without self.old line }
+        ensures absent { result ≡ None → self.new ≡ self.old }
+        ensures items { IfSome result (λ _. IsCut self.old line self.new) }
     {
         let count = self.count as usize;
         let Some(at) = index_of(&self.entries[..count], line) else {
             return None;
         };
         let cell = self.entries[at].1;
-        move_down(&mut self.entries, count, at);
+        self.entries[at] = self.entries[count - 1];
         self.count -= 1;
         Some(cell)
     }

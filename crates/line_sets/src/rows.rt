@@ -1,6 +1,7 @@
 //! Where the lines of each set are kept: a row of lines with their cells for each set that had a line.
-ghost use Rattle.std.specs.Prelude.{◌≡◌, ◌<◌, ◌≤◌, [], ◌∷◌, ◌++◌, length, replicate, slice_set, IfOk};
-ghost use Rattle.line_sets.specs.Order.{find, without, IsDistinct};
+ghost use Rattle.std.specs.Prelude.{◌≡◌, ◌<◌, ◌≤◌, [], ◌∷◌, ◌++◌, length, replicate, slice_set, IfOk, IfSome, None};
+ghost use Rattle.line_sets.specs.Order.{find, IsDistinct};
+ghost use Rattle.line_sets.specs.Stored.{IsCut};
 ghost use Rattle.line_sets.specs.SetTable.{set_at};
 
 use crate::entries::Row;
@@ -102,7 +103,9 @@ impl Rows {
         requires in_table { set < length self.old }
         requires distinct { IsDistinct (set_at self.old set) }
         ensures value { result ≡ find (set_at self.old set) line }
-        ensures after { self.new ≡ slice_set self.old set (without (set_at self.old set) line) }
+        ensures absent { result ≡ None → self.new ≡ self.old }
+        ensures others { self.new ≡ slice_set self.old set (set_at self.new set) }
+        ensures row { IfSome result (λ _. IsCut (set_at self.old set) line (set_at self.new set)) }
     {
         let Some(place) = self.places[set] else {
             return None;

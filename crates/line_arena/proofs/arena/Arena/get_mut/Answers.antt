@@ -12,7 +12,7 @@ value_mut-requires g c =
 pub invariant_of-self-lent : goal.invariant_of-self-lent
 invariant_of-self-lent g c =
     let h = held c.self.invariant c.self.view_is c.cell.view_is c.requires in
-    λ w. (arena_written c.self.inside.lists c.self.inside.chains c.self.invariant c.cell.inside.0 h.value w
+    λ w. (arena_written c.self.inside.chains c.self.invariant c.cell.inside.0 h.value w
     h.seen_as).0
 
 pub returns : goal.returns
@@ -20,7 +20,7 @@ returns g c =
     let h = held c.self.invariant c.self.view_is c.cell.view_is c.requires in (
       (
         refl,
-        λ w. (arena_written c.self.inside.lists c.self.inside.chains c.self.invariant c.cell.inside.0 h.value w
+        λ w. (arena_written c.self.inside.chains c.self.invariant c.cell.inside.0 h.value w
             h.seen_as).1
             ∙ (λ k. lists_of (map (rewritten (c.cell.view_is k) w) (c.self.view_is k).lists) (c.self.view_is k).cells),
       ),

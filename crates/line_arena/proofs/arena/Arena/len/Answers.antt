@@ -6,7 +6,7 @@ use Rattle.line_arena.proofs.arena.Arena.len.Goals as goal
 
 pub returns : goal.returns
 returns g c =
-    let s = c.self.inside.chains in let n = c.self.inside.lists in let i = c.self.invariant in let l = c.args.list in
-    let many = i.many in let rings_many = i.tied.tied.many in let long = length-shown n (rings_of s) (omega arith) in
+    let s = c.self.inside.chains in let i = c.self.invariant in let l = c.args.list in
+    let rings_many = i.tied.tied.many in let long = length-shown (rings_of s) in
     let same = ap (λ a. length a.lists) c.self.view_is in let low = c.requires in
-    c.count.ensures ∙ sym (one_length n s i l (omega arith)) ∙ ap (λ a. length (get_or a.lists l [])) c.self.view_is
+    c.count.ensures ∙ sym (one_length s i l (omega arith)) ∙ ap (λ a. length (get_or a.lists l [])) c.self.view_is

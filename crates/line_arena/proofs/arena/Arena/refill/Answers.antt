@@ -2,6 +2,7 @@ use Rattle.std.proofs.Common.{map, Some, sym, ap, ◌∙◌, arith, is_some}
 use Rattle.std.proofs.lemmas.List.{length-map}
 use Rattle.line_arena.specs.CellLists.{without, append_to}
 use Rattle.line_arena.specs.Chains.{rings_of}
+use Rattle.line_arena.specs.Rings.{or_blank}
 use Rattle.line_arena.proofs.Places.{held}
 use Rattle.line_arena.proofs.Shows.{pushed_to}
 use Rattle.line_arena.proofs.Seen.{same_some}
@@ -23,11 +24,14 @@ returns-clause-value g c =
 
 pub returns-clause-after : goal.returns-clause-after
 returns-clause-after g c =
-    let h = held c.self.invariant c.self.view_is c.cell.view_is c.requires.cell in let i = c.self.invariant in
-    let many = i.many in let rings_many = i.tied.tied.many in let low = c.requires.list in
-    let left = length-map (rings_of c.self.inside.chains) (without c.cell.inside.0) in
+    let h = held c.self.invariant c.self.view_is c.cell.view_is c.requires.cell in let low = c.requires.list in
     let same = length-map c.args.self.now.lists (without c.args.cell) in
     pushed_to (map (without c.cell.inside.0) (rings_of c.self.inside.chains)) c.fill.new.self c.args.item
-    (omega arith) h.kept (omega arith) c.cell.view_is
+    h.kept (omega arith) c.cell.view_is
     (c.fill.ensures.lists ∙ ap (append_to c.args.list (c.cell.inside.0, Some c.args.item)) c.lift-before.ensures.lists)
     (c.fill.ensures.sizes.0 ∙ c.lift-before.ensures.sizes.0 ∙ ap (λ a. a.cells) c.self.view_is)
+
+pub lift-before-requires-clause-on : goal.lift-before-requires-clause-on
+lift-before-requires-clause-on g c =
+    let h = held c.self.invariant c.self.view_is c.cell.view_is c.requires.cell in
+    rw (ap (λ o. (or_blank o).list) h.is) h.on

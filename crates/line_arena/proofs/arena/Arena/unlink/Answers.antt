@@ -1,8 +1,7 @@
 use Rattle.std.proofs.Common.{sym, ap, ◌∙◌, is_some}
 use Rattle.line_arena.specs.Arenas.{lists_of, shown}
-use Rattle.line_arena.specs.Chains.{rings_of}
+use Rattle.line_arena.specs.Rings.{or_blank}
 use Rattle.line_arena.proofs.Places.{held}
-use Rattle.line_arena.proofs.Shows.{shown_spare}
 use Rattle.line_arena.proofs.Seen.{same_some}
 use Rattle.line_arena.proofs.arena.Arena.unlink.Goals as goal
 
@@ -22,8 +21,12 @@ returns-clause-value g c =
 
 pub returns-clause-after : goal.returns-clause-after
 returns-clause-after g c =
-    let h = held c.self.invariant c.self.view_is c.cell.view_is c.requires in let n = c.self.inside.lists in
-    let lists = ap (shown n) c.fill.ensures.lists ∙ shown_spare n (rings_of c.lift-item.new.self) _
-    ∙ ap (shown n) c.lift-item.ensures.lists ∙ h.kept in
-    let cells = c.fill.ensures.sizes.0 ∙ c.lift-item.ensures.sizes.0 ∙ ap (λ a. a.cells) c.self.view_is in
+    let h = held c.self.invariant c.self.view_is c.cell.view_is c.requires in
+    let lists = ap shown (c.release.ensures.lists ∙ c.lift-item.ensures.lists) ∙ h.kept in
+    let cells = c.release.ensures.sizes ∙ c.lift-item.ensures.sizes.0 ∙ ap (λ a. a.cells) c.self.view_is in
     λ i. lists_of (lists i) (cells i)
+
+pub lift-item-requires-clause-on : goal.lift-item-requires-clause-on
+lift-item-requires-clause-on g c =
+    let h = held c.self.invariant c.self.view_is c.cell.view_is c.requires in
+    rw (ap (λ o. (or_blank o).list) h.is) h.on

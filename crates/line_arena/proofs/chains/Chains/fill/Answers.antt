@@ -10,15 +10,15 @@ use Rattle.line_arena.proofs.chains.Chains.fill.Goals as goal
 
 pub hook-requires-clause-tied : goal.hook-requires-clause-tied
 hook-requires-clause-tied g c =
-    let s = c.args.self.now in let x = c.args.cell in let n = node 0 0 c.args.list c.args.item in
+    let s = c.args.self.now in let x = c.args.cell in let n = node 0 0 c.args.list (Some c.args.item) in
     let back = ap (λ cs. set cs x None) c.put.ensures ∙ set-set s.block x (Some n) None
     ∙ set_none s.block x c.requires.lacks.gap.1 in
-    subst (λ cs. IsTied (record { block = cs; heads = s.heads; capacity = s.capacity; used = s.used })) (sym back)
+    subst (λ cs. IsTied (record s { block = cs })) (sym back)
     c.requires.lacks.tied
 
 pub hook-requires-clause-cell : goal.hook-requires-clause-cell
 hook-requires-clause-cell g c =
-    let s = c.args.self.now in let x = c.args.cell in let n = node 0 0 c.args.list c.args.item in let a =
+    let s = c.args.self.now in let x = c.args.cell in let n = node 0 0 c.args.list (Some c.args.item) in let a =
     c.requires.lacks in
     let low = a.gap.0 in let most = a.total.1 in let cells = a.tied.tied.cells in (
       omega (arith, low, most),
@@ -29,29 +29,24 @@ hook-requires-clause-cell g c =
       ),
     )
 
-pub returns-clause-arena : goal.returns-clause-arena
-returns-clause-arena g c =
-    let s = c.args.self.now in let x = c.args.cell in let l = c.args.list in let n = node 0 0 l c.args.item in
-    let a = c.requires.lacks in
-    let back = ap (λ cs. set cs x None) c.put.ensures ∙ set-set s.block x (Some n) None
-    ∙ set_none s.block x a.gap.1 in
-    let low = a.gap.0 in let most = a.total.1 in let cells = a.tied.tied.cells in let e = c.hook.ensures in
-    let item = ap (λ cs. (at cs x).item) c.put.ensures ∙ ap (λ o. (or_blank o).item)
-    (get_or-set_same s.block x (Some n) None (omega (arith, low, most, cells))) in
-    let kept = subst (λ cs. SameUse x (record { block = cs; heads = s.heads; capacity = s.capacity; used = s.used })
-    c.hook.new.self) back e.uses.0 in
-    arena_from c.args.spare l x c.args.item s c.hook.new.self a c.requires.list c.requires.item e.tied
-    e.total kept e.uses.1
-    (record { capacity = e.sizes.capacity; used = e.sizes.used; lists = e.sizes.lists })
-    (e.rings ∙ (λ j. append_to l (x, item j) (rings (back j) s.heads.items)))
-
-pub returns-clause-lists : goal.returns-clause-lists
-returns-clause-lists g c =
-    let s = c.args.self.now in let x = c.args.cell in let l = c.args.list in let n = node 0 0 l c.args.item in
-    let a = c.requires.lacks in
+pub returns : goal.returns
+returns g c =
+    let s = c.args.self.now in let x = c.args.cell in let l = c.args.list in let n = node 0 0 l (Some c.args.item) in
+    let a = c.requires.lacks in let e = c.hook.ensures in
     let back = ap (λ cs. set cs x None) c.put.ensures ∙ set-set s.block x (Some n) None
     ∙ set_none s.block x a.gap.1 in
     let low = a.gap.0 in let most = a.total.1 in let cells = a.tied.tied.cells in
     let item = ap (λ cs. (at cs x).item) c.put.ensures ∙ ap (λ o. (or_blank o).item)
     (get_or-set_same s.block x (Some n) None (omega (arith, low, most, cells))) in
-    c.hook.ensures.rings ∙ (λ j. append_to l (x, item j) (rings (back j) s.heads.items))
+    let kept = subst (λ cs. SameUse x (record s { block = cs }) c.hook.new.self) back e.uses.0 in
+    let lists = e.rings ∙ (λ j. append_to l (x, item j) (rings (back j) s.heads.items)) in
+    record {
+      arena = arena_from l x c.args.item s c.hook.new.self a c.requires.list e.tied e.total kept e.uses.1 (record {
+        capacity = e.sizes.capacity;
+        used = e.sizes.used;
+        free = e.sizes.free;
+        lists = e.sizes.lists;
+      }) lists;
+      lists = lists;
+      sizes = (e.sizes.capacity, e.sizes.used);
+    }

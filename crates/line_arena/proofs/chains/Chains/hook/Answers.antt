@@ -1,6 +1,8 @@
-use Rattle.std.proofs.Common.{◌≡◌, ◌+◌, length, set, Some, None, sym, ap, subst, ◌∙◌, arith, length-set}
+use Rattle.std.proofs.Common.{◌≡◌, ◌+◌, length, set, Some, None, refl, sym, ap, subst, ◌∙◌, arith, length-set}
 use Rattle.std.proofs.Common.{get_or-set_same}
 use Rattle.std.proofs.lemmas.List.{get_or_read, set-set}
+use Rattle.std.proofs.lemmas.List.Sums.{sum_by-set}
+use Rattle.line_arena.specs.declared.node.Head.{Head}
 use Rattle.line_arena.specs.Rings.{no_head, node, at, with_next, edit}
 use Rattle.line_arena.specs.Filled.{IsFilled}
 use Rattle.line_arena.proofs.Moves.{attach_made, last_near, edit_filled, Kept, kept_set, kept_edit}
@@ -15,66 +17,41 @@ set_next-requires g c =
     t.cells in
     let free = get_or-set_same s.block x None None (omega (arith, c.requires.cell.0, long, cells)) in
     let is = get_or_read s.heads.items l h c.requires.list c.index-head.ensures no_head in
-    λ low. subst (λ cs. IsFilled cs h.last) (sym (c.set_links.ensures ∙ sym (set-set s.block x None (Some n))))
-    (last_near (set s.block x None) s.capacity s.heads.items t l x h n c.requires.list free is low)
+    λ low. let near = last_near (set s.block x None) s.capacity s.heads.items t l x h n c.requires.list free is low in
+    subst (λ cs. IsFilled cs h.last) (sym (c.set_links.ensures ∙ sym (set-set s.block x None (Some n))))
+    (near.0, near.1)
 
-pub returns-clause-tied : goal.returns-clause-tied
-returns-clause-tied g c =
+pub returns : goal.returns
+returns g c =
     let s = c.args.self.now in let t = c.requires.tied.tied in let h = c.index-head.result.now in let x =
     c.args.cell in
-    let l = c.args.list in
-    let it = (at s.block x).item in let n = node h.last (s.capacity + l) l it in let long =
-    length-set s.block x None in
-    let many = t.cells in
-    let free = get_or-set_same s.block x None None (omega (arith, c.requires.cell.0, long, many)) in
-    let is = get_or_read s.heads.items l h c.requires.list c.index-head.ensures no_head in
-    let cells = c.set_next.ensures ∙ ap (λ cs. edit s.capacity (with_next x) cs h.last) (c.set_links.ensures
+    let l = c.args.list in let low = c.requires.list in let hs = s.heads.items in let cap = s.capacity in
+    let it = (at s.block x).item in let n = node h.last (cap + l) l it in let gone = set s.block x None in
+    let put = set gone x (Some n) in let all = length hs in let many = t.cells in
+    let long1 = length-set s.block x None in let long : length put ≡ cap = length-set gone x (Some n) ∙ many in
+    let free = get_or-set_same s.block x None None (omega (arith, c.requires.cell.0, long1, many)) in
+    let is = get_or_read hs l h low c.index-head.ensures no_head in
+    let new = record h { first = c.choose.result; last = x; count = h.count + 1 } in
+    let lists = length-set hs l new in
+    let cells = c.set_next.ensures ∙ ap (λ cs. edit cap (with_next x) cs h.last) (c.set_links.ensures
     ∙ sym (set-set s.block x None (Some n))) in
-    let made = attach_made (set s.block x None) s.capacity s.heads.items t l x it h c.choose.result
-    c.set_next.new.block c.requires.list c.requires.cell.0 free is c.choose.ensures cells in
+    let made = attach_made gone cap hs t l x it h c.choose.result c.set_next.new.block low c.requires.cell.0 free is
+    c.choose.ensures cells in
     record {
-      tied = made.0;
-      small = (
-        c.requires.tied.small.0,
-        omega (
-          arith,
-          c.requires.tied.small.1,
-          length-set s.heads.items l
-              (record h { first = c.choose.result; last = x; count = h.count + 1 }),
+      tied = record {
+        tied = made.0;
+        small = (c.requires.tied.small.0, omega (arith, c.requires.tied.small.1, lists));
+      };
+      rings = made.1;
+      total = (let changed = sum_by-set (λ (h : Head). h.count) hs l new no_head low in
+          let same = ap (λ (h : Head). h.count) is in omega (arith, changed, same));
+      uses = subst (λ ds. Kept all x gone ds × IsFilled ds x) (sym cells) (
+        kept_edit all l cap (with_next x) gone put h.last x long (λ m. refl) low
+            (last_near gone cap hs t l x h n low free is) (kept_set all gone x (Some n)),
+        edit_filled cap (with_next x) put h.last x long (λ m. refl) (
+          n,
+          get_or-set_same gone x (Some n) None (omega (arith, many, c.requires.cell.0)),
         ),
       );
+      sizes = record { capacity = refl; used = refl; free = (refl, refl); lists = lists };
     }
-
-pub returns-clause-rings : goal.returns-clause-rings
-returns-clause-rings g c =
-    let s = c.args.self.now in let t = c.requires.tied.tied in let h = c.index-head.result.now in let x =
-    c.args.cell in
-    let l = c.args.list in
-    let it = (at s.block x).item in let n = node h.last (s.capacity + l) l it in let long =
-    length-set s.block x None in
-    let many = t.cells in
-    let free = get_or-set_same s.block x None None (omega (arith, c.requires.cell.0, long, many)) in
-    let is = get_or_read s.heads.items l h c.requires.list c.index-head.ensures no_head in
-    let cells = c.set_next.ensures ∙ ap (λ cs. edit s.capacity (with_next x) cs h.last) (c.set_links.ensures
-    ∙ sym (set-set s.block x None (Some n))) in
-    (attach_made (set s.block x None) s.capacity s.heads.items t l x it h c.choose.result c.set_next.new.block
-    c.requires.list c.requires.cell.0 free is c.choose.ensures cells).1
-
-pub returns-clause-uses : goal.returns-clause-uses
-returns-clause-uses g c =
-    let s = c.args.self.now in let t = c.requires.tied.tied in let h = c.index-head.result.now in let x =
-    c.args.cell in
-    let l = c.args.list in
-    let n = node h.last (s.capacity + l) l (at s.block x).item in let gone = set s.block x None in
-    let put = set gone x (Some n) in
-    let long : length put ≡ s.capacity = length-set gone x (Some n) ∙ t.cells in let many = t.cells in
-    let cells = c.set_next.ensures ∙ ap (λ cs. edit s.capacity (with_next x) cs h.last) (c.set_links.ensures
-    ∙ sym (set-set s.block x None (Some n))) in
-    subst (λ ds. Kept x gone ds × IsFilled ds x) (sym cells) (
-      kept_edit s.capacity (with_next x) gone put h.last x long (kept_set gone x (Some n)),
-      edit_filled s.capacity (with_next x) put h.last x long (
-        n,
-        get_or-set_same gone x (Some n) None
-            (omega (arith, many, c.requires.cell.0)),
-      ),
-    )

@@ -10,20 +10,14 @@ pub returns-clause-lacks : goal.returns-clause-lacks
 returns-clause-lacks g c =
     let s = c.args.self.now in let mid = c.unhook.new.self in let x = c.args.cell in let d = c.unhook.ensures in
     let inside = within mid.block x d.uses.1.0 d.uses.1.1 in
-    let lacks = lacks_from c.args.spare x s (emptied x mid) c.requires.arena c.requires.cell d.tied d.total d.uses.0
+    let lacks = lacks_from x s (emptied x mid) c.requires.arena c.requires.cell c.requires.on d.tied d.total d.uses.0
     (get_or-set_same mid.block x None None inside) (record {
       capacity = d.sizes.capacity;
       used = d.sizes.used;
-      lists =
-          d.sizes.lists;
+      free = d.sizes.free;
+      lists = d.sizes.lists;
     }) d.lists in
-    subst (λ cs. Lacks c.args.spare x (record {
-      block = cs;
-      heads = mid.heads;
-      capacity = mid.capacity;
-      used =
-          mid.used;
-    })) (sym c.take.ensures.after) lacks
+    subst (λ cs. Lacks x (record mid { block = cs })) (sym c.take.ensures.after) lacks
 
 pub returns-clause-value : goal.returns-clause-value
 returns-clause-value g c = c.unhook.ensures.value ∙ ap (λ o. Some (or_blank o).item) c.take.ensures.value

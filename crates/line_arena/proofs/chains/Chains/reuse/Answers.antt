@@ -1,37 +1,34 @@
-use Rattle.std.proofs.Common.{[], get_or, None, sym, ap, subst, ◌∙◌, arith}
-use Rattle.std.proofs.lemmas.List.{get_or_read}
-use Rattle.line_arena.specs.Filled.{IsFilled}
-use Rattle.line_arena.specs.Rings.{no_head, Has}
-use Rattle.line_arena.specs.Chains.{rings_of}
-use Rattle.line_arena.specs.Arenas.{shown}
-use Rattle.line_arena.proofs.Counts.{spare_is_none, spare_last, filled_at, shown_same}
-use Rattle.line_arena.proofs.Seen.{same_some}
+use Rattle.std.proofs.Common.{length, refl, sym, ap, ◌∙◌}
+use Rattle.line_arena.specs.Rings.{or_blank, rings}
+use Rattle.line_arena.proofs.FreeCells.{reused, spare_first}
 use Rattle.line_arena.proofs.chains.Chains.reuse.Goals as goal
 
-pub lift-item-requires-clause-cell : goal.lift-item-requires-clause-cell
-lift-item-requires-clause-cell g c =
-    let s = c.args.self.now in let a = c.requires.arena in let n = c.args.spare in let many = a.many in
-    let is = ap (λ h. h.last) (get_or_read s.heads.items n c.index.result.now (omega arith)
-    c.index.ensures no_head) in
-    subst (IsFilled s.block) (sym is) (filled_at n s a n (get_or s.heads.items n no_head).last (omega arith)
-    (spare_last n s a c.requires.some))
+pub next-self-requires : goal.next-self-requires
+next-self-requires g c =
+    let s = c.args.self.now in let a = c.requires.arena in
+    let first = spare_first (length s.heads.items) s.spares s.free s.block c.requires.some a.spare in
+    (first.0, first.1)
 
-pub returns-clause-same : goal.returns-clause-same
-returns-clause-same g c =
-    let s = c.args.self.now in let a = c.requires.arena in let n = c.args.spare in let many = a.many in
-    let is = ap (λ h. h.last) (get_or_read s.heads.items n c.index.result.now (omega arith)
-    c.index.ensures no_head) in (
-      ap (shown n) c.lift-item.ensures.lists ∙ shown_same n s a c.index.result.now.last
-          (subst (Has (get_or (rings_of s) n [])) (sym is) (spare_last n s a c.requires.some)),
-      c.lift-item.ensures.sizes.0,
-    )
+pub take-item-requires : goal.take-item-requires
+take-item-requires g c =
+    let s = c.args.self.now in let a = c.requires.arena in
+    let first = spare_first (length s.heads.items) s.spares s.free s.block c.requires.some a.spare in
+    (first.0, first.1)
 
 pub unreachable-requires : goal.unreachable-requires
 unreachable-requires g c =
-    let s = c.args.self.now in let a = c.requires.arena in let n = c.args.spare in let many = a.many in
-    let is = ap (λ h. h.last) (get_or_read s.heads.items n c.index.result.now (omega arith)
-    c.index.ensures no_head) in
-    let on = subst (Has (get_or (rings_of s) n [])) (sym is) (spare_last n s a c.requires.some) in
-    c.in_default.not-None
-    (sym (same_some None c.lift-item.result (sym (spare_is_none n s a c.index.result.now.last on)
-    ∙ c.lift-item.ensures.value)))
+    let s = c.args.self.now in let a = c.requires.arena in
+    let first = spare_first (length s.heads.items) s.spares s.free s.block c.requires.some a.spare in
+    c.in_default.not-None (ap (λ o. (or_blank o).item) (sym c.take-item.ensures.value ∙ first.1) ∙ first.3)
+
+pub returns-clause-lacks : goal.returns-clause-lacks
+returns-clause-lacks g c =
+    let s = c.args.self.now in
+    let made = reused s c.take-item.result c.requires.arena c.requires.some c.take-item.ensures.value in
+    rw (c.take-item.ensures.after, c.next-self.ensures c.take-item.result c.take-item.ensures.value) made.0
+
+pub returns-clause-same : goal.returns-clause-same
+returns-clause-same g c =
+    let s = c.args.self.now in
+    let made = reused s c.take-item.result c.requires.arena c.requires.some c.take-item.ensures.value in
+    (ap (λ cs. rings cs s.heads.items) c.take-item.ensures.after ∙ made.1, refl)

@@ -1,10 +1,11 @@
-use Rattle.std.proofs.Common.{◌≡◌, ◌-◌, ◌≤◌, length, set, Some, None, refl, sym, ap, subst, ◌∙◌, arith, length-set}
+use Rattle.std.proofs.Common.{◌≡◌, ◌-◌, ◌≤◌, ◌<◌, length, set, Some, None, refl, sym, ap, subst, ◌∙◌, arith}
+use Rattle.std.proofs.Common.{length-set}
 use Rattle.std.proofs.lemmas.List.{get_or_read}
-use Rattle.line_arena.specs.Rings.{no_head, node, at, with_next, with_prev, edit}
+use Rattle.line_arena.specs.Rings.{no_head, node, or_blank, at, with_next, with_prev, edit}
 use Rattle.line_arena.specs.Filled.{IsFilled}
 use Rattle.line_arena.proofs.Edits.{length-edit}
 use Rattle.line_arena.proofs.EmptiedCells.{filled_back, edit_emptied, edit_item}
-use Rattle.line_arena.proofs.Moves.{prev_near, next_near, some, on_one, found, detach_made, edit_filled, Kept}
+use Rattle.line_arena.proofs.Moves.{prev_near, next_near, some, found, detach_made, edit_filled, edit_on, Kept}
 use Rattle.line_arena.proofs.Moves.{kept_set, kept_edit, total_down}
 use Rattle.line_arena.proofs.chains.Chains.unhook.Goals as goal
 
@@ -12,125 +13,53 @@ pub set_next-requires : goal.set_next-requires
 set_next-requires g c =
     let s = c.args.self.now in let t = c.requires.tied.tied in let x = c.args.cell in let k =
     c.position-links.result in
-    let n = node k.prev k.next k.list (at s.block x).item in
-    λ low. filled_back s.block x k.prev (prev_near s.block s.capacity s.heads.items t x n
-    c.position-links.ensures low)
+    let n = node k.prev k.next k.list (at s.block x).item in let here = c.position-links.ensures in
+    let on : k.list < length s.heads.items = rw (ap (λ o. (or_blank o).list) here) at c.requires.on in
+    λ low. let near = prev_near s.block s.capacity s.heads.items t x n here on low in
+    filled_back s.block x k.prev (near.0, near.1)
 
 pub set_prev-requires : goal.set_prev-requires
 set_prev-requires g c =
     let s = c.args.self.now in let t = c.requires.tied.tied in let x = c.args.cell in let k =
     c.position-links.result in
-    let n = node k.prev k.next k.list (at s.block x).item in
-    λ low. subst (λ cs. IsFilled cs k.next) (sym c.set_next.ensures) (edit_filled s.capacity (with_next k.next)
-    s.block k.prev k.next t.cells
-    (filled_back s.block x k.next (next_near s.block s.capacity s.heads.items t x n c.position-links.ensures low)))
+    let n = node k.prev k.next k.list (at s.block x).item in let here = c.position-links.ensures in
+    let on : k.list < length s.heads.items = rw (ap (λ o. (or_blank o).list) here) at c.requires.on in
+    λ low. let near = next_near s.block s.capacity s.heads.items t x n here on low in
+    subst (λ cs. IsFilled cs k.next) (sym c.set_next.ensures) (edit_filled s.capacity (with_next k.next)
+    s.block k.prev k.next t.cells (λ m. refl) (filled_back s.block x k.next (near.0, near.1)))
 
 pub index-head-requires : goal.index-head-requires
 index-head-requires g c =
-    let s = c.args.self.now in let x = c.args.cell in let k = c.position-links.result in
-    let n = node k.prev k.next k.list (at s.block x).item in
-    omega (
-      arith,
-      on_one s.block s.capacity s.heads.items c.requires.tied.tied x n c.position-links.ensures,
-      s.heads.ok.0,
-    )
+    let s = c.args.self.now in
+    let on = rw (ap (λ o. (or_blank o).list) c.position-links.ensures) at c.requires.on in
+    omega (arith, on, s.heads.ok.0)
 
 pub overflow_sub-head : goal.overflow_sub-head
 overflow_sub-head g c =
     let s = c.args.self.now in let t = c.requires.tied.tied in let x = c.args.cell in let k =
     c.position-links.result in
     let n = node k.prev k.next k.list (at s.block x).item in let here = c.position-links.ensures in
-    let is = get_or_read s.heads.items k.list c.index-head.result.now (on_one s.block s.capacity s.heads.items t x n
-    here) c.index-head.ensures no_head in
-    subst (λ h. 1 ≤ h.count) (sym is) (some s.block s.capacity s.heads.items t x n here)
+    let on : k.list < length s.heads.items = rw (ap (λ o. (or_blank o).list) here) at c.requires.on in
+    let is = get_or_read s.heads.items k.list c.index-head.result.now on c.index-head.ensures no_head in
+    subst (λ h. 1 ≤ h.count) (sym is) (some s.block s.capacity s.heads.items t x n here on)
 
 pub index_mut-requires : goal.index_mut-requires
 index_mut-requires g c =
-    let s = c.args.self.now in let x = c.args.cell in let k = c.position-links.result in
-    let n = node k.prev k.next k.list (at s.block x).item in
-    omega (
-      arith,
-      on_one s.block s.capacity s.heads.items c.requires.tied.tied x n c.position-links.ensures,
-      s.heads.ok.0,
-    )
+    let s = c.args.self.now in
+    let on = rw (ap (λ o. (or_blank o).list) c.position-links.ensures) at c.requires.on in
+    omega (arith, on, s.heads.ok.0)
 
-pub returns-clause-tied : goal.returns-clause-tied
-returns-clause-tied g c =
+pub returns : goal.returns
+returns g c =
     let s = c.args.self.now in let t = c.requires.tied.tied in let x = c.args.cell in let k =
     c.position-links.result in
-    let cap = s.capacity in
+    let cap = s.capacity in let hs = s.heads.items in let all = length hs in let h = c.index-head.result.now in
     let n = node k.prev k.next k.list (at s.block x).item in let here = c.position-links.ensures in
-    let h = c.index-head.result.now in
-    let is = get_or_read s.heads.items k.list h (on_one s.block cap s.heads.items t x n here)
-    c.index-head.ensures no_head in
-    let written = c.set_prev.ensures ∙ ap (λ cs. edit cap (with_prev k.prev) cs k.next) c.set_next.ensures in
-    let cells = ap (λ cs. set cs x None) written ∙ edit_emptied cap (with_prev k.prev)
-    (edit cap (with_next k.next) s.block k.prev) k.next x
-    ∙ ap (λ cs. edit cap (with_prev k.prev) cs k.next) (edit_emptied cap (with_next k.next) s.block k.prev x) in
-    let made = detach_made s.block cap s.heads.items t x n here h c.choose.result c.choose-2.result
-    (set c.set_prev.new.block x None) is c.choose.ensures c.choose-2.ensures cells in
-    record {
-      tied = made.0;
-      small = (
-        c.requires.tied.small.0,
-        omega (
-          arith,
-          c.requires.tied.small.1,
-          length-set s.heads.items k.list
-              (record h { first = c.choose.result; last = c.choose-2.result; count = h.count - 1 }),
-        ),
-      );
-    }
-
-pub returns-clause-value : goal.returns-clause-value
-returns-clause-value g c =
-    let s = c.args.self.now in let x = c.args.cell in let k = c.position-links.result in
-    let n = node k.prev k.next k.list (at s.block x).item in
-    let next = edit s.capacity (with_next k.next) s.block k.prev in
-    let written = c.set_prev.ensures ∙ ap (λ cs. edit s.capacity (with_prev k.prev) cs k.next) c.set_next.ensures in
-    let same = ap (λ cs. (at cs x).item) written ∙ edit_item s.capacity (with_prev k.prev) (λ m. refl) next k.next x
-    ∙ edit_item s.capacity (with_next k.next) (λ m. refl) s.block k.prev x in
-    found s.block s.capacity s.heads.items c.requires.tied.tied x n c.position-links.ensures
-    ∙ ap (λ o. Some o) (sym same)
-
-pub returns-clause-lists : goal.returns-clause-lists
-returns-clause-lists g c =
-    let s = c.args.self.now in let t = c.requires.tied.tied in let x = c.args.cell in let k =
-    c.position-links.result in
-    let cap = s.capacity in
-    let n = node k.prev k.next k.list (at s.block x).item in let here = c.position-links.ensures in
-    let h = c.index-head.result.now in
-    let is = get_or_read s.heads.items k.list h (on_one s.block cap s.heads.items t x n here)
-    c.index-head.ensures no_head in
-    let written = c.set_prev.ensures ∙ ap (λ cs. edit cap (with_prev k.prev) cs k.next) c.set_next.ensures in
-    let cells = ap (λ cs. set cs x None) written ∙ edit_emptied cap (with_prev k.prev)
-    (edit cap (with_next k.next) s.block k.prev) k.next x
-    ∙ ap (λ cs. edit cap (with_prev k.prev) cs k.next) (edit_emptied cap (with_next k.next) s.block k.prev x) in
-    (detach_made s.block cap s.heads.items t x n here h c.choose.result c.choose-2.result
-    (set c.set_prev.new.block x None) is c.choose.ensures c.choose-2.ensures cells).1
-
-pub returns-clause-total : goal.returns-clause-total
-returns-clause-total g c =
-    let s = c.args.self.now in let t = c.requires.tied.tied in let x = c.args.cell in let k =
-    c.position-links.result in
-    let h = c.index-head.result.now in
-    let n = node k.prev k.next k.list (at s.block x).item in let here = c.position-links.ensures in
-    let lt = on_one s.block s.capacity s.heads.items t x n here in
-    let is = get_or_read s.heads.items k.list h lt c.index-head.ensures no_head in
-    let some1 : 1 ≤ h.count = subst (λ q. 1 ≤ q.count) (sym is) (some s.block s.capacity s.heads.items t x n here) in
-    total_down s.heads.items k.list h (record h {
-      first = c.choose.result;
-      last = c.choose-2.result;
-      count =
-          h.count - 1;
-    }) lt is some1 refl
-
-pub returns-clause-uses : goal.returns-clause-uses
-returns-clause-uses g c =
-    let s = c.args.self.now in let t = c.requires.tied.tied in let x = c.args.cell in let k =
-    c.position-links.result in
-    let cap = s.capacity in
-    let n = node k.prev k.next k.list (at s.block x).item in let here = c.position-links.ensures in
+    let on : k.list < all = rw (ap (λ o. (or_blank o).list) here) at c.requires.on in
+    let is = get_or_read hs k.list h on c.index-head.ensures no_head in
+    let new = record h { first = c.choose.result; last = c.choose-2.result; count = h.count - 1 } in
+    let lists = length-set hs k.list new in
+    let some1 : 1 ≤ h.count = subst (λ q. 1 ≤ q.count) (sym is) (some s.block cap hs t x n here on) in
     let next = edit cap (with_next k.next) s.block k.prev in
     let long : length next ≡ cap = length-edit cap (with_next k.next) s.block k.prev ∙ t.cells in
     let took = set s.block x None in let long1 : length took ≡ cap = length-set s.block x None ∙ t.cells in
@@ -138,9 +67,28 @@ returns-clause-uses g c =
     let long2 : length next1 ≡ cap = length-edit cap (with_next k.next) took k.prev ∙ long1 in
     let written = c.set_prev.ensures ∙ ap (λ cs. edit cap (with_prev k.prev) cs k.next) c.set_next.ensures in
     let cells = ap (λ cs. set cs x None) written ∙ edit_emptied cap (with_prev k.prev) next k.next x
-    ∙ ap (λ cs. edit cap (with_prev k.prev) cs k.next) (edit_emptied cap (with_next k.next) s.block k.prev x) in (
-      subst (Kept x s.block) (sym cells) (kept_edit cap (with_prev k.prev) s.block next1 k.next x long2
-          (kept_edit cap (with_next k.next) s.block took k.prev x long1 (kept_set s.block x None))),
-      subst (λ cs. IsFilled cs x) (sym written) (edit_filled cap (with_prev k.prev) next k.next x long
-          (edit_filled cap (with_next k.next) s.block k.prev x t.cells (n, here))),
-    )
+    ∙ ap (λ cs. edit cap (with_prev k.prev) cs k.next) (edit_emptied cap (with_next k.next) s.block k.prev x) in
+    let made = detach_made s.block cap hs t x n here on h c.choose.result c.choose-2.result
+    (set c.set_prev.new.block x None) is c.choose.ensures c.choose-2.ensures cells in
+    let same = ap (λ cs. (at cs x).item) written ∙ edit_item cap (with_prev k.prev) (λ m. refl) next k.next x
+    ∙ edit_item cap (with_next k.next) (λ m. refl) s.block k.prev x in
+    record {
+      tied = record {
+        tied = made.0;
+        small = (c.requires.tied.small.0, omega (arith, c.requires.tied.small.1, lists));
+      };
+      value = found s.block cap hs t x n here on ∙ ap (λ o. Some o) (sym same);
+      lists = made.1;
+      total = total_down hs k.list h new on is some1 refl;
+      uses = (
+        subst (Kept all x s.block) (sym cells)
+            (kept_edit all k.list cap (with_prev k.prev) s.block next1 k.next x long2 (λ m. refl) on
+            (λ low. edit_on cap (with_next k.next) took k.prev k.next k.list long1 (λ m. refl)
+            (next_near s.block cap hs t x n here on low))
+            (kept_edit all k.list cap (with_next k.next) s.block took k.prev x long1 (λ m. refl) on
+            (prev_near s.block cap hs t x n here on) (kept_set all s.block x None))),
+        subst (λ cs. IsFilled cs x) (sym written) (edit_filled cap (with_prev k.prev) next k.next x long (λ m. refl)
+            (edit_filled cap (with_next k.next) s.block k.prev x t.cells (λ m. refl) (n, here))),
+      );
+      sizes = record { capacity = refl; used = refl; free = (refl, refl); lists = lists };
+    }

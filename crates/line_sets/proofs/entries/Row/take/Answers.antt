@@ -1,8 +1,8 @@
 use Rattle.std.proofs.Common.{◌<◌, Some, sym, ap, ◌∙◌, arith, take, ℕ}
-use Rattle.std.proofs.lemmas.List.{get_or-take}
-use Rattle.line_sets.proofs.Indices.{first-below, first-find, missing-find, missing-without, removed}
+use Rattle.std.proofs.lemmas.List.{get_or-take, length-take}
+use Rattle.line_sets.proofs.Indices.{first-below, first-find, missing-find}
 use Rattle.line_sets.specs.Order.{IsFirstAt}
-use Rattle.line_sets.proofs.ShiftedPairs.{length-first}
+use Rattle.line_sets.proofs.SwappedRows.{cut-swapped}
 use Rattle.line_sets.proofs.entries.Row.take.Goals as goal
 
 pub returns-in_default-clause-value : goal.returns-in_default-clause-value
@@ -11,18 +11,12 @@ returns-in_default-clause-value c =
     rw (← c.self.view_is) (sym (missing-find row c.args.line
     (rw c.in_default.is at c.index_of.ensures.index)))
 
-pub returns-in_default-clause-items : goal.returns-in_default-clause-items
-returns-in_default-clause-items c =
-    let row = take c.self.inside.count c.self.inside.entries in
-    rw (← c.self.view_is) (sym (missing-without row c.args.line
-    (rw c.in_default.is at c.index_of.ensures.index)))
-
 pub returns-clause-value : goal.returns-clause-value
 returns-clause-value c =
     let row = take c.self.inside.count c.self.inside.entries in
     let h : IsFirstAt row c.args.line c.in-Some.at = rw c.in-Some.is at c.index_of.ensures.index in
     let below = first-below row c.args.line c.in-Some.at h in
-    let most = length-first c.self.inside.count c.self.inside.entries in
+    let most = length-take c.self.inside.count c.self.inside.entries in
     let low : c.in-Some.at < c.self.inside.count = omega arith in
     rw (← c.self.view_is) (ap (λ (p : ℕ × ℕ). Some p.1)
     (sym (get_or-take c.self.inside.count c.self.inside.entries c.in-Some.at (0, 0) low))
@@ -30,7 +24,8 @@ returns-clause-value c =
 
 pub returns-clause-items : goal.returns-clause-items
 returns-clause-items c =
-    let row = take c.self.inside.count c.self.inside.entries in
-    let h : IsFirstAt row c.args.line c.in-Some.at = rw c.in-Some.is at c.index_of.ensures.index in
+    let xs = c.self.inside.entries in let count = c.self.inside.count in
+    let h : IsFirstAt (take count xs) c.args.line c.in-Some.at = rw c.in-Some.is at c.index_of.ensures.index in
     let distinct = rw (← c.self.view_is) at c.requires in
-    rw (← c.self.view_is) (removed row _ c.args.line c.in-Some.at distinct h c.move_down.ensures)
+    rw (← c.self.view_is) (cut-swapped xs count c.args.line c.in-Some.at (0, 0)
+    (omega (arith, c.self.invariant, c.self.ranges)) distinct h)

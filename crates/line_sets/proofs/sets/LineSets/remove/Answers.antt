@@ -12,26 +12,14 @@ recount-requires g c =
     (read-value found c.unlink-line.ensures.value)
     c.self.invariant.4 c.uncount_of.ensures.count (omega arith)
 
-pub invariant_of-self : goal.invariant_of-self
-invariant_of-self g c =
-    let same = nothing-cut c.args.set c.args.line c.self.invariant.0 c.self.view_is c.requires
-    (sym c.take.ensures.value ∙ c.in_default.is) c.take.ensures.after in (
-      rw same.0 c.self.invariant.0,
-      c.self.invariant.1,
-      c.self.invariant.2,
-      c.self.invariant.3,
-      c.self.invariant.4,
-    )
-
 pub returns-in_default-clause-value : goal.returns-in_default-clause-value
 returns-in_default-clause-value g c = sym (is-missing c.args.set c.args.line c.self.invariant.0 c.self.view_is
     c.requires (sym c.take.ensures.value ∙ c.in_default.is))
 
 pub returns-in_default-clause-after : goal.returns-in_default-clause-after
 returns-in_default-clause-after g c =
-    let same = nothing-cut c.args.set c.args.line c.self.invariant.0 c.self.view_is c.requires
-    (sym c.take.ensures.value ∙ c.in_default.is) c.take.ensures.after in
-    c.self.view_is ∙ ap (table_of c.args.self.now.ways) same.1
+    c.self.view_is ∙ ap (table_of c.args.self.now.ways) (nothing-cut c.args.set c.args.line c.self.invariant.0
+    c.self.view_is c.requires (sym c.take.ensures.value ∙ c.in_default.is))
 
 pub unlink-line-requires : goal.unlink-line-requires
 unlink-line-requires g c =
@@ -42,7 +30,8 @@ pub invariant_of-self-2 : goal.invariant_of-self-2
 invariant_of-self-2 g c =
     let found = is-found c.self.invariant.0 c.lists-lists.ensures.once c.looked_up.ensures c.self.view_is c.requires
     (sym c.take.ensures.value ∙ c.in-Some.is) in let was = read-value found c.unlink-line.ensures.value in
-    let new = cut-off found c.taken_off.ensures c.unlink-line.ensures.after c.take.ensures.after in
+    let new = cut-off found c.taken_off.ensures c.unlink-line.ensures.after c.take.ensures.others
+    c.in-Some.ensures.row in
     let before = c.count_of-before.ensures.count in (
       new.stored,
       omega (arith, counted g.V.Listed.is_listed new was {m = 0} before refl c.self.invariant.1),
@@ -63,7 +52,8 @@ returns-clause-after g c =
     let found = is-found c.self.invariant.0 c.lists-lists.ensures.once c.looked_up.ensures c.self.view_is c.requires
     (sym c.take.ensures.value ∙ c.in-Some.is) in
     rw (← c.self.view_is) (ap (table_of c.self.inside.ways)
-    (cut-off found c.taken_off.ensures c.unlink-line.ensures.after c.take.ensures.after).are)
+    (cut-off found c.taken_off.ensures c.unlink-line.ensures.after c.take.ensures.others
+    c.in-Some.ensures.row).are)
 
 pub overflow_sub-self : goal.overflow_sub-self
 overflow_sub-self g c =

@@ -62,7 +62,10 @@ def sweep(tester, words, how):
 
 
 def refused_batches(tester):
-    are_started(tester, "litmus", "--schedule", "seed", "--runs", 40, TOP / "examples" / "litmus" / "SB.litmus")
+    text = TOP / "examples" / "litmus" / "SB.litmus"
+    are_started(tester, "litmus", "--schedule", "seed", "--runs", 40, text)
+    ran = tester.run(["litmus", "--schedule", "seed", "--runs", 100_000, "--workers", 16, text])
+    tester.expect(ran.started == 15, f"100,000 runs by 16 workers: {ran.started} threads were started")
     for test in ("SB", "SB+forall"):
         text = TOP / "examples" / "litmus" / f"{test}.litmus"
         words = ["litmus", "--schedule", "seed", "--seed", 7, "--runs", RUNS, text]

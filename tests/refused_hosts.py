@@ -18,6 +18,7 @@ READ_FAILED = (4, b"", b"tardis: read failed\n")
 WRITE_FAILED = b"tardis: write failed\n"
 NO_MEMORY = (1, b"", b"tardis: no memory\n")
 STEP = 65536
+LONGEST_PATH = 4095  # bytes
 ENDLESS = 2 ** 27  # the memory that a text without an end may take
 
 
@@ -28,6 +29,10 @@ def refused_hosts(tester, folder, commands):
     unreadable(tester, folder)
     odd_devices(tester, folder)
     print(f"host: {tester.tried - before} times a file without rights, a folder, a device, no file")
+    before = tester.tried
+    for words, usual in commands:
+        at_long_paths(tester, folder, words, usual.encode())
+    print(f"host: {tester.tried - before} times files with the longest paths")
     before = tester.tried
     for words, usual in commands:
         unwritable(tester, words)
@@ -97,6 +102,19 @@ def odd_devices(tester, folder):
         got = ran(tester.program, words)
         good = got == wanted[words[0]] if words[0] in wanted else (got[0], got[2]) == (0, b"")
         tester.expect(good, f"{words}: {got}")
+
+
+def at_long_paths(tester, folder, words, usual):
+    """Each file lies at the end of a path of 4,095 bytes, the longest that Linux takes."""
+    deep = folder / "/".join(["d" * 255] * 15)
+    deep.mkdir(parents=True, exist_ok=True)
+    words = list(words)
+    for at, word in enumerate(words):
+        if os.path.exists(word):
+            name = str(at).ljust(LONGEST_PATH - len(f"{deep}/"), "f")
+            words[at] = shutil.copy(word, deep / name)
+    got = ran(tester.program, words)
+    tester.expect(got == (0, usual, b""), f"{words[0]} with long paths: {got[0]}, {got[2]}")
 
 
 def unwritable(tester, words):

@@ -34,6 +34,7 @@ LIMITS = (100_000, 5_000_000, 200_000_000)
 MOST_TURNS = 4_294_967_295
 LAST_TIME = 2**64 - 1  # at this time no lease fits, and a run is exhausted
 PASSES = 200  # after so many of one worker alone nothing in these runs goes on any more
+IDLE = 256  # after so many passes that came to nothing, a worker lets another thread run
 SCHEDULE = ["--schedule", "threads", "--workers", WORKERS]
 
 
@@ -209,6 +210,9 @@ def sweep(tester, name, what, how):
         if not ran.refused:
             break
         kinds[kind] += 1
+        if kind == "by one thread":
+            yields = WORKERS * ((LIMITS[0] - PASSES) // IDLE)
+            tester.expect(ran.yields >= yields, f"{name}, growth {number}{how}: {ran.yields} of {yields} yields")
         if not how and ran.is_at_work and kinds[kind] == 1:
             # The other worker finds the end: it doesn't go on for as many turns as there may be.
             ran = tester.run([*what.words, "--limit", MOST_TURNS], growth=f"{number}")
@@ -225,7 +229,7 @@ KINDS = ("no memory", "ended for want of memory", "by one thread", "done")
 
 def are_started(tester, *words):
     """As many workers as these are the calling thread, and one thread that is started for each of the others."""
-    for workers in (1, 2, 3, 5, 16):
+    for workers in range(1, 17):
         ran = tester.run([*words, "--workers", workers])
         tester.expect(ran.started == workers - 1, f"{words} by {workers} workers: {ran.started} threads were started")
 
@@ -235,6 +239,9 @@ def refused_threads(tester):
     are_started(tester, "litmus", "--schedule", "threads", "--time", LAST_TIME, LITMUS)
     are_started(tester, "trace", "--schedule", "threads", TRACE)
     with tempfile.TemporaryDirectory() as folder:
+        cores = Path(folder, "64-cores.trace")
+        cores.write_text("trace 2\n63 R 0x0\n")
+        are_started(tester, "trace", "--schedule", "threads", cores)
         cases = {"three runs of SB by threads": Litmus(), f"{TRACE.name} by threads": Trace(),
                  f"{TRACE.name} by threads, its records": Records(tester, Path(folder, "records"))}
         for name, what in cases.items():

@@ -9,8 +9,7 @@ use Rattle.litmus_lexer.specs.Spelling.{is_name_byte}
 
 -- letters, digits and _ + . - [ ]
 abbrev pub is_title_byte : ℕ → Bool
-is_title_byte b = between 48 57 b || between 65 90 b || between 97 122 b || b == 95 || b == 43 || b == 46 || b == 45
-    || b == 91 || b == 93
+is_title_byte b = is_name_byte b || b == 43 || b == 46 || b == 45 || b == 91 || b == 93
 
 -- RISCV, blanks, and the name of the test, with blanks around
 pub record IsTitle (line name : List ℕ) : Type 0 where

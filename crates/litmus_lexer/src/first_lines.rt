@@ -1,7 +1,7 @@
 //! The first line of a text and its header lines, byte by byte.
 
-ghost use Rattle.std.specs.Prelude.{◌≡◌, ◌≤◌, ℕ, List, length, option_map, IfSome, MatchOption, ◌==◌, not};
-ghost use Rattle.std.specs.List.{prefix_len, list_all};
+ghost use Rattle.std.specs.Prelude.{◌≡◌, ◌≤◌, ℕ, List, length, option_map, MatchOption, ◌==◌, not};
+ghost use Rattle.std.specs.List.{prefix_len};
 ghost use Rattle.litmus_lexer.specs.FirstLines.{IsTitle, is_title_byte, title_of, behind_riscv, is_header_line};
 ghost use Rattle.litmus_lexer.specs.FirstLines.{is_quoted, is_setting, begins_block};
 

@@ -1,6 +1,6 @@
 //! What the limits and the signs of a text are. The functions do nothing: their contracts are the laws.
 
-ghost use Rattle.std.specs.Prelude.{◌≡◌, ◌+◌, ◌^◌, [], ◌∷◌, codes};
+ghost use Rattle.std.specs.Prelude.{◌≡◌, [], ◌∷◌, codes};
 ghost use Rattle.std.specs.List.{filter, range_with_len};
 ghost use Rattle.litmus_lexer.specs.FirstLines.{is_key, is_title_byte};
 ghost use Rattle.litmus_lexer.specs.Pieces.{is_blank, is_letter, is_slash};

@@ -9,7 +9,7 @@ use Rattle.litmus_lexer.specs.declared.errors.ReadError.{ReadError}
 use Rattle.litmus_lexer.specs.declared.errors.ReadError.TheVariants.{Memory, Fault}
 use Rattle.text_lines.specs.Reading.{◌>>=◌}
 use Rattle.litmus_lexer.specs.Reading.{Fails, fails, fault_at}
-use Rattle.piece_forms.specs.Places.{Beyond, next_piece, behind_next, ends_ahead}
+use Rattle.piece_forms.specs.Places.{Beyond, seen, behind, ends_ahead}
 use Rattle.piece_forms.specs.Forms.{Takes, Refuses, taken, word, one, sign}
 use Rattle.piece_forms.specs.Reading.{decided, judged, reads}
 use Rattle.litmus_parser.specs.Names.{Names}
@@ -35,7 +35,7 @@ taken-fails (Err kind) line pieces (Fault f) h =
 
 -- the test of the next word fails
 pub word-fails : {A : Type 0} (kind : Kind) (test : List ℕ → Result A Kind) (line : ℕ) (pieces : List Piece)
-    (w : List ℕ) (at : ℕ) → next_piece pieces ≡ Some (Word w) → at ≡ line + ends_ahead pieces → (e : ReadError) →
+    (w : List ℕ) (at : ℕ) → seen Beyond pieces ≡ Some (Word w) → at ≡ line + ends_ahead pieces → (e : ReadError) →
     Fails e (judged (test w) at) → Fails e (reads (one (word kind test)) line pieces)
 word-fails kind test line pieces w at next at_is e h =
     rw next (taken-fails (test w) line pieces e (subst (λ n. Fails e (judged (test w) n)) at_is h))
@@ -46,21 +46,21 @@ counted-as atoms x at rest = cond (leb 256 atoms) (fails TooLarge at) (Ok ((Some
 
 counted-cases : (full : Bool) (x : Option Opening × Sight) (line : ℕ) (pieces : List Piece) →
     decided Beyond (cond full (Refuses TooLarge) (Takes x)) line pieces ≡
-    cond full (fails TooLarge (line + ends_ahead pieces)) (Ok (x, line + ends_ahead pieces, behind_next pieces))
+    cond full (fails TooLarge (line + ends_ahead pieces)) (Ok (x, line + ends_ahead pieces, behind Beyond pieces))
 counted-cases true x line pieces = refl
 counted-cases false x line pieces = refl
 
 counted-read : (r : Result (Opening × Names) Kind) (atoms line : ℕ) (pieces : List Piece) →
     decided Beyond (counted atoms r) line pieces ≡ (judged r (line + ends_ahead pieces) >>= λ x.
-    counted-as atoms x (line + ends_ahead pieces) (behind_next pieces))
+    counted-as atoms x (line + ends_ahead pieces) (behind Beyond pieces))
 unfolding counted-as
 counted-read (Ok x) atoms line pieces = counted-cases (leb 256 atoms) (Some x.0, (x.1, atoms + 1)) line pieces
 counted-read (Err kind) atoms line pieces = refl
 
 -- an atom begins here, and these lines and pieces follow
 module _ (threads depth atoms line : ℕ) (names : Names) (pieces : List Piece) (w : List ℕ) (at : ℕ)
-    (rest : List Piece) (next : next_piece pieces ≡ Some (Word w)) (at_is : at ≡ line + ends_ahead pieces)
-    (rest_is : rest ≡ behind_next pieces) where
+    (rest : List Piece) (next : seen Beyond pieces ≡ Some (Word w)) (at_is : at ≡ line + ends_ahead pieces)
+    (rest_is : rest ≡ behind Beyond pieces) where
   start-is : reads (one (start threads depth (names, atoms))) line pieces ≡
       (judged (opening BadCondition threads w names) at >>= λ x. counted-as atoms x at rest)
   start-is = rw (next, at_is, rest_is) (counted-read (opening BadCondition threads w names) atoms line pieces)

@@ -5,10 +5,11 @@ use Rattle.std.specs.List.{list_all, filter}
 use Rattle.std.proofs.lemmas.Bool.{cases_Bool, and_parts, and_from, eqb-true, eqb-false, ne_eqb}
 use Rattle.litmus_lexer.specs.Pieces.{Piece, Word, Sign, LineEnd}
 use Rattle.litmus_parser.specs.Table.{ends_here, has_shape}
-use Rattle.litmus_parser.specs.Shapes.{is_bar, is_inner, IsShaped}
+use Rattle.piece_forms.specs.Forms.{is_sign}
+use Rattle.litmus_parser.specs.Shapes.{is_inner, IsShaped}
 
 pub shaped : (front rest : List Piece) (bars : ℕ) → list_all is_inner front ≡ true →
-    length (filter is_bar front) ≡ bars → ends_here rest ≡ true → has_shape bars (front ++ Sign 59 ∷ rest) ≡ true
+    length (filter (is_sign 124) front) ≡ bars → ends_here rest ≡ true → has_shape bars (front ++ Sign 59 ∷ rest) ≡ true
 unfolding has_shape
 shaped [] rest bars inner count ends = rw (sym count, ends) refl
 shaped (LineEnd ∷ front) rest bars inner count ends = absurd cc
@@ -18,10 +19,10 @@ shaped (Sign b ∷ front) rest bars inner count ends =
     elim (cases_Bool (eqb b 59)) [
       | inl semicolon ↦ let none : false ≡ true = rw semicolon at p.0 in absurd cc
       | inr other ↦ elim (cases_Bool (eqb b 124)) [
-        | inl bar ↦ let more : suc (length (filter is_bar front)) ≡ bars = rw bar at count in
-            let less : bars - 1 ≡ length (filter is_bar front) = omega (arith, more) in
+        | inl bar ↦ let more : suc (length (filter (is_sign 124) front)) ≡ bars = rw bar at count in
+            let less : bars - 1 ≡ length (filter (is_sign 124) front) = omega (arith, more) in
             let some : eqb bars 0 ≡ false = ne_eqb bars 0 (omega (arith, more)) in
-            rw (other, bar, some, less) (shaped front rest (length (filter is_bar front)) p.1 refl ends)
+            rw (other, bar, some, less) (shaped front rest (length (filter (is_sign 124) front)) p.1 refl ends)
         | inr plain ↦ rw (other, plain) (shaped front rest bars p.1 (rw plain at count) ends)
       ]
     ]
@@ -57,7 +58,7 @@ only-shaped bars (Sign b ∷ pieces) h =
               | inl none ↦ let no : false ≡ true = rw none at e in absurd cc
               | inr some ↦ let o = only-shaped (bars - 1) pieces (rw some at e) in
                   let ne = eqb-false bars 0 some in
-                  let more : suc (length (filter is_bar o.front)) ≡ bars = omega (arith, o.count, ne) in
+                  let more : suc (length (filter (is_sign 124) o.front)) ≡ bars = omega (arith, o.count, ne) in
                   longer bars o other (counted o.front true bar ∙ more)
             ]
         | inr plain ↦ let o = only-shaped bars pieces (rw (other, plain) at h) in
@@ -65,14 +66,14 @@ only-shaped bars (Sign b ∷ pieces) h =
       ]
     ]
   where
-    counted : (front : List Piece) (bar : Bool) → eqb b 124 ≡ bar → length (filter is_bar (Sign b ∷ front)) ≡
-        cond bar (suc (length (filter is_bar front))) (length (filter is_bar front))
+    counted : (front : List Piece) (bar : Bool) → eqb b 124 ≡ bar → length (filter (is_sign 124) (Sign b ∷ front)) ≡
+        cond bar (suc (length (filter (is_sign 124) front))) (length (filter (is_sign 124) front))
     counted front true e = rw e refl
     counted front false e = rw e refl
 
     -- a further sign in front
     longer : (all : ℕ) {left : ℕ} (o : IsShaped left pieces) → eqb b 59 ≡ false →
-        length (filter is_bar (Sign b ∷ o.front)) ≡ all → IsShaped all (Sign b ∷ pieces)
+        length (filter (is_sign 124) (Sign b ∷ o.front)) ≡ all → IsShaped all (Sign b ∷ pieces)
     longer all o other count = record {
       front = Sign b ∷ o.front;
       rest = o.rest;

@@ -1,7 +1,9 @@
 -- The pieces of a text, line by line up to the initial block.
-use Rattle.std.proofs.Common.{◌≡◌, ℕ, ◌+◌, ◌<◌, Bool, true, false, cond, eqb, ◌&&◌, List, [], ◌∷◌, ◌++◌, length}
+use Rattle.std.proofs.Common.{◌≡◌, ℕ, zero, suc, ◌+◌, ◌<◌, Bool, true, false, cond, eqb, ◌&&◌, List, [], ◌∷◌, ◌++◌}
+use Rattle.std.proofs.Common.{length}
 use Rattle.std.proofs.Common.{Option, Some, None, Ok, refl, sym, ap, ◌∙◌, append_assoc, append-nil, length-append}
 use Rattle.std.proofs.Common.{inl, inr, arith}
+use mathlib.Core.Bool.{and-true, and-false}
 use Rattle.std.specs.List.{list_all, prefix_len}
 use Rattle.std.proofs.lemmas.Bool.{cases_Bool, eqb-true, both_ways, false_from_ne_true}
 use Rattle.std.proofs.lemmas.List.Folds.{list_all-append}
@@ -12,10 +14,10 @@ use Rattle.litmus_lexer.specs.FirstLines.{begins_with, text_behind, behind_riscv
 use Rattle.litmus_lexer.specs.FirstLines.{begins_block}
 use Rattle.litmus_lexer.specs.declared.errors.Kind.TheVariants.{BadHeader, CutShort}
 use Rattle.litmus_lexer.specs.Reading.{Read, fails}
-use Rattle.piece_forms.specs.Places.{first_piece, from_next, ends_ahead, behind_first, line_behind_first}
+use Rattle.piece_forms.specs.Places.{from_next, ends_ahead}
 use Rattle.piece_forms.specs.Forms.{Form, one, line_end, turn}
 use Rattle.piece_forms.specs.Reading.{reads}
-use Rattle.litmus_parser.specs.Header.{text_pieces, title, line_or_block}
+use Rattle.litmus_parser.specs.Header.{text_pieces, behind_lines, title, line_or_block}
 
 -- ---- a byte more at the front
 
@@ -37,14 +39,6 @@ other-more b line e = rw e refl
 blank-apart : (b c : ℕ) → is_blank c ≡ false → is_blank b ≡ true → eqb b c ≡ false
 blank-apart b c other e =
     false_from_ne_true (eqb b c) (λ same. both_ways (is_blank c) other (ap is_blank (sym (eqb-true b c same)) ∙ e))
-
-and-true : (x : Bool) → (x && true) ≡ x
-and-true true = refl
-and-true false = refl
-
-and-false : (x : Bool) → (x && false) ≡ false
-and-false true = refl
-and-false false = refl
 
 all-more : (line : List ℕ) (b : ℕ) (blank : Bool) → is_blank b ≡ blank →
     list_all is_blank (line ++ b ∷ []) ≡ (list_all is_blank line && (blank && true))
@@ -166,7 +160,7 @@ no-title (a ∷ b ∷ c ∷ d ∷ []) e = refl
 no-title (a ∷ b ∷ c ∷ d ∷ f ∷ line) e = rw (eqb-true a 123 e) refl
 
 pub nothing_read : (text : List ℕ) → length text ≡ 0 → reads title 1 (text_pieces text []) ≡ fails CutShort 1
-unfolding text_pieces title first_piece from_next ends_ahead
+unfolding text_pieces title from_next ends_ahead
 nothing_read [] e = refl
 nothing_read (b ∷ text) e = absurd (omega (arith, e))
 
@@ -178,7 +172,7 @@ Titled (Some name) rest = Ok (name, 2, text_pieces rest [])
 pub title_read : (text line rest : List ℕ) (name : Option (List ℕ)) → 0 < length text →
     line ≡ before_line_feed text → rest ≡ behind_line_feed text → name ≡ title_of line →
     reads title 1 (text_pieces text []) ≡ Titled name rest
-unfolding title title_of first_piece from_next ends_ahead behind_first line_behind_first
+unfolding title title_of from_next ends_ahead
 title_read text line rest name some l r t =
     rw (t, l, r) (elim (cases_Bool (begins_block (before_line_feed text))) [
       | inl block ↦ rw ((block-pieces text block).1, no-title (text_behind is_blank (before_line_feed text)) block) refl
@@ -197,14 +191,14 @@ header_turn = turn (λ _. one line_or_block) (λ _. line_end BadHeader)
 
 pub nothing_left : (n : ℕ) (text : List ℕ) → length text ≡ 0 →
     reads (header_turn tt) n (text_pieces text []) ≡ fails CutShort n
-unfolding text_pieces first_piece from_next ends_ahead
+unfolding text_pieces from_next ends_ahead
 nothing_left n [] e = let here : n + 0 ≡ n = omega arith in rw here refl
 nothing_left n (b ∷ text) e = absurd (omega (arith, e))
 
 module _ (n : ℕ) (text line : List ℕ) (some : 0 < length text) (l : line ≡ before_line_feed text) where
   pub block_read : begins_block line ≡ true →
       reads (header_turn tt) n (text_pieces text []) ≡ Ok ((false, tt), n, text_pieces text [])
-  unfolding first_piece from_next ends_ahead
+  unfolding from_next ends_ahead
   block_read block =
       let here : n + 0 ≡ n = omega arith in
       let b = block-pieces text (ap begins_block (sym l) ∙ block) in
@@ -213,7 +207,7 @@ module _ (n : ℕ) (text line : List ℕ) (some : 0 < length text) (l : line ≡
   pub line_read : (rest : List ℕ) → rest ≡ behind_line_feed text → begins_block line ≡ false →
       is_header_line line ≡ true →
       reads (header_turn tt) n (text_pieces text []) ≡ Ok ((true, tt), n + 1, text_pieces rest [])
-  unfolding first_piece from_next ends_ahead behind_first line_behind_first
+  unfolding from_next ends_ahead
   line_read rest r plain header =
       let here : n + 0 ≡ n = omega arith in
       let w = word-pieces text some (ap begins_block (sym l) ∙ plain) in
@@ -222,7 +216,7 @@ module _ (n : ℕ) (text line : List ℕ) (some : 0 < length text) (l : line ≡
 
   pub line_refused : begins_block line ≡ false → is_header_line line ≡ false →
       reads (header_turn tt) n (text_pieces text []) ≡ fails BadHeader n
-  unfolding first_piece from_next ends_ahead
+  unfolding from_next ends_ahead
   line_refused plain none =
       let here : n + 0 ≡ n = omega arith in
       let w = word-pieces text some (ap begins_block (sym l) ∙ plain) in
@@ -231,3 +225,9 @@ module _ (n : ℕ) (text line : List ℕ) (some : 0 < length text) (l : line ≡
 
   pub line_same : begins_block line ≡ true → text_pieces text [] ≡ pieces_of text
   line_same block = block_same text (ap begins_block (sym l) ∙ block)
+
+-- ---- one line more
+
+pub behind-suc : (n : ℕ) (text : List ℕ) → behind_lines (suc n) text ≡ behind_line_feed (behind_lines n text)
+behind-suc zero text = refl
+behind-suc (suc n) text = behind-suc n (behind_line_feed text)

@@ -1,26 +1,24 @@
 -- The grammar of the condition, as a form. Line ends count as blanks.
 use Rattle.std.specs.Prelude.{ℕ, zero, suc, ◌+◌, ◌==◌, nat_le, Bool, if◌then◌else◌, List, [], ◌∷◌, Option, Some}
 use Rattle.std.specs.Prelude.{None, Result, Ok, Err, ok_or}
-use Rattle.std.specs.Str.{bytes_eq}
 use Rattle.litmus_lexer.specs.declared.limits.TheConstants.{MOST_ATOMS, MOST_DEPTH}
-use Rattle.litmus_lexer.specs.declared.signs.TheConstants.{CLOSING_PARENTHESIS, COLON, EQUALS, OPENING_PARENTHESIS}
-use Rattle.litmus_lexer.specs.Pieces.{Piece, Word, Sign, LineEnd}
-use Rattle.litmus_lexer.specs.Spelling.{register_of}
+use Rattle.litmus_lexer.specs.declared.signs.TheConstants.{CLOSING_PARENTHESIS, COLON, OPENING_PARENTHESIS}
+use Rattle.litmus_lexer.specs.Pieces.{Piece, Word}
 use Rattle.litmus_lexer.specs.declared.errors.Kind.{Kind}
 use Rattle.litmus_lexer.specs.declared.errors.Kind.TheVariants.{TooLarge, BadCondition}
 use Rattle.litmus_lexer.specs.declared.errors.Kind.TheVariants.{BadTable}
 use Rattle.piece_forms.specs.Forms.{Verdict, Takes, Refuses, Form, ◌>>=◌, one, word, sign, perhaps, no_more, Gives}
-use Rattle.piece_forms.specs.Forms.{many, refused}
+use Rattle.piece_forms.specs.Forms.{is_word, is_sign, many, refused}
+use Rattle.piece_forms.specs.Places.{Beyond}
 use Rattle.litmus_parser.specs.Names.{Names}
 use Rattle.litmus_parser.specs.Trees.{Tree, Is, Both, Either}
-use Rattle.litmus_parser.specs.Words.{value, opening}
+use Rattle.litmus_parser.specs.Words.{equals, opening}
 use Rattle.litmus_parser.specs.Keywords.{quantifier_of}
 use Rattle.litmus_parser.specs.declared.expressions.Connective.{Connective}
 use Rattle.litmus_parser.specs.declared.expressions.Connective.TheVariants.{And, Or}
-use Rattle.litmus_parser.specs.Verdicts.{Bases, value_in}
+use Rattle.litmus_parser.specs.Verdicts.{Bases, value_register}
 use Rattle.litmus_parser.specs.declared.items.Opening.{Opening}
 use Rattle.litmus_parser.specs.declared.items.Opening.TheVariants.{OfThread, OfLocation}
-use Rattle.litmus_parser.specs.declared.syntax.Name.{Name}
 use Rattle.litmus_parser.specs.declared.syntax.Name.TheVariants.{Register, Location}
 use Rattle.litmus_parser.specs.declared.syntax.Quantifier.{Quantifier}
 
@@ -42,25 +40,9 @@ counted atoms (Err kind) = Refuses kind
 -- what a factor begins with: the name of an atom; or ( where 64 aren't open
 abbrev pub start : ℕ → ℕ → Sight → Piece → Verdict (Option Opening × Sight)
 start threads depth sight (Word w) = counted sight.1 (opening BadCondition threads w sight.0)
-start threads depth sight (Sign b) =
-    if b == OPENING_PARENTHESIS then (if depth == 0 then Refuses TooLarge else Takes (None, sight))
+start threads depth sight piece =
+    if is_sign OPENING_PARENTHESIS piece then (if depth == 0 then Refuses TooLarge else Takes (None, sight))
     else Refuses BadCondition
-start threads depth sight LineEnd = Refuses BadCondition
-
--- a register other than x0 that is no address register
-abbrev pub value_register : Bases → ℕ → Option ℕ → Result ℕ Kind
-value_register bases thread None = Err BadCondition
-value_register bases thread (Some r) = if r == 0 then Err BadCondition else value_in bases thread r
-
-abbrev pub register : Bases → ℕ → Form ℕ
-register bases thread = one (word BadCondition (λ w. value_register bases thread (register_of w)))
-
--- after a name: = and a number
-abbrev pub rest_of_atom : Name → Form Tree
-rest_of_atom name = do
-  _ ← one (sign BadCondition EQUALS)
-  n ← one (word BadCondition (value BadCondition))
-  Gives (Is name n)
 
 -- ---- expressions
 
@@ -68,10 +50,10 @@ rest_of_atom name = do
 abbrev pub rest_of_factor : Bases → PartForm → Option Opening × Sight → Form (Tree × Sight)
 rest_of_factor bases inner (Some (OfThread t), sight) = do
   _ ← one (sign BadCondition COLON)
-  r ← register bases t
-  tree ← rest_of_atom (Register t r)
-  Gives (tree, sight)
-rest_of_factor bases inner (Some (OfLocation l), sight) = rest_of_atom (Location l) >>= λ tree. Gives (tree, sight)
+  r ← one (word BadCondition (value_register bases t))
+  n ← equals BadCondition
+  Gives (Is (Register t r) n, sight)
+rest_of_factor bases inner (Some (OfLocation l), sight) = equals BadCondition >>= λ n. Gives (Is (Location l) n, sight)
 rest_of_factor bases inner (None, sight) = do
   e ← inner sight
   _ ← one (sign BadCondition CLOSING_PARENTHESIS)
@@ -87,7 +69,7 @@ join_of Or = Either
 
 -- whether the connective's sign comes next
 abbrev pub further : Connective → Tree × Sight → Form Bool
-further connective left = perhaps (λ w. bytes_eq w (sign_of connective))
+further connective left = perhaps Beyond (is_word (sign_of connective))
 
 -- a further part, joined to what stands before it
 abbrev pub joined : Connective → PartForm → Tree × Sight → Form (Tree × Sight)
@@ -121,14 +103,11 @@ abbrev pub part_of : Connective → Bases → ℕ → ℕ → PartForm
 part_of And bases threads depth = factor bases threads depth
 part_of Or bases threads depth = chain And (factor bases threads depth)
 
-abbrev pub keyword : Form Quantifier
-keyword = one (word BadTable (λ w. ok_or (quantifier_of w) BadTable))
-
 -- condition := ( exists | ~exists | forall ) expr
 -- and nothing after it
 unfoldable pub condition : Bases → ℕ → Names → Form (Quantifier × Tree × Names)
 condition bases threads names = do
-  quantifier ← keyword
+  quantifier ← one (word BadTable (λ w. ok_or (quantifier_of w) BadTable))
   e ← expression (factor bases threads MOST_DEPTH) (names, 0)
   _ ← no_more BadCondition
   Gives (quantifier, e.0, e.1.0)

@@ -1,6 +1,8 @@
 -- The grammar of the lines before the initial block, as forms: each of these lines is one word.
-use Rattle.std.specs.Prelude.{◌≢◌, ℕ, ◌==◌, ◌&&◌, Bool, true, false, if◌then◌else◌, List, [], ◌∷◌, ◌++◌, ok_or}
+use Rattle.std.specs.Prelude.{◌≢◌, ℕ, zero, suc, ◌==◌, ◌&&◌, Bool, true, false, if◌then◌else◌, List, [], ◌∷◌, ◌++◌}
+use Rattle.std.specs.Prelude.{ok_or}
 use Rattle.std.specs.List.{list_all}
+use Rattle.text_lines.specs.Lines.{behind_line_feed}
 use Rattle.litmus_lexer.specs.declared.limits.TheConstants.{MOST_BYTES}
 use Rattle.litmus_lexer.specs.declared.signs.TheConstants.{OPENING_BRACE}
 use Rattle.litmus_lexer.specs.Pieces.{Piece, Word, LineEnd, is_blank, pieces_of}
@@ -20,6 +22,11 @@ text_pieces (b ∷ bytes) line =
     if b == 10 then Word line ∷ LineEnd ∷ text_pieces bytes []
     else if b == OPENING_BRACE && list_all is_blank line then pieces_of (b ∷ bytes)
     else text_pieces bytes (line ++ b ∷ [])
+
+-- a text behind so many of its lines
+abbrev pub behind_lines : ℕ → List ℕ → List ℕ
+behind_lines zero text = text
+behind_lines (suc n) text = behind_lines n (behind_line_feed text)
 
 -- title := RISCV NAME
 unfoldable pub title : Form (List ℕ)

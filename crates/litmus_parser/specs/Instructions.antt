@@ -23,6 +23,10 @@ operand test = here BadInstruction (word BadInstruction test)
 abbrev pub mark : ℕ → Form (Unit {0})
 mark wanted = here BadInstruction (sign BadInstruction wanted)
 
+-- x, where a comma comes next
+abbrev pub comma : {A : Type 0} → A → Form A
+comma x = mark COMMA >>= λ _. Gives x
+
 abbrev pub register : Form ℕ
 register = operand (λ w. ok_or (register_of w) BadInstruction)
 
@@ -41,8 +45,7 @@ base = do
 -- offset := xR , 0 base
 unfoldable pub offset : Form (ℕ × ℕ)
 offset = do
-  r ← register
-  _ ← mark COMMA
+  r ← register >>= comma
   _ ← operand (λ w. passes (bytes_eq w (codes "0")))
   b ← base
   Gives (r, b)
@@ -50,36 +53,30 @@ offset = do
 -- swapped := xD , xS , base
 unfoldable pub swapped : Form (ℕ × ℕ × ℕ)
 swapped = do
-  d ← register
-  _ ← mark COMMA
-  s ← register
-  _ ← mark COMMA
+  d ← register >>= comma
+  s ← register >>= comma
   b ← base
   Gives (d, s, b)
 
 -- numbered := xD , N
 unfoldable pub numbered : Form (ℕ × ℕ)
 numbered = do
-  d ← register
-  _ ← mark COMMA
+  d ← register >>= comma
   n ← number
   Gives (d, n)
 
 -- or_numbered := xD , x0 , N
 unfoldable pub or_numbered : Form (ℕ × ℕ)
 or_numbered = do
-  d ← register
-  _ ← mark COMMA
-  _ ← operand (λ w. passes (bytes_eq w (codes "x0")))
-  _ ← mark COMMA
+  d ← register >>= comma
+  _ ← operand (λ w. passes (bytes_eq w (codes "x0"))) >>= comma
   n ← number
   Gives (d, n)
 
 -- sets := ( r | w | rw ) , ( r | w | rw )
 unfoldable pub sets : Form (Unit {0})
 sets = do
-  _ ← operand (λ w. passes (is_fence_set w))
-  _ ← mark COMMA
+  _ ← operand (λ w. passes (is_fence_set w)) >>= comma
   operand (λ w. passes (is_fence_set w))
 
 unfoldable pub operands : Mnemonic → Form Written

@@ -21,7 +21,7 @@ setting_address (Address l) = Some l
 setting_address (Number n) = None
 
 -- the location to which the first item that sets the thread's register sets it
-abbrev pub address_of : ℕ → ℕ → List Item → Option ℕ
-address_of thread register items =
+abbrev pub address_of : List Item → ℕ → ℕ → Option ℕ
+address_of items thread register =
     option_and_then (λ item. setting_address item.setting)
     (find (λ item. same_name item.name (Register thread register)) items)

@@ -1,21 +1,22 @@
 -- The grammar of the table, as forms: the header row, and the rows up to the condition.
 use Rattle.std.specs.Prelude.{ℕ, ◌+◌, ◌-◌, ◌==◌, ◌&&◌, nat_le, Bool, true, false, if◌then◌else◌, List, [], ◌∷◌, ◌++◌}
-use Rattle.std.specs.Prelude.{Option, Some, None, Result, Ok, Err, is_some}
+use Rattle.std.specs.Prelude.{Option, None, Ok, Err, is_some}
+use Rattle.std.specs.Option.{option_map_or}
 use Rattle.std.specs.List.{find}
 use Rattle.litmus_lexer.specs.declared.limits.TheConstants.{MOST_ROWS, MOST_THREADS}
 use Rattle.litmus_lexer.specs.declared.signs.TheConstants.{BAR, SEMICOLON}
-use Rattle.litmus_lexer.specs.Pieces.{Piece, Word, Sign, LineEnd}
+use Rattle.litmus_lexer.specs.Pieces.{Piece, Word, LineEnd}
 use Rattle.litmus_lexer.specs.Spelling.{thread_named}
-use Rattle.litmus_lexer.specs.declared.errors.Kind.{Kind}
 use Rattle.litmus_lexer.specs.declared.errors.Kind.TheVariants.{TooLarge, BadInitial, BadTable, BadInstruction}
-use Rattle.litmus_lexer.specs.declared.errors.LitmusError.{LitmusError}
 use Rattle.litmus_lexer.specs.Reading.{fails}
 use Rattle.piece_forms.specs.Places.{InLine}
-use Rattle.piece_forms.specs.Forms.{Verdict, Takes, Leaves, Refuses, Form, Gives, At, Test, Known}
-use Rattle.piece_forms.specs.Forms.{◌>>=◌, taken, word, one, here, line_end, either, many, refused}
+use Rattle.piece_forms.specs.Forms.{Verdict, Leaves, Refuses, Form, Gives, Test, Known}
+use Rattle.piece_forms.specs.Forms.{◌>>=◌, taken, word, is_sign, either_sign, one, here, perhaps, line_end, either}
+use Rattle.piece_forms.specs.Forms.{many, refused}
 use Rattle.litmus_parser.specs.Keywords.{quantifier_of}
 use Rattle.litmus_parser.specs.Instructions.{instruction}
-use Rattle.litmus_parser.specs.Verdicts.{Bases, bases_of, meaning}
+use Rattle.litmus_parser.specs.Names.{address_of}
+use Rattle.litmus_parser.specs.Verdicts.{Bases, meaning}
 use Rattle.litmus_parser.specs.declared.syntax.Width.{Width}
 use Rattle.litmus_parser.specs.declared.syntax.Item.{Item}
 use Rattle.litmus_parser.specs.declared.syntax.Name.{Name}
@@ -25,18 +26,14 @@ use Rattle.litmus_parser.specs.declared.syntax.Cell.{Cell}
 -- ---- the header row
 
 -- the heading of this thread, of 16 at most
-abbrev pub is_heading : ℕ → Option ℕ → Result (Unit {0}) Kind
-is_heading thread None = Err BadTable
-is_heading thread (Some named) =
-    if named == thread then (if nat_le MOST_THREADS thread then Err TooLarge else Ok tt) else Err BadTable
-
 abbrev pub heading : ℕ → Piece → Verdict (Unit {0})
-heading thread = word BadTable (λ w. is_heading thread (thread_named w))
+heading thread = word BadTable (λ w. option_map_or (λ named.
+    if named == thread then (if nat_le MOST_THREADS thread then Err TooLarge else Ok tt) else Err BadTable)
+    (thread_named w) (Err BadTable))
 
 -- | before a further heading, or ;
-abbrev pub separator : Piece → Verdict Bool
-separator (Sign b) = if b == BAR then Takes true else if b == SEMICOLON then Takes false else Refuses BadTable
-separator piece = Refuses BadTable
+abbrev pub separator : ℕ → Form Bool
+separator threads = here BadTable (either_sign BadTable BAR SEMICOLON)
 
 abbrev pub further_heading : ℕ → Form ℕ
 further_heading threads = here BadTable (heading threads) >>= λ _. Gives (threads + 1)
@@ -46,18 +43,13 @@ further_heading threads = here BadTable (heading threads) >>= λ _. Gives (threa
 unfoldable pub header : Form ℕ
 header = do
   _ ← one (heading 0)
-  threads ← many (refused BadTable) (λ threads. here BadTable separator) further_heading MOST_THREADS 1
+  threads ← many (refused BadTable) separator further_heading MOST_THREADS 1
   _ ← line_end BadTable
   Gives threads
 
 abbrev pub is_absent : ℕ → Name → Bool
 is_absent threads (Register thread register) = nat_le threads thread
 is_absent threads (Location l) = false
-
--- an item for a thread that is not there is a fault in its line
-abbrev pub unless_absent : Option Item → Result (Unit {0}) LitmusError
-unless_absent None = Ok tt
-unless_absent (Some item) = fails BadInitial item.line
 
 -- ---- rows
 
@@ -70,37 +62,27 @@ ends_here pieces = false
 unfoldable pub has_shape : ℕ → List Piece → Bool
 has_shape bars [] = false
 has_shape bars (LineEnd ∷ pieces) = false
-has_shape bars (Word w ∷ pieces) = has_shape bars pieces
-has_shape bars (Sign b ∷ pieces) =
-    if b == SEMICOLON then bars == 0 && ends_here pieces
-    else if b == BAR then (if bars == 0 then false else has_shape (bars - 1) pieces)
+has_shape bars (piece ∷ pieces) =
+    if is_sign SEMICOLON piece then bars == 0 && ends_here pieces
+    else if is_sign BAR piece then (if bars == 0 then false else has_shape (bars - 1) pieces)
     else has_shape bars pieces
 
 -- the instructions so far, and the width so far
 abbrev pub Rows : Type 0
 Rows = List Cell × Option Width
 
--- the sign with which a cell ends, if it comes next
-abbrev pub ends_cell : ℕ → Piece → Verdict Bool
-ends_cell end (Sign b) = if b == end then Takes true else Leaves false
-ends_cell end piece = Leaves false
-
--- that sign, if this is found of what stands in the cell
-abbrev pub closes : {A : Type 0} → ℕ → Result A Kind → Piece → Verdict A
-closes end found (Sign b) = if b == end then taken found else Refuses BadInstruction
-closes end found piece = Refuses BadInstruction
-
--- an instruction, with what it means in its thread
+-- an instruction, with what it means in its thread, and the sign with which the cell ends
 unfoldable pub filled : Bases → ℕ → ℕ → Rows → Form Rows
 filled bases thread end rows = do
   f ← instruction
-  i ← here BadInstruction (closes end (meaning bases thread rows.1 f))
+  i ← here BadInstruction (λ piece.
+      if is_sign end piece then taken (meaning bases thread rows.1 f) else Refuses BadInstruction)
   Gives (rows.0 ++ (record { thread = thread; instruction = i.0 }) ∷ [], i.1)
 
 -- cell := [ instruction ]
 unfoldable pub cell : Bases → ℕ → ℕ → Rows → Form Rows
 cell bases thread end rows =
-    At InLine (ends_cell end) (Ok false) >>= either (Gives rows) (filled bases thread end rows)
+    perhaps InLine (is_sign end) >>= either (Gives rows) (filled bases thread end rows)
 
 -- the cell of the thread, with | after it, or ; for the last one
 unfoldable pub column : Bases → ℕ → ℕ × Rows → Form (ℕ × Rows)
@@ -136,10 +118,11 @@ rows bases threads =
     (0, ([], None)) >>= λ t. Gives t.1.0
 
 -- table := header rows
--- the items are of threads that the header row names
+-- an item for a thread that the header row doesn't name is a fault in the item's line
 unfoldable pub table : List Item → Form (ℕ × List Cell)
 table items = do
   threads ← header
-  _ ← Known (unless_absent (find (λ item. is_absent threads item.name) items))
-  cells ← rows (bases_of items) threads
+  _ ← Known {A = Unit {0}} (option_map_or (λ item. fails BadInitial item.line)
+      (find (λ item. is_absent threads item.name) items) (Ok tt))
+  cells ← rows (address_of items) threads
   Gives (threads, cells)

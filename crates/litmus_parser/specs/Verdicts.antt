@@ -1,14 +1,14 @@
 -- What an instruction may say: its numbers, its width, its registers.
-use Rattle.std.specs.Prelude.{ℕ, nat_lt, Bool, true, false, if◌then◌else◌, List, Option, Some, None, Result, Ok}
+use Rattle.std.specs.Prelude.{ℕ, nat_lt, if◌then◌else◌, List, Option, Some, None, Result, Ok}
 use Rattle.std.specs.Prelude.{Err, ok_or, is_some}
+use Rattle.litmus_lexer.specs.Spelling.{register_of}
 use Rattle.litmus_lexer.specs.declared.errors.Kind.{Kind}
 use Rattle.litmus_lexer.specs.declared.errors.Kind.TheVariants.{MixedWidth, ValueRange, AddressAsValue}
-use Rattle.litmus_lexer.specs.declared.errors.Kind.TheVariants.{ValueAsAddress}
+use Rattle.litmus_lexer.specs.declared.errors.Kind.TheVariants.{ValueAsAddress, BadCondition}
 use Rattle.text_lines.specs.Reading.{◌>>=◌}
-use Rattle.litmus_parser.specs.Names.{address_of}
+use Rattle.litmus_parser.specs.Words.{named_register}
 use Rattle.litmus_parser.specs.declared.syntax.Width.{Width}
 use Rattle.litmus_parser.specs.declared.syntax.Width.TheVariants.{Single, Double}
-use Rattle.litmus_parser.specs.declared.syntax.Item.{Item}
 use Rattle.litmus_parser.specs.declared.syntax.Instruction.{Instruction}
 use Rattle.litmus_parser.specs.declared.syntax.Instruction.TheVariants.{Load, Store, Swap, Set, Fence}
 use Rattle.litmus_parser.specs.declared.forms.Form.{Form}
@@ -18,22 +18,20 @@ use Rattle.litmus_parser.specs.declared.forms.Form.TheVariants as form
 abbrev pub Bases : Type 0
 Bases = ℕ → ℕ → Option ℕ
 
-abbrev pub bases_of : List Item → Bases
-bases_of items thread register = address_of thread register items
-
-abbrev pub same_width : Width → Width → Bool
-same_width Single Single = true
-same_width Double Double = true
-same_width width other = false
-
 -- the first width stays
 unfoldable pub kept : Option Width → Width → Result (Option Width) Kind
 kept None own = Ok (Some own)
-kept (Some first) own = if same_width first own then Ok (Some first) else Err MixedWidth
+kept (Some Single) Single = Ok (Some Single)
+kept (Some Double) Double = Ok (Some Double)
+kept first own = Err MixedWidth
 
 -- an address register holds no value
 unfoldable pub value_in : Bases → ℕ → ℕ → Result ℕ Kind
 value_in bases thread register = if is_some (bases thread register) then Err AddressAsValue else Ok register
+
+-- a register in the condition: other than x0, and no address register
+abbrev pub value_register : Bases → ℕ → List ℕ → Result ℕ Kind
+value_register bases thread w = named_register BadCondition (register_of w) >>= value_in bases thread
 
 -- the location that an address register holds
 unfoldable pub base_in : Bases → ℕ → ℕ → Result ℕ Kind

@@ -3,18 +3,19 @@
 ghost use Rattle.std.specs.Prelude.{◌≡◌, ◌<◌, None, IfOk};
 ghost use Rattle.litmus_lexer.specs.Views.{view_read};
 ghost use Rattle.litmus_lexer.specs.Reading.{Gives};
-ghost use Rattle.piece_forms.specs.Forms.{one};
+ghost use Rattle.litmus_lexer.specs.declared.errors.Kind.TheVariants.{BadCondition};
+ghost use Rattle.piece_forms.specs.Forms.{one, word};
 ghost use Rattle.piece_forms.specs.Reading.{reads};
-ghost use Rattle.litmus_parser.specs.TreeViews.{tree_of};
-ghost use Rattle.litmus_parser.specs.Condition.{start, register, rest_of_atom};
-ghost use Rattle.litmus_parser.specs.Verdicts.{bases_of};
+ghost use Rattle.litmus_parser.specs.Condition.{start};
+ghost use Rattle.litmus_parser.specs.Names.{address_of};
+ghost use Rattle.litmus_parser.specs.Verdicts.{value_register};
 
-use crate::items::{Opening, is_address, item_opening, value};
-use crate::syntax::{Expr, Item, Name};
+use crate::items::{Opening, is_address, item_opening};
+use crate::syntax::Item;
 use litmus_lexer::{
-    Cursor, EQUALS, Kind, Locations, MOST_ATOMS, OPENING_PARENTHESIS, ReadError, Token, register,
+    Cursor, Kind, Locations, MOST_ATOMS, OPENING_PARENTHESIS, ReadError, Token, register,
 };
-use piece_forms::{ahead, expect_sign};
+use piece_forms::ahead;
 
 /// What a factor begins with, or nothing for a parenthesis; how many atoms there are with it; and
 /// the position after it.
@@ -56,7 +57,7 @@ pub fn value_register<'a>(
     thread: u8,
     cursor: Cursor<'a>,
 ) -> Result<(u8, Cursor<'a>), ReadError>
-    ensures { Gives view_read result (reads (register (bases_of items.now) thread)
+    ensures { Gives view_read result (reads (one (word BadCondition (value_register (address_of items.now) thread)))
         cursor.entry.line cursor.entry.pieces) }
 {
     match ahead(&cursor) {
@@ -72,14 +73,4 @@ pub fn value_register<'a>(
         (Some(_), after) => Err(after.fault(Kind::BadCondition)),
         (None, end) => Err(end.fault(Kind::CutShort)),
     }
-}
-
-/// The rest of an atom after its name.
-pub fn atom<'a>(name: Name, cursor: Cursor<'a>) -> Result<(Expr, Cursor<'a>), ReadError>
-    ensures { Gives (λ r. (tree_of r.0, r.1.line, r.1.pieces)) result
-        (reads (rest_of_atom name) cursor.entry.line cursor.entry.pieces) }
-{
-    let after = expect_sign(cursor, Kind::BadCondition, EQUALS)?;
-    let (value, after) = value(after, Kind::BadCondition)?;
-    Ok((Expr::Is(name, value), after))
 }

@@ -4,9 +4,9 @@ ghost use Rattle.std.specs.Prelude.{◌≡◌, [], None, IfOk};
 ghost use Rattle.litmus_lexer.specs.Views.{view_read};
 ghost use Rattle.litmus_lexer.specs.Reading.{Gives};
 ghost use Rattle.litmus_lexer.specs.declared.errors.Kind.TheVariants.{BadInitial};
-ghost use Rattle.piece_forms.specs.Forms.{one, until, refused};
+ghost use Rattle.piece_forms.specs.Forms.{one, either_sign, until, refused};
 ghost use Rattle.piece_forms.specs.Reading.{reads};
-ghost use Rattle.litmus_parser.specs.Block.{added, separator, with_names, item_or_brace};
+ghost use Rattle.litmus_parser.specs.Block.{added, with_names, item_or_brace};
 ghost use Rattle.litmus_parser.specs.Block.{whole_item, entry, block};
 
 use crate::items::{Opening, is_set, item, item_opening};
@@ -21,7 +21,7 @@ use std::alloc::Global;
 /// Whether an item may follow: the position after a `;` or a `}`.
 fn separator<'a>(cursor: Cursor<'a>) -> Result<(bool, Cursor<'a>), ReadError>
     ensures { Gives view_read result
-        (reads (one separator) cursor.entry.line cursor.entry.pieces) }
+        (reads (one (either_sign BadInitial SEMICOLON CLOSING_BRACE)) cursor.entry.line cursor.entry.pieces) }
 {
     match ahead(&cursor) {
         (Some(Token::Sign(SEMICOLON)), after) => Ok((true, after)),

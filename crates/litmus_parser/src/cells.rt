@@ -1,14 +1,15 @@
 //! The rows of the table, cell by cell.
 
-ghost use Rattle.std.specs.Prelude.{◌≡◌, ◌<◌, ◌+◌, ◌++◌, [], ◌∷◌, Ok, true, false};
+ghost use Rattle.std.specs.Prelude.{◌≡◌, ◌<◌, ◌+◌, ◌++◌, [], ◌∷◌, Ok, true, if◌then◌else◌};
 ghost use Rattle.litmus_lexer.specs.Reading.{Gives};
 ghost use Rattle.litmus_lexer.specs.Pieces.{pieces_of};
 ghost use Rattle.piece_forms.specs.Places.{InLine};
-ghost use Rattle.piece_forms.specs.Forms.{Gives as Given, At, here, many};
+ghost use Rattle.piece_forms.specs.Forms.{Gives as Given, Refuses, taken, is_sign, perhaps, here, many};
 ghost use Rattle.piece_forms.specs.Reading.{reads};
 ghost use Rattle.litmus_lexer.specs.declared.errors.Kind.TheVariants.{BadInstruction};
-ghost use Rattle.litmus_parser.specs.Verdicts.{bases_of, meaning};
-ghost use Rattle.litmus_parser.specs.Table.{ends_here, has_shape, ends_cell, closes, filled, cell, column, row};
+ghost use Rattle.litmus_parser.specs.Names.{address_of};
+ghost use Rattle.litmus_parser.specs.Verdicts.{meaning};
+ghost use Rattle.litmus_parser.specs.Table.{ends_here, has_shape, filled, cell, column, row};
 
 use crate::forms::{Form, read_form};
 use crate::instructions::judge;
@@ -55,7 +56,7 @@ fn push_cell(cells: &mut Vec<Cell>, cell: Cell) -> Result<(), ReadError>
 
 /// Whether the cell ends with its sign here; and the position after it.
 fn blank<'a>(closing: u8, cursor: Cursor<'a>) -> (bool, Cursor<'a>)
-    ensures { reads (At InLine (ends_cell closing) (Ok false)) cursor.entry.line cursor.entry.pieces
+    ensures { reads (perhaps InLine (is_sign closing)) cursor.entry.line cursor.entry.pieces
         ≡ Ok (result.0, result.1.line, result.1.pieces) }
 {
     match first(&cursor) {
@@ -75,7 +76,8 @@ fn close<'a>(
 ) -> Result<((Instruction, Option<Width>), Cursor<'a>), ReadError>
     ensures { Gives (λ r. (r.0, r.1.line, r.1.pieces)) result
         (reads (here BadInstruction
-        (closes closing (meaning (bases_of items.now) thread width form)))
+        (λ piece. if is_sign closing piece then taken (meaning (address_of items.now) thread width form)
+        else Refuses BadInstruction))
         cursor.entry.line cursor.entry.pieces) }
 {
     match first(&cursor) {
@@ -98,7 +100,7 @@ fn instruction<'a>(
     cursor: Cursor<'a>,
 ) -> Result<(Option<Width>, Cursor<'a>), ReadError>
     ensures { Gives (λ r. ((cells.new.items, r.0), r.1.line, r.1.pieces)) result
-        (reads (filled (bases_of items.now) thread closing (cells.old.items, width))
+        (reads (filled (address_of items.now) thread closing (cells.old.items, width))
         cursor.entry.line cursor.entry.pieces) }
 {
     let (form, after) = read_form(cursor)?;
@@ -124,7 +126,7 @@ fn cell<'a>(
     cursor: Cursor<'a>,
 ) -> Result<(Option<Width>, Cursor<'a>), ReadError>
     ensures { Gives (λ r. ((cells.new.items, r.0), r.1.line, r.1.pieces)) result
-        (reads (cell (bases_of items.now) thread closing (cells.old.items, width))
+        (reads (cell (address_of items.now) thread closing (cells.old.items, width))
         cursor.entry.line cursor.entry.pieces) }
 {
     let (ended, after) = blank(closing, cursor);
@@ -146,7 +148,7 @@ fn column<'a>(
 ) -> Result<(Option<Width>, Cursor<'a>), ReadError>
     requires { thread < threads }
     ensures { Gives (λ r. ((thread + 1, (cells.new.items, r.0)), r.1.line, r.1.pieces)) result
-        (reads (column (bases_of items.now) threads (thread, (cells.old.items, width)))
+        (reads (column (address_of items.now) threads (thread, (cells.old.items, width)))
         cursor.entry.line cursor.entry.pieces) }
 {
     let closing = if thread + 1 == threads {
@@ -167,7 +169,7 @@ fn columns<'a>(
     cursor: Cursor<'a>,
 ) -> Result<(Option<Width>, Cursor<'a>), ReadError>
     ensures { Gives (λ r. ((threads, (cells.new.items, r.0)), r.1.line, r.1.pieces)) result
-        (reads (many Given (λ c. Given true) (column (bases_of items.now) threads) threads
+        (reads (many Given (λ c. Given true) (column (address_of items.now) threads) threads
         (0, (cells.old.items, width))) cursor.entry.line cursor.entry.pieces) }
 {
     let mut width = width;
@@ -190,7 +192,7 @@ pub fn row<'a>(
     cursor: Cursor<'a>,
 ) -> Result<(Option<Width>, Cursor<'a>), ReadError>
     ensures { Gives (λ r. ((cells.new.items, r.0), r.1.line, r.1.pieces)) result
-        (reads (row (bases_of items.now) threads (cells.old.items, width))
+        (reads (row (address_of items.now) threads (cells.old.items, width))
         cursor.entry.line cursor.entry.pieces) }
 {
     if !has_shape(threads.saturating_sub(1), cursor.rest()) {

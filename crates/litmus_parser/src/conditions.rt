@@ -2,10 +2,14 @@
 
 ghost use Rattle.litmus_lexer.specs.Views.{view_read};
 ghost use Rattle.litmus_lexer.specs.Reading.{Gives};
+ghost use Rattle.std.specs.Prelude.{ok_or};
+ghost use Rattle.litmus_lexer.specs.declared.errors.Kind.TheVariants.{BadTable};
+ghost use Rattle.piece_forms.specs.Forms.{one, word};
 ghost use Rattle.piece_forms.specs.Reading.{reads};
+ghost use Rattle.litmus_parser.specs.Keywords.{quantifier_of};
 ghost use Rattle.litmus_parser.specs.TreeViews.{tree_of};
-ghost use Rattle.litmus_parser.specs.Verdicts.{bases_of};
-ghost use Rattle.litmus_parser.specs.Condition.{keyword, condition};
+ghost use Rattle.litmus_parser.specs.Names.{address_of};
+ghost use Rattle.litmus_parser.specs.Condition.{condition};
 
 use crate::expressions::{Connective, expression};
 use crate::syntax::{Expr, Item, Quantifier};
@@ -15,7 +19,8 @@ use piece_forms::{ahead, expect_end};
 use std::alloc::Global;
 
 fn keyword<'a>(cursor: Cursor<'a>) -> Result<(Quantifier, Cursor<'a>), ReadError>
-    ensures { Gives view_read result (reads keyword cursor.entry.line cursor.entry.pieces) }
+    ensures { Gives view_read result (reads (one (word BadTable (λ w. ok_or (quantifier_of w) BadTable)))
+        cursor.entry.line cursor.entry.pieces) }
 {
     match ahead(&cursor) {
         (Some(Token::Word(word)), after) => match quantifier_named(word) {
@@ -37,7 +42,7 @@ pub fn condition<'a>(
     cursor: Cursor<'a>,
 ) -> Result<(Quantifier, Expr, Cursor<'a>), ReadError>
     ensures { Gives (λ r. ((r.0, tree_of r.1, locations.new), r.2.line, r.2.pieces)) result
-        (reads (condition (bases_of items.now) threads locations.old)
+        (reads (condition (address_of items.now) threads locations.old)
         cursor.entry.line cursor.entry.pieces) }
 {
     let (quantifier, after) = keyword(cursor)?;

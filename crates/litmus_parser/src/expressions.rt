@@ -5,11 +5,11 @@ ghost use Rattle.litmus_lexer.specs.Reading.{Gives};
 ghost use Rattle.piece_forms.specs.Forms.{turn};
 ghost use Rattle.piece_forms.specs.Reading.{reads};
 ghost use Rattle.litmus_parser.specs.TreeViews.{tree_of};
-ghost use Rattle.litmus_parser.specs.Verdicts.{bases_of};
+ghost use Rattle.litmus_parser.specs.Names.{address_of};
 ghost use Rattle.litmus_parser.specs.Condition.{sign_of, join_of, further, joined, chain, part_of, factor};
 
-use crate::atoms::{atom, factor_start, value_register};
-use crate::items::Opening;
+use crate::atoms::{factor_start, value_register};
+use crate::items::{Opening, equals};
 use crate::syntax::{Expr, Item, Name};
 use litmus_lexer::{CLOSING_PARENTHESIS, COLON, Cursor, Kind, Locations, MOST_ATOMS, ReadError};
 use piece_forms::{expect_sign, over_word};
@@ -57,7 +57,7 @@ pub fn expression<'a>(
     cursor: Cursor<'a>,
 ) -> Result<(Expr, u16, Cursor<'a>), ReadError>
     ensures { Gives (λ r. ((tree_of r.0, (locations.new, r.1)), r.2.line, r.2.pieces)) result
-        (reads (chain connective (part_of connective (bases_of items.now) threads depth)
+        (reads (chain connective (part_of connective (address_of items.now) threads depth)
         (locations.old, atoms)) cursor.entry.line cursor.entry.pieces) }
 {
     let (first, mut atoms, mut at) = part(
@@ -93,7 +93,7 @@ fn next_part<'a>(
 ) -> Result<(bool, Expr, u16, Cursor<'a>), ReadError>
     ensures { Gives (λ r. ((r.0, (tree_of r.1, (locations.new, r.2))), r.3.line, r.3.pieces)) result
         (reads (turn (further connective)
-        (joined connective (part_of connective (bases_of items.now) threads depth))
+        (joined connective (part_of connective (address_of items.now) threads depth))
         (tree_of left, (locations.old, atoms))) at.entry.line at.entry.pieces) }
 {
     let (more, after) = over_word(&at, sign(connective));
@@ -120,7 +120,7 @@ fn part<'a>(
     cursor: Cursor<'a>,
 ) -> Result<(Expr, u16, Cursor<'a>), ReadError>
     ensures { Gives (λ r. ((tree_of r.0, (locations.new, r.1)), r.2.line, r.2.pieces)) result
-        (reads (part_of connective (bases_of items.now) threads depth (locations.old, atoms))
+        (reads (part_of connective (address_of items.now) threads depth (locations.old, atoms))
         cursor.entry.line cursor.entry.pieces) }
 {
     match connective {
@@ -151,7 +151,7 @@ fn factor<'a>(
     cursor: Cursor<'a>,
 ) -> Result<(Expr, u16, Cursor<'a>), ReadError>
     ensures { Gives (λ r. ((tree_of r.0, (locations.new, r.1)), r.2.line, r.2.pieces)) result
-        (reads (factor (bases_of items.now) threads depth (locations.old, atoms))
+        (reads (factor (address_of items.now) threads depth (locations.old, atoms))
         cursor.entry.line cursor.entry.pieces) }
 {
     let (start, atoms, after) = factor_start(threads, depth, locations, atoms, cursor)?;
@@ -159,12 +159,16 @@ fn factor<'a>(
         Some(Opening::OfThread(thread)) => {
             let after = expect_sign(after, Kind::BadCondition, COLON)?;
             let (register, after) = value_register(items, thread, after)?;
-            let (tree, after) = atom(Name::Register(thread, register), after)?;
-            Ok((tree, atoms, after))
+            let (value, after) = equals(after, Kind::BadCondition)?;
+            Ok((
+                Expr::Is(Name::Register(thread, register), value),
+                atoms,
+                after,
+            ))
         }
         Some(Opening::OfLocation(number)) => {
-            let (tree, after) = atom(Name::Location(number), after)?;
-            Ok((tree, atoms, after))
+            let (value, after) = equals(after, Kind::BadCondition)?;
+            Ok((Expr::Is(Name::Location(number), value), atoms, after))
         }
         None => {
             let (inner, atoms, after) = expression(

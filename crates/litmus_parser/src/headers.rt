@@ -1,12 +1,14 @@
 //! The lines before the initial block.
 
-ghost use Rattle.std.specs.Prelude.{◌≡◌, ◌≤◌, [], length, false, IfOk, IfErr};
+ghost use Rattle.std.specs.Prelude.{◌≡◌, ◌≤◌, ◌+◌, ◌-◌, ℕ, [], length, true, false, IfOk, IfErr};
+ghost use Rattle.text_lines.specs.Lines.{behind_line_feed};
 ghost use Rattle.litmus_lexer.specs.Pieces.{pieces_of};
 ghost use Rattle.litmus_lexer.specs.Reading.{Gives};
 ghost use Rattle.litmus_lexer.specs.declared.errors.Kind.TheVariants.{BadHeader, CutShort as Short};
 ghost use Rattle.piece_forms.specs.Forms.{one, line_end, turn, many, refused};
 ghost use Rattle.piece_forms.specs.Reading.{reads};
-ghost use Rattle.litmus_parser.specs.Header.{text_pieces, title, line_or_block, preamble, TakesNoMemory};
+ghost use Rattle.litmus_parser.specs.Header.{text_pieces, behind_lines, title, line_or_block, preamble};
+ghost use Rattle.litmus_parser.specs.Header.{TakesNoMemory};
 
 use litmus_lexer::{
     HeaderLines, Kind, MOST_BYTES, ReadError, begins_block, is_header_line, read_title,
@@ -18,6 +20,8 @@ fn first_line<'a>(text: &'a [u8]) -> Result<(&'a [u8], HeaderLines<'a>), ReadErr
     requires { length text.now ≤ MOST_BYTES }
     ensures read { Gives (λ r. (r.0.now, r.1.line, text_pieces r.1.rest.now [])) result
         (reads title 1 (text_pieces text.now [])) }
+    ensures second { IfOk result (λ r.
+        (r.1.line ≡ 2) × (r.1.rest.now ≡ behind_line_feed text.now)) }
     ensures sure { IfErr result TakesNoMemory }
 {
     let start = HeaderLines {
@@ -42,6 +46,10 @@ fn header_line<'a>(cursor: HeaderLines<'a>) -> Result<(bool, HeaderLines<'a>), R
         (text_pieces cursor.entry.rest.now [])) }
     ensures block { IfOk result (λ r. r.0 ≡ false →
         text_pieces r.1.rest.now [] ≡ pieces_of r.1.rest.now) }
+    ensures next { IfOk result (λ r. r.0 ≡ true → (r.1.line ≡ cursor.entry.line + 1) ×
+        (r.1.rest.now ≡ behind_line_feed cursor.entry.rest.now)) }
+    ensures same { IfOk result (λ r. r.0 ≡ false → (r.1.line ≡ cursor.entry.line) ×
+        (r.1.rest.now ≡ cursor.entry.rest.now)) }
     ensures sure { IfErr result TakesNoMemory }
 {
     if cursor.rest.is_empty() {
@@ -69,6 +77,8 @@ fn header<'a>(cursor: HeaderLines<'a>) -> Result<HeaderLines<'a>, ReadError>
         (reads (many (refused Short) (λ _. one line_or_block) (λ _. line_end BadHeader)
         MOST_BYTES tt)
         cursor.entry.line (text_pieces cursor.entry.rest.now [])) }
+    ensures body { IfOk result (λ r. (n : ℕ) × (r.line ≡ cursor.entry.line + n) ×
+        (r.rest.now ≡ behind_lines n cursor.entry.rest.now)) }
     ensures sure { IfErr result TakesNoMemory }
 {
     let mut at = cursor;
@@ -88,6 +98,8 @@ pub fn preamble<'a>(text: &'a [u8]) -> Result<(&'a [u8], HeaderLines<'a>), ReadE
     requires { length text.now ≤ MOST_BYTES }
     ensures read { Gives (λ r. (r.0.now, r.1.line, pieces_of r.1.rest.now)) result
         (reads preamble 1 (text_pieces text.now [])) }
+    // What is left are the bytes from that line on.
+    ensures body { IfOk result (λ r. r.1.rest.now ≡ behind_lines (r.1.line - 1) text.now) }
     // It takes no memory.
     ensures sure { IfErr result TakesNoMemory }
 {

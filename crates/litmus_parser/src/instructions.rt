@@ -2,7 +2,8 @@
 
 ghost use Rattle.litmus_lexer.specs.Reading.{Gives};
 ghost use Rattle.piece_forms.specs.Reading.{judged};
-ghost use Rattle.litmus_parser.specs.Verdicts.{bases_of, kept, value_in, base_in, meaning};
+ghost use Rattle.litmus_parser.specs.Names.{address_of};
+ghost use Rattle.litmus_parser.specs.Verdicts.{kept, value_in, base_in, meaning};
 
 use crate::forms::Form;
 use crate::items::{address_of, is_address};
@@ -35,7 +36,7 @@ fn value_register(
     at: &Cursor<'_>,
 ) -> Result<u8, ReadError>
     ensures { Gives (λ r. r) result
-        (judged (value_in (bases_of items.now) thread register) at.now.line) }
+        (judged (value_in (address_of items.now) thread register) at.now.line) }
 {
     if is_address(items, thread, register) {
         return Err(at.fault(Kind::AddressAsValue));
@@ -47,7 +48,7 @@ fn value_register(
 #[tactic(auto, unfolding(crate::specs::Verdicts::base_in))]
 fn base_location(items: &[Item], thread: u8, register: u8, at: &Cursor<'_>) -> Result<u8, ReadError>
     ensures { Gives (λ r. r) result
-        (judged (base_in (bases_of items.now) thread register) at.now.line) }
+        (judged (base_in (address_of items.now) thread register) at.now.line) }
 {
     match address_of(items, thread, register) {
         Some(location) => Ok(location),
@@ -66,7 +67,7 @@ pub fn judge(
     at: &Cursor<'_>,
 ) -> Result<(Instruction, Option<Width>), ReadError>
     ensures { Gives (λ r. r) result
-        (judged (meaning (bases_of items.now) thread width form) at.now.line) }
+        (judged (meaning (address_of items.now) thread width form) at.now.line) }
 {
     match form {
         Form::Load(own, target, base) => {

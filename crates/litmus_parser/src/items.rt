@@ -9,8 +9,8 @@ ghost use Rattle.litmus_lexer.specs.declared.errors.Kind.TheVariants.{BadInitial
 ghost use Rattle.piece_forms.specs.Forms.{one, word};
 ghost use Rattle.piece_forms.specs.Reading.{reads, judged};
 ghost use Rattle.litmus_parser.specs.Names.{same_name, address_of};
-ghost use Rattle.litmus_parser.specs.Words.{value, location, opening};
-ghost use Rattle.litmus_parser.specs.Block.{settable, setting, rest_of_item};
+ghost use Rattle.litmus_parser.specs.Words.{value, equals, location, named_register, opening};
+ghost use Rattle.litmus_parser.specs.Block.{setting, rest_of_item};
 
 use crate::syntax::{Item, Name, Setting};
 use litmus_lexer::{
@@ -51,7 +51,7 @@ fn first_of(items: &[Item], name: Name) -> Option<&Item>
 /// The location to which the first of the items that set the thread's register sets it, if it
 /// sets it to one.
 pub fn address_of(items: &[Item], thread: u8, register: u8) -> Option<u8>
-    ensures { result ≡ address_of thread register items.now }
+    ensures { result ≡ address_of items.now thread register }
 {
     let item = first_of(items, Name::Register(thread, register))?;
     match item.setting {
@@ -62,7 +62,7 @@ pub fn address_of(items: &[Item], thread: u8, register: u8) -> Option<u8>
 
 /// Whether the items set the thread's register to a location.
 pub fn is_address(items: &[Item], thread: u8, register: u8) -> bool
-    ensures { result ≡ is_some (address_of thread register items.now) }
+    ensures { result ≡ is_some (address_of items.now thread register) }
 {
     address_of(items, thread, register).is_some()
 }
@@ -108,7 +108,7 @@ fn value_of(word: &[u8], at: &Cursor<'_>, kind: Kind) -> Result<u32, ReadError>
 }
 
 /// A number that is a value.
-pub fn value<'a>(cursor: Cursor<'a>, kind: Kind) -> Result<(u32, Cursor<'a>), ReadError>
+fn value<'a>(cursor: Cursor<'a>, kind: Kind) -> Result<(u32, Cursor<'a>), ReadError>
     ensures { Gives view_read result
         (reads (one (word kind (value kind))) cursor.entry.line cursor.entry.pieces) }
 {
@@ -120,6 +120,15 @@ pub fn value<'a>(cursor: Cursor<'a>, kind: Kind) -> Result<(u32, Cursor<'a>), Re
         (Some(_), after) => Err(after.fault(kind)),
         (None, end) => Err(end.fault(Kind::CutShort)),
     }
+}
+
+/// What stands after the name in an atom, or in an item of a location: `=` and a number.
+pub fn equals<'a>(cursor: Cursor<'a>, kind: Kind) -> Result<(u32, Cursor<'a>), ReadError>
+    ensures { Gives view_read result (reads (equals kind) cursor.entry.line cursor.entry.pieces) }
+{
+    let after = expect_sign(cursor, kind, EQUALS)?;
+    let (value, after) = value(after, kind)?;
+    Ok((value, after))
 }
 
 /// What an item or an atom that begins with this word begins with: one of the threads, or a
@@ -178,7 +187,7 @@ fn setting<'a>(
 /// A register other than x0.
 fn settable<'a>(cursor: Cursor<'a>) -> Result<(u8, Cursor<'a>), ReadError>
     ensures { Gives view_read result
-        (reads (one (word BadInitial (λ w. settable (register_of w))))
+        (reads (one (word BadInitial (λ w. named_register BadInitial (register_of w))))
         cursor.entry.line cursor.entry.pieces) }
 {
     match ahead(&cursor) {
@@ -218,8 +227,7 @@ pub fn item<'a>(
             ))
         }
         Opening::OfLocation(number) => {
-            let after = expect_sign(cursor, Kind::BadInitial, EQUALS)?;
-            let (value, after) = value(after, Kind::BadInitial)?;
+            let (value, after) = equals(cursor, Kind::BadInitial)?;
             Ok((
                 Item {
                     line,

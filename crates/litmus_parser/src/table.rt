@@ -6,10 +6,10 @@ ghost use Rattle.litmus_lexer.specs.Views.{view_read, view_as};
 ghost use Rattle.litmus_lexer.specs.Reading.{Gives};
 ghost use Rattle.litmus_lexer.specs.Spelling.{thread_named};
 ghost use Rattle.litmus_lexer.specs.declared.errors.Kind.TheVariants.{TooLarge, BadTable};
-ghost use Rattle.piece_forms.specs.Forms.{one, here, turn, many, refused};
+ghost use Rattle.piece_forms.specs.Forms.{either_sign, one, here, turn, many, refused};
 ghost use Rattle.piece_forms.specs.Reading.{reads};
 ghost use Rattle.litmus_parser.specs.Keywords.{quantifier_of};
-ghost use Rattle.litmus_parser.specs.Verdicts.{bases_of};
+ghost use Rattle.litmus_parser.specs.Names.{address_of};
 ghost use Rattle.litmus_parser.specs.Table.{heading, separator, further_heading, header, is_absent};
 ghost use Rattle.litmus_parser.specs.Table.{row_or_condition, counted_row, rows, table};
 
@@ -50,7 +50,8 @@ fn first_heading<'a>(cursor: Cursor<'a>) -> Result<Cursor<'a>, ReadError>
 /// Whether a further heading follows: the position after a `|`, or a `;`.
 fn separator<'a>(cursor: Cursor<'a>) -> Result<(bool, Cursor<'a>), ReadError>
     ensures { Gives view_read result
-        (reads (here BadTable separator) cursor.entry.line cursor.entry.pieces) }
+        (reads (here BadTable (either_sign BadTable BAR SEMICOLON)) cursor.entry.line
+        cursor.entry.pieces) }
 {
     match first(&cursor) {
         (Some(Token::Sign(BAR)), after) => Ok((true, after)),
@@ -83,7 +84,7 @@ fn later_heading<'a>(thread: u8, cursor: Cursor<'a>) -> Result<Cursor<'a>, ReadE
 fn next_heading<'a>(threads: u8, cursor: Cursor<'a>) -> Result<(bool, u8, Cursor<'a>), ReadError>
     requires { threads ≤ MOST_THREADS }
     ensures read { Gives (λ r. ((r.0, r.1), r.2.line, r.2.pieces)) result
-        (reads (turn (λ c. here BadTable separator) further_heading threads) cursor.entry.line
+        (reads (turn separator further_heading threads) cursor.entry.line
         cursor.entry.pieces) }
     ensures few { IfOk result (λ r. (threads ≤ r.1) × (r.1 ≤ MOST_THREADS)) }
 {
@@ -98,7 +99,7 @@ fn next_heading<'a>(threads: u8, cursor: Cursor<'a>) -> Result<(bool, u8, Cursor
 /// The headings `P0 | P1 | ..` after the first: how many threads there are.
 fn later_headings<'a>(cursor: Cursor<'a>) -> Result<(u8, Cursor<'a>), ReadError>
     ensures read { Gives view_read result
-        (reads (many (refused BadTable) (λ c. here BadTable separator) further_heading
+        (reads (many (refused BadTable) separator further_heading
         MOST_THREADS 1)
         cursor.entry.line cursor.entry.pieces) }
     ensures few { IfOk result (λ r. (0 < r.0) × (r.0 ≤ MOST_THREADS)) }
@@ -199,7 +200,7 @@ fn next_row<'a>(
 ) -> Result<(bool, u16, Option<Width>, Cursor<'a>), ReadError>
     requires { count < 65535 }
     ensures read { Gives (λ r. ((r.0, (r.1, (cells.new.items, r.2))), r.3.line, r.3.pieces)) result
-        (reads (turn (λ t. one (row_or_condition t.0)) (counted_row (bases_of items.now) threads)
+        (reads (turn (λ t. one (row_or_condition t.0)) (counted_row (address_of items.now) threads)
         (count, (cells.old.items, width))) cursor.entry.line cursor.entry.pieces) }
     ensures more { IfOk result (λ r. r.1 ≤ count + 1) }
 {
@@ -219,7 +220,7 @@ fn rows_into<'a>(
 ) -> Result<(u16, Option<Width>, Cursor<'a>), ReadError>
     ensures { Gives (λ r. ((r.0, (cells.new.items, r.1)), r.2.line, r.2.pieces)) result
         (reads (many (refused TooLarge) (λ t. one (row_or_condition t.0))
-        (counted_row (bases_of items.now) threads)
+        (counted_row (address_of items.now) threads)
         (MOST_ROWS + 1) (0, (cells.old.items, None))) cursor.entry.line cursor.entry.pieces) }
 {
     let mut count = 0;
@@ -246,7 +247,7 @@ fn rows<'a>(
     cursor: Cursor<'a>,
 ) -> Result<(Vec<Cell>, Cursor<'a>), ReadError>
     ensures { Gives (view_as (λ cells. cells.items)) result
-        (reads (rows (bases_of items.now) threads) cursor.entry.line cursor.entry.pieces) }
+        (reads (rows (address_of items.now) threads) cursor.entry.line cursor.entry.pieces) }
 {
     let mut cells = Vec::new(alloc);
     let (_, _, after) = rows_into(items, &mut cells, threads, cursor)?;

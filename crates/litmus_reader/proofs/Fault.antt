@@ -5,10 +5,7 @@ use Rattle.std.specs.Prelude.{◌⊎◌, IfErr}
 use Rattle.std.proofs.lemmas.Bool.{cond_both, ltb-true, ltb-false, both_ways}
 use Rattle.litmus_lexer.specs.Pieces.{Piece}
 use Rattle.litmus_lexer.specs.declared.errors.Kind.{Kind}
-use Rattle.litmus_lexer.specs.declared.errors.Kind.TheVariants.{NoMemory, TooLarge, BadByte, BadHeader, BadInitial}
-use Rattle.litmus_lexer.specs.declared.errors.Kind.TheVariants.{DoubleInitial, BadTable, BadInstruction, ValueRange}
-use Rattle.litmus_lexer.specs.declared.errors.Kind.TheVariants.{MixedWidth, AddressAsValue, ValueAsAddress}
-use Rattle.litmus_lexer.specs.declared.errors.Kind.TheVariants.{BadCondition, CutShort}
+use Rattle.litmus_lexer.specs.declared.errors.Kind.TheVariants.{NoMemory, TooLarge, CutShort}
 use Rattle.litmus_lexer.specs.declared.errors.LitmusError.{LitmusError}
 use Rattle.litmus_lexer.specs.declared.errors.ReadError.{ReadError}
 use Rattle.litmus_lexer.specs.declared.errors.ReadError.TheVariants.{Memory, Fault as ReadFault}
@@ -30,20 +27,8 @@ use Rattle.litmus_reader.proofs.Reaching.{reaches, good-allowed, good-within}
 use Rattle.litmus_reader.proofs.Found.{whole_takes}
 
 cut_is : (kind : Kind) → is_cut_short kind ≡ true → kind ≡ CutShort
-cut_is NoMemory e = absurd cc
-cut_is TooLarge e = absurd cc
-cut_is BadByte e = absurd cc
-cut_is BadHeader e = absurd cc
-cut_is BadInitial e = absurd cc
-cut_is DoubleInitial e = absurd cc
-cut_is BadTable e = absurd cc
-cut_is BadInstruction e = absurd cc
-cut_is ValueRange e = absurd cc
-cut_is MixedWidth e = absurd cc
-cut_is AddressAsValue e = absurd cc
-cut_is ValueAsAddress e = absurd cc
-cut_is BadCondition e = absurd cc
 cut_is CutShort e = refl
+cut_is _ e = absurd cc
 
 cut_isn't : (kind : Kind) → is_cut_short kind ≡ false → kind ≢ CutShort
 cut_isn't kind e same = both_ways (is_cut_short kind) e (ap is_cut_short same)

@@ -3,7 +3,7 @@ use Rattle.std.proofs.Common.{◌≡◌, ℕ, ◌<◌, List, [], ◌∷◌, leng
 use Rattle.litmus_lexer.specs.declared.errors.Kind.{Kind}
 use Rattle.litmus_lexer.specs.declared.errors.Kind.TheVariants.{CutShort}
 use Rattle.litmus_lexer.specs.Reading.{fault_at}
-use Rattle.piece_forms.specs.Places.{first_piece, from_next, ends_ahead}
+use Rattle.piece_forms.specs.Places.{from_next, ends_ahead}
 use Rattle.piece_forms.proofs.Lemmas.{again, explains}
 use Rattle.litmus_parser.specs.Header.{text_pieces, title, preamble}
 use Rattle.litmus_reader.specs.Litmus.{Litmus}
@@ -11,12 +11,12 @@ use Rattle.litmus_reader.specs.Grammar.{whole_test, IsTest}
 use Rattle.litmus_reader.specs.Faults.{FaultBefore, good_lines}
 
 nothing_ends : FaultBefore [] CutShort 1
-unfolding text_pieces title preamble first_piece from_next ends_ahead
+unfolding text_pieces title preamble from_next ends_ahead
 nothing_ends = explains preamble 1 [] (fault_at CutShort 1) refl
 
 -- a test has bytes
 pub some_of_test : (text : List ℕ) (test : Litmus) → IsTest text test → 0 < length text
-unfolding text_pieces title preamble whole_test first_piece from_next ends_ahead
+unfolding text_pieces title preamble whole_test from_next ends_ahead
 some_of_test [] test h = let read = again whole_test 1 [] test h.last h.end h.stands in absurd cc
 some_of_test (b ∷ text) test h = omega arith
 

@@ -8,7 +8,7 @@ use Rattle.litmus_parser.specs.Extents.{is_allowed}
 use Rattle.litmus_parser.specs.Header.{text_pieces, preamble}
 use Rattle.litmus_parser.specs.Block.{block}
 use Rattle.litmus_parser.specs.Table.{table}
-use Rattle.litmus_parser.specs.Verdicts.{bases_of}
+use Rattle.litmus_parser.specs.Names.{address_of}
 use Rattle.litmus_parser.specs.Condition.{condition}
 use Rattle.litmus_reader.specs.Litmus.{Litmus, settings_of}
 use Rattle.litmus_reader.specs.Seen.{seen_in}
@@ -19,7 +19,7 @@ whole_test = do
   name ← preamble
   b ← block []
   t ← table b.0
-  c ← condition (bases_of b.0) t.0 b.1
+  c ← condition (address_of b.0) t.0 b.1
   Gives (record {
     name = name;
     locations = c.2;

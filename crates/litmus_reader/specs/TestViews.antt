@@ -8,8 +8,7 @@ test_of t = record {
   name = t.name.items;
   locations = t.locations;
   items = settings_of t.items.items;
-  threads =
-      t.threads;
+  threads = t.threads;
   cells = t.cells.items;
   quantifier = t.quantifier;
   tree = tree_of t.expr;

@@ -1,7 +1,7 @@
 -- The threads of a litmus test: registers, and the instructions that are left.
 use Rattle.std.specs.Prelude.{ℕ, ◌==◌, ◌&&◌, nat_lt, if◌then◌else◌, List, [], ◌∷◌, Option, Some, None, slice_get}
 use Rattle.std.specs.Prelude.{slice_set, unwrap_or}
-use Rattle.std.specs.Option.{option_map_or}
+use Rattle.std.specs.Option.{option_and_then, option_map_or}
 use Rattle.litmus_parser.specs.declared.syntax.Name.{Name}
 use Rattle.litmus_parser.specs.declared.syntax.Name.TheVariants.{Register}
 use Rattle.litmus_parser.specs.declared.syntax.Setting.{Setting}
@@ -59,13 +59,10 @@ instruction_operation (does.Swap target source location) registers =
     Some (op.Swap location (register_value registers source))
 instruction_operation instruction registers = None
 
-abbrev pub first_operation : List Cell → List ℕ → Option Op
-first_operation [] registers = None
-first_operation (cell ∷ rest) registers = instruction_operation cell.instruction registers
-
 -- the operation that a thread does next
 abbrev pub next_operation : Thread → Option Op
-next_operation t = first_operation t.rest t.registers
+next_operation t =
+    option_and_then (λ cell. instruction_operation cell.instruction t.registers) (slice_get t.rest 0)
 
 -- where a received value goes
 abbrev pub received_by : Instruction → Option ℕ → List ℕ → List ℕ

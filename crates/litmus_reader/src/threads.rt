@@ -1,10 +1,9 @@
 //! The threads of a litmus test, as a run drives them.
 
-ghost use Rattle.std.specs.Prelude.{◌≡◌, ℕ, List, Some, replicate};
+ghost use Rattle.std.specs.Prelude.{◌≡◌, replicate};
 ghost use Rattle.litmus_reader.specs.Litmus.{settings_of};
 ghost use Rattle.litmus_reader.specs.ThreadSteps.{Thread, register_value, with_register, settled_thread, with_items};
 ghost use Rattle.litmus_reader.specs.ThreadSteps.{next_operation, done_with};
-ghost use Rattle.litmus_reader.specs.ThreadSteps.{received_by};
 
 use litmus_parser::{Cell, Instruction, Item, Name, Setting};
 use physiological_order::{Op, WordAddr};

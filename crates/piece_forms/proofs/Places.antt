@@ -3,11 +3,10 @@ use Rattle.std.proofs.Common.{◌≡◌, ℕ, ◌+◌, List, [], ◌∷◌, ◌+
 use Rattle.litmus_lexer.specs.Pieces.{Piece, Word, Sign, LineEnd}
 use Rattle.litmus_lexer.specs.Positions.{past_line_ends, line_after}
 use Rattle.piece_forms.specs.Places.{Where, Beyond, InLine, from_next, ends_ahead, first_piece}
-use Rattle.piece_forms.specs.Places.{behind_first, line_behind_first, seen, behind, line_behind, from, line_of}
+use Rattle.piece_forms.specs.Places.{seen, behind, line_behind, from, line_of}
 
 pub first-append : (front u v : List Piece) → first_piece u ≡ first_piece v → first_piece (front ++ u) ≡
     first_piece (front ++ v)
-unfolding first_piece
 first-append [] u v e = e
 first-append (p ∷ front) u v e = refl
 
@@ -24,7 +23,7 @@ one-more line a b e = omega (arith, e)
 
 pub over : (place : Where) (pieces : List Piece) (piece : Piece) → seen place pieces ≡ Some piece →
     Over place pieces piece
-unfolding from_next ends_ahead first_piece behind_first line_behind_first
+unfolding from_next ends_ahead
 over Beyond [] piece e = absurd cc
 over Beyond (LineEnd ∷ pieces) piece e =
     let o = over Beyond pieces piece e in
@@ -60,7 +59,7 @@ IsNext (Some LineEnd) = ⊥
 IsNext first = Unit {0}
 
 begins : (pieces : List Piece) → IsNext (first_piece pieces) → (from_next pieces ≡ pieces) × (ends_ahead pieces ≡ 0)
-unfolding first_piece from_next ends_ahead
+unfolding from_next ends_ahead
 begins [] h = (refl, refl)
 begins (LineEnd ∷ pieces) h = absurd h
 begins (Word w ∷ pieces) h = (refl, refl)
@@ -78,7 +77,7 @@ begun pieces h =
     }
 
 pub up-to : (place : Where) (pieces : List Piece) → UpTo place pieces
-unfolding from_next ends_ahead first_piece
+unfolding from_next ends_ahead
 up-to InLine pieces = record { front = []; split = refl; same = λ line u e. (sym e, refl, refl) }
 up-to Beyond [] = begun [] tt
 up-to Beyond (LineEnd ∷ pieces) =

@@ -1,6 +1,7 @@
 -- A language of forms, and what it is that pieces stand in one.
 use Rattle.std.specs.Prelude.{◌≡◌, ℕ, zero, suc, ◌==◌, Bool, true, false, if◌then◌else◌, List, Option, Some, None}
 use Rattle.std.specs.Prelude.{Result, Ok, Err}
+use Rattle.std.specs.Str.{bytes_eq}
 use Rattle.litmus_lexer.specs.Pieces.{Piece, Word, Sign, LineEnd}
 use Rattle.litmus_lexer.specs.declared.errors.Kind.{Kind}
 use Rattle.litmus_lexer.specs.declared.errors.Kind.TheVariants.{CutShort}
@@ -29,13 +30,10 @@ infixl 10 ◌>>=◌
 abbrev pub ◌>>=◌ : {A B : Type 0} → Form A → (A → Form B) → Form B
 f >>= g = InOrder f g
 
-abbrev pub at_end : {A : Type 0} → Result A Kind → Verdict A
-at_end (Ok x) = Leaves x
-at_end (Err kind) = Refuses kind
-
 abbrev pub said : {A : Type 0} → (Piece → Verdict A) → Result A Kind → Option Piece → Verdict A
 said look end (Some piece) = look piece
-said look end None = at_end end
+said look (Ok x) None = Leaves x
+said look (Err kind) None = Refuses kind
 
 -- the next piece is taken or left with x, and the rest follows in line n
 abbrev pub Passes : {A : Type 0} → Where → Verdict A → ℕ → List Piece → A → ℕ → List Piece → Type 0
@@ -72,15 +70,24 @@ abbrev pub word : {A : Type 0} → Kind → (List ℕ → Result A Kind) → Pie
 word kind test (Word w) = taken (test w)
 word kind test piece = Refuses kind
 
+-- whether a piece is this word
+abbrev pub is_word : List ℕ → Piece → Bool
+is_word wanted (Word w) = bytes_eq w wanted
+is_word wanted piece = false
+
+-- whether a piece is this sign
+abbrev pub is_sign : ℕ → Piece → Bool
+is_sign wanted (Sign b) = b == wanted
+is_sign wanted piece = false
+
 -- this sign
 abbrev pub sign : Kind → ℕ → Piece → Verdict (Unit {0})
-sign kind wanted (Sign b) = if b == wanted then Takes tt else Refuses kind
-sign kind wanted piece = Refuses kind
+sign kind wanted piece = if is_sign wanted piece then Takes tt else Refuses kind
 
--- such a word, which may be missing
-abbrev pub is_word : (List ℕ → Bool) → Piece → Verdict Bool
-is_word test (Word w) = if test w then Takes true else Leaves false
-is_word test piece = Leaves false
+-- one of two signs: whether it is the first of them
+abbrev pub either_sign : Kind → ℕ → ℕ → Piece → Verdict Bool
+either_sign kind more last piece =
+    if is_sign more piece then Takes true else if is_sign last piece then Takes false else Refuses kind
 
 -- the end of a line
 abbrev pub ends_line : Kind → Piece → Verdict (Unit {0})
@@ -97,9 +104,9 @@ one look = At Beyond look (Err CutShort)
 abbrev pub here : {A : Type 0} → Kind → (Piece → Verdict A) → Form A
 here kind look = At InLine look (Err kind)
 
--- such a word, if it stands there
-abbrev pub perhaps : (List ℕ → Bool) → Form Bool
-perhaps test = At Beyond (is_word test) (Ok false)
+-- such a piece, if it stands there
+abbrev pub perhaps : Where → (Piece → Bool) → Form Bool
+perhaps place test = At place (λ piece. if test piece then Takes true else Leaves false) (Ok false)
 
 -- the end of the line, or of the text
 abbrev pub line_end : Kind → Form (Unit {0})

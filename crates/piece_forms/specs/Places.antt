@@ -10,16 +10,16 @@ pub data Where : Type 0 where
 -- ---- in the line
 
 -- the first piece, if there is one
-unfoldable pub first_piece : List Piece → Option Piece
+abbrev pub first_piece : List Piece → Option Piece
 first_piece [] = None
 first_piece (piece ∷ pieces) = Some piece
 
 -- what follows it, and in which line
-unfoldable pub behind_first : List Piece → List Piece
+abbrev pub behind_first : List Piece → List Piece
 behind_first [] = []
 behind_first (piece ∷ pieces) = pieces
 
-unfoldable pub line_behind_first : ℕ → List Piece → ℕ
+abbrev pub line_behind_first : ℕ → List Piece → ℕ
 line_behind_first line (LineEnd ∷ pieces) = line + 1
 line_behind_first line pieces = line
 
@@ -35,28 +35,9 @@ unfoldable pub ends_ahead : List Piece → ℕ
 ends_ahead (LineEnd ∷ pieces) = 1 + ends_ahead pieces
 ends_ahead pieces = 0
 
--- the next piece, if there is one, and what follows it
-abbrev pub next_piece : List Piece → Option Piece
-next_piece pieces = first_piece (from_next pieces)
-
-abbrev pub behind_next : List Piece → List Piece
-behind_next pieces = behind_first (from_next pieces)
-
 -- ---- where the look goes
 
-abbrev pub seen : Where → List Piece → Option Piece
-seen Beyond pieces = next_piece pieces
-seen InLine pieces = first_piece pieces
-
-abbrev pub behind : Where → List Piece → List Piece
-behind Beyond pieces = behind_next pieces
-behind InLine pieces = behind_first pieces
-
-abbrev pub line_behind : Where → ℕ → List Piece → ℕ
-line_behind Beyond line pieces = line + ends_ahead pieces
-line_behind InLine line pieces = line_behind_first line pieces
-
--- the pieces from the seen one on, and their line
+-- the pieces from the one that is seen on, and their line
 abbrev pub from : Where → List Piece → List Piece
 from Beyond pieces = from_next pieces
 from InLine pieces = pieces
@@ -64,3 +45,14 @@ from InLine pieces = pieces
 abbrev pub line_of : Where → ℕ → List Piece → ℕ
 line_of Beyond line pieces = line + ends_ahead pieces
 line_of InLine line pieces = line
+
+-- the piece that is seen, if there is one, and what follows it, and in which line
+abbrev pub seen : Where → List Piece → Option Piece
+seen place pieces = first_piece (from place pieces)
+
+abbrev pub behind : Where → List Piece → List Piece
+behind place pieces = behind_first (from place pieces)
+
+abbrev pub line_behind : Where → ℕ → List Piece → ℕ
+line_behind Beyond line pieces = line + ends_ahead pieces
+line_behind InLine line pieces = line_behind_first line pieces

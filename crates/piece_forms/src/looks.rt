@@ -4,20 +4,18 @@ ghost use Rattle.std.specs.Prelude.{◌≡◌, ◌≢◌, ◌+◌, option_map, O
 ghost use Rattle.litmus_lexer.specs.declared.errors.ReadError.TheVariants.{Memory};
 ghost use Rattle.litmus_lexer.specs.TokenPieces.{piece_of};
 ghost use Rattle.litmus_lexer.specs.Reading.{Gives};
-ghost use Rattle.piece_forms.specs.Places.{next_piece, behind_next, from_next, ends_ahead, first_piece, behind_first};
+ghost use Rattle.piece_forms.specs.Places.{Beyond, seen, behind, from_next, ends_ahead, first_piece, behind_first};
 ghost use Rattle.piece_forms.specs.Places.{line_behind_first};
-ghost use Rattle.std.specs.Str.{bytes_eq};
-ghost use Rattle.piece_forms.specs.Forms.{one, here, sign, perhaps, line_end, no_more};
+ghost use Rattle.piece_forms.specs.Forms.{is_word, one, here, sign, perhaps, line_end, no_more};
 ghost use Rattle.piece_forms.specs.Reading.{reads};
 
 use litmus_lexer::{Cursor, Kind, ReadError, Token};
 
 /// The next piece behind the line ends that come first, if there is one, and the position after
 /// it, or the end.
-#[tactic(auto, unfolding(crate::specs::Places::first_piece, crate::specs::Places::behind_first))]
 fn behind_line_ends<'a>(cursor: &Cursor<'a>) -> (Option<Token<'a>>, Cursor<'a>)
-    ensures piece { option_map piece_of result.0 ≡ next_piece cursor.now.pieces }
-    ensures rest { result.1.pieces ≡ behind_next cursor.now.pieces }
+    ensures piece { option_map piece_of result.0 ≡ seen Beyond cursor.now.pieces }
+    ensures rest { result.1.pieces ≡ behind Beyond cursor.now.pieces }
     ensures line { result.1.line ≡ cursor.now.line + ends_ahead cursor.now.pieces }
 {
     let at = from_next(cursor);
@@ -36,10 +34,10 @@ pub fn from_next<'a>(cursor: &Cursor<'a>) -> Cursor<'a>
 }
 
 /// The next piece, if there is one, and the position after it, or the end.
-#[tactic(auto, unfolding(crate::specs::Places::first_piece, crate::specs::Places::behind_first, crate::specs::Places::from_next, crate::specs::Places::ends_ahead))]
+#[tactic(auto, unfolding(crate::specs::Places::from_next, crate::specs::Places::ends_ahead))]
 pub fn ahead<'a>(cursor: &Cursor<'a>) -> (Option<Token<'a>>, Cursor<'a>)
-    ensures piece { option_map piece_of result.0 ≡ next_piece cursor.now.pieces }
-    ensures rest { result.1.pieces ≡ behind_next cursor.now.pieces }
+    ensures piece { option_map piece_of result.0 ≡ seen Beyond cursor.now.pieces }
+    ensures rest { result.1.pieces ≡ behind Beyond cursor.now.pieces }
     ensures line { result.1.line ≡ cursor.now.line + ends_ahead cursor.now.pieces }
 {
     match cursor.piece() {
@@ -66,7 +64,7 @@ pub fn expect_sign<'a>(cursor: Cursor<'a>, kind: Kind, wanted: u8) -> Result<Cur
 
 /// Whether this word comes next; and the position after it, or that of what comes next.
 pub fn over_word<'a>(cursor: &Cursor<'a>, wanted: &[u8]) -> (bool, Cursor<'a>)
-    ensures { reads (perhaps (λ word. bytes_eq word wanted.now)) cursor.now.line cursor.now.pieces
+    ensures { reads (perhaps Beyond (is_word wanted.now)) cursor.now.line cursor.now.pieces
         ≡ Ok (result.0, result.1.line, result.1.pieces) }
 {
     match ahead(cursor) {
@@ -89,7 +87,7 @@ pub fn expect_end<'a>(cursor: Cursor<'a>, kind: Kind) -> Result<Cursor<'a>, Read
 }
 
 /// The first piece, if there is one, and the position after it.
-#[tactic(auto, unfolding(crate::specs::Places::first_piece, crate::specs::Places::behind_first, crate::specs::Places::line_behind_first, crate::specs::Places::from_next, crate::specs::Places::ends_ahead))]
+#[tactic(auto, unfolding(crate::specs::Places::from_next, crate::specs::Places::ends_ahead))]
 pub fn first<'a>(cursor: &Cursor<'a>) -> (Option<Token<'a>>, Cursor<'a>)
     ensures piece { option_map piece_of result.0 ≡ first_piece cursor.now.pieces }
     ensures rest { result.1.pieces ≡ behind_first cursor.now.pieces }

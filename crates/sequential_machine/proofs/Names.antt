@@ -1,6 +1,7 @@
 -- The names that a test's condition names are there: registers of its threads, and locations that it numbers.
-use Rattle.std.proofs.Common.{◌≡◌, ℕ, zero, suc, ◌<◌, ◌≤◌, Bool, true, false, not, eqb, ltb, leb, List, [], ◌∷◌, ◌++◌}
-use Rattle.std.proofs.Common.{length, Option, Some, None, Result, Ok, Err, refl, sym, ap, subst, arith, length-append}
+use Rattle.std.proofs.Common.{◌≡◌, ℕ, zero, suc, ◌<◌, ◌≤◌, Bool, true, false, cond, not, eqb, ltb, leb, List, [], ◌∷◌}
+use Rattle.std.proofs.Common.{◌++◌, length, Option, Some, None, Result, Ok, Err, refl, sym, ap, subst, arith, length-append}
+use Rattle.std.specs.Option.{option_map_or}
 use Rattle.std.specs.List.{list_any, AllByRecursion as Each}
 use Rattle.std.proofs.lemmas.Bool.{cond_both, ltb-true, leb-false}
 use Rattle.litmus_lexer.specs.Pieces.{Piece, Word, Sign, LineEnd}
@@ -12,11 +13,11 @@ use Rattle.piece_forms.specs.Places.{Beyond}
 use Rattle.piece_forms.specs.Forms.{Verdict, Form, ◌>>=◌, Gives, said, mapped, one, either, turn, refused}
 use Rattle.piece_forms.proofs.Lemmas.{Leads, leads-given, leads-then, Tells, leads-at, Onto, leads-until}
 use Rattle.piece_forms.proofs.Lemmas.{leads-refused}
-use Rattle.litmus_parser.specs.Names.{Names, same_name}
+use Rattle.litmus_parser.specs.Names.{Names, same_name, address_of}
 use Rattle.litmus_parser.specs.Trees.{Tree, Is, Both, Either}
 use Rattle.litmus_parser.specs.Condition.{Sight, PartForm, counted, start}
-use Rattle.litmus_parser.specs.Condition.{rest_of_atom, rest_of_factor, join_of, further, joined, chain, expression}
-use Rattle.litmus_parser.specs.Condition.{factor_with, inner, factor, keyword, condition}
+use Rattle.litmus_parser.specs.Condition.{rest_of_factor, join_of, further, joined, chain, expression}
+use Rattle.litmus_parser.specs.Condition.{factor_with, inner, factor, condition}
 use Rattle.litmus_parser.specs.declared.items.Opening.{Opening}
 use Rattle.litmus_parser.specs.declared.items.Opening.TheVariants.{OfThread, OfLocation}
 use Rattle.litmus_parser.specs.declared.expressions.Connective.{Connective}
@@ -27,8 +28,8 @@ use Rattle.litmus_parser.specs.declared.syntax.Quantifier.{Quantifier}
 use Rattle.litmus_reader.specs.Seen.{seen_in}
 use Rattle.litmus_reader.specs.Litmus.{Litmus}
 use Rattle.litmus_parser.specs.Header.{text_pieces, preamble}
-use Rattle.litmus_parser.specs.Verdicts.{Bases, bases_of}
-use Rattle.litmus_parser.specs.Words.{location, opening_from, opening}
+use Rattle.litmus_parser.specs.Verdicts.{Bases}
+use Rattle.litmus_parser.specs.Words.{location, opening}
 use Rattle.litmus_parser.specs.Block.{block}
 use Rattle.litmus_parser.specs.Table.{table}
 use Rattle.litmus_reader.specs.Grammar.{whole_test, IsTest}
@@ -59,9 +60,6 @@ more_are_there threads a b le (Either x y) h =
 pub all-lead : {A : Type 0} (f : Form A) → Leads f (λ x. Unit {0})
 all-lead f = record { stands = λ line ps x n rest s. tt }
 
-wider : {A : Type 0} {f : Form A} {P Q : A → Type 0} → ((x : A) → P x → Q x) → Leads f P → Leads f Q
-wider more h = record { stands = λ line ps x n rest s. more x (h.stands line ps x n rest s) }
-
 -- no number is taken back, and the names in the tree are there
 abbrev Adds : ℕ → Sight → Tree × Sight → Type 0
 Adds threads s x = (length s.0 ≤ length x.1.0) × AreThere threads (length x.1.0) x.0
@@ -80,7 +78,8 @@ Named threads before (Ok x) = Begins threads before (Some x.0, x.1)
 Named threads before (Err kind) = Unit {0}
 
 module _ (threads : ℕ) where
-  located_there : (w : List ℕ) (names : Names) → Named threads names (opening_from BadCondition threads None w names)
+  located_there : (w : List ℕ) (names : Names) →
+      Named threads names (mapped (λ l. (OfLocation l.0, l.1)) (location BadCondition w names))
   unfolding location
   located_there w names =
       let place = place_of w names in
@@ -91,8 +90,9 @@ module _ (threads : ℕ) where
       cond_both (leb 64 (length names)) _ _ M (λ _. tt)
       (λ _. let more = length-append names (w ∷ []) in (omega (arith, more), omega (arith, more)))))
 
-  name_there : (o : Option ℕ) (w : List ℕ) (names : Names) →
-      Named threads names (opening_from BadCondition threads o w names)
+  name_there : (o : Option ℕ) (w : List ℕ) (names : Names) → Named threads names
+      (option_map_or (λ t. cond (leb threads t) (Err BadCondition) (Ok (OfThread t, names))) o
+      (mapped (λ l. (OfLocation l.0, l.1)) (location BadCondition w names)))
   name_there (Some t) w names =
       cond_both (leb threads t) _ _ (Named threads names) (λ _. tt) (λ e. (omega arith, leb-false _ _ e))
   name_there None w names = located_there w names
@@ -115,14 +115,6 @@ module _ (threads : ℕ) where
             (λ _. cond_both (eqb depth 0) _ _ Looks (λ _. tt) (λ _. (omega arith, tt))) (λ _. tt)
         on (Some (Word w)) = counted_there (opening BadCondition threads w s.0) (name_there (small_of 15 w) w s.0)
 
-  atom_there : (n : Name) (sight : Sight) →
-      Leads {A = Tree × Sight} (rest_of_atom n >>= λ tree. Gives (tree, sight))
-      (λ x. (v : ℕ) × (x ≡ (let y : Tree × Sight = (Is n v, sight) in y)))
-  atom_there n sight =
-      leads-then (leads-then (all-lead _) (λ u _. leads-then {P = λ v. Unit {0}} (all-lead _) (λ v _.
-      leads-given {P = λ tree. (v : ℕ) × (tree ≡ Is n v)} (Is n v) (v, refl)))) (λ tree h.
-      leads-given (tree, sight) (h.0, ap (λ (t : Tree). (let y : Tree × Sight = (t, sight) in y)) h.1))
-
   -- a part of an expression
   abbrev Part : PartForm → Type 0
   Part part = (s : Sight) → Leads (part s) (Adds threads s)
@@ -132,9 +124,9 @@ module _ (threads : ℕ) where
         Leads (rest_of_factor bases inside x) (Adds threads s)
     rest_there s (Some (OfThread t), sight) h =
         leads-then (all-lead _) (λ u _. leads-then {P = λ v. Unit {0}} (all-lead _) (λ r _.
-        wider (λ y e. subst (Adds threads s) (sym e.1) h) (atom_there (Register t r) sight)))
+        leads-then {P = λ v. Unit {0}} (all-lead _) (λ n _. leads-given (Is (Register t r) n, sight) h)))
     rest_there s (Some (OfLocation l), sight) h =
-        wider (λ y e. subst (Adds threads s) (sym e.1) h) (atom_there (Location l) sight)
+        leads-then {P = λ v. Unit {0}} (all-lead _) (λ n _. leads-given (Is (Location l) n, sight) h)
     rest_there s (None, sight) h =
         leads-then (within sight) (λ e k. leads-then (all-lead _) (λ u _.
         leads-given e (omega (arith, h.0, k.0), k.1)))
@@ -180,7 +172,7 @@ condition_there : (bases : Bases) (threads : ℕ) (before : Names) → Leads (co
     (λ (x : Quantifier × Tree × Names). AreThere threads (length x.2) x.1)
 unfolding condition
 condition_there bases threads before =
-    leads-then {P = λ q. Unit {0}} (all-lead keyword) (λ q _.
+    leads-then {P = λ q. Unit {0}} (all-lead _) (λ q _.
     leads-then (expression_there threads bases 64 (before, 0)) (λ e h.
     leads-then {P = λ u. Unit {0}} (all-lead _) (λ u _. leads-given (q, e.0, e.1.0) h.1)))
 
@@ -194,7 +186,7 @@ test_named =
     leads-then {P = λ n. Unit {0}} (all-lead preamble) (λ n _.
     leads-then {P = λ b. Unit {0}} (all-lead (block [])) (λ b _.
     leads-then {P = λ t. Unit {0}} (all-lead (table b.0)) (λ t _.
-    leads-then (condition_there (bases_of b.0) t.0 b.1) (λ c h. leads-given _ (h, refl)))))
+    leads-then (condition_there (address_of b.0) t.0 b.1) (λ c h. leads-given _ (h, refl)))))
 
 each_behind : (P : Name → Type 0) (names : List Name) (name : Name) → Each P names → P name →
     Each P (names ++ name ∷ [])

@@ -13,12 +13,12 @@ use Rattle.std.proofs.lemmas.Bool.{leb-true, lt-ltb, eqb-false}
 use Rattle.physiological_order.specs.Order.{flat}
 use Rattle.litmus_lexer.specs.Pieces.{Piece, Word, Sign, LineEnd, between}
 use Rattle.litmus_lexer.specs.Spelling.{is_digit, small_of, register_of}
-use Rattle.litmus_parser.specs.Names.{Names, same_name}
-use Rattle.litmus_parser.specs.Block.{settable, rest_of_item, Block, added, whole_item, item_or_end, entry, block}
+use Rattle.litmus_parser.specs.Names.{Names, same_name, address_of}
+use Rattle.litmus_parser.specs.Block.{rest_of_item, Block, added, whole_item, item_or_end, entry, block}
+use Rattle.litmus_parser.specs.Words.{named_register}
 use Rattle.litmus_parser.specs.Header.{text_pieces, preamble}
 use Rattle.litmus_parser.specs.Table.{table}
 use Rattle.litmus_parser.specs.Condition.{condition}
-use Rattle.litmus_parser.specs.Verdicts.{bases_of}
 use Rattle.litmus_parser.specs.declared.items.Opening.{Opening}
 use Rattle.litmus_parser.specs.declared.items.Opening.TheVariants.{OfThread, OfLocation}
 use Rattle.litmus_lexer.specs.declared.errors.Kind.{Kind}
@@ -292,16 +292,18 @@ added_single items item all settable single =
 abbrev IsSetting : ℕ → Type 0
 IsSetting r = (0 < r) × (r < 32)
 
-register_settable : Leads (one (word BadInitial (λ w. settable (register_of w)))) IsSetting
-register_settable = leads-at IsSetting Beyond (word BadInitial (λ w. settable (register_of w))) (Err CutShort) on
+register_settable : Leads (one (word BadInitial (λ w. named_register BadInitial (register_of w)))) IsSetting
+register_settable =
+    leads-at IsSetting Beyond (word BadInitial (λ w. named_register BadInitial (register_of w))) (Err CutShort) on
   where
-    told : (w : List ℕ) (o : Option ℕ) → register_of w ≡ o → Tells IsSetting (taken (settable o))
+    told : (w : List ℕ) (o : Option ℕ) → register_of w ≡ o → Tells IsSetting (taken (named_register BadInitial o))
     told w None e = tt
     told w (Some r) e =
         cond_both (eqb r 0) (Err BadInitial) (Ok r) (λ (v : Result ℕ Kind). Tells IsSetting (taken v)) (λ _. tt)
         (λ ne. let other = eqb-false r 0 ne in (omega (arith, other), register_below w r e))
 
-    on : (o : Option Piece) → Tells IsSetting (said (word BadInitial (λ w. settable (register_of w))) (Err CutShort) o)
+    on : (o : Option Piece) → Tells IsSetting
+        (said (word BadInitial (λ w. named_register BadInitial (register_of w))) (Err CutShort) o)
     on (Some (Word w)) = told w (register_of w) refl
     on _ = tt
 
@@ -346,7 +348,7 @@ test_single =
     leads-refused BadInitial b) 65536 ([], []) tt) (λ b h.
     leads-then {P = λ v. Unit {0}} (all-lead _) (λ v _. leads-given b h)))) (λ b h.
     leads-then {P = λ t. Unit {0}} (all-lead (table b.0)) (λ t _.
-    leads-then {P = λ c. Unit {0}} (all-lead (condition (bases_of b.0) t.0 b.1)) (λ c _. leads-given _ h))))
+    leads-then {P = λ c. Unit {0}} (all-lead (condition (address_of b.0) t.0 b.1)) (λ c _. leads-given _ h))))
 
 pub opens_as_set : (text : List ℕ) (test : Litmus) → IsTest text test → OpensAsSet test
 opens_as_set text test h =

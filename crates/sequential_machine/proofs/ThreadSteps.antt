@@ -10,7 +10,7 @@ use Rattle.litmus_parser.specs.declared.syntax.Instruction.{Instruction}
 use Rattle.litmus_parser.specs.declared.syntax.Instruction.TheVariants as does
 use Rattle.litmus_reader.specs.ThreadSteps.{Thread, register_value, after_local, settled_thread}
 use Rattle.litmus_reader.specs.ThreadSteps.{instruction_operation}
-use Rattle.litmus_reader.specs.ThreadSteps.{first_operation, next_operation, received_by, behind_first_cell, done_with}
+use Rattle.litmus_reader.specs.ThreadSteps.{next_operation, received_by, behind_first_cell, done_with}
 use Rattle.sequential_machine.specs.Threads.{Ready, ThreadIsAt, Goes}
 use Rattle.sequential_machine.specs.SequentialMachine.{SequentialState, cells_of, memory_after, registers_after}
 use Rattle.sequential_machine.specs.SequentialMachine.{after_one}
@@ -130,8 +130,8 @@ on_memory (does.Set target value) rs x m e = absurd cc
 on_memory does.Fence rs x m e = absurd cc
 
 first_performed : (s : SequentialState) (t : ℕ) (rs : List ℕ) (cells : List Cell) (x : Op) (received : Option ℕ) →
-    s.registers t ≡ rs → s.left t ≡ cells_of t cells → Ready t rs cells → first_operation cells rs ≡ Some x →
-    flat_received s.memory x ≡ received →
+    s.registers t ≡ rs → s.left t ≡ cells_of t cells → Ready t rs cells →
+    next_operation (record { thread = t; registers = rs; rest = cells }) ≡ Some x → flat_received s.memory x ≡ received →
     Goes s t (flat_after s.memory x) (behind_first_cell t rs received cells)
 first_performed s t rs [] x received r l ready e v = absurd cc
 first_performed s t rs (cell ∷ rest) x received r l ready e v =
@@ -158,8 +158,8 @@ never_both : (i : Instruction) (rs : List ℕ) → instruction_operation i rs �
 never_both (does.Load target location) rs e f = absurd cc
 never_both _ rs e f = absurd cc
 
-none_in : (t : ℕ) (rs : List ℕ) (cells : List Cell) → Ready t rs cells → first_operation cells rs ≡ None →
-    cells_of t cells ≡ []
+none_in : (t : ℕ) (rs : List ℕ) (cells : List Cell) → Ready t rs cells →
+    next_operation (record { thread = t; registers = rs; rest = cells }) ≡ None → cells_of t cells ≡ []
 none_in t rs [] ready e = refl
 none_in t rs (cell ∷ rest) ready e = absurd (never_both cell.instruction rs e ready.1)
 

@@ -1,7 +1,7 @@
 use Rattle.std.proofs.Common.{rules}
 use Rattle.std.proofs.lemmas.Result.{err_from_is_err_and}
 use Rattle.piece_forms.proofs.Lemmas.{until-fails, until-goes, until-stops, until-out}
-use Rattle.litmus_parser.specs.Verdicts.{bases_of}
+use Rattle.litmus_parser.specs.Names.{address_of}
 use Rattle.litmus_parser.proofs.ConditionSteps.{paren-fails}
 use Rattle.litmus_parser.proofs.expressions.+expression.Goals as goal
 
@@ -26,6 +26,6 @@ pub factor-returns-in_err-after-in-None : goal.factor-returns-in_err-after-in-No
 factor-returns-in_err-after-in-None t c =
     let p = err_from_is_err_and c.from_residual-in_err-after-in-None.result
     c.from_residual-in_err-after-in-None.ensures.1 in
-    rw (p.1, p.2) (paren-fails (bases_of c.args.items.now) c.args.threads c.args.depth
+    rw (p.1, p.2) (paren-fails (address_of c.args.items.now) c.args.threads c.args.depth
     (c.args.locations.now, c.args.atoms) _ _ _ c.args.cursor.line _ _ c.args.cursor.pieces _ _ _ (search rules)
     (search rules) c.in_ok-inner-in-None.ensures c.in_err-after-in-None.ensures.read)

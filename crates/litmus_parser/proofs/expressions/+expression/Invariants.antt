@@ -4,7 +4,7 @@ use Rattle.piece_forms.specs.Forms.{many, refused}
 use Rattle.piece_forms.specs.Reading.{reads}
 use Rattle.litmus_parser.specs.Condition.{further, joined, part_of, chain}
 use Rattle.litmus_parser.specs.TreeViews.{tree_of}
-use Rattle.litmus_parser.specs.Verdicts.{bases_of}
+use Rattle.litmus_parser.specs.Names.{address_of}
 use Rattle.litmus_parser.specs.declared.expressions.Connective.{Connective}
 use Rattle.litmus_parser.specs.declared.expressions.Connective.TheVariants.{And, Or}
 use Rattle.std.proofs.Common.{ℕ}
@@ -31,7 +31,7 @@ decreases-factor l = 7 * l.depth
 abbrev pub invariant-expression-loop : goal.invariant-expression-loop
 invariant-expression-loop l =
     reads (many (refused TooLarge) (further l.fn.connective) (joined l.fn.connective
-    (part_of l.fn.connective (bases_of l.fn.items) l.fn.threads l.fn.depth)) (256 - l.counter)
+    (part_of l.fn.connective (address_of l.fn.items) l.fn.threads l.fn.depth)) (256 - l.counter)
     (tree_of l.left, (l.locations, l.atoms))) l.at.line l.at.pieces
-    ≡ reads (chain l.fn.connective (part_of l.fn.connective (bases_of l.fn.items) l.fn.threads l.fn.depth)
+    ≡ reads (chain l.fn.connective (part_of l.fn.connective (address_of l.fn.items) l.fn.threads l.fn.depth)
     (l.fn.locations, l.fn.atoms)) l.fn.cursor.line l.fn.cursor.pieces

@@ -3,8 +3,9 @@
 
 Each row of tests/costs.table is a program of the gate with two numbers. The cost with the greater one, less the cost
 with the smaller one, is divided by their difference. It must be within a tenth of the row's figure. That was measured;
-the reason next to it says why it should be no more. valgrind's callgrind counts instructions, tests/refuse.c bytes.
-With --print the script prints the figures that came. It tries all rows, or those whose names begin with a ROW.
+the reason next to it says why it should be no more. A figure may also be an earlier row's name: then the two costs must
+be within a hundredth of each other. valgrind's callgrind counts instructions, tests/refuse.c bytes. With --print the
+script prints the figures that came. It tries all rows, or those whose names begin with a ROW.
 """
 import argparse
 import re
@@ -28,12 +29,12 @@ def rows():
 
 def instructions(words, _shim):
     command = ["valgrind", "--tool=callgrind", "--callgrind-out-file=/dev/null", *words]
-    said = subprocess.run(command, capture_output=True, text=True, check=True).stderr
+    said = subprocess.run(command, capture_output=True, text=True, check=True, cwd=TOP).stderr
     return int(re.search(r"Collected : (\d+)", said)[1])
 
 
 def bytes_asked(words, shim):
-    said = subprocess.run(words, capture_output=True, text=True, check=True,
+    said = subprocess.run(words, capture_output=True, text=True, check=True, cwd=TOP,
                           env={"LD_PRELOAD": shim, "REFUSE_BYTES": "2"}).stderr
     return int(said.splitlines()[-1])
 
@@ -53,18 +54,22 @@ def main():
     options.add_argument("--print", action="store_true", dest="prints")
     options.add_argument("rows", nargs="*")
     given = options.parse_args()
-    wanted = [row for row in rows() if not given.rows or row.name.startswith(tuple(given.rows))]
+    every = list(rows())
+    wanted = [row for row in every if not given.rows or row.name.startswith(tuple(given.rows))]
+    named = {row.figure for row in wanted}
+    wanted = [row for row in every if row in wanted or row.name in named]
     with tempfile.TemporaryDirectory() as folder, ThreadPoolExecutor() as pool:
         shim = f"{folder}/refuse.so"
         subprocess.run(["cc", "-O2", "-shared", "-fPIC", "-o", shim, TOP / "tests" / "refuse.c", "-ldl"], check=True)
         came = list(pool.map(lambda row: cost(row, shim), wanted))
-    wrong = 0
+    wrong, costs = 0, {}
     for row, one in zip(wanted, came):
-        figure = float(row.figure)
-        is_wrong = abs(one - figure) > figure / 10
+        costs[row.name] = one
+        figure, parts = (costs[row.figure], 100) if row.figure in costs else (float(row.figure), 10)
+        is_wrong = abs(one - figure) > figure / parts
         wrong += is_wrong
         if given.prints or is_wrong:
-            print(f"{row.name}: {one:.0f} {row.kind} a {row.unit}, wanted {row.figure} within a tenth")
+            print(f"{row.name}: {one:.0f} {row.kind} a {row.unit}, wanted {row.figure} within 1/{parts}")
     print(f"costs: {len(wanted)} tried, {wrong} wrong")
     sys.exit(1 if wrong else 0)
 

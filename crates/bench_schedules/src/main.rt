@@ -1,10 +1,11 @@
 //! Measurements of runs: programs of random operations on a machine with a core for each, driven by rounds or by a seed
 //! until all are done. docs/BENCHMARKS.md has the table.
 //!
-//! The words are `round`, `seed`, `large_seed`, `round_events` and `seed_events`, and three numbers follow each: cores,
-//! words, and operations of a core. Several may stand one after the other. Each prints how many operations were
-//! completed; the last two keep the events and print how many there were. `large_seed` has the most banks, and the largest
-//! caches and banks, that there may be.
+//! The words are `round`, `forgotten`, `seed`, `large_seed`, `round_events` and `seed_events`, and three numbers follow
+//! each: cores, words, and operations of a core. Several may stand one after the other. Each prints how many operations
+//! were completed; the last two keep the events and print how many there were. With `forgotten` the machine began to keep
+//! its lines in order and gave that up before its rounds. `large_seed` has the most banks, and the largest caches and
+//! banks, that there may be.
 #![tactic(auto)]
 
 ghost use Rattle.std.specs.Prelude.{◌≡◌, length};
@@ -91,7 +92,7 @@ fn driven(alloc: Global, word: &str, system: &mut System, programs: &mut [OpProg
         "seed_events" => drive_seed(alloc, system, programs, 1, u32::MAX),
         _ => {
             let policy = match word {
-                "round" => Policy::Rounds,
+                "round" | "forgotten" => Policy::Rounds,
                 "seed" | "large_seed" => Policy::Seed(1),
                 _ => return None,
             };
@@ -114,6 +115,10 @@ fn measure(alloc: Global, word: &str, [cores, words, count]: [u32; 3]) -> Option
         _ => Config { cores, ..ONE_CORE },
     };
     let mut system = System::new(alloc, config, Memory::new(alloc)).ok()?;
+    if word == "forgotten" {
+        system.keep_order().ok()?;
+        system.forget_order();
+    }
     let mut programs = programs_of(alloc, cores, words, count)?;
     if programs.len() as u64 != u64::from(system.cores()) {
         return None;

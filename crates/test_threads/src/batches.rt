@@ -2,7 +2,7 @@
 //! same time.
 ghost use Rattle.std.specs.Prelude.{◌<◌, ◌≤◌};
 
-use crate::turn_counts::TurnCounts;
+use crate::turn_counts::{Calls, TurnCounts};
 use litmus_reader::read;
 use run_options::MachineOptions;
 use std::alloc::Global;
@@ -24,13 +24,29 @@ fn runs_by<R: Threads + Sync, G: Gate + Sync>(
 ) -> Result<Vec<RunEnd>, &'static str>
     requires { (0 < workers) × (workers ≤ 16) }
 {
+    runs_from(rt, alloc, 0, count, workers, gate)
+}
+
+// Runs by the seeds from the first on.
+fn runs_from<R: Threads + Sync, G: Gate + Sync>(
+    rt: &R,
+    alloc: Global,
+    first: u64,
+    count: u32,
+    workers: u32,
+    gate: &G,
+) -> Result<Vec<RunEnd>, &'static str>
+    requires { (0 < workers) × (workers ≤ 16) }
+{
     let Ok(test) = read(alloc, STORE_BUFFERING) else {
         return Err("the text is no test");
     };
     let Some(config) = config_of(&MachineOptions::DEFAULT, test.threads() as u32) else {
         return Err("there is no such machine");
     };
-    match batch(rt, alloc, &test, config, 0, count, 100_000, workers, gate) {
+    match batch(
+        rt, alloc, &test, config, first, count, 100_000, workers, gate,
+    ) {
         Ok(runs) => Ok(runs),
         Err(_) => Err("memory is refused"),
     }
@@ -68,6 +84,29 @@ fn every_number_of_workers_gives_the_same_list(rt: HostRuntime) -> Result<(), Fa
     Ok(())
 }
 
+// Seed 0 comes behind the last one. The runs of 40 seeds aren't all alike, so others would show.
+#[test]
+fn the_seed_behind_the_last_one_is_0(rt: HostRuntime) -> Result<(), Fail> {
+    let from_0 = runs_by(&rt, rt.alloc(), 40, 1, &Free)?;
+    let from_38 = runs_from(&rt, rt.alloc(), 18_446_744_073_709_551_614, 42, 2, &Free)?;
+    assert_eq!(rt; [from_0.len(), from_38.len()], [40, 42]);
+    for i in 0..from_0.len().min(from_38.len().saturating_sub(2)) {
+        assert!(rt; are_same(&from_0[i], &from_38[i + 2]), "seed {i}");
+    }
+    Ok(())
+}
+
+// Each run passes the gate once, whichever worker makes it.
+#[test]
+fn all_runs_of_a_batch_pass_the_gate(rt: HostRuntime) -> Result<(), Fail> {
+    let gate = TurnCounts::new(rt.alloc(), 100, 0)?;
+    assert_eq!(rt; runs_by(&rt, rt.alloc(), 100, 3, &gate)?.len(), 100);
+    for run in 0..100 {
+        assert_eq!(rt; gate.of(run), Some(1), "run {run}");
+    }
+    Ok(())
+}
+
 #[test]
 fn two_workers_make_runs_at_the_same_time(rt: HostRuntime) -> Result<(), Fail> {
     let gate = TurnCounts::new(rt.alloc(), 2, 10_000_000)?;
@@ -89,6 +128,7 @@ fn one_worker_makes_one_run_after_the_other(rt: HostRuntime) -> Result<(), Fail>
 fn runs_by_threads<R: Threads + Sync, G: Gate + Sync>(
     rt: &R,
     alloc: Global,
+    count: u64,
     gate: &G,
 ) -> Result<Vec<RunEnd>, &'static str> {
     let Ok(test) = read(alloc, STORE_BUFFERING) else {
@@ -97,7 +137,7 @@ fn runs_by_threads<R: Threads + Sync, G: Gate + Sync>(
     let Some(config) = config_of(&MachineOptions::DEFAULT, test.threads() as u32) else {
         return Err("there is no such machine");
     };
-    match threaded_runs(rt, alloc, &test, config, 1, 1, 2, gate) {
+    match threaded_runs(rt, alloc, &test, config, count, 1, 2, gate) {
         Ok(runs) => Ok(runs),
         Err(_) => Err("memory is refused"),
     }
@@ -107,9 +147,18 @@ fn runs_by_threads<R: Threads + Sync, G: Gate + Sync>(
 #[test]
 fn a_run_by_threads_passes_the_gate(rt: HostRuntime) -> Result<(), Fail> {
     let gate = TurnCounts::new(rt.alloc(), 3, 0)?;
-    let runs = runs_by_threads(&rt, rt.alloc(), &gate)?;
+    let runs = runs_by_threads(&rt, rt.alloc(), 1, &gate)?;
     assert_eq!(rt; runs.len(), 1);
     assert_eq!(rt; runs[0].end, End::TurnsUsed);
     assert!(rt; gate.are(&[1, 1, 1], 0));
+    Ok(())
+}
+
+// Each of three runs gives two cores and a bank one turn each.
+#[test]
+fn all_runs_by_threads_pass_the_gate(rt: HostRuntime) -> Result<(), Fail> {
+    let gate = Calls::new();
+    assert_eq!(rt; runs_by_threads(&rt, rt.alloc(), 3, &gate)?.len(), 3);
+    assert_eq!(rt; gate.count(), [9, 9]);
     Ok(())
 }

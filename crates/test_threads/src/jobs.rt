@@ -2,8 +2,8 @@
 //! is done while the gate has it under way.
 ghost use Rattle.std.specs.Prelude.{ℕ, ◌<◌, ◌≤◌};
 
-use crate::turn_counts::TurnCounts;
-use shared_jobs::{Free, Gate, Jobs, run_jobs};
+use crate::turn_counts::{Calls, TurnCounts};
+use shared_jobs::{Free, Jobs, run_jobs};
 use std::alloc::{AllocError, Global};
 use std::sync::atomic::{AtomicU64, Ordering};
 use std::test::Fail;
@@ -167,6 +167,45 @@ fn a_worker_does_all_jobs_that_are_left_while_another_waits(rt: HostRuntime) -> 
     Ok(())
 }
 
+// Each job waits until all are under way, and gives whether they were.
+#[derive(Drop)]
+struct AllMeet {
+    begun: AtomicU64,
+    all: u64,
+}
+
+impl Jobs<u64, u64> for AllMeet {
+    ghost gives = { λ jobs number result. Unit {0} };
+
+    ghost ready = { λ jobs state. Unit {0} };
+
+    fn open(&self) -> Result<u64, AllocError> {
+        Ok(0)
+    }
+
+    fn run(&self, state: u64, _number: u64) -> Result<(u64, u64), AllocError> {
+        self.begun.fetch_add(1, Ordering::SeqCst);
+        for _ in 0..10_000_000u32 {
+            if self.begun.load(Ordering::SeqCst) == self.all {
+                return Ok((1, state));
+            }
+            thread::yield_now();
+        }
+        Ok((0, state))
+    }
+}
+
+#[test]
+fn all_workers_do_jobs_at_the_same_time(rt: HostRuntime) -> Result<(), Fail> {
+    let jobs = AllMeet {
+        begun: AtomicU64::new(0),
+        all: 16,
+    };
+    let results = run_jobs(&rt, rt.alloc(), &jobs, 16, 16, &Free)?;
+    assert_eq!(rt; results.as_slice(), [1; 16].as_slice());
+    Ok(())
+}
+
 // One state can be opened, and no other. Each job gives 1.
 #[derive(Drop)]
 struct OneState {
@@ -201,23 +240,6 @@ fn one_worker_does_all_jobs_by_one_state(rt: HostRuntime) -> Result<(), Fail> {
     Ok(())
 }
 
-// How many calls of the gate came before a job, and how many after one.
-#[derive(Drop)]
-struct Calls {
-    before: AtomicU64,
-    after: AtomicU64,
-}
-
-impl Gate for Calls {
-    fn before(&self, _seat: u64, _turn: u64) {
-        self.before.fetch_add(1, Ordering::SeqCst);
-    }
-
-    fn after(&self, _seat: u64, _turn: u64) {
-        self.after.fetch_add(1, Ordering::SeqCst);
-    }
-}
-
 // Job 1 is refused when it is run for the first time. Each job gives 1.
 #[derive(Drop)]
 struct OneRefused {
@@ -247,13 +269,9 @@ fn a_refused_job_ends_at_the_gate_too(rt: HostRuntime) -> Result<(), Fail> {
     let jobs = OneRefused {
         tries: AtomicU64::new(0),
     };
-    let gate = Calls {
-        before: AtomicU64::new(0),
-        after: AtomicU64::new(0),
-    };
+    let gate = Calls::new();
     let results = run_jobs(&rt, rt.alloc(), &jobs, 3, 1, &gate)?;
     assert_eq!(rt; results.as_slice(), [1, 1, 1].as_slice());
-    assert_eq!(rt; gate.before.load(Ordering::SeqCst), 4);
-    assert_eq!(rt; gate.after.load(Ordering::SeqCst), 4);
+    assert_eq!(rt; gate.count(), [4, 4]);
     Ok(())
 }

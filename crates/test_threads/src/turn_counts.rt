@@ -1,4 +1,5 @@
-//! A gate that counts the turns of each seat, and at which the first turns of seats 0 and 1 wait for each other.
+//! A gate that counts the turns of each seat, and at which the first turns of seats 0 and 1 wait for each other; and one
+//! that counts calls.
 use shared_jobs::Gate;
 use std::alloc::{AllocError, Global};
 use std::sync::atomic::{AtomicU64, Ordering};
@@ -116,5 +117,40 @@ impl Gate for TurnCounts {
         let begun = turns.begun.load(Ordering::SeqCst);
         let ended = turns.ended.fetch_add(1, Ordering::SeqCst);
         self.tell(ended == turn && begun.checked_sub(1) == Some(turn));
+    }
+}
+
+/// How many calls of the gate came before a turn or a job, and how many after one.
+#[derive(Drop)]
+pub(crate) struct Calls {
+    before: AtomicU64,
+    after: AtomicU64,
+}
+
+impl Calls {
+    /// A gate that nothing has passed yet.
+    pub(crate) fn new() -> Calls {
+        Calls {
+            before: AtomicU64::new(0),
+            after: AtomicU64::new(0),
+        }
+    }
+
+    /// How many calls there were of each kind.
+    pub(crate) fn count(&self) -> [u64; 2] {
+        [
+            self.before.load(Ordering::SeqCst),
+            self.after.load(Ordering::SeqCst),
+        ]
+    }
+}
+
+impl Gate for Calls {
+    fn before(&self, _seat: u64, _turn: u64) {
+        self.before.fetch_add(1, Ordering::SeqCst);
+    }
+
+    fn after(&self, _seat: u64, _turn: u64) {
+        self.after.fetch_add(1, Ordering::SeqCst);
     }
 }

@@ -186,8 +186,8 @@ fn all_turns_of_many_and_many_seats_are_given(rt: HostRuntime) -> Result<(), Fai
 }
 
 // Whether the seats of each worker had as many turns as each other, and fewer than they may have.
-fn are_together(gate: &TurnCounts, workers: usize) -> bool {
-    for seat in 0..7 {
+fn are_together(gate: &TurnCounts, seats: usize, workers: usize) -> bool {
+    for seat in 0..seats {
         let Some(turns) = gate.of(seat) else {
             return false;
         };
@@ -199,15 +199,29 @@ fn are_together(gate: &TurnCounts, workers: usize) -> bool {
     true
 }
 
+/// Core 0 of 20 has five loads to do. Eight banks.
+const BUSY_MANY: Case = Case {
+    config: Config {
+        cores: 20,
+        banks: 8,
+        ..ONE
+    },
+    programs: &[(0, 1, 6)],
+    ..BUSY
+};
+
+// Seat i belongs to worker i modulo their number, so it has as many turns as that worker's first seat.
 #[test]
 fn every_number_of_workers_completes_the_program(rt: HostRuntime) -> Result<(), Fail> {
-    for workers in 1..=16 {
-        let gate = TurnCounts::new(rt.alloc(), 7, 0)?;
-        let end = end_of(&rt, rt.alloc(), &BUSY, workers, &gate);
-        assert!(rt;
-            end == Some(End::AllDone) && are_together(&gate, workers as usize),
-            "{workers} workers"
-        );
+    for (case, seats) in [(BUSY, 7), (BUSY_MANY, 28)] {
+        for workers in 1..=16 {
+            let gate = TurnCounts::new(rt.alloc(), seats, 0)?;
+            let end = end_of(&rt, rt.alloc(), &case, workers, &gate);
+            assert!(rt;
+                end == Some(End::AllDone) && are_together(&gate, seats as usize, workers as usize),
+                "{seats} seats, {workers} workers"
+            );
+        }
     }
     Ok(())
 }

@@ -57,7 +57,8 @@ pub fn value_register<'a>(
     thread: u8,
     cursor: Cursor<'a>,
 ) -> Result<(u8, Cursor<'a>), ReadError>
-    ensures { Gives view_read result (reads (one (word BadCondition (value_register (address_of items.now) thread)))
+    ensures { Gives view_read result (reads
+        (one (word BadCondition (value_register (address_of items.now) thread)))
         cursor.entry.line cursor.entry.pieces) }
 {
     match ahead(&cursor) {

@@ -21,7 +21,8 @@ use std::alloc::Global;
 /// Whether an item may follow: the position after a `;` or a `}`.
 fn separator<'a>(cursor: Cursor<'a>) -> Result<(bool, Cursor<'a>), ReadError>
     ensures { Gives view_read result
-        (reads (one (either_sign BadInitial SEMICOLON CLOSING_BRACE)) cursor.entry.line cursor.entry.pieces) }
+        (reads (one (either_sign BadInitial SEMICOLON CLOSING_BRACE))
+        cursor.entry.line cursor.entry.pieces) }
 {
     match ahead(&cursor) {
         (Some(Token::Sign(SEMICOLON)), after) => Ok((true, after)),

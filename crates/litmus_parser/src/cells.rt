@@ -76,7 +76,8 @@ fn close<'a>(
 ) -> Result<((Instruction, Option<Width>), Cursor<'a>), ReadError>
     ensures { Gives (λ r. (r.0, r.1.line, r.1.pieces)) result
         (reads (here BadInstruction
-        (λ piece. if is_sign closing piece then taken (meaning (address_of items.now) thread width form)
+        (λ piece. if is_sign closing piece
+        then taken (meaning (address_of items.now) thread width form)
         else Refuses BadInstruction))
         cursor.entry.line cursor.entry.pieces) }
 {

@@ -19,7 +19,8 @@ use piece_forms::{ahead, expect_end};
 use std::alloc::Global;
 
 fn keyword<'a>(cursor: Cursor<'a>) -> Result<(Quantifier, Cursor<'a>), ReadError>
-    ensures { Gives view_read result (reads (one (word BadTable (λ w. ok_or (quantifier_of w) BadTable)))
+    ensures { Gives view_read result (reads
+        (one (word BadTable (λ w. ok_or (quantifier_of w) BadTable)))
         cursor.entry.line cursor.entry.pieces) }
 {
     match ahead(&cursor) {

@@ -5,7 +5,8 @@ ghost use Rattle.round_robin.specs.Dealing.{HaveRoom, IsDealtInTurn, total_lengt
 
 use std::alloc::{AllocError, Global};
 
-/// `hands` empty hands, each with room for its share of `items` items and no more. AllocError if memory for them can't be allocated.
+/// `hands` empty hands, each with room for its share of `items` items and no more. AllocError if memory for them can't be
+/// allocated.
 pub fn empty_hands<T: Drop>(
     alloc: Global,
     hands: usize,

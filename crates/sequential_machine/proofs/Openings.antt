@@ -11,7 +11,7 @@ use Rattle.std.specs.Cmp.{nat_cmp_total, unsigned_tied}
 use Rattle.std.proofs.lemmas.Bool.{cond_both, cond-true, cond-false, eqb-true, eq-eqb, ne_eqb, and_parts}
 use Rattle.std.proofs.lemmas.Bool.{leb-true, lt-ltb, eqb-false}
 use Rattle.physiological_order.specs.Order.{flat}
-use Rattle.litmus_lexer.specs.Pieces.{Piece, Word, Sign, LineEnd, between}
+use Rattle.litmus_lexer.specs.Pieces.{Piece, Word, between}
 use Rattle.litmus_lexer.specs.Spelling.{is_digit, small_of, register_of}
 use Rattle.litmus_parser.specs.Names.{Names, same_name, address_of}
 use Rattle.litmus_parser.specs.Block.{rest_of_item, Block, added, whole_item, item_or_end, entry, block}
@@ -315,9 +315,8 @@ item_settable (OfThread thread, names) =
     leads-then {P = λ v. Unit {0}} (all-lead _) (λ v _. leads-then {P = λ s. Unit {0}} (all-lead _) (λ s _.
     leads-given (record { line = line; name = Register thread r; setting = s.0 }, s.1) is)))))
 item_settable (OfLocation l, names) =
-    leads-then {P = λ l. Unit {0}} (all-lead Line) (λ line _.
-    leads-then {P = λ u. Unit {0}} (all-lead _) (λ u _. leads-then {P = λ n. Unit {0}} (all-lead _) (λ n _.
-    leads-given (record { line = line; name = Location l; setting = Number n }, names) tt)))
+    leads-then {P = λ l. Unit {0}} (all-lead Line) (λ line _. leads-then {P = λ n. Unit {0}} (all-lead _) (λ n _.
+    leads-given (record { line = line; name = Location l; setting = Number n }, names) tt))
 
 abbrev SingleSo : Block → Type 0
 SingleSo b = AreSingle (settings_of b.0)

@@ -131,8 +131,8 @@ on_memory does.Fence rs x m e = absurd cc
 
 first_performed : (s : SequentialState) (t : ℕ) (rs : List ℕ) (cells : List Cell) (x : Op) (received : Option ℕ) →
     s.registers t ≡ rs → s.left t ≡ cells_of t cells → Ready t rs cells →
-    next_operation (record { thread = t; registers = rs; rest = cells }) ≡ Some x → flat_received s.memory x ≡ received →
-    Goes s t (flat_after s.memory x) (behind_first_cell t rs received cells)
+    next_operation (record { thread = t; registers = rs; rest = cells }) ≡ Some x →
+    flat_received s.memory x ≡ received → Goes s t (flat_after s.memory x) (behind_first_cell t rs received cells)
 first_performed s t rs [] x received r l ready e v = absurd cc
 first_performed s t rs (cell ∷ rest) x received r l ready e v =
     let after = on_memory cell.instruction (s.registers t) x s.memory

@@ -88,10 +88,10 @@ fn every_number_of_workers_gives_the_same_list(rt: HostRuntime) -> Result<(), Fa
 #[test]
 fn the_seed_behind_the_last_one_is_0(rt: HostRuntime) -> Result<(), Fail> {
     let from_0 = runs_by(&rt, rt.alloc(), 40, 1, &Free)?;
-    let from_38 = runs_from(&rt, rt.alloc(), 18_446_744_073_709_551_614, 42, 2, &Free)?;
-    assert_eq!(rt; [from_0.len(), from_38.len()], [40, 42]);
-    for i in 0..from_0.len().min(from_38.len().saturating_sub(2)) {
-        assert!(rt; are_same(&from_0[i], &from_38[i + 2]), "seed {i}");
+    let across = runs_from(&rt, rt.alloc(), 18_446_744_073_709_551_614, 42, 2, &Free)?;
+    assert_eq!(rt; [from_0.len(), across.len()], [40, 42]);
+    for i in 0..from_0.len().min(across.len().saturating_sub(2)) {
+        assert!(rt; are_same(&from_0[i], &across[i + 2]), "seed {i}");
     }
     Ok(())
 }

@@ -1,5 +1,5 @@
 -- What can be looked up in a machine. A core or a bank that isn't there has nothing.
-use Rattle.std.specs.Prelude.{ℕ, ◌/◌, Bool, true, false, List, [], Option, Some, None, option_map, slice_get}
+use Rattle.std.specs.Prelude.{ℕ, ◌/◌, ◌&&◌, Bool, not, true, false, List, [], Option, Some, None, option_map, slice_get}
 use Rattle.std.specs.Prelude.{if◌then◌else◌}
 use Rattle.physiological_order.specs.declared.operation.Op.{Op}
 use Rattle.physiological_order.specs.Order.{address}
@@ -13,6 +13,7 @@ use Rattle.network.specs.NumberedMessages.{at_number}
 use Rattle.private_cache.specs.CopyTable.{victim_for}
 use Rattle.core_pts.specs.CoreTable.{CoreState}
 use Rattle.core_pts.specs.FreeCopies as core_copies
+use Rattle.core_pts.specs.OpenCopy.{waits_without}
 use Rattle.llc_bank.specs.BankTable as bank_table
 use Rattle.llc_bank.specs.BankTable.{BankState}
 use Rattle.llc_bank.specs.Settled.{is_settled}
@@ -30,6 +31,14 @@ victim m core line = victim_of line (slice_get m.cores core)
 abbrev pub victim_for_core : Machine → ℕ → Option (Op × Bool) → Option ℕ
 victim_for_core m core None = None
 victim_for_core m core (Some x) = victim m core (address x.0 / m.config.line_words)
+
+-- whether the machine isn't stopped, and a core's request is out without a copy of its line here
+abbrev pub waits_of : Option CoreState → Bool
+waits_of None = false
+waits_of (Some core) = waits_without core core.open_op
+
+abbrev pub is_waiting : Machine → ℕ → Bool
+is_waiting m core = not m.is_stopped && waits_of (slice_get m.cores core)
 
 -- the lines of a core's copies, and those of a bank's entries that are settled, set by set
 abbrev pub copies_of : Option CoreState → List ℕ

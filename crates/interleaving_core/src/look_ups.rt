@@ -1,8 +1,9 @@
 //! What can be looked up in a machine.
-ghost use Rattle.std.specs.Prelude.{◌≡◌, ◌<◌, IfOk, length, map, option_copied, slice_get, Some};
+ghost use Rattle.std.specs.Prelude.{◌≡◌, ◌<◌, IfOk, IsTrue, length, map, option_copied, slice_get, Some};
 ghost use Rattle.network.specs.NumberedMessages.{IsRising, at_number};
 ghost use Rattle.ranked_lines.specs.Rising.{sorted};
-ghost use Rattle.interleaving_core.specs.LookUps.{copies, entries, free_copies, is_request, make_room};
+ghost use Rattle.machine_table.specs.Transition.{transition};
+ghost use Rattle.interleaving_core.specs.LookUps.{copies, entries, free_copies, is_request, is_waiting, make_room};
 ghost use Rattle.machine_table.specs.Machine.{open_op};
 ghost use Rattle.interleaving_core.specs.LookUps.{room_at, victim, victim_for_core};
 ghost use Rattle.machine_theorem.specs.Kept.{Invariant};
@@ -12,6 +13,7 @@ use crate::machine_state::MachineState;
 use core_pts::Core;
 use dram_mts::Dram;
 use llc_bank::Bank;
+use machine_table::{Answer, Event};
 use network::{Body, LineNo, Message, MsgNo, Node};
 use physiological_order::{Op, Record};
 use std::alloc::{AllocError, Global};
@@ -71,6 +73,23 @@ impl MachineState {
         ensures { result ≡ open_op self.now core }
     {
         self.cores.get(core as usize)?.open_op()
+    }
+
+    // Whether an attempt of a core is to find that its request is out, and that it has no copy of the line.
+    #[inline(always)]
+    pub(crate) fn is_waiting(&self, core: u32) -> bool
+        requires { Invariant self.now }
+        ensures value { result ≡ is_waiting self.now core }
+        ensures waiting { IsTrue result → (Answer.Waiting, self.now) ≡
+            transition self.now (Event.Attempt core) }
+    {
+        if self.is_stopped {
+            return false;
+        }
+        let Some(own) = self.core(core) else {
+            return false;
+        };
+        own.is_waiting()
     }
 
     // The cores without an open operation.

@@ -64,22 +64,6 @@ impl MachineState {
         plain_of(&answer)
     }
 
-    // The same. Most attempts find a core that waits for its line: these take few instructions, and no call.
-    #[inline(always)]
-    fn try_core(&mut self, core: u32) -> Option<PlainAnswer>
-        requires { Invariant self.old }
-        ensures tried { (answer_in self.new.records result, self.new) ≡
-            on_event self.old (Event.Attempt core) }
-        ensures completed { result ≡ None → 0 < length self.new.records }
-    {
-        if let Some(own) = self.core(core) {
-            if own.is_waiting() {
-                return Some(PlainAnswer::Waiting);
-            }
-        }
-        self.attempt(core)
-    }
-
     // A core's time goes on by one.
     #[inline(always)]
     fn advance(&mut self, core: u32) -> PlainAnswer
@@ -167,7 +151,7 @@ impl MachineState {
         }
         match event {
             Event::Issue(core, op) => Ok(Some(self.issue(core, op)?)),
-            Event::Attempt(core) => Ok(self.try_core(core)),
+            Event::Attempt(core) => Ok(self.attempt(core)),
             Event::Deliver(number) => Ok(Some(self.deliver(number)?)),
             Event::EvictCache(core, line) => Ok(Some(self.evict_cache(core, line))),
             Event::EvictBank(bank, line) => Ok(Some(self.evict_bank(bank, line))),

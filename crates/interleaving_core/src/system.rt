@@ -13,7 +13,8 @@ ghost use Rattle.machine_table.specs.Opening.{at_start};
 ghost use Rattle.protocol.specs.Issued.{IsIssued};
 ghost use Rattle.machine_theorem.specs.Coherence.{owners, coherent};
 ghost use Rattle.machine_theorem.specs.Kept.{Invariant};
-ghost use Rattle.interleaving_core.specs.LookUps.{copies, entries, free_copies, make_room};
+ghost use Rattle.machine_table.specs.Transition.{transition};
+ghost use Rattle.interleaving_core.specs.LookUps.{copies, entries, free_copies, is_waiting, make_room};
 ghost use Rattle.machine_table.specs.Machine.{open_op};
 ghost use Rattle.interleaving_core.specs.LookUps.{victim, victim_for_core};
 ghost use Rattle.interleaving_core.specs.CoreMasks.{IsMask, is_idle, is_trying};
@@ -240,6 +241,17 @@ impl System {
         ensures { result ≡ open_op self.now core }
     {
         self.state.open_op(core)
+    }
+
+    /// Whether the machine isn't stopped, and a core's request is out without a copy of its line here: an attempt is
+    /// then answered Waiting, and nothing changes.
+    #[inline(always)]
+    pub fn is_waiting(&self, core: u32) -> bool
+        ensures value { result ≡ is_waiting self.now core }
+        ensures waiting { IsTrue result → (Answer.Waiting, self.now) ≡
+            transition self.now (Event.Attempt core) }
+    {
+        self.state.is_waiting(core)
     }
 
     /// The cores without an open operation: core c is one exactly if bit c is set.

@@ -205,3 +205,24 @@ pub(crate) fn step(
     }
     Ok(plain)
 }
+
+// The same for an attempt of a core. Most find that it waits for its line: these take few instructions, and no call.
+#[inline(always)]
+pub(crate) fn try_core(
+    log: &mut Log,
+    system: &mut System,
+    core: u32,
+) -> Result<Option<PlainAnswer>, End>
+    ensures { Noted system.old log.old (Event.Attempt core)
+        (answered system.new.records result) system.new log.new }
+{
+    let event = Event::Attempt(core);
+    if !system.is_waiting(core) {
+        return step(log, system, &event);
+    }
+    if log.reserve().is_err() {
+        return Err(End::NoMemory);
+    }
+    log.keep(&event);
+    Ok(Some(PlainAnswer::Waiting))
+}

@@ -5,7 +5,7 @@ ghost use Rattle.schedules.specs.Schedules.{Schedule, Does, Tries, Delivers, Adv
 ghost use Rattle.schedules.specs.Runs.{Within, Evicting, MakingRoom};
 ghost use Rattle.schedules.specs.Notes.{IsMade, Led, at, is_full, step_choice};
 
-use crate::log::{Log, is_held, is_no_room, step};
+use crate::log::{Log, is_held, is_no_room, step, try_core};
 use crate::look_ups::{tell, tell_advance};
 use interleaving_core::{Event, System};
 use network::MsgNo;
@@ -39,7 +39,7 @@ pub(crate) fn attempt<P: Program, S>(
     ensures { IsMade {S = S} P.acts (Tries core) (is_full result) system.old programs.old log.old
         result system.new programs.new log.new }
 {
-    let plain = step(log, system, &Event::Attempt(core))?;
+    let plain = try_core(log, system, core)?;
     if is_no_room(&plain) {
         evict::<P, S>(system, log, core)?;
         return Ok(true);

@@ -1,10 +1,11 @@
 -- A worker before each pass: what it gave its seats and what it has signaled. And how it ends.
-use Rattle.std.proofs.Common.{◌≡◌, ℕ, ◌+◌, ◌<◌, ◌≤◌, ◌^◌, true, false, length, refl, sym, ap, subst, ◌∙◌, arith}
+use Rattle.std.proofs.Common.{◌≡◌, ℕ, ◌+◌, ◌<◌, ◌≤◌, ◌^◌, true, false, List, length, refl, sym, ap, subst, ◌∙◌, arith}
 use Rattle.std.proofs.Common.{true≢false}
 use Rattle.std.specs.List.{zip}
 use Rattle.std.specs.declared.alloc.Global.{Global}
 use Rattle.std.specs.declared.vec.Vec.{Vec}
 use Rattle.mailboxes.specs.declared.machine.Machine.{Machine}
+use Rattle.mailboxes.specs.declared.bank_seat.BankSeat.{BankSeat}
 use Rattle.mailboxes.specs.declared.core_seat.CoreSeat.{CoreSeat}
 use Rattle.mailboxes.specs.Seats.{AllBankSeats, AllCoreSeats}
 use Rattle.programs.specs.Acts.{Acts}
@@ -52,7 +53,26 @@ module _ {P : Type 0} (acts : Acts P) (m : Machine) (signals : Signals) where
         finished = let none = ap (λ (h : Said). h.finished) ready.2 in omega arith;
       }
 
-  -- it told what is finished
+  -- what is finished stays so, if seats and programs do
+  pub told_of_same : (n : ℕ) (l t : Worker P) → SameLists l t → n ≡ over_in acts (zip l.cores.items l.programs.items) →
+      n ≡ over_in acts (zip t.cores.items t.programs.items)
+  told_of_same n l t same told =
+      told ∙ ap (λ (v : Vec CoreSeat Global). over_in acts (zip v.items l.programs.items)) (sym same.0)
+      ∙ ap (λ ps. over_in acts (zip t.cores.items ps)) (sym same.2)
+
+  -- a pass of seats and programs that stayed since
+  pub passed_same : (l t : Worker P) → SameLists l t → (told : Told) (cores : List CoreSeat) (banks : List BankSeat)
+      (programs : List P) →
+      SeatsPassed acts m t.cores.items t.banks.items t.programs.items told cores banks programs →
+      SeatsPassed acts m l.cores.items l.banks.items l.programs.items told cores banks programs
+  passed_same l t same told cores banks programs passed =
+      subst (λ (v : Vec CoreSeat Global). SeatsPassed acts m v.items l.banks.items l.programs.items told cores banks
+      programs) same.0
+      (subst (λ (v : Vec BankSeat Global). SeatsPassed acts m t.cores.items v.items l.programs.items told cores banks
+      programs) same.1
+      (subst (λ ps. SeatsPassed acts m t.cores.items t.banks.items ps told cores banks programs) same.2 passed))
+
+  -- it told what is finished, and may have looked
   pub after_telling : (turn : ℕ) (w l t : Worker P) → Working turn w l → SameLists l t →
       IsSignalerOf signals t.signaler → number_of t.signaler ≡ number_of l.signaler →
       t.signaler.said.stops ≡ l.signaler.said.stops →
@@ -71,21 +91,6 @@ module _ {P : Type 0} (acts : Acts P) (m : Machine) (signals : Signals) where
         goes = ap ends_all same.3 ∙ was.goes;
         silent = stops ∙ was.silent;
         finished = omega (arith, told);
-      }
-
-  -- it looked
-  pub after_looking : (turn : ℕ) (w t : Worker P) (s : Signaler) → Working turn w t → IsSignalerOf signals s →
-      number_of s ≡ number_of t.signaler → s.said ≡ t.signaler.said → Working turn w (record t { signaler = s })
-  after_looking turn w t s was signaler number said =
-      record {
-        at_work = record { signaler = signaler; cores = was.at_work.cores; banks = was.at_work.banks };
-        ahead = was.ahead;
-        few = was.few;
-        number = number ∙ was.number;
-        given = was.given;
-        goes = was.goes;
-        silent = ap (λ (h : Said). h.stops) said ∙ was.silent;
-        finished = let same = ap (λ (h : Said). h.finished) said in let was_few = was.finished in omega arith;
       }
 
   -- it ends before a pass

@@ -1,5 +1,5 @@
 -- Workers, and what they do with what they were dealt.
-use Rattle.std.specs.Prelude.{◌≡◌, ◌||◌, ◌&&◌, is_none, Bool, true, false, ℕ, zero, suc, ◌+◌, ◌<◌, ◌≤◌, ◌^◌}
+use Rattle.std.specs.Prelude.{◌≡◌, ◌⊎◌, ◌||◌, ◌&&◌, is_none, Bool, true, false, ℕ, zero, suc, ◌+◌, ◌<◌, ◌≤◌, ◌^◌}
 use Rattle.std.specs.Prelude.{List, [], ◌∷◌, length, Some, slice_get}
 use Rattle.std.specs.Int.{from_bool}
 use Rattle.std.specs.List.{zip}
@@ -8,6 +8,7 @@ use Rattle.mailboxes.specs.declared.core_seat.CoreSeat.{CoreSeat}
 use Rattle.mailboxes.specs.declared.bank_seat.BankSeat.{BankSeat}
 use Rattle.mailboxes.specs.Seats.{AllCoreSeats, AllBankSeats}
 use Rattle.stop_flags.specs.declared.signals.Signals.{Signals}
+use Rattle.stop_flags.specs.declared.words.Look.{Look}
 use Rattle.stop_flags.specs.Signalers.{IsSignalerOf, last_look, number_of}
 use Rattle.stop_flags.specs.Told.{nothing}
 use Rattle.programs.specs.Acts.{Acts}
@@ -20,6 +21,13 @@ use Rattle.thread_driver.specs.Playing.{AreAhead}
 -- whether no worker goes on after a turn that reported this
 abbrev pub ends_all : Told → Bool
 ends_all told = told.no_memory || told.is_exhausted
+
+-- a look found a stop, or that all programs are finished; or neither
+abbrev pub FoundEnd : Rota → Look → Type 0
+FoundEnd rota look = (look.is_stopped ≡ true) ⊎ (rota.programs ≤ look.finished)
+
+abbrev pub FoundNoEnd : Rota → Look → Type 0
+FoundNoEnd rota look = (look.is_stopped ≡ false) × (look.finished < rota.programs)
 
 -- A pass: the first n of a list had a turn each, and the others none. After a turn that ends all there is no other.
 pub data PassGiven {X : Type 0} (Turn : X → Told → X → Type 0) : ℕ → List X → Told → List X → Type 0 where

@@ -6,6 +6,7 @@ ghost use Rattle.thread_driver.specs.Playing.{IsAhead, Plays, SameWork};
 ghost use Rattle.thread_driver.specs.Turns.{AfterRefusal, CoreHadTurn, OpIssued, OpenTried, StepDone, TimeAdvanced};
 ghost use Rattle.thread_driver.specs.Turns.{told_of};
 
+use crate::begun::Begun;
 use crate::seat_calls::{advance, attempt, issue, make_place, turn};
 use crate::told::{Told, told_of_turn};
 use machine_table::Refusal;
@@ -14,11 +15,16 @@ use physiological_order::Op;
 use programs::Step;
 use programs::program::Program;
 
-/// A turn of a core's seat. It attempts the open operation. If none is open, it does the program's next step: it
+/// A turn of a core's seat, which has begun at a gate. It attempts the open operation. If none is open, it does the program's next step: it
 /// issues an operation and then attempts it, or advances the core. If there is no place for the operation's line, it
 /// evicts a copy. The program receives what was completed, and goes on after an advance. Then the seat puts, serves
 /// and takes messages. docs/SCHEDULES.md has the order.
-pub fn core_turn<P: Program>(machine: &Machine, seat: &mut CoreSeat, program: &mut P) -> Told
+pub fn core_turn<P: Program>(
+    machine: &Machine,
+    _begun: &Begun,
+    seat: &mut CoreSeat,
+    program: &mut P,
+) -> Told
     requires seat { IsCoreSeat machine.now seat.old }
     requires ahead { IsAhead P.acts seat.old program.old }
     ensures seat { IsCoreSeat machine.now seat.new }

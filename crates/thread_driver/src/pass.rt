@@ -7,6 +7,7 @@ ghost use Rattle.thread_driver.specs.Teams.{IsWhole, PassGiven, ends_all};
 ghost use Rattle.thread_driver.specs.Playing.{AreAhead};
 
 use crate::bank_turns::bank_turn;
+use crate::begun::{begin, end};
 use crate::core_turns::core_turn;
 use crate::told::{QUIET, Told, both};
 use mailboxes::{BankSeat, CoreSeat, Machine};
@@ -43,10 +44,9 @@ pub(crate) fn core_pass<P: Program, G: Gate>(
         if ends_all(&all) {
             break;
         }
-        let seat = u64::from(cores[i].number());
-        gate.before(seat, turn as u64);
-        let told = core_turn(machine, &mut cores[i], &mut programs[i]);
-        gate.after(seat, turn as u64);
+        let begun = begin(gate, cores[i].number(), turn);
+        let told = core_turn(machine, &begun, &mut cores[i], &mut programs[i]);
+        end(gate, begun);
         all = both(all, told);
     }
     all
@@ -69,10 +69,9 @@ pub(crate) fn bank_pass<G: Gate>(
         if ends_all(&all) {
             break;
         }
-        let seat = u64::from(banks[i].number());
-        gate.before(seat, turn as u64);
-        let told = bank_turn(machine, &mut banks[i]);
-        gate.after(seat, turn as u64);
+        let begun = begin(gate, banks[i].number(), turn);
+        let told = bank_turn(machine, &begun, &mut banks[i]);
+        end(gate, begun);
         all = both(all, told);
     }
     all

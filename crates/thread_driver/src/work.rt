@@ -1,10 +1,10 @@
 //! What a worker does: it gives its seats turns until there is nothing left to do.
-ghost use Rattle.std.specs.Prelude.{◌≡◌, ◌≤◌, ◌<◌, ◌^◌, length};
+ghost use Rattle.std.specs.Prelude.{◌≡◌, ◌≤◌, ◌<◌, ◌^◌, None, IfSome, length};
 ghost use Rattle.std.specs.List.{zip};
 ghost use Rattle.mailboxes.specs.Seats.{AllBankSeats, AllCoreSeats};
 ghost use Rattle.stop_flags.specs.Signalers.{IsSignalerOf, last_look, number_of};
 ghost use Rattle.thread_driver.specs.Playing.{AreAhead};
-ghost use Rattle.thread_driver.specs.Teams.{IsReady, SeatsPassed, Works, over_in};
+ghost use Rattle.thread_driver.specs.Teams.{FoundEnd, FoundNoEnd, IsReady, SeatsPassed, Works, over_in};
 
 use crate::counting::over_count;
 use crate::pass::{bank_pass, core_pass, ends_all};
@@ -32,12 +32,9 @@ pub(crate) fn work<P: Program + Drop, G: Gate>(
     worker.told = QUIET;
     let mut idle = 0;
     for turn in 0..rota.turns {
-        tell(signals, worker);
-        let look = worker.signaler.look(signals);
-        if look.is_stopped || look.finished >= rota.programs {
+        let Some(told) = pass(machine, signals, gate, rota, worker, turn) else {
             return;
-        }
-        let told = pass(machine, gate, worker, turn);
+        };
         worker.told = both(worker.told, told);
         if ends_all(&told) {
             worker.signaler.stop(signals);
@@ -60,30 +57,49 @@ fn rest(idle: u8, has_progressed: bool) -> u8 {
     idle
 }
 
-// Each seat of the worker has a turn.
+// Tells which programs are finished, and looks. If that finds no end, each seat of the worker has a turn.
 fn pass<P: Program + Drop, G: Gate>(
     machine: &Machine,
+    signals: &Signals,
     gate: &G,
+    rota: Rota,
     worker: &mut Worker<P>,
     turn: u32,
-) -> Told
+) -> Option<Told>
+    requires signaler { IsSignalerOf signals.now worker.old.signaler }
+    requires few { length worker.old.cores.items < 2 ^ 32 }
+    requires finished { worker.old.signaler.said.finished ≤
+        over_in P.acts (zip worker.old.cores.items worker.old.programs.items) }
     requires cores { AllCoreSeats machine.now worker.old.cores.items }
     requires banks { AllBankSeats machine.now worker.old.banks.items }
     requires ahead { AreAhead P.acts worker.old.cores.items worker.old.programs.items }
     ensures cores { AllCoreSeats machine.now worker.new.cores.items }
     ensures banks { AllBankSeats machine.now worker.new.banks.items }
     ensures ahead { AreAhead P.acts worker.new.cores.items worker.new.programs.items }
-    ensures passed { SeatsPassed P.acts machine.now
-        worker.old.cores.items worker.old.banks.items worker.old.programs.items result
-        worker.new.cores.items worker.new.banks.items worker.new.programs.items }
-    ensures same { (worker.new.signaler ≡ worker.old.signaler) ×
+    ensures signaler { IsSignalerOf signals.now worker.new.signaler }
+    ensures told { worker.new.signaler.said.finished ≡
+        over_in P.acts (zip worker.old.cores.items worker.old.programs.items) }
+    ensures kept { (number_of worker.new.signaler ≡ number_of worker.old.signaler) ×
+        (worker.new.signaler.said.stops ≡ worker.old.signaler.said.stops) ×
         (worker.new.told ≡ worker.old.told) }
+    ensures ended { result ≡ None → FoundEnd rota (last_look worker.new.signaler) ×
+        (worker.new.cores ≡ worker.old.cores) × (worker.new.banks ≡ worker.old.banks) ×
+        (worker.new.programs.items ≡ worker.old.programs.items) }
+    ensures goes { IfSome result (λ told. FoundNoEnd rota (last_look worker.new.signaler)) }
+    ensures passed { IfSome result (λ told. SeatsPassed P.acts machine.now
+        worker.old.cores.items worker.old.banks.items worker.old.programs.items told
+        worker.new.cores.items worker.new.banks.items worker.new.programs.items) }
 {
+    tell(signals, worker);
+    let look = worker.signaler.look(signals);
+    if look.is_stopped || look.finished >= rota.programs {
+        return None;
+    }
     let told = core_pass(machine, gate, &mut worker.cores, &mut worker.programs, turn);
     if ends_all(&told) {
-        return told;
+        return Some(told);
     }
-    both(told, bank_pass(machine, gate, &mut worker.banks, turn))
+    Some(both(told, bank_pass(machine, gate, &mut worker.banks, turn)))
 }
 
 // Tells of each program that was finished since: then so many are told as are over.

@@ -1,7 +1,7 @@
 -- Whether the open operation's line has a copy: as copies change, and as those that may be evicted are counted.
 use Rattle.std.proofs.Common.{◌≡◌, ◌≢◌, ℕ, zero, suc, ◌+◌, ◌<◌, ◌/◌, ◌%◌, cond, length, Bool, true, false, Option, None}
 use Rattle.std.proofs.Common.{Some, List, [], ◌∷◌, inl, inr, refl, sym, ap, ◌∙◌, arith, true≢false}
-use Rattle.std.specs.Option.{is_some}
+use Rattle.std.specs.Option.{is_some, option_map}
 use Rattle.std.specs.Prelude.{Result, Ok, Err}
 use Rattle.std.proofs.lemmas.Bool.{cases_eq, eq-eqb, eqb-true}
 use Rattle.physiological_order.specs.declared.operation.Op.{Op}
@@ -14,13 +14,13 @@ use Rattle.private_cache.specs.declared.cache.CacheError.{CacheError}
 use Rattle.private_cache.specs.declared.cache.CacheError.TheVariants.{NotHere, Pinned}
 use Rattle.private_cache.specs.CopyTable.{copy_of, evicted, is_pinned, set_of, with_changed, with_used, without_copy}
 use Rattle.private_cache.specs.FreeLines.{free_lines, has_pinned}
-use Rattle.core_pts.specs.CoreTable.{CoreState, line_of_open, pinned_line}
+use Rattle.core_pts.specs.CoreTable.{CoreState, line_of, pinned_line}
 use Rattle.core_pts.specs.OpenCopy.{has_open_copy}
 use Rattle.core_pts.specs.FreeCopies.{free_copies}
 
 open-pinned :
     (core : CoreState) (op : Option Op) →
-    has_pinned core.cache (line_of_open core op) ≡ has_open_copy core.line_words core.cache op
+    has_pinned core.cache (option_map (line_of core) op) ≡ has_open_copy core.line_words core.cache op
 open-pinned core None = refl
 open-pinned core (Some op) = refl
 
@@ -79,7 +79,7 @@ open-changed words cache line copy (Some op) there = changed cache line there co
 
 pub open-gone :
     (core : CoreState) (line : ℕ) (op : Option Op) → is_some (copy_of core.cache line) ≡ true →
-    is_pinned (line_of_open core op) line ≡ false →
+    is_pinned (option_map (line_of core) op) line ≡ false →
     has_open_copy core.line_words (without_copy core.cache line) op ≡ has_open_copy core.line_words core.cache op
 open-gone core line None there free = refl
 open-gone core line (Some op) there free =
@@ -87,7 +87,7 @@ open-gone core line (Some op) there free =
     (λ e. true≢false (sym (eq-eqb (address op / core.line_words) line e) ∙ free))
 
 pub open-used :
-    (core : CoreState) (line : ℕ) (copy : LineCopy) (op : Option Op) → is_pinned (line_of_open core op) line ≡ true →
+    (core : CoreState) (line : ℕ) (copy : LineCopy) (op : Option Op) → is_pinned (option_map (line_of core) op) line ≡ true →
     has_open_copy core.line_words core.cache op ≡ true →
     has_open_copy core.line_words (with_used core.cache line copy) op ≡ true
 open-used core line copy None pinned there = cc

@@ -1,6 +1,6 @@
 -- A core as data, and what each event makes of it.
 use Rattle.std.specs.Prelude.{ℕ, ◌+◌, ◌-◌, ◌/◌, ◌%◌, ◌^◌, ◌==◌, nat_lt, Bool, true, false, ◌&&◌, Option, Some, None}
-use Rattle.std.specs.Prelude.{Result, Ok, Err, if◌then◌else◌}
+use Rattle.std.specs.Prelude.{option_map, Result, Ok, Err, if◌then◌else◌}
 use Rattle.physiological_order.specs.declared.operation.Op.{Op}
 use Rattle.physiological_order.specs.declared.operation.Op.TheVariants.{Load, Store, Swap}
 use Rattle.physiological_order.specs.Order.{address}
@@ -27,8 +27,7 @@ use Rattle.core_pts.specs.declared.attempt.IssueError.{IssueError}
 use Rattle.core_pts.specs.declared.attempt.IssueError.TheVariants.{Busy, TooMany}
 use Rattle.core_pts.specs.OnCopy.{is_exclusive, serves, time_of, received_at, copy_after, words_of_copy, at_core}
 use Rattle.core_pts.specs.declared.decision.CoreReaction.{CoreReaction}
-use Rattle.core_pts.specs.declared.decision.CoreReaction.TheVariants.{Arrives, Grants, Returns, Drops, Holds, TooLate}
-use Rattle.core_pts.specs.declared.decision.CoreReaction.TheVariants.{NoCase}
+use Rattle.core_pts.specs.declared.decision.CoreReaction.TheVariants.{Arrives, Grants, Returns, Holds, TooLate}
 
 pub record CoreState : Type 0 where
   -- its number, and the numbers that the machine was set up with
@@ -69,18 +68,13 @@ abbrev pub index_of : CoreState → Op → ℕ
 index_of core op = address op % core.line_words
 
 -- the line of the open operation: it is pinned
-abbrev pub line_of_open : CoreState → Option Op → Option ℕ
-line_of_open core None = None
-line_of_open core (Some op) = Some (line_of core op)
-
 abbrev pub pinned_line : CoreState → Option ℕ
-pinned_line core = line_of_open core core.open_op
+pinned_line core = option_map (line_of core) core.open_op
 
 -- a message of the core to the bank of a line
 abbrev pub to_bank : CoreState → ℕ → Body → Message
 to_bank core line body = record { from = Core core.number; to = Bank (line % core.banks); line = line; body = body }
 
--- an operation is issued
 abbrev pub issue_to : CoreState → Op → Option Op → Result (Unit {0}) IssueError × CoreState
 issue_to core op (Some other) = (Err Busy, core)
 issue_to core op None =
@@ -93,8 +87,7 @@ issue core op = issue_to core op core.open_op
 -- the request that an operation needs, by the version of the copy
 abbrev pub need : ℕ → Op → Option ℕ → Attempt
 need pts (Load a) version = NeedShared pts version
-need pts (Store a v) version = NeedExclusive version
-need pts (Swap a v) version = NeedExclusive version
+need pts _ version = NeedExclusive version
 
 -- the operation is completed at a time; there is no answer if that doesn't fit: times are exhausted
 abbrev pub completed_at : CoreState → Op → LineCopy → Option ℕ → Option Attempt × CoreState
@@ -128,7 +121,6 @@ abbrev pub attempt_open : CoreState → Option Op → Option Attempt × CoreStat
 attempt_open core None = (Some Idle, core)
 attempt_open core (Some op) = attempt_on core op (copy_of core.cache (line_of core op))
 
--- an attempt to complete the open operation
 abbrev pub attempt : CoreState → Option Attempt × CoreState
 attempt core = attempt_open core core.open_op
 
@@ -161,21 +153,15 @@ after_reaction core line (Grants copy) =
     Some (Done None, record core { cache = with_changed core.cache line copy; is_out = false })
 after_reaction core line (Returns kept sent) =
     Some (Done (Some (to_bank core line sent)), record core { cache = kept_in core line kept })
-after_reaction core line Drops = Some (Dropped, core)
 after_reaction core line Holds = Some (Held, core)
 after_reaction core line TooLate = None
-after_reaction core line NoCase = Some (Dropped, core)
+after_reaction core line _ = Some (Dropped, core)
 
--- what the core decides at a message about a line
 abbrev pub decided : CoreState → ℕ → Body → CoreReaction
 decided core line body = at_core core.lease (is_pinned (pinned_line core) line) (copy_of core.cache line) body
 
--- what a message about a line makes of the core
-abbrev pub after_body : CoreState → ℕ → Body → Option (Reaction × CoreState)
-after_body core line body = after_reaction core line (decided core line body)
-
 abbrev pub core_table : CoreState → Message → Option (Reaction × CoreState)
-core_table core m = after_body core m.line m.body
+core_table core m = after_reaction core m.line (decided core m.line m.body)
 
 -- a reply comes only to a core that waits for it: with a request out for the line of its open operation
 abbrev pub waits_for : CoreState → ℕ → Bool

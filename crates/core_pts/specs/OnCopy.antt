@@ -6,9 +6,8 @@ use Rattle.physiological_order.specs.declared.operation.Op.{Op}
 use Rattle.physiological_order.specs.declared.operation.Op.TheVariants.{Load, Store, Swap}
 use Rattle.network.specs.declared.message.TimedLine.{TimedLine}
 use Rattle.network.specs.declared.message.Body.{Body}
-use Rattle.network.specs.declared.message.Body.TheVariants.{ShReq, ExReq, ShRep, ExRep, RenewRep, UpgradeRep}
-use Rattle.network.specs.declared.message.Body.TheVariants.{FlushReq, WbReq, FlushRep, WbRep, DramLd, DramLdRep}
-use Rattle.network.specs.declared.message.Body.TheVariants.{DramSt, DramStRep}
+use Rattle.network.specs.declared.message.Body.TheVariants.{ShRep, ExRep, RenewRep, UpgradeRep, FlushReq, WbReq}
+use Rattle.network.specs.declared.message.Body.TheVariants.{FlushRep, WbRep}
 use Rattle.private_cache.specs.declared.line_copy.LineCopy.{LineCopy}
 use Rattle.private_cache.specs.declared.line_copy.CopyState.{CopyState}
 use Rattle.private_cache.specs.declared.line_copy.CopyState.TheVariants.{Shared, Exclusive}
@@ -22,12 +21,10 @@ abbrev pub is_exclusive : CopyState → Bool
 is_exclusive Shared = false
 is_exclusive Exclusive = true
 
--- whether a copy serves an operation at the core's time: a load on a copy that is owned or leased up to that time, a
--- store or swap on a copy that is owned
+-- a copy serves a load if it is owned or leased up to the core's time, and a store or swap if it is owned
 abbrev pub serves : Op → ℕ → LineCopy → Bool
 serves (Load a) pts copy = is_exclusive copy.state || nat_le pts copy.rts
-serves (Store a v) pts copy = is_exclusive copy.state
-serves (Swap a v) pts copy = is_exclusive copy.state
+serves _ pts copy = is_exclusive copy.state
 
 -- the time of a store or swap: after every possible read of the old words; under private writes a core that wrote the
 -- words itself needs no later time. Nothing if the sum doesn't fit
@@ -39,8 +36,7 @@ write_time private_write pts copy =
 -- the time of an operation that a copy serves
 abbrev pub time_of : Bool → ℕ → Op → LineCopy → Option ℕ
 time_of private_write pts (Load a) copy = Some (max pts copy.wts)
-time_of private_write pts (Store a v) copy = write_time private_write pts copy
-time_of private_write pts (Swap a v) copy = write_time private_write pts copy
+time_of private_write pts _ copy = write_time private_write pts copy
 
 -- what an operation receives, if its word is at this index of the line
 abbrev pub received_at : ℕ → Op → LineCopy → Option ℕ
@@ -56,13 +52,11 @@ written_at index ts v copy = record copy { wts = ts; rts = ts; words = slice_set
 abbrev pub read_at : ℕ → LineCopy → LineCopy
 read_at ts copy = if is_exclusive copy.state then record copy { rts = max ts copy.rts } else copy
 
--- the copy after an operation at a time
 abbrev pub copy_after : ℕ → ℕ → Op → LineCopy → LineCopy
 copy_after index ts (Load a) copy = read_at ts copy
 copy_after index ts (Store a v) copy = written_at index ts v copy
 copy_after index ts (Swap a v) copy = written_at index ts v copy
 
--- a copy's words and times
 abbrev pub words_of_copy : LineCopy → TimedLine
 words_of_copy copy = record { wts = copy.wts; rts = copy.rts; words = copy.words }
 
@@ -94,14 +88,7 @@ at_core lease is_open copy (RenewRep rts) = with_copy (renewed rts) copy
 at_core lease is_open copy (UpgradeRep rts) = with_copy (upgraded rts) copy
 at_core lease is_open copy FlushReq = if is_open then Holds else flushed copy
 at_core lease is_open copy (WbReq until) = if is_open then Holds else written_back lease until copy
-at_core lease is_open copy (ShReq pts version) = NoCase
-at_core lease is_open copy (ExReq version) = NoCase
-at_core lease is_open copy (FlushRep line) = NoCase
-at_core lease is_open copy (WbRep line) = NoCase
-at_core lease is_open copy DramLd = NoCase
-at_core lease is_open copy (DramLdRep words) = NoCase
-at_core lease is_open copy (DramSt words) = NoCase
-at_core lease is_open copy DramStRep = NoCase
+at_core lease is_open copy _ = NoCase
 
 -- what a reaction writes has a place: a copy that arrives is of the open operation's line and has a place in its set,
 -- one that is changed is there, and one that goes back is there and isn't of the open operation's line

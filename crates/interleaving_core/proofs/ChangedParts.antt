@@ -17,12 +17,13 @@ use Rattle.machine_table.specs.declared.event.Refusal.TheVariants as refusal
 use Rattle.machine_table.specs.Machine.{Machine}
 use Rattle.machine_table.specs.Posted.{can_post, left, posted}
 use Rattle.machine_table.specs.Step as step
-use Rattle.machine_table.specs.Step.{Did, Step, Tried, did_answer, kept_answer}
+use Rattle.machine_table.specs.Step.{Step, Tried}
+use Rattle.machine_table.proofs.Lemmas.{Fits, FitsTried, reaction_fits}
 use Rattle.machine_table.specs.declared.event.Event.TheVariants.{Deliver}
 use Rattle.machine_table.specs.Transition.{changed, on_event, refused, tried}
 use Rattle.interleaving_core.specs.PartChanges.{applied, applied_attempt, concluded, responded, stops, with_record}
 use Rattle.interleaving_core.specs.StepAnswers.{TakesMemory}
-use Rattle.interleaving_core.proofs.Only.{did_plain, kept_plain}
+use Rattle.interleaving_core.proofs.Only.{IsPlain, kept_plain, made_plain}
 
 -- a list in which what is there is put where it is
 pub set_same : {X : Type 0} (xs : List X) (i : ℕ) (x : X) → slice_get xs i ≡ Some x → set xs i x ≡ xs
@@ -55,20 +56,14 @@ module _ {S : Type 0} (m : Machine) (cores : S → List CoreState) (banks : S �
     },
   )
 
-  made_so : (did : Did) (new : S) (mail : Mail) → after (did_answer did, new, mail) ≡
-      (did_answer did, record (put new) { mail = mail })
-  made_so did new mail =
+  made_so : (why : Answer) → IsPlain why → (new : S) (mail : Mail) → after (why, new, mail) ≡
+      (why, record (put new) { mail = mail })
+  made_so why plain new mail =
       ap (λ (rs : List Record). (
-        did_answer did,
-        record (put new) {
-          mail = mail;
-          records = rs;
-          is_stopped = stops (did_answer did)
-              || m.is_stopped;
-        },
-      )) ((did_plain did).0 m.records)
-      ∙ ap (λ (b : Bool). (did_answer did, record (put new) { mail = mail; is_stopped = b || m.is_stopped }))
-      (did_plain did).1
+        why,
+        record (put new) { mail = mail; records = rs; is_stopped = stops why || m.is_stopped },
+      )) (plain.0 m.records)
+      ∙ ap (λ (b : Bool). (why, record (put new) { mail = mail; is_stopped = b || m.is_stopped })) plain.1
 
   kept_so : (mail : Mail) (records : List Record) (b : Bool) (answer : Answer) →
       ◌≡◌ {A = Answer × Machine} (answer, record (put part) { mail = mail; records = records; is_stopped = b })
@@ -76,23 +71,22 @@ module _ {S : Type 0} (m : Machine) (cores : S → List CoreState) (banks : S �
   kept_so mail records b answer =
       ap (λ (n : Machine). (answer, record n { mail = mail; records = records; is_stopped = b })) put_same
 
-  pub is_changed : (n : Option ℕ) (s : Step S) → after (applied m.config.messages part m.mail n s) ≡ changed m put n s
-  is_changed n step.Exhausts = kept_so m.mail m.records true (answer.Refused refusal.Exhausted)
-  is_changed n (step.Keeps kept) =
-      kept_so m.mail (with_record m.records (kept_answer kept)) (stops (kept_answer kept) || m.is_stopped)
-      (kept_answer kept)
-      ∙ ap (λ (rs : List Record). (
-        kept_answer kept,
-        record m { records = rs; is_stopped = stops (kept_answer kept) || m.is_stopped },
-      )) ((kept_plain kept).0 m.records)
-      ∙ ap (λ (b : Bool). (kept_answer kept, record m { is_stopped = b || m.is_stopped })) (kept_plain kept).1
-  is_changed n step.Drops = kept_so (left m.mail n) m.records m.is_stopped answer.Dropped
-  is_changed n (step.Makes did consumes sends new) = by_test (can_post m.config.messages m.mail consumes sends)
+  pub is_changed : (n : Option ℕ) (s : Step S) → Fits s →
+      after (applied m.config.messages part m.mail n s) ≡ changed m put n s
+  is_changed n step.Exhausts fits = kept_so m.mail m.records true (answer.Refused refusal.Exhausted)
+  is_changed n (step.Keeps why) fits =
+      let plain = kept_plain why fits in
+      kept_so m.mail (with_record m.records why) (stops why || m.is_stopped) why
+      ∙ ap (λ (rs : List Record). (why, record m { records = rs; is_stopped = stops why || m.is_stopped }))
+      (plain.0 m.records)
+      ∙ ap (λ (b : Bool). (why, record m { is_stopped = b || m.is_stopped })) plain.1
+  is_changed n step.Drops fits = kept_so (left m.mail n) m.records m.is_stopped answer.Dropped
+  is_changed n (step.Makes why consumes sends new) fits = by_test (can_post m.config.messages m.mail consumes sends)
     where
-      by_test : (b : Bool) → after (cond b (did_answer did, new, posted m.mail n consumes sends)
+      by_test : (b : Bool) → after (cond b (why, new, posted m.mail n consumes sends)
           (answer.Refused refusal.NetworkFull, part, m.mail)) ≡ cond b
-          (did_answer did, record (put new) { mail = posted m.mail n consumes sends }) (refused m refusal.NetworkFull)
-      by_test true = made_so did new (posted m.mail n consumes sends)
+          (why, record (put new) { mail = posted m.mail n consumes sends }) (refused m refusal.NetworkFull)
+      by_test true = made_so why (made_plain why fits) new (posted m.mail n consumes sends)
       by_test false = kept_so m.mail m.records m.is_stopped (answer.Refused refusal.NetworkFull)
 
   -- the machine after an event that makes this of the part and the messages in flight
@@ -116,36 +110,36 @@ module _ {S : Type 0} (m : Machine) (cores : S → List CoreState) (banks : S �
       ∙ leads
 
   -- a step adds no record
-  not_recorded : (n : Option ℕ) (s : Step S) → m.records ≡ with_record
-      m.records (applied m.config.messages part m.mail n s).0
-  not_recorded n step.Exhausts = refl
-  not_recorded n (step.Keeps kept) = sym ((kept_plain kept).0 m.records)
-  not_recorded n step.Drops = refl
-  not_recorded n (step.Makes did consumes sends new) = by_test (can_post m.config.messages m.mail consumes sends)
+  not_recorded : (n : Option ℕ) (s : Step S) → Fits s →
+      m.records ≡ with_record m.records (applied m.config.messages part m.mail n s).0
+  not_recorded n step.Exhausts fits = refl
+  not_recorded n (step.Keeps why) fits = sym ((kept_plain why fits).0 m.records)
+  not_recorded n step.Drops fits = refl
+  not_recorded n (step.Makes why consumes sends new) fits = by_test (can_post m.config.messages m.mail consumes sends)
     where
       by_test : (b : Bool) → m.records ≡ with_record m.records (cond {A = Answer × S × Mail} b
-          (did_answer did, new, posted m.mail n consumes sends) (answer.Refused refusal.NetworkFull, part, m.mail)).0
-      by_test true = sym ((did_plain did).0 m.records)
+          (why, new, posted m.mail n consumes sends) (answer.Refused refusal.NetworkFull, part, m.mail)).0
+      by_test true = sym ((made_plain why fits).0 m.records)
       by_test false = refl
 
-  pub made_without : (n : Option ℕ) (s : Step S) (answer : Answer) (new : S) (mail : Mail) (stopped : Bool) →
+  pub made_without : (n : Option ℕ) (s : Step S) → Fits s → (answer : Answer) (new : S) (mail : Mail) (stopped : Bool) →
       (answer, new, mail) ≡ applied m.config.messages part m.mail n s → stopped ≡ (stops answer || m.is_stopped) →
       (answer, record (put new) { mail = mail; is_stopped = stopped }) ≡ changed m put n s
-  made_without n s answer new mail stopped is stop =
-      put_so (applied m.config.messages part m.mail n s) (changed m put n s) (is_changed n s) answer new mail
+  made_without n s fits answer new mail stopped is stop =
+      put_so (applied m.config.messages part m.mail n s) (changed m put n s) (is_changed n s fits) answer new mail
       m.records stopped is
-      (not_recorded n s ∙ ap (λ (x : Answer × S × Mail). with_record m.records x.0) (sym is)) stop
+      (not_recorded n s fits ∙ ap (λ (x : Answer × S × Mail). with_record m.records x.0) (sym is)) stop
 
   -- an event of the part: what the table makes of the machine is the step, with messages of this capacity. The machine
   -- is seen as a model.
-  module _ (n : Option ℕ) (s : Step S) (capacity : ℕ) (same_capacity : capacity ≡ m.config.messages)
+  module _ (n : Option ℕ) (s : Step S) (fits : Fits s) (capacity : ℕ) (same_capacity : capacity ≡ m.config.messages)
       (seen : Machine) (is_view : m ≡ seen) (event : Machine → Answer × Machine)
       (changes : changed m put n s ≡ event m) where
     pub event_done : (answer : Answer) (new : S) (mail : Mail) (stopped : Bool) → (answer, new, mail) ≡ applied
         capacity part m.mail n s → stopped ≡ (stops answer || m.is_stopped) →
         (answer, record (put new) { mail = mail; is_stopped = stopped }) ≡ event seen
     event_done answer new mail stopped is stop =
-        made_without n s answer new mail stopped
+        made_without n s fits answer new mail stopped
         (is ∙ ap (λ (k : ℕ). applied k part m.mail n s) same_capacity) stop
         ∙ changes ∙ ap event is_view
 
@@ -160,7 +154,7 @@ module _ {S : Type 0} (m : Machine) (cores : S → List CoreState) (banks : S �
         (answer, record (put new) { mail = mail; is_stopped = stopped }) ≡
         on_event seen (Deliver n)
     delivered answer response new mail stopped concludes responds stop =
-        event_done (Some n) (step.reacted reaction) capacity same_capacity seen is_view
+        event_done (Some n) (step.reacted reaction) (reaction_fits reaction) capacity same_capacity seen is_view
         (λ x. on_event x (Deliver n)) delivers answer new mail
         stopped (ap (λ (x : Answer × Mail). (x.0, new, x.1)) concludes ∙ responds) stop
 
@@ -176,15 +170,15 @@ module _ {S : Type 0} (m : Machine) (cores : S → List CoreState) (banks : S �
         subst (λ (x : Machine). TakesMemory x (on_event x (Deliver n))) is_view
         (subst (λ (x : Answer × Machine). TakesMemory m x) delivers
         (inr (subst (λ (x : Answer × Machine). m.mail.next < x.1.mail.next)
-        (is_changed (Some n) (step.reacted reaction)) more)))
+        (is_changed (Some n) (step.reacted reaction) (reaction_fits reaction)) more)))
 
 -- an attempt of a core of the machine, which is put into its place
 module _ (m : Machine) (c : ℕ) (core : CoreState) (same : set m.cores c core ≡ m.cores) where
-  pub is_tried : (t : Tried) → after m (λ x. set m.cores c x) (λ x. m.banks) (λ x. m.drams) core same refl refl
+  pub is_tried : (t : Tried) → FitsTried t → after m (λ x. set m.cores c x) (λ x. m.banks) (λ x. m.drams) core same refl refl
       (applied_attempt c (length m.records) m.config.messages m.mail core t) ≡ tried m c core t
-  is_tried (step.Completes op received ts new) = refl
-  is_tried (step.Does s) =
-      is_changed m (λ x. set m.cores c x) (λ x. m.banks) (λ x. m.drams) core same refl refl None s
+  is_tried (step.Completes op received ts new) fits = refl
+  is_tried (step.Does s) fits =
+      is_changed m (λ x. set m.cores c x) (λ x. m.banks) (λ x. m.drams) core same refl refl None s fits
 
 -- what an option has that isn't empty
 pub had : {X : Type 0} (o : Option X) → IsSome o → (x : X) × (o ≡ Some x)

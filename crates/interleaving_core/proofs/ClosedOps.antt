@@ -1,12 +1,11 @@
 -- An attempt that completes closes the operation, and others leave it open.
 use Rattle.std.proofs.Common.{◌≡◌, ℕ, Bool, true, false, cond, option_map, Option, Some, None, refl, sym, ap, ◌∙◌}
 use Rattle.physiological_order.specs.declared.operation.Op.{Op}
-use Rattle.physiological_order.specs.declared.operation.Op.TheVariants.{Load, Store, Swap}
+use Rattle.physiological_order.specs.declared.operation.Op.TheVariants.{Load}
 use Rattle.private_cache.specs.declared.line_copy.LineCopy.{LineCopy}
 use Rattle.private_cache.specs.CopyTable.{copy_of, place_for}
 use Rattle.core_pts.specs.declared.attempt.Attempt.{Attempt}
-use Rattle.core_pts.specs.declared.attempt.Attempt.TheVariants.{Completed, NeedShared, NeedExclusive, NoRoom, Waiting}
-use Rattle.core_pts.specs.declared.attempt.Attempt.TheVariants.{Idle}
+use Rattle.core_pts.specs.declared.attempt.Attempt.TheVariants.{Completed, NoRoom, Waiting}
 use Rattle.core_pts.specs.OnCopy.{serves, time_of}
 use Rattle.network.specs.declared.message.Body.{Body}
 use Rattle.network.specs.Mail.{Mail}
@@ -19,17 +18,11 @@ use Rattle.interleaving_core.specs.PartChanges.{applied, applied_attempt}
 -- either no completion, or the operation is closed
 abbrev pub Closes : Option Attempt × CoreState → Type 0
 Closes (Some (Completed received ts), after) = after.open_op ≡ None
-Closes (Some (NeedShared pts version), after) = Unit {0}
-Closes (Some (NeedExclusive version), after) = Unit {0}
-Closes (Some NoRoom, after) = Unit {0}
-Closes (Some Waiting, after) = Unit {0}
-Closes (Some Idle, after) = Unit {0}
-Closes (None, after) = Unit {0}
+Closes _ = Unit {0}
 
 need_closes : (core : CoreState) (pts : ℕ) (op : Op) (version : Option ℕ) → Closes (Some (need pts op version), core)
 need_closes core pts (Load a) version = tt
-need_closes core pts (Store a v) version = tt
-need_closes core pts (Swap a v) version = tt
+need_closes core pts _ version = tt
 
 pub attempt_closes : (core : CoreState) → Closes (attempt core)
 attempt_closes core = by_open core.open_op

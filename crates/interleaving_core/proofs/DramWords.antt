@@ -6,7 +6,7 @@ use Rattle.std.specs.FinMap.{FinMap, empty}
 use Rattle.std.proofs.lemmas.Bool.{eq-eqb, ne_eqb, cond-true, cond-false}
 use Rattle.std.proofs.Math.Nat.{mod-lt}
 use Rattle.machine_table.specs.declared.config.Config.{Config}
-use Rattle.machine_table.specs.Opening.{with_word, dram_of, drams_from}
+use Rattle.machine_table.specs.Opening.{with_word, dram_of, row}
 use Rattle.interleaving_core.specs.OpeningWords.{word_set}
 
 abbrev Drams : Type 0
@@ -33,7 +33,7 @@ abbrev home : Config → ℕ × ℕ → ℕ
 home c word = (word.0 / c.line_words) % c.banks
 
 others : (c : Config) (word : ℕ × ℕ) (words : List (ℕ × ℕ)) (start n : ℕ) → home c word < start →
-    drams_from c words start n ≡ drams_from c (word ∷ words) start n
+    row (λ b. dram_of c b words) start n ≡ row (λ b. dram_of c b (word ∷ words)) start n
 others c word words start zero below = refl
 others c word words start (suc n) below =
     ap₂ (λ (x : FinMap nat_cmp (List ℕ)) (xs : Drams). x ∷ xs)
@@ -43,8 +43,8 @@ others c word words start (suc n) below =
 
 -- one more word
 one_more : (c : Config) (word : ℕ × ℕ) (words : List (ℕ × ℕ)) (start n k : ℕ) → k < n → home c word ≡ start + k →
-    set (drams_from c words start n) k (with_word (get_or (drams_from c words start n) k empty)
-    (word.0 / c.line_words) (word.0 % c.line_words) word.1) ≡ drams_from c (word ∷ words) start n
+    set (row (λ b. dram_of c b words) start n) k (with_word (get_or (row (λ b. dram_of c b words) start n) k empty)
+    (word.0 / c.line_words) (word.0 % c.line_words) word.1) ≡ row (λ b. dram_of c b (word ∷ words)) start n
 one_more c word words start zero k below is = absurd (omega arith)
 one_more c word words start (suc n) zero below is =
     ap₂ (λ (x : FinMap nat_cmp (List ℕ)) (xs : Drams). x ∷ xs)
@@ -56,12 +56,12 @@ one_more c word words start (suc n) (suc k) below is =
     (ne_eqb (home c word) start (λ e. absurd (omega arith)))))
     (one_more c word words (start + 1) n k (omega arith) (omega arith))
 
-none_yet : (c : Config) (start n : ℕ) → replicate n empty ≡ drams_from c [] start n
+none_yet : (c : Config) (start n : ℕ) → replicate n empty ≡ row (λ b. dram_of c b []) start n
 none_yet c start zero = refl
 none_yet c start (suc n) = ap (λ (xs : Drams). empty ∷ xs) (none_yet c (start + 1) n)
 
 pub filled_is : (c : Config) → 0 < c.banks → (words : List (ℕ × ℕ)) → filled c words (no_words c) ≡
-    drams_from c words 0 c.banks
+    row (λ b. dram_of c b words) 0 c.banks
 filled_is c some [] = none_yet c 0 c.banks
 filled_is c some (word ∷ words) =
     ap (word_set c word) (filled_is c some words)

@@ -2,6 +2,7 @@
 use Rattle.std.proofs.Common.{◌≡◌, ℕ, ◌+◌, ◌<◌, ◌≤◌, ◌%◌, ◌++◌, Bool, true, false, cond, List, [], ◌∷◌, length, get_or}
 use Rattle.std.proofs.Common.{Option, Some, None, Result, Ok, Err, OnErr, IsTrue, refl, sym, ap, ◌∙◌, subst, arith}
 use Rattle.std.specs.List.{slice_get, AllByRecursion as Each}
+use Rattle.std.specs.Option.{option_map, unwrap_or}
 use Rattle.std.specs.Ordering.{nat_cmp}
 use Rattle.std.specs.FinMap.{FinMap}
 use Rattle.std.proofs.lemmas.Bool.{eq-eqb, false≢true, lt-ltb}
@@ -13,7 +14,7 @@ use Rattle.network.specs.declared.message.Node.{Node}
 use Rattle.network.specs.declared.message.Node.TheVariants as node
 use Rattle.network.specs.declared.message.Body.TheVariants.{FlushRep}
 use Rattle.network.specs.declared.part.Reaction.{Reaction}
-use Rattle.network.specs.declared.part.Reaction.TheVariants.{Done, Dropped, Held, HeldAfter}
+use Rattle.network.specs.declared.part.Reaction.TheVariants.{Done, HeldAfter}
 use Rattle.network.specs.Flight.{Flight, SameNetwork}
 use Rattle.network.specs.NumberedMessages.{at_number}
 use Rattle.network.specs.Routes.{has_endpoints}
@@ -49,7 +50,7 @@ use Rattle.machine_table.specs.declared.event.Event.TheVariants.{Deliver}
 use Rattle.interleaving_core.specs.declared.core_masks.CoreMasks.{CoreMasks}
 use Rattle.interleaving_core.specs.CoreMasks.{AreMasks}
 use Rattle.interleaving_core.specs.Reservation.{IsFitted, owed}
-use Rattle.interleaving_core.specs.StepAnswers.{delivery_asks, is_first_store, is_first_store_at}
+use Rattle.interleaving_core.specs.StepAnswers.{asks_memory, is_first_store}
 use Rattle.interleaving_core.specs.Endpoints.{BackHasEndpoints, EvictedHasEndpoints, ReactionHasEndpoints}
 
 each_last : (P : Message → Type 0) (xs : List (ℕ × Message)) (x : ℕ × Message) → Each P (bag_of (xs ++ x ∷ [])) →
@@ -108,10 +109,6 @@ module _ {S : Type 0} (m : Machine) (n : ℕ) (put : S → Machine) (config : (x
       Invariant (changed m put (Some n) (reacted reaction)).1 → can_send m.config.messages m.mail
       (sent_by reaction) ≡ true →
       ReactionHasEndpoints m.config.cores m.config.banks reaction
-  reaction_endpoints None invariant can = tt
-  reaction_endpoints (Some (Held, x)) invariant can = tt
-  reaction_endpoints (Some (Dropped, x)) invariant can = tt
-  reaction_endpoints (Some (Done None, x)) invariant can = tt
   reaction_endpoints (Some (Done (Some reply), x)) invariant can =
       sent_endpoints x (taken m.mail n) reply
       (subst (λ b. Invariant (cond b (Delivered, record (put x) { mail = answered m.mail n reply })
@@ -120,6 +117,7 @@ module _ {S : Type 0} (m : Machine) (n : ℕ) (put : S → Machine) (config : (x
       sent_endpoints x m.mail started
       (subst (λ b. Invariant (cond b (Started, record (put x) { mail = sent m.mail started })
       (refused m NetworkFull)).1) can invariant)
+  reaction_endpoints _ invariant can = tt
 
 -- messages in flight in a machine, which is seen as a model
 module _ (m seen : Machine) (is_view : m ≡ seen) (holds : Invariant seen) (n : ℕ) (message : Message)
@@ -192,14 +190,14 @@ module _ (m seen : Machine) (is_view : m ≡ seen) (holds : Invariant seen) (n :
 
     -- a store of a line that the DRAM doesn't have yet asks for memory
     pub dram_asks : {X E : Type 0} (result : Result X E) → needs_memory lines message ≡ true →
-        OnErr result (IsTrue (delivery_asks seen (at_number n seen.mail.messages)))
+        OnErr result (IsTrue (asks_memory seen (Deliver n)))
     dram_asks (Ok x) takes = tt
     dram_asks (Err e) takes =
-        subst (λ o. delivery_asks seen o ≡ true)
+        subst (λ o. unwrap_or (option_map (λ x. is_first_store seen x x.to) o) false ≡ true)
         (there ∙ ap (λ (k : Machine). at_number n k.mail.messages) is_view)
-        (subst (λ k. is_first_store_at seen message k ≡ true) (sym to)
-        (subst (λ (k : Machine). is_first_store (slice_get k.drams b) message ≡ true) is_view
-        (subst (λ o. is_first_store o message ≡ true) (sym dram_here) takes)))
+        (subst (λ k. is_first_store seen message k ≡ true) (sym to)
+        (subst (λ (k : Machine). is_first_store k message (node.Dram b) ≡ true) is_view
+        (ap (λ o. unwrap_or (option_map (λ dram. needs_memory dram message) o) false) dram_here ∙ takes)))
 
 -- what a core sends back goes to a bank
 module _ (m : Machine) (s : Invariant m) (c : ℕ) (core : CoreState) (here : slice_get m.cores c ≡ Some core) where

@@ -4,12 +4,9 @@ use Rattle.physiological_order.specs.declared.operation.Record.{Record}
 use Rattle.physiological_order.specs.StaleHits.{RisesByNumber}
 use Rattle.machine_table.specs.declared.event.Event.{Event}
 use Rattle.machine_table.specs.declared.event.Answer.{Answer}
-use Rattle.machine_table.specs.declared.event.Answer.TheVariants.{Issued, Completed, Requested, Waiting, Idle}
-use Rattle.machine_table.specs.declared.event.Answer.TheVariants.{Delivered, Dropped, Held, Started, Evicted}
-use Rattle.machine_table.specs.declared.event.Answer.TheVariants.{Recalled, Advanced, Refused}
+use Rattle.machine_table.specs.declared.event.Answer.TheVariants.{Issued, Completed, Waiting, Idle, Held, Refused}
 use Rattle.machine_table.specs.declared.event.Refusal.{Refusal}
-use Rattle.machine_table.specs.declared.event.Refusal.TheVariants.{Busy, TooMany, NoSuch, NoRoom, Pinned, NetworkFull}
-use Rattle.machine_table.specs.declared.event.Refusal.TheVariants.{NoMemory, Exhausted, Stopped}
+use Rattle.machine_table.specs.declared.event.Refusal.TheVariants.{Busy, NoMemory, Exhausted}
 use Rattle.machine_table.specs.Machine.{Machine}
 use Rattle.machine_table.specs.Answered.{Answered, RefusedSo}
 use Rattle.machine_table.proofs.Lemmas.{every_answer}
@@ -31,14 +28,9 @@ module _ (m after : Machine) (all : AreNumbered 0 m.records) where
 
   refused : (why : Refusal) → RefusedSo m why after → AreNumbered 0 after.records
   refused Busy is = kept m is refl
-  refused TooMany is = kept m is refl
-  refused NoSuch is = kept m is refl
-  refused NoRoom is = kept m is refl
-  refused Pinned is = kept m is refl
-  refused NetworkFull is = kept m is refl
   refused NoMemory is = absurd is
   refused Exhausted is = kept _ is refl
-  refused Stopped is = kept m is refl
+  refused _ is = kept m is refl
 
   by_answer : (answer : Answer) → Answered m answer after → AreNumbered 0 after.records
   by_answer (Refused why) is = refused why is
@@ -48,13 +40,7 @@ module _ (m after : Machine) (all : AreNumbered 0 m.records) where
   by_answer Idle is = kept m is refl
   by_answer Held is = kept m is refl
   by_answer Issued is = same is.records
-  by_answer Requested is = same is.records
-  by_answer Delivered is = same is.records
-  by_answer Dropped is = same is.records
-  by_answer Started is = same is.records
-  by_answer Evicted is = same is.records
-  by_answer Recalled is = same is.records
-  by_answer Advanced is = same is.records
+  by_answer _ is = same is.records
 
 pub step_numbers : (m : Machine) (event : Event) (answer : Answer) (after : Machine) → AreNumbered 0 m.records →
     Stepped m event answer after → AreNumbered 0 after.records

@@ -22,16 +22,7 @@ same_answer : (records : List Record) (a : Answer) → answer_in (with_record re
 same_answer records answer.Issued = refl
 same_answer records (answer.Completed done) = ap completed_by (last_added records done)
 same_answer records answer.Requested = refl
-same_answer records answer.Waiting = refl
-same_answer records answer.Idle = refl
-same_answer records answer.Delivered = refl
-same_answer records answer.Dropped = refl
-same_answer records answer.Held = refl
-same_answer records answer.Started = refl
-same_answer records answer.Evicted = refl
-same_answer records answer.Recalled = refl
-same_answer records answer.Advanced = refl
-same_answer records (answer.Refused why) = refl
+same_answer records _ = refl
 
 -- so with the machine that has those records
 pub told_in : (m : Machine) (records : List Record) (a : Answer) (plain : Option PlainAnswer) (next : Answer × Machine) →

@@ -11,7 +11,8 @@ use Rattle.core_pts.specs.CoreTable.{CoreState}
 use Rattle.machine_table.specs.declared.config.Config.{Config}
 use Rattle.machine_table.specs.declared.event.Answer.{Answer}
 use Rattle.machine_table.specs.declared.event.Answer.TheVariants as answer
-use Rattle.machine_table.specs.Opening.{cores_from}
+use Rattle.machine_table.specs.Opening.{open_core, row}
+use Rattle.machine_table.proofs.Lemmas.{row_many}
 use Rattle.machine_theorem.proofs.Lemmas.{get-set_other, get-set_same}
 use Rattle.interleaving_core.specs.declared.core_masks.CoreMasks.{CoreMasks}
 use Rattle.interleaving_core.specs.CoreMasks.{AreMasks, IsMask, is_idle_of, is_trying_of}
@@ -87,37 +88,33 @@ stands_same _ old core not_done not_out stands = stands
 
 -- a machine opens with cores that have no operation
 module _ (config : Config) where
-  idle_below : (start n i : ℕ) → i < n → is_idle_of (slice_get (cores_from config start n) i) ≡ true
+  idle_below : (start n i : ℕ) → i < n → is_idle_of (slice_get (row (open_core config) start n) i) ≡ true
   idle_below start zero i below = absurd (omega (arith, below))
   idle_below start (suc n) zero below = refl
   idle_below start (suc n) (suc i) below = idle_below (start + 1) n i (omega (arith, below))
 
-  idle_past : (start n i : ℕ) → n ≤ i → is_idle_of (slice_get (cores_from config start n) i) ≡ false
+  idle_past : (start n i : ℕ) → n ≤ i → is_idle_of (slice_get (row (open_core config) start n) i) ≡ false
   idle_past start zero i past = refl
   idle_past start (suc n) zero past = absurd (omega (arith, past))
   idle_past start (suc n) (suc i) past = idle_past (start + 1) n i (omega (arith, past))
 
-  none_trying : (start n i : ℕ) → is_trying_of (slice_get (cores_from config start n) i) ≡ false
+  none_trying : (start n i : ℕ) → is_trying_of (slice_get (row (open_core config) start n) i) ≡ false
   none_trying start zero i = refl
   none_trying start (suc n) zero = refl
   none_trying start (suc n) (suc i) = none_trying (start + 1) n i
 
-  length_from : (start n : ℕ) → length (cores_from config start n) ≡ n
-  length_from start zero = refl
-  length_from start (suc n) = ap suc (length_from (start + 1) n)
-
   pub first_masks : (n idle : ℕ) → n ≤ 64 → idle ≡ (2 ^ 64 - 1) / 2 ^ (64 - n) →
-      AreMasks (record { idle = idle; trying = 0 }) (cores_from config 0 n)
+      AreMasks (record { idle = idle; trying = 0 }) (row (open_core config) 0 n)
   first_masks n idle few is =
       let ones : idle ≡ 2 ^ n - 1 =
       is ∙ ones_shr 64 (64 - n) (omega arith) ∙ (let back : 64 - (64 - n) ≡ n = omega (arith, few) in ap (λ k. 2 ^ k - 1) back) in
       record {
-        few = let long = length_from 0 n in omega (arith, long, few);
+        few = let long = row_many (open_core config) 0 n in omega (arith, long, few);
         idle = λ i. ap (λ k. bit_at k i) ones ∙ by_side i;
         trying = λ i. bit_at-zero i ∙ ap (λ b. cond b 1 0) (sym (none_trying 0 n i));
       }
     where
-      by_side : (i : ℕ) → bit_at (2 ^ n - 1) i ≡ cond (is_idle_of (slice_get (cores_from config 0 n) i)) 1 0
+      by_side : (i : ℕ) → bit_at (2 ^ n - 1) i ≡ cond (is_idle_of (slice_get (row (open_core config) 0 n) i)) 1 0
       by_side i = elim (cases_lt i n) [
         | inl below ↦ bit_at_ones n i below ∙ ap (λ b. cond b 1 0) (sym (idle_below 0 n i below))
         | inr past ↦ bit_at_ones_above n i past ∙ ap (λ b. cond b 1 0) (sym (idle_past 0 n i past))

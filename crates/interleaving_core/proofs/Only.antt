@@ -14,8 +14,7 @@ use Rattle.core_pts.specs.declared.attempt.Attempt.{Attempt}
 use Rattle.core_pts.specs.declared.attempt.Attempt.TheVariants as attempted
 use Rattle.core_pts.specs.OnCopy.{at_core}
 use Rattle.core_pts.specs.declared.decision.CoreReaction.{CoreReaction}
-use Rattle.core_pts.specs.declared.decision.CoreReaction.TheVariants.{Arrives, Grants, Returns, Drops as DropsThere}
-use Rattle.core_pts.specs.declared.decision.CoreReaction.TheVariants.{Holds, TooLate, NoCase}
+use Rattle.core_pts.specs.declared.decision.CoreReaction.TheVariants.{Arrives, Grants, Returns}
 use Rattle.core_pts.specs.CoreTable as core_table
 use Rattle.core_pts.specs.CoreTable.{CoreState, core_table, pinned_line, sent_back}
 use Rattle.machine_table.specs.declared.event.Answer.{Answer}
@@ -23,7 +22,8 @@ use Rattle.machine_table.specs.declared.event.Answer.TheVariants as answer
 use Rattle.machine_table.specs.declared.event.Refusal.TheVariants as refusal
 use Rattle.machine_table.specs.Posted.{can_post, posted}
 use Rattle.machine_table.specs.Step as step
-use Rattle.machine_table.specs.Step.{Did, Kept, Step, Tried, did_answer, kept_answer, record_of}
+use Rattle.machine_table.specs.Step.{Step, Tried, record_of}
+use Rattle.machine_table.proofs.Lemmas.{FitsTried, Keeping, Making, waits, requests}
 use Rattle.interleaving_core.specs.PartChanges.{StandsAfter, applied, applied_attempt, stops, with_record}
 use Rattle.interleaving_core.specs.Reservation.{owed_for}
 use Rattle.interleaving_core.proofs.ClosedOps.{Closes, attempt_closes}
@@ -33,29 +33,18 @@ abbrev pub IsPlain : Answer → Type 0
 IsPlain why = ((records : List Record) → with_record records why ≡ records) × (stops why ≡ false)
 
 -- what parts answer is so
-pub kept_plain : (kept : Kept) → IsPlain (kept_answer kept)
-kept_plain step.Waits = ((λ records. refl), refl)
-kept_plain step.Idles = ((λ records. refl), refl)
-kept_plain step.Holds = ((λ records. refl), refl)
-kept_plain step.HasNone = ((λ records. refl), refl)
-kept_plain step.IsBusy = ((λ records. refl), refl)
-kept_plain step.IsPinned = ((λ records. refl), refl)
-kept_plain step.LacksRoom = ((λ records. refl), refl)
+pub kept_plain : (why : Answer) → Keeping why → IsPlain why
+kept_plain why waits = ((λ records. refl), refl)
+kept_plain why _ = ((λ records. refl), refl)
 
-pub did_plain : (did : Did) → IsPlain (did_answer did)
-did_plain step.Requests = ((λ records. refl), refl)
-did_plain step.Delivers = ((λ records. refl), refl)
-did_plain step.Starts = ((λ records. refl), refl)
-did_plain step.Evicts = ((λ records. refl), refl)
-did_plain step.Recalls = ((λ records. refl), refl)
-did_plain step.Advances = ((λ records. refl), refl)
+pub made_plain : (why : Answer) → Making why → IsPlain why
+made_plain why requests = ((λ records. refl), refl)
+made_plain why _ = ((λ records. refl), refl)
 
 -- a step that makes only parts of which this holds
 abbrev pub Only : {S : Type 0} → (S → Type 0) → Step S → Type 0
-Only made step.Exhausts = Unit {0}
-Only made (step.Keeps kept) = Unit {0}
-Only made step.Drops = Unit {0}
-Only made (step.Makes did consumes sends part) = made part
+Only made (step.Makes why consumes sends part) = made part
+Only made _ = Unit {0}
 
 module _ (core : CoreState) where
   -- the core's open operation is unchanged, and with it whether its request is out; or it is completed
@@ -74,22 +63,22 @@ module _ (core : CoreState) where
   OnlyTried (step.Does s) = Only SameOpen s
 
   -- records and open operations, together, count the same before and after
-  pub balanced : (c number capacity : ℕ) (mail : Mail) (records : List Record) (t : Tried) → OnlyTried t →
+  pub balanced : (c number capacity : ℕ) (mail : Mail) (records : List Record) (t : Tried) → FitsTried t → OnlyTried t →
       length (with_record records (applied_attempt c number capacity mail core t).0)
       + owed_for (applied_attempt c number capacity mail core t).1.open_op ≡ length records + owed_for core.open_op
-  balanced c number capacity mail records (step.Completes op received ts after) only =
+  balanced c number capacity mail records (step.Completes op received ts after) fits only =
       let more = length-append records (record_of c number core op received ts ∷ []) in omega (arith, more, only)
-  balanced c number capacity mail records (step.Does step.Exhausts) only = refl
-  balanced c number capacity mail records (step.Does (step.Keeps why)) only =
-      ap (λ (rs : List Record). length rs + owed_for core.open_op) ((kept_plain why).0 records)
-  balanced c number capacity mail records (step.Does step.Drops) only = refl
-  balanced c number capacity mail records (step.Does (step.Makes did consumes sends after)) only =
+  balanced c number capacity mail records (step.Does step.Exhausts) fits only = refl
+  balanced c number capacity mail records (step.Does (step.Keeps why)) fits only =
+      ap (λ (rs : List Record). length rs + owed_for core.open_op) ((kept_plain why fits).0 records)
+  balanced c number capacity mail records (step.Does step.Drops) fits only = refl
+  balanced c number capacity mail records (step.Does (step.Makes why consumes sends after)) fits only =
       by_test (can_post capacity mail consumes sends)
     where
       by_test : (b : Bool) → let x : Answer × CoreState × Mail = cond b
-          (did_answer did, after, posted mail None consumes sends) (answer.Refused refusal.NetworkFull, core, mail) in
+          (why, after, posted mail None consumes sends) (answer.Refused refusal.NetworkFull, core, mail) in
           length (with_record records x.0) + owed_for x.1.open_op ≡ length records + owed_for core.open_op
-      by_test true = ap (λ (rs : List Record). length rs + owed_for after.open_op) ((did_plain did).0 records)
+      by_test true = ap (λ (rs : List Record). length rs + owed_for after.open_op) ((made_plain why fits).0 records)
           ∙ ap (λ (o : Option Op). length records + owed_for o) only
       by_test false = refl
 
@@ -100,9 +89,7 @@ module _ (core : CoreState) where
       ap owed_for closes in let one = ap owed_for opens in omega (arith, none, one)
   attempted_only op opens (Some (attempted.NeedShared pts version), after) closes = refl
   attempted_only op opens (Some (attempted.NeedExclusive version), after) closes = refl
-  attempted_only op opens (Some attempted.NoRoom, after) closes = tt
-  attempted_only op opens (Some attempted.Waiting, after) closes = tt
-  attempted_only op opens (Some attempted.Idle, after) closes = tt
+  attempted_only op opens (Some _, after) closes = tt
 
   pub attempt_only : OnlyTried (step.attempt_open core core.open_op)
   attempt_only = by_open core.open_op refl
@@ -130,9 +117,7 @@ module _ (core : CoreState) where
         asked_stands (has_capacity capacity mail) _
     attempted_stands op (Some (attempted.NeedExclusive version), after) closes =
         asked_stands (has_capacity capacity mail) _
-    attempted_stands op (Some attempted.NoRoom, after) closes = refl
-    attempted_stands op (Some attempted.Waiting, after) closes = refl
-    attempted_stands op (Some attempted.Idle, after) closes = refl
+    attempted_stands op (Some _, after) closes = refl
 
     pub attempt_stands : Stands (applied_attempt c number capacity mail core (step.attempt_open core core.open_op))
     attempt_stands = by_open core.open_op
@@ -144,13 +129,12 @@ module _ (core : CoreState) where
   -- what holds of the core and of each core that a step makes
   pub kept : (made : CoreState → Type 0) → made core → (capacity : ℕ) (mail : Mail) (n : Option ℕ)
       (s : Step CoreState) → Only made s → made (applied capacity core mail n s).1
-  kept made same capacity mail n step.Exhausts only = same
-  kept made same capacity mail n (step.Keeps why) only = same
-  kept made same capacity mail n step.Drops only = same
-  kept made same capacity mail n (step.Makes did consumes sends after) only =
+  kept made same capacity mail n (step.Makes why consumes sends after) only =
       cond_both {A = Answer × CoreState × Mail} (can_post capacity mail consumes sends)
-      (did_answer did, after, posted mail n consumes sends) (answer.Refused refusal.NetworkFull, core, mail)
+      (why, after, posted mail n consumes sends) (answer.Refused refusal.NetworkFull, core, mail)
       (λ x. made x.1) (λ t. only) (λ t. same)
+  kept made same capacity mail n step.Exhausts only = same
+  kept made same capacity mail n _ only = same
 
   -- the core's time goes on
   pub advance_only : Only SameStatus (step.advanced (core_table.advance core))
@@ -180,7 +164,4 @@ module _ (core : CoreState) where
       by_reaction (Arrives copy) = refl
       by_reaction (Grants copy) = refl
       by_reaction (Returns copy back) = refl
-      by_reaction DropsThere = tt
-      by_reaction Holds = tt
-      by_reaction TooLate = tt
-      by_reaction NoCase = tt
+      by_reaction _ = tt

@@ -5,7 +5,7 @@ use Rattle.std.specs.List.{slice_get}
 use Rattle.physiological_order.specs.declared.operation.Op.{Op}
 use Rattle.core_pts.specs.CoreTable.{CoreState}
 use Rattle.machine_table.specs.declared.config.Config.{Config}
-use Rattle.machine_table.specs.Opening.{cores_from}
+use Rattle.machine_table.specs.Opening.{open_core, row}
 use Rattle.interleaving_core.specs.Reservation.{owed_for, owed}
 
 -- where a core changes, its open operation counts anew
@@ -41,6 +41,6 @@ no_open None out none = refl
 no_open (Some op) out none = absurd (let z : true ≡ false = none in cc)
 
 -- a machine opens without operations
-pub none_at_first : (c : Config) (start n : ℕ) → owed (cores_from c start n) ≡ 0
+pub none_at_first : (c : Config) (start n : ℕ) → owed (row (open_core c) start n) ≡ 0
 none_at_first c start zero = refl
 none_at_first c start (suc n) = let rest = none_at_first c (start + 1) n in omega arith

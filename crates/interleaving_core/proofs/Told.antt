@@ -19,10 +19,10 @@ use Rattle.machine_table.specs.declared.event.Refusal.TheVariants as refusal
 use Rattle.machine_table.specs.Machine.{Machine, with_core, with_bank, with_dram}
 use Rattle.machine_table.specs.Posted.{can_post, left, posted}
 use Rattle.machine_table.specs.Step as step
-use Rattle.machine_table.specs.Step.{Did, Kept, Step, did_answer, kept_answer}
+use Rattle.machine_table.specs.Step.{Step}
 use Rattle.machine_table.specs.Transition.{refused, changed, transition}
 use Rattle.machine_table.proofs.Lemmas.{Outcome, refuses, issues, completes, core_steps, bank_steps, dram_steps}
-use Rattle.machine_table.proofs.Lemmas.{transition_outcome}
+use Rattle.machine_table.proofs.Lemmas.{transition_outcome, Fits, Keeping, Making, waits, requests}
 use Rattle.interleaving_core.specs.IssuedOps.{issued_at_event}
 use Rattle.interleaving_core.specs.StepAnswers.{Stepped}
 
@@ -52,11 +52,11 @@ module _ (m : Machine) where
   steps : {S : Type 0} (put : S → Machine) → ((part : S) → (put part).issued ≡ m.issued) → (n : Option ℕ)
       (s : Step S) → Stays m (changed m put n s).1
   steps put keeps n step.Exhausts = same
-  steps put keeps n (step.Keeps kept) = same
+  steps put keeps n (step.Keeps why) = same
   steps put keeps n step.Drops = (refl, inl (refl, refl))
-  steps put keeps n (step.Makes did consumes sends part) =
+  steps put keeps n (step.Makes why consumes sends part) =
       cond_both (can_post m.config.messages m.mail consumes sends)
-      (did_answer did, record (put part) { mail = posted m.mail n consumes sends }) (refused m refusal.NetworkFull)
+      (why, record (put part) { mail = posted m.mail n consumes sends }) (refused m refusal.NetworkFull)
       (λ x. Stays m x.1) (λ t. (keeps part, posted_one m.mail n consumes sends)) (λ t. same)
 
   -- what an event issues and sends
@@ -95,26 +95,26 @@ module _ (m : Machine) where
   refused_issues _ why core = refl
 
   -- nor does a step of a part
-  kept_issues : (event : Event) (kept : Kept) (core : ℕ) → issued_at_event core event (kept_answer kept) ≡ []
-  kept_issues (Issue c op) step.Waits core = refl
-  kept_issues (Issue c op) _ core = refl
-  kept_issues _ kept core = refl
+  kept_issues : (event : Event) (why : Answer) → Keeping why → (core : ℕ) → issued_at_event core event why ≡ []
+  kept_issues (Issue c op) why waits core = refl
+  kept_issues (Issue c op) why _ core = refl
+  kept_issues _ why keeping core = refl
 
-  did_issues : (event : Event) (did : Did) (core : ℕ) → issued_at_event core event (did_answer did) ≡ []
-  did_issues (Issue c op) step.Requests core = refl
-  did_issues (Issue c op) _ core = refl
-  did_issues _ did core = refl
+  made_issues : (event : Event) (why : Answer) → Making why → (core : ℕ) → issued_at_event core event why ≡ []
+  made_issues (Issue c op) why requests core = refl
+  made_issues (Issue c op) why _ core = refl
+  made_issues _ why making core = refl
 
-  step_issues : {S : Type 0} (event : Event) (put : S → Machine) (n : Option ℕ) (s : Step S) (core : ℕ) →
+  step_issues : {S : Type 0} (event : Event) (put : S → Machine) (n : Option ℕ) (s : Step S) → Fits s → (core : ℕ) →
       issued_at_event core event (changed m put n s).0 ≡ []
-  step_issues event put n step.Exhausts core = refused_issues event refusal.Exhausted core
-  step_issues event put n (step.Keeps kept) core = kept_issues event kept core
-  step_issues (Issue c op) put n step.Drops core = refl
-  step_issues _ put n step.Drops core = refl
-  step_issues event put n (step.Makes did consumes sends part) core =
+  step_issues event put n step.Exhausts fits core = refused_issues event refusal.Exhausted core
+  step_issues event put n (step.Keeps why) fits core = kept_issues event why fits core
+  step_issues (Issue c op) put n step.Drops fits core = refl
+  step_issues _ put n step.Drops fits core = refl
+  step_issues event put n (step.Makes why consumes sends part) fits core =
       cond_both (can_post m.config.messages m.mail consumes sends)
-      (did_answer did, record (put part) { mail = posted m.mail n consumes sends }) (refused m refusal.NetworkFull)
-      (λ x. issued_at_event core event x.0 ≡ []) (λ t. did_issues event did core)
+      (why, record (put part) { mail = posted m.mail n consumes sends }) (refused m refusal.NetworkFull)
+      (λ x. issued_at_event core event x.0 ≡ []) (λ t. made_issues event why fits core)
       (λ t. refused_issues event refusal.NetworkFull core)
 
   outcome_told : (event : Event) (o : Answer × Machine) → Outcome m event o → Told event o
@@ -123,12 +123,12 @@ module _ (m : Machine) where
       record { issues = λ long k. added c op core at k long; sends = inl (refl, refl) }
   outcome_told event o (completes c op received ts core after at is) =
       stayed event _ (λ k. refl) (refl, inl (refl, refl))
-  outcome_told event o (core_steps c core act n s at given is) =
-      stayed event _ (step_issues event (with_core m c) n s) (steps (with_core m c) (λ part. refl) n s)
-  outcome_told event o (bank_steps b bank act n s at given is) =
-      stayed event _ (step_issues event (with_bank m b) n s) (steps (with_bank m b) (λ part. refl) n s)
-  outcome_told event o (dram_steps b lines act n s at given is) =
-      stayed event _ (step_issues event (with_dram m b) n s) (steps (with_dram m b) (λ part. refl) n s)
+  outcome_told event o (core_steps c core act n s at given is fits) =
+      stayed event _ (step_issues event (with_core m c) n s fits) (steps (with_core m c) (λ part. refl) n s)
+  outcome_told event o (bank_steps b bank act n s at given is fits) =
+      stayed event _ (step_issues event (with_bank m b) n s fits) (steps (with_bank m b) (λ part. refl) n s)
+  outcome_told event o (dram_steps b lines act n s at given is fits) =
+      stayed event _ (step_issues event (with_dram m b) n s fits) (steps (with_dram m b) (λ part. refl) n s)
 
   transition_told : (event : Event) → Told event (transition m event)
   transition_told event = outcome_told event _ (transition_outcome m event)

@@ -2,7 +2,6 @@
 use Rattle.std.specs.Prelude.{ℕ, Bool, true, false, IsTrue, Option, Some, None, Result, Ok, Err}
 use Rattle.network.specs.declared.message.Message.{Message}
 use Rattle.network.specs.declared.part.Reaction.{Reaction}
-use Rattle.network.specs.declared.part.Reaction.TheVariants.{Done, HeldAfter}
 use Rattle.network.specs.Flight.{Flight}
 use Rattle.network.specs.Routes.{has_endpoints}
 use Rattle.network.specs.Sends.{sent_in}
@@ -12,12 +11,16 @@ use Rattle.llc_bank.specs.declared.entry.Evict.TheVariants as evict
 use Rattle.llc_bank.specs.declared.entry.EvictError.{EvictError}
 use Rattle.machine_table.specs.declared.event.Refusal.{Refusal}
 use Rattle.machine_table.specs.Posted.{can_send}
+use Rattle.machine_table.specs.Step.{Step, Makes, reacted}
+
+-- by a step of a part
+abbrev pub StepHasEndpoints : {S : Type 0} → ℕ → ℕ → Step S → Type 0
+StepHasEndpoints cores banks (Makes why consumes (Some message) part) = IsTrue (has_endpoints cores banks message)
+StepHasEndpoints cores banks _ = Unit {0}
 
 -- by a reaction to a delivered message
 abbrev pub SendsWithEndpoints : ℕ → ℕ → Reaction → Type 0
-SendsWithEndpoints cores banks (Done (Some answer)) = IsTrue (has_endpoints cores banks answer)
-SendsWithEndpoints cores banks (HeldAfter started) = IsTrue (has_endpoints cores banks started)
-SendsWithEndpoints cores banks _ = Unit {0}
+SendsWithEndpoints cores banks reaction = StepHasEndpoints cores banks (reacted (Some (reaction, tt {0})))
 
 abbrev pub ReactionHasEndpoints : {S : Type 0} → ℕ → ℕ → Option (Reaction × S) → Type 0
 ReactionHasEndpoints cores banks None = Unit {0}

@@ -3,8 +3,7 @@ use Rattle.std.specs.Prelude.{◌≡◌, ℕ, Bool, true, false, List, [], ◌�
 use Rattle.std.specs.Prelude.{◌-◌, Result, Ok, Err, if◌then◌else◌, length, slice_get}
 use Rattle.physiological_order.specs.declared.operation.Record.{Record}
 use Rattle.network.specs.declared.part.Reaction.{Reaction}
-use Rattle.network.specs.declared.part.Reaction.TheVariants.{Done, Dropped, Held, HeldAfter}
-use Rattle.network.specs.Mail.{Mail, answered, sent, taken}
+use Rattle.network.specs.Mail.{Mail}
 use Rattle.machine_table.specs.declared.event.Answer.{Answer}
 use Rattle.machine_table.specs.declared.event.Answer.TheVariants as answer
 use Rattle.machine_table.specs.declared.event.Refusal.{Refusal}
@@ -13,17 +12,16 @@ use Rattle.core_pts.specs.CoreTable.{CoreState}
 use Rattle.interleaving_core.specs.declared.plain_answer.PlainAnswer.{PlainAnswer}
 use Rattle.interleaving_core.specs.declared.plain_answer.PlainAnswer.TheVariants as plain
 use Rattle.machine_table.specs.Posted.{can_post, left, posted}
-use Rattle.machine_table.specs.Step.{Step, Exhausts, Keeps, Drops, Makes, Tried, Completes, Does, did_answer}
-use Rattle.machine_table.specs.Step.{kept_answer, record_of}
+use Rattle.machine_table.specs.Step.{Step, Exhausts, Keeps, Drops, Makes, Tried, Completes, Does, reacted, record_of}
 
 -- the answer, and the part and the messages in flight afterwards, where the message of this number, if any, is
 -- delivered
 abbrev pub applied : {S : Type 0} → ℕ → S → Mail → Option ℕ → Step S → Answer × S × Mail
 applied capacity part mail n Exhausts = (answer.Refused Exhausted, part, mail)
-applied capacity part mail n (Keeps kept) = (kept_answer kept, part, mail)
+applied capacity part mail n (Keeps why) = (why, part, mail)
 applied capacity part mail n Drops = (answer.Dropped, part, left mail n)
-applied capacity part mail n (Makes did consumes sends after) =
-    if can_post capacity mail consumes sends then (did_answer did, after, posted mail n consumes sends)
+applied capacity part mail n (Makes why consumes sends after) =
+    if can_post capacity mail consumes sends then (why, after, posted mail n consumes sends)
     else (answer.Refused NetworkFull, part, mail)
 
 -- so of an attempt of the core of a number, where the next record gets this number
@@ -94,14 +92,17 @@ abbrev pub request_answer : Bool → Answer
 request_answer true = answer.Requested
 request_answer false = answer.Refused NetworkFull
 
--- the answer to the delivery of a message, by the part's reaction, and the messages in flight afterwards: the same at
--- every part
+-- the answer to the delivery of a message, by the part's step, and the messages in flight afterwards, where what the
+-- step sends can be sent
+abbrev pub settled : {S : Type 0} → Mail → ℕ → Step S → Answer × Mail
+settled mail n Exhausts = (answer.Refused Exhausted, mail)
+settled mail n (Keeps why) = (why, mail)
+settled mail n Drops = (answer.Dropped, left mail (Some n))
+settled mail n (Makes why consumes sends after) = (why, posted mail (Some n) consumes sends)
+
+-- so by the part's reaction: the same at every part
 abbrev pub settled_answer : Mail → ℕ → Reaction → Answer × Mail
-settled_answer mail n Held = (answer.Held, mail)
-settled_answer mail n Dropped = (answer.Dropped, taken mail n)
-settled_answer mail n (Done None) = (answer.Delivered, taken mail n)
-settled_answer mail n (Done (Some reply)) = (answer.Delivered, answered mail n reply)
-settled_answer mail n (HeldAfter started) = (answer.Started, sent mail started)
+settled_answer mail n reaction = settled mail n (reacted (Some (reaction, tt {0})))
 
 -- the answer to the delivery of a message, by the part's response, and the messages in flight afterwards
 abbrev pub concluded : Mail → ℕ → Result Reaction Refusal → Answer × Mail
@@ -111,11 +112,3 @@ concluded mail n (Err why) = (answer.Refused why, mail)
 -- so with the part
 abbrev pub responded : {S : Type 0} → Mail → ℕ → Result Reaction Refusal → S → Answer × S × Mail
 responded mail n response part = let x = concluded mail n response in (x.0, part, x.1)
-
--- a message that is held or dropped leaves the part unchanged
-abbrev pub IsQuiet : {S : Type 0} → S → Option (Reaction × S) → Type 0
-IsQuiet part None = Unit {0}
-IsQuiet part (Some (Held, after)) = after ≡ part
-IsQuiet part (Some (Dropped, after)) = after ≡ part
-IsQuiet part (Some (Done reply, after)) = Unit {0}
-IsQuiet part (Some (HeldAfter started, after)) = Unit {0}

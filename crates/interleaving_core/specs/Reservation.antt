@@ -2,10 +2,9 @@
 use Rattle.std.specs.Prelude.{◌≡◌, ℕ, ◌+◌, ◌≤◌, Bool, true, false, List, [], ◌∷◌, length, Option, Some, None}
 use Rattle.physiological_order.specs.declared.operation.Record.{Record}
 use Rattle.physiological_order.specs.declared.operation.Op.{Op}
-use Rattle.core_pts.specs.declared.attempt.Attempt.{Attempt}
-use Rattle.core_pts.specs.declared.attempt.Attempt.TheVariants.{Completed}
-use Rattle.core_pts.specs.CoreTable.{CoreState, attempt}
+use Rattle.core_pts.specs.CoreTable.{CoreState}
 use Rattle.machine_table.specs.declared.config.Config.{Config}
+use Rattle.machine_table.specs.Step.{Tried, Completes, attempt_open}
 use Rattle.network.specs.Flight.{Flight}
 use Rattle.interleaving_core.specs.declared.core_masks.CoreMasks.{CoreMasks}
 use Rattle.interleaving_core.specs.CoreMasks.{AreMasks}
@@ -31,9 +30,9 @@ pub record IsFitted (config : Config) (flight : Flight) (cores : List CoreState)
   pub masked : AreMasks masks cores
 
 -- whether an attempt completes the core's open operation
-abbrev pub is_completion : Option Attempt → Bool
-is_completion (Some (Completed received ts)) = true
+abbrev pub is_completion : Tried → Bool
+is_completion (Completes op received ts after) = true
 is_completion _ = false
 
 abbrev pub completes : CoreState → Bool
-completes core = is_completion (attempt core).0
+completes core = is_completion (attempt_open core core.open_op)

@@ -1,7 +1,7 @@
 -- How a machine in memory follows the table: each event is answered as the table says, or, if it allocates and the
 -- allocation fails, it is refused and leaves the machine as it was.
 use Rattle.std.specs.Prelude.{◌≡◌, ◌⊎◌, ◌<◌, ℕ, Bool, true, false, List, [], ◌∷◌, IsTrue, Option, Some, None}
-use Rattle.std.specs.Prelude.{slice_get}
+use Rattle.std.specs.Prelude.{slice_get, option_map, unwrap_or}
 use Rattle.std.specs.FinMap.{FinMap}
 use Rattle.std.specs.Ordering.{nat_cmp}
 use Rattle.network.specs.declared.message.Message.{Message}
@@ -21,24 +21,15 @@ use Rattle.machine_table.specs.Transition.{transition}
 abbrev pub TakesMemory : Machine → Answer × Machine → Type 0
 TakesMemory m next = (next.0 ≡ Issued) ⊎ (m.mail.next < next.1.mail.next)
 
--- a message is the first store of its line in a DRAM
-abbrev pub is_first_store : Option (FinMap nat_cmp (List ℕ)) → Message → Bool
-is_first_store None message = false
-is_first_store (Some dram) message = needs_memory dram message
-
--- so it is in the DRAM that it goes to
-abbrev pub is_first_store_at : Machine → Message → Node → Bool
-is_first_store_at m message (Dram bank) = is_first_store (slice_get m.drams bank) message
-is_first_store_at m message _ = false
-
-abbrev pub delivery_asks : Machine → Option Message → Bool
-delivery_asks m None = false
-delivery_asks m (Some message) = is_first_store_at m message message.to
+-- a message is the first store of its line in the DRAM that it goes to
+abbrev pub is_first_store : Machine → Message → Node → Bool
+is_first_store m x (Dram bank) = unwrap_or (option_map (λ dram. needs_memory dram x) (slice_get m.drams bank)) false
+is_first_store m x _ = false
 
 -- which events ask for memory: an issue, and the delivery of the first store of a line to its DRAM
 abbrev pub asks_memory : Machine → Event → Bool
 asks_memory m (Issue core op) = true
-asks_memory m (Deliver number) = delivery_asks m (at_number number m.mail.messages)
+asks_memory m (Deliver n) = unwrap_or (option_map (λ x. is_first_store m x x.to) (at_number n m.mail.messages)) false
 asks_memory m _ = false
 
 -- one event; it is refused memory only if it asks for some and the table's answer takes some

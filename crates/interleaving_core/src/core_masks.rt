@@ -3,7 +3,7 @@ ghost use Rattle.std.specs.Prelude.{◌≡◌, ◌≢◌, ◌<◌, ◌≤◌, �
 ghost use Rattle.std.specs.Int.{bit_at};
 ghost use Rattle.core_pts.specs.CoreTable.{CoreState};
 ghost use Rattle.machine_table.specs.declared.config.Config.{Config};
-ghost use Rattle.machine_table.specs.Opening.{cores_from};
+ghost use Rattle.machine_table.specs.Opening.{open_core, row};
 ghost use Rattle.interleaving_core.specs.CoreMasks.{AreMasks};
 ghost use Rattle.interleaving_core.specs.PartChanges.{StandsAfter};
 
@@ -21,7 +21,7 @@ pub(crate) struct CoreMasks {
 pub(crate) fn all_idle(cores: u32) -> CoreMasks
     requires some { 1 ≤ cores }
     requires most { cores ≤ 64 }
-    ensures { (config : Config) → AreMasks result (cores_from config 0 cores) }
+    ensures { (config : Config) → AreMasks result (row (open_core config) 0 cores) }
 {
     CoreMasks {
         idle: u64::MAX >> (64 - cores),

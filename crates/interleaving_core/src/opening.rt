@@ -2,7 +2,7 @@
 ghost use Rattle.std.specs.Prelude.{◌≡◌, ◌⊎◌, ◌<◌, ◌≤◌, [], IfOk, OnErr, OnOk, length, replicate, true};
 ghost use Rattle.std.specs.FinMap.{empty, entries};
 ghost use Rattle.machine_table.specs.SetUp.{is_good};
-ghost use Rattle.machine_table.specs.Opening.{at_start, bank_config, banks_from, core_config, cores_from, drams_from};
+ghost use Rattle.machine_table.specs.Opening.{at_start, bank_config, core_config, dram_of, open_bank, open_core, row};
 ghost use Rattle.machine_table.specs.Opening.{geometry};
 ghost use Rattle.interleaving_core.specs.OpeningWords.{word_set};
 
@@ -52,7 +52,7 @@ impl MachineState {
 // The cores as they open.
 fn open_cores(alloc: Global, config: Config) -> Result<Vec<Core>, AllocError>
     requires { is_good config ≡ true }
-    ensures { IfOk result (λ cores. cores.items ≡ cores_from config 0 config.cores) }
+    ensures { IfOk result (λ cores. cores.items ≡ row (open_core config) 0 config.cores) }
 {
     let mut cores = Vec::new(alloc);
     for number in 0..config.cores {
@@ -89,7 +89,7 @@ pub(crate) fn geometry(config: Config) -> Geometry
 // The banks as they open.
 fn open_banks(alloc: Global, config: Config) -> Result<Vec<Bank>, AllocError>
     requires { is_good config ≡ true }
-    ensures { IfOk result (λ banks. banks.items ≡ banks_from config 0 config.banks) }
+    ensures { IfOk result (λ banks. banks.items ≡ row (open_bank config) 0 config.banks) }
 {
     let mut banks = Vec::new(alloc);
     for number in 0..config.banks {
@@ -115,8 +115,8 @@ pub(crate) fn bank_config(config: Config, number: u32) -> BankConfig
 // The DRAM of each bank, with the words of the opening memory.
 fn open_drams(alloc: Global, config: Config, memory: &Memory) -> Result<Vec<Dram>, AllocError>
     requires { is_good config ≡ true }
-    ensures { IfOk result (λ drams. drams.items ≡ drams_from config
-        (entries memory.now) 0 config.banks) }
+    ensures { IfOk result (λ drams. drams.items ≡ row (λ b. dram_of config b (entries memory.now))
+        0 config.banks) }
 {
     let mut drams = empty_drams(alloc, config.banks)?;
     fill_drams(&mut drams, config, memory)?;
@@ -131,8 +131,8 @@ pub(crate) fn fill_drams(
 ) -> Result<(), AllocError>
     requires good { is_good config ≡ true }
     requires zeros { drams.old.items ≡ replicate config.banks empty }
-    ensures { OnOk result (drams.new.items ≡ drams_from config
-        (entries memory.now) 0 config.banks) }
+    ensures { OnOk result (drams.new.items ≡ row (λ b. dram_of config b (entries memory.now))
+        0 config.banks) }
 {
     let mut words = memory.words()?;
     while let Some(word) = words.pop() {

@@ -6,8 +6,8 @@ ghost use Rattle.network.specs.NumberedMessages.{at_number};
 ghost use Rattle.network.specs.Routes.{has_endpoints};
 ghost use Rattle.network.specs.Sends.{sent_by, sent_in};
 ghost use Rattle.machine_table.specs.Posted.{can_send};
-ghost use Rattle.machine_table.specs.Step.{reacted};
-ghost use Rattle.interleaving_core.specs.PartChanges.{IsQuiet, answer_of, applied, concluded, responded};
+ghost use Rattle.machine_table.specs.Step.{Stays, reacted};
+ghost use Rattle.interleaving_core.specs.PartChanges.{answer_of, applied, concluded, responded};
 ghost use Rattle.interleaving_core.specs.PartChanges.{settled_answer};
 ghost use Rattle.interleaving_core.specs.PartChanges.{stops};
 ghost use Rattle.interleaving_core.specs.Endpoints.{CanConclude, ReactionHasEndpoints, SendsWithEndpoints};
@@ -26,7 +26,7 @@ pub(crate) fn respond<P: Part>(
     message: &Message,
 ) -> Result<Result<Reaction, Refusal>, AllocError>
     requires case { IsTrue (P.has_case part.old message.now) }
-    requires quiet { IsQuiet part.old (P.table part.old message.now) }
+    requires quiet { Stays part.old (P.table part.old message.now) }
     requires endpoints { IsTrue (can_send flight.now.capacity flight.now.mail
         (sent_by (P.table part.old message.now))) → ReactionHasEndpoints flight.now.cores
         flight.now.banks (P.table part.old message.now) }

@@ -2,7 +2,7 @@
 ghost use Rattle.std.specs.Prelude.{◌≡◌, [], IfOk, OnOk, length, replicate, true};
 ghost use Rattle.std.specs.FinMap.{empty, entries};
 ghost use Rattle.machine_table.specs.SetUp.{is_good};
-ghost use Rattle.machine_table.specs.Opening.{at_start, banks_from, cores_from, drams_from};
+ghost use Rattle.machine_table.specs.Opening.{at_start, dram_of, open_bank, open_core, row};
 
 use crate::core_masks::all_idle;
 use crate::machine_state::MachineState;
@@ -64,10 +64,10 @@ fn reopen_parts(
     requires cores { length cores.old.items ≡ config.cores }
     requires banks { length banks.old.items ≡ config.banks }
     requires drams { length drams.old.items ≡ config.banks }
-    ensures cores { OnOk result (cores.new.items ≡ cores_from config 0 config.cores) }
-    ensures banks { OnOk result (banks.new.items ≡ banks_from config 0 config.banks) }
-    ensures drams { OnOk result (drams.new.items ≡ drams_from config
-        (entries memory.now) 0 config.banks) }
+    ensures cores { OnOk result (cores.new.items ≡ row (open_core config) 0 config.cores) }
+    ensures banks { OnOk result (banks.new.items ≡ row (open_bank config) 0 config.banks) }
+    ensures drams { OnOk result (drams.new.items ≡ row (λ b. dram_of config b (entries memory.now))
+        0 config.banks) }
 {
     reopen_cores(cores, config)?;
     reopen_banks(banks, config)?;
@@ -79,7 +79,7 @@ fn reopen_parts(
 fn reopen_cores(cores: &mut Vec<Core>, config: Config) -> Result<(), AllocError>
     requires good { is_good config ≡ true }
     requires count { length cores.old.items ≡ config.cores }
-    ensures { OnOk result (cores.new.items ≡ cores_from config 0 config.cores) }
+    ensures { OnOk result (cores.new.items ≡ row (open_core config) 0 config.cores) }
 {
     for at in 0..cores.len() {
         cores[at].reopen(core_config(config, at as u32), geometry(config))?;
@@ -91,7 +91,7 @@ fn reopen_cores(cores: &mut Vec<Core>, config: Config) -> Result<(), AllocError>
 fn reopen_banks(banks: &mut Vec<Bank>, config: Config) -> Result<(), AllocError>
     requires good { is_good config ≡ true }
     requires count { length banks.old.items ≡ config.banks }
-    ensures { OnOk result (banks.new.items ≡ banks_from config 0 config.banks) }
+    ensures { OnOk result (banks.new.items ≡ row (open_bank config) 0 config.banks) }
 {
     for at in 0..banks.len() {
         banks[at].reopen(bank_config(config, at as u32))?;

@@ -1,10 +1,9 @@
 //! One event of the machine.
 ghost use Rattle.std.specs.Prelude.{◌≡◌, ◌<◌, IfOk, IsTrue, None, OnErr, length};
-ghost use Rattle.network.specs.NumberedMessages.{at_number};
 ghost use Rattle.machine_table.specs.Transition.{on_event, transition};
 ghost use Rattle.machine_theorem.specs.Kept.{Invariant};
 ghost use Rattle.interleaving_core.specs.PartChanges.{answer_in, answer_of};
-ghost use Rattle.interleaving_core.specs.StepAnswers.{Stepped, TakesMemory, asks_memory, delivery_asks};
+ghost use Rattle.interleaving_core.specs.StepAnswers.{Stepped, TakesMemory, asks_memory};
 
 use crate::core_masks::{note, note_attempt, note_delivery};
 use crate::machine_state::MachineState;
@@ -133,7 +132,7 @@ impl MachineState {
         ensures wanted { OnErr result
             (TakesMemory self.old (on_event self.old (Event.Deliver number))) }
         ensures store { OnErr result
-            (IsTrue (delivery_asks self.old (at_number number self.old.mail.messages))) }
+            (IsTrue (asks_memory self.old (Event.Deliver number))) }
     {
         let Some(message) = self.flight.look(number) else {
             return Ok(PlainAnswer::Refused(Refusal::NoSuch));

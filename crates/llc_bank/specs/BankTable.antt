@@ -43,7 +43,6 @@ set_of bank line = (line / bank.banks) % length bank.table.sets
 abbrev pub entry_of : BankState → ℕ → Option Entry
 entry_of bank line = look bank.table.sets (set_of bank line) line
 
--- the bank with these sets
 abbrev pub with_sets : BankState → List (List (ℕ × Entry)) → BankState
 with_sets bank sets = record bank { table = record (bank.table) { sets = sets } }
 
@@ -85,55 +84,38 @@ after_decision bank m Leaves = Some (Done None, without_entry bank m.line)
 after_decision bank m TooLate = None
 after_decision bank m NoCase = Some (Dropped, bank)
 
--- what the bank decides at a message
 abbrev pub decided : BankState → Message → Decision
-decided bank m =
-    at_bank bank.lease bank.mts (has_room bank.table (set_of bank m.line)) (core_of m.from)
+decided bank m = at_bank bank.lease bank.mts (has_room bank.table (set_of bank m.line)) (core_of m.from)
     (entry_of bank m.line) m.body
 
--- the bank's table
 abbrev pub bank_table : BankState → Message → Option (Reaction × BankState)
 bank_table bank m = after_decision bank m (decided bank m)
 
--- a core owns the line
 abbrev pub is_owned : Option Entry → Bool
 is_owned (Some (Exclusive owner)) = true
 is_owned (Some (Recalling owner)) = true
 is_owned _ = false
 
--- the line is being loaded
-abbrev pub is_loading : Option Entry → Bool
-is_loading (Some Loading) = true
-is_loading _ = false
-
--- the line is being stored
-abbrev pub is_storing : Option Entry → Bool
-is_storing (Some Storing) = true
-is_storing _ = false
-
--- a core
 abbrev pub is_core : Node → Bool
 is_core (Core c) = true
 is_core _ = false
 
--- the bank of this number
 abbrev pub is_this_bank : ℕ → Node → Bool
 is_this_bank number (Bank b) = b == number
 is_this_bank number _ = false
 
 -- the kinds of message that come to a bank, and when
-abbrev pub comes_to_bank : Node → Option Entry → Body → Bool
-comes_to_bank from entry (ShReq pts version) = is_core from
-comes_to_bank from entry (ExReq version) = is_core from
-comes_to_bank from entry (FlushRep line) = is_owned entry
-comes_to_bank from entry (WbRep line) = is_owned entry
-comes_to_bank from entry (DramLdRep words) = is_loading entry
-comes_to_bank from entry DramStRep = is_storing entry
-comes_to_bank from entry _ = false
+abbrev pub comes_to_bank : Node → Body → Option Entry → Bool
+comes_to_bank from (ShReq pts version) entry = is_core from
+comes_to_bank from (ExReq version) entry = is_core from
+comes_to_bank from (FlushRep line) entry = is_owned entry
+comes_to_bank from (WbRep line) entry = is_owned entry
+comes_to_bank from (DramLdRep words) (Some Loading) = true
+comes_to_bank from DramStRep (Some Storing) = true
+comes_to_bank from _ entry = false
 
--- the bank's table has a case for the message
 abbrev pub bank_has_case : BankState → Message → Bool
-bank_has_case bank m = is_this_bank bank.number m.to && comes_to_bank m.from (entry_of bank m.line) m.body
+bank_has_case bank m = is_this_bank bank.number m.to && comes_to_bank m.from m.body (entry_of bank m.line)
 
 -- a bank without entries, with this set-up
 abbrev pub empty_bank : BankConfig → BankState
@@ -157,7 +139,6 @@ after_eviction bank line (Stores rts words) = (
 after_eviction bank line (AsksBack owner) =
     (Ok (Recalled (from_bank bank line (Core owner) FlushReq)), with_changed bank line (Recalling owner))
 
--- an eviction of a line
 abbrev pub evict : BankState → ℕ → Result Evict EvictError × BankState
 evict bank line = after_eviction bank line (evicted (entry_of bank line))
 

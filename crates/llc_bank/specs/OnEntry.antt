@@ -3,8 +3,7 @@ use Rattle.std.specs.Prelude.{ℕ, ◌+◌, Bool, true, false, not, ◌&&◌, Op
 use Rattle.network.specs.declared.message.TimedLine.{TimedLine}
 use Rattle.network.specs.declared.message.Body.{Body}
 use Rattle.network.specs.declared.message.Body.TheVariants.{ShReq, ExReq, ShRep, ExRep, RenewRep, UpgradeRep}
-use Rattle.network.specs.declared.message.Body.TheVariants.{FlushReq, WbReq, FlushRep, WbRep, DramLd, DramLdRep}
-use Rattle.network.specs.declared.message.Body.TheVariants.{DramSt, DramStRep}
+use Rattle.network.specs.declared.message.Body.TheVariants.{FlushReq, WbReq, FlushRep, WbRep, DramLdRep, DramStRep}
 use Rattle.llc_bank.specs.declared.entry.Entry.{Entry}
 use Rattle.llc_bank.specs.declared.entry.Entry.TheVariants.{Loading, Shared, Exclusive, Recalling, Storing}
 use Rattle.llc_bank.specs.declared.decision.Decision.{Decision}
@@ -37,22 +36,18 @@ loaded room = if room then Loads else Waits
 -- a request to read
 abbrev pub shared_request : (lease : ℕ) (room : Bool) (pts : ℕ) → Option ℕ → Option Entry → Decision
 shared_request lease room pts version None = loaded room
-shared_request lease room pts version (Some Loading) = Waits
 shared_request lease room pts version (Some (Shared dirty line)) =
     leased dirty line (shared_lease line.wts line.rts pts version lease)
 shared_request lease room pts version (Some (Exclusive owner)) = asked_back owner (if_fits (pts + lease))
-shared_request lease room pts version (Some (Recalling owner)) = Waits
-shared_request lease room pts version (Some Storing) = Waits
+shared_request lease room pts version (Some _) = Waits
 
 -- a request to own
 abbrev pub exclusive_request : (room : Bool) (core : ℕ) → Option ℕ → Option Entry → Decision
 exclusive_request room core version None = loaded room
-exclusive_request room core version (Some Loading) = Waits
 exclusive_request room core version (Some (Shared dirty line)) =
     Grants (Exclusive core) (if is_version line.wts version then UpgradeRep line.rts else ExRep line)
 exclusive_request room core version (Some (Exclusive owner)) = Recalls owner FlushReq
-exclusive_request room core version (Some (Recalling owner)) = Waits
-exclusive_request room core version (Some Storing) = Waits
+exclusive_request room core version (Some _) = Waits
 
 -- the owner returns the line: it is dirty from now on
 abbrev pub given_back : TimedLine → Option Entry → Decision
@@ -70,8 +65,7 @@ abbrev pub stored : Option Entry → Decision
 stored (Some Storing) = Leaves
 stored _ = NoCase
 
--- a message at a bank: the lease, the memory time, whether the line's set has room, the core that a request is from,
--- the entry of the line, and what the message says
+-- a message at a bank, by whether the line's set has room, the core that a request is from, and the line's entry
 abbrev pub at_bank : (lease mts : ℕ) (room : Bool) (core : ℕ) → Option Entry → Body → Decision
 at_bank lease mts room core entry (ShReq pts version) = shared_request lease room pts version entry
 at_bank lease mts room core entry (ExReq version) = exclusive_request room core version entry
@@ -79,24 +73,14 @@ at_bank lease mts room core entry (FlushRep line) = given_back line entry
 at_bank lease mts room core entry (WbRep line) = given_back line entry
 at_bank lease mts room core entry (DramLdRep words) = filled mts words entry
 at_bank lease mts room core entry DramStRep = stored entry
-at_bank lease mts room core entry (ShRep line) = NoCase
-at_bank lease mts room core entry (ExRep line) = NoCase
-at_bank lease mts room core entry (RenewRep rts) = NoCase
-at_bank lease mts room core entry (UpgradeRep rts) = NoCase
-at_bank lease mts room core entry FlushReq = NoCase
-at_bank lease mts room core entry (WbReq rts) = NoCase
-at_bank lease mts room core entry DramLd = NoCase
-at_bank lease mts room core entry (DramSt words) = NoCase
+at_bank lease mts room core entry _ = NoCase
 
--- what an eviction of a line does
 abbrev pub evicted : Option Entry → Eviction
 evicted None = NotThere
-evicted (Some Loading) = IsBusy
 evicted (Some (Shared false line)) = Drops line.rts
 evicted (Some (Shared true line)) = Stores line.rts line.words
 evicted (Some (Exclusive owner)) = AsksBack owner
-evicted (Some (Recalling owner)) = IsBusy
-evicted (Some Storing) = IsBusy
+evicted (Some _) = IsBusy
 
 -- what a decision writes has a place: an entry that is there is changed, and one that isn't there is loaded and finds
 -- room

@@ -1,4 +1,5 @@
 mod Cases
+mod FittingAnswers
 mod Openings
 mod Outcomes
 pub mod Lemmas

@@ -1,6 +1,6 @@
 -- What each event comes to: the one walk over the machine's table that the proofs about events stand on.
 use Rattle.std.proofs.Common.{◌≡◌, ◌≢◌, ℕ, Bool, true, false, cond, List, [], ◌∷◌, ◌++◌, Option, Some, None}
-use Rattle.std.proofs.Common.{Result, Ok, Err, refl, ap, ◌∙◌}
+use Rattle.std.proofs.Common.{Result, Ok, Err, refl, ap, ◌∙◌, subst}
 use Rattle.std.proofs.lemmas.Bool.{cond_both, cond-true}
 use Rattle.std.specs.Ordering.{nat_cmp}
 use Rattle.std.specs.FinMap.{FinMap}
@@ -21,15 +21,17 @@ use Rattle.machine_table.specs.declared.event.Event.{Event}
 use Rattle.machine_table.specs.declared.event.Event.TheVariants.{Issue, Attempt as AttemptOf, Deliver, EvictCache}
 use Rattle.machine_table.specs.declared.event.Event.TheVariants.{EvictBank, Advance}
 use Rattle.machine_table.specs.declared.event.Answer.{Answer}
-use Rattle.machine_table.specs.declared.event.Answer.TheVariants.{Issued}
+use Rattle.machine_table.specs.declared.event.Answer.TheVariants.{Issued, Idle}
 use Rattle.machine_table.specs.declared.event.Refusal.{Refusal}
 use Rattle.machine_table.specs.declared.event.Refusal.TheVariants as refusal
 use Rattle.machine_table.specs.Answered.{RefusedSo}
 use Rattle.machine_table.specs.Machine.{Machine, with_core, with_bank, with_dram}
 use Rattle.machine_table.specs.Step as step
 use Rattle.machine_table.specs.Step.{Act, Step, Tried, Completes, Does, message_of, core_step, bank_step, dram_step}
-use Rattle.machine_table.specs.Transition.{refused, changed, issued, found, gets, deliver_to, on_event, transition}
+use Rattle.machine_table.specs.Transition.{refused, changed, issued, if_there, gets, deliver_to, on_event, transition}
 use Rattle.machine_table.specs.Transition.{tried}
+use Rattle.machine_table.proofs.FittingAnswers.{Fits, FitsTried, reaction_fits, copy_fits, entry_fits, advance_fits}
+use Rattle.machine_table.proofs.FittingAnswers.{attempt_fits}
 
 -- a part gets the message of this number, which goes to it, and has a case for it; or it gets none
 abbrev pub IsGiven : Machine → Node → (Message → Bool) → Option Message → Option ℕ → Type 0
@@ -56,19 +58,19 @@ pub data Outcome (m : Machine) : Event → Answer × Machine → Type 0 where
   -- a core takes another step, or a bank or the DRAM behind a bank takes one
   core_steps : {event : Event} (c : ℕ) (core : CoreState) (act : Act) (n : Option ℕ) (step : Step CoreState) →
       slice_get m.cores c ≡ Some core → IsGiven m (Core c) (core_has_case core) (message_of act) n →
-      core_step core act ≡ Does step → Outcome m event (changed m (with_core m c) n step)
+      core_step core act ≡ Does step → Fits step → Outcome m event (changed m (with_core m c) n step)
   bank_steps : {event : Event} (b : ℕ) (bank : BankState) (act : Act) (n : Option ℕ) (step : Step BankState) →
       slice_get m.banks b ≡ Some bank → IsGiven m (Bank b) (bank_has_case bank) (message_of act) n →
-      bank_step bank act ≡ step → Outcome m event (changed m (with_bank m b) n step)
+      bank_step bank act ≡ step → Fits step → Outcome m event (changed m (with_bank m b) n step)
   dram_steps : {event : Event} (b : ℕ) (lines : FinMap nat_cmp (List ℕ)) (act : Act) (n : Option ℕ)
       (step : Step (FinMap nat_cmp (List ℕ))) → slice_get m.drams b ≡ Some lines →
       IsGiven m (Dram b) (dram_has_case lines) (message_of act) n → dram_step lines act ≡ step →
-      Outcome m event (changed m (with_dram m b) n step)
+      Fits step → Outcome m event (changed m (with_dram m b) n step)
 
 module _ (m : Machine) where
   -- by what is there: a part of the number, or a message
   on : {X : Type 0} {event : Event} (o : Option X) (does : X → Answer × Machine) →
-      ((x : X) → o ≡ Some x → Outcome m event (does x)) → Outcome m event (found m o does)
+      ((x : X) → o ≡ Some x → Outcome m event (does x)) → Outcome m event (if_there m o does)
   on None does some = refuses refusal.NoSuch refl
   on (Some x) does some = some x refl
 
@@ -87,19 +89,20 @@ module _ (m : Machine) where
   attempt_is : (c : ℕ) (core : CoreState) → slice_get m.cores c ≡ Some core → (t : Tried) →
       core_step core step.Attempting ≡ t → Outcome m (AttemptOf c) (tried m c core t)
   attempt_is c core at (Completes op received ts after) is = completes c op received ts core after at is
-  attempt_is c core at (Does s) is = core_steps c core step.Attempting None s at tt is
+  attempt_is c core at (Does s) is =
+      core_steps c core step.Attempting None s at tt is (subst FitsTried is (attempt_fits core core.open_op))
 
   delivery_is : (n : ℕ) (message : Message) → at_number n m.mail.messages ≡ Some message → (to : Node) →
       message.to ≡ to → Outcome m (Deliver n) (deliver_to m n message to)
   delivery_is n message found (Core c) to =
       on (slice_get m.cores c) _ (λ core at. if_case (core_has_case core message) _
-      (λ has. core_steps c core (step.Getting message) (Some n) _ at (found, to, has) refl))
+      (λ has. core_steps c core (step.Getting message) (Some n) _ at (found, to, has) refl (reaction_fits _)))
   delivery_is n message found (Bank b) to =
       on (slice_get m.banks b) _ (λ bank at. if_case (bank_has_case bank message) _
-      (λ has. bank_steps b bank (step.Getting message) (Some n) _ at (found, to, has) refl))
+      (λ has. bank_steps b bank (step.Getting message) (Some n) _ at (found, to, has) refl (reaction_fits _)))
   delivery_is n message found (Dram b) to =
       on (slice_get m.drams b) _ (λ lines at. if_case (dram_has_case lines message) _
-      (λ has. dram_steps b lines (step.Getting message) (Some n) _ at (found, to, has) refl))
+      (λ has. dram_steps b lines (step.Getting message) (Some n) _ at (found, to, has) refl (reaction_fits _)))
 
   pub outcome : (event : Event) → Outcome m event (on_event m event)
   outcome (Issue c op) = on (slice_get m.cores c) _ (λ core at. issue_is c op core at _ refl)
@@ -107,10 +110,11 @@ module _ (m : Machine) where
   outcome (Deliver n) =
       on (at_number n m.mail.messages) _ (λ message found. delivery_is n message found message.to refl)
   outcome (EvictCache c line) =
-      on (slice_get m.cores c) _ (λ core at. core_steps c core (step.Evicting line) None _ at tt refl)
+      on (slice_get m.cores c) _ (λ core at. core_steps c core (step.Evicting line) None _ at tt refl (copy_fits _))
   outcome (EvictBank b line) =
-      on (slice_get m.banks b) _ (λ bank at. bank_steps b bank (step.Evicting line) None _ at tt refl)
-  outcome (Advance c) = on (slice_get m.cores c) _ (λ core at. core_steps c core step.Advancing None _ at tt refl)
+      on (slice_get m.banks b) _ (λ bank at. bank_steps b bank (step.Evicting line) None _ at tt refl (entry_fits _))
+  outcome (Advance c) =
+      on (slice_get m.cores c) _ (λ core at. core_steps c core step.Advancing None _ at tt refl (advance_fits _))
 
   -- also where the machine is stopped
   pub transition_outcome : (event : Event) → Outcome m event (transition m event)
@@ -122,14 +126,15 @@ module _ (m : Machine) where
   abbrev pub Happens : Answer × Machine → Type 0
   Happens o = (event : Event) × (on_event m event ≡ o)
 
-  pub finds : {X : Type 0} {o : Option X} {x : X} (does : X → Answer × Machine) → o ≡ Some x → found m o does ≡ does x
-  finds does at = ap (λ o. found m o does) at
+  pub finds : {X : Type 0} {o : Option X} {x : X} (does : X → Answer × Machine) → o ≡ Some x →
+      if_there m o does ≡ does x
+  finds does at = ap (λ o. if_there m o does) at
 
   -- a part that is there, and has a case for the message
   pub delivers : {S : Type 0} (n : ℕ) (message : Message) (to : Node) → at_number n m.mail.messages ≡ Some message →
       message.to ≡ to → (put : S → Machine) (o : Option S) (part : S) → o ≡ Some part → (has : S → Message → Bool)
       (reacts : S → Message → Option (Reaction × S)) → has part message ≡ true →
-      deliver_to m n message to ≡ found m o (λ x. gets m put n (has x message) (reacts x message)) →
+      deliver_to m n message to ≡ if_there m o (λ x. gets m put n (has x message) (reacts x message)) →
       on_event m (Deliver n) ≡ changed m put (Some n) (step.reacted (reacts part message))
   delivers n message to number goes put o part at has reacts case is =
       finds (λ x. deliver_to m n x x.to) number ∙ ap (deliver_to m n message) goes ∙ is
@@ -165,7 +170,7 @@ module _ (m : Machine) where
   core_acts c core at _ _ done given is = absurd given
 
   pub bank_acts : (b : ℕ) (bank : BankState) → slice_get m.banks b ≡ Some bank → (act : Act) (n : Option ℕ) →
-      IsGiven m (Bank b) (bank_has_case bank) (message_of act) n → bank_step bank act ≢ step.Keeps step.Idles →
+      IsGiven m (Bank b) (bank_has_case bank) (message_of act) n → bank_step bank act ≢ step.Keeps Idle →
       Happens (changed m (with_bank m b) n (bank_step bank act))
   bank_acts b bank at (step.Getting message) (Some n) given does = (
     Deliver n,
@@ -180,7 +185,7 @@ module _ (m : Machine) where
 
   pub dram_acts : (b : ℕ) (lines : FinMap nat_cmp (List ℕ)) → slice_get m.drams b ≡ Some lines → (act : Act)
       (n : Option ℕ) → IsGiven m (Dram b) (dram_has_case lines) (message_of act) n →
-      dram_step lines act ≢ step.Keeps step.Idles → Happens (changed m (with_dram m b) n (dram_step lines act))
+      dram_step lines act ≢ step.Keeps Idle → Happens (changed m (with_dram m b) n (dram_step lines act))
   dram_acts b lines at (step.Getting message) (Some n) given does = (
     Deliver n,
     delivers n message (Dram b) given.0 given.1 (with_dram m b) (slice_get m.drams b) lines at dram_has_case dram_table

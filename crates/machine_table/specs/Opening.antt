@@ -64,16 +64,11 @@ open_bank c number = record {
   table = record { ways = c.bank_ways; sets = replicate c.bank_sets [] };
 }
 
--- n cores from this number on, and n banks
-abbrev pub cores_from : Config → ℕ → ℕ → List CoreState
-cores_from c number zero = []
-cores_from c number (suc n) = open_core c number ∷ cores_from c (number + 1) n
+-- n parts in a row, from this number on
+abbrev pub row : {X : Type 0} → (ℕ → X) → ℕ → ℕ → List X
+row part number zero = []
+row part number (suc n) = part number ∷ row part (number + 1) n
 
-abbrev pub banks_from : Config → ℕ → ℕ → List BankState
-banks_from c number zero = []
-banks_from c number (suc n) = open_bank c number ∷ banks_from c (number + 1) n
-
--- the lines of a DRAM with one word set
 abbrev pub with_word : FinMap nat_cmp (List ℕ) → ℕ → ℕ → ℕ → FinMap nat_cmp (List ℕ)
 with_word lines line index v = insert lines line (slice_set (words_of lines line) index v)
 
@@ -85,17 +80,13 @@ dram_of c bank (word ∷ words) =
     (word.0 % c.line_words) word.1
     else dram_of c bank words
 
-abbrev pub drams_from : Config → List (ℕ × ℕ) → ℕ → ℕ → List (FinMap nat_cmp (List ℕ))
-drams_from c words number zero = []
-drams_from c words number (suc n) = dram_of c number words ∷ drams_from c words (number + 1) n
-
 abbrev pub at_start : Config → FinMap nat_cmp ℕ → Machine
 at_start c opening = record {
   config = c;
   opening = opening;
-  cores = cores_from c 0 c.cores;
-  banks = banks_from c 0 c.banks;
-  drams = drams_from c (entries opening) 0 c.banks;
+  cores = row (open_core c) 0 c.cores;
+  banks = row (open_bank c) 0 c.banks;
+  drams = row (λ b. dram_of c b (entries opening)) 0 c.banks;
   mail = no_mail;
   issued = replicate c.cores [];
   records = [];

@@ -273,7 +273,7 @@ module _ (config : Config) (opening : FinMap nat_cmp ℕ) (before : State) (mess
       (line_seen config a l) (messages_of rest l) (core_of message.from) here message Up Reacts
       refl tt tt loads recalls grants becomes leaves room message.body
       (ownership_of (is_this_bank here.number message.to)
-      (comes_to_bank message.from (entry_of here l) message.body) has) (up message.body goes_home.2)
+      (comes_to_bank message.from message.body (entry_of here l)) has) (up message.body goes_home.2)
       (subst (λ (k : ℕ). IsPermutation (messages_of a.bag l)
       (body_seen (core_of message.from) k message.body ∷ messages_of rest l)) to came))
 

@@ -1,7 +1,7 @@
 -- The moves of a core keep the invariant: issues, attempts, evictions and advances.
 use Rattle.std.proofs.Common.{◌≡◌, ◌≢◌, ℕ, ◌+◌, ◌-◌, ◌%◌, ◌/◌, ◌<◌, ◌≤◌, Bool, true, false, cond, eqb, List, [], ◌∷◌}
 use Rattle.std.proofs.Common.{◌++◌, length, Option, Some, None, refl, sym, ap, ◌∙◌, subst, arith, ⊎_elim, length-append}
-use Rattle.std.specs.Prelude.{Result, Ok, Err}
+use Rattle.std.specs.Prelude.{Result, Ok, Err, option_map}
 use Rattle.std.specs.Ordering.{nat_cmp}
 use Rattle.std.specs.FinMap.{FinMap}
 use Rattle.std.specs.List.{AllByRecursion as Each}
@@ -27,7 +27,7 @@ use Rattle.core_pts.specs.declared.attempt.Attempt.TheVariants as attempted
 use Rattle.core_pts.specs.declared.attempt.IssueError.{IssueError}
 use Rattle.core_pts.specs.declared.attempt.IssueError.TheVariants as not_issued
 use Rattle.core_pts.specs.CoreTable as core_table
-use Rattle.core_pts.specs.CoreTable.{CoreState, to_bank, pinned_line, line_of_open, is_pinned, completed_at}
+use Rattle.core_pts.specs.CoreTable.{CoreState, to_bank, pinned_line, is_pinned, completed_at}
 use Rattle.core_pts.specs.OnCopy.{is_exclusive, serves, time_of, received_at, copy_after, words_of_copy}
 use Rattle.machine_table.specs.declared.config.Config.{Config}
 use Rattle.machine_table.specs.Step as step
@@ -177,7 +177,7 @@ module _ (config : Config) (opening : FinMap nat_cmp ℕ) (a : State) (s : IsKep
   off_line l off op opens q =
       let z : eqb (core_table.line_of core op) l ≡ true = eq-eqb _ _ q in
       let w : eqb (core_table.line_of core op) l ≡ false =
-      sym (ap (λ (o : Option Op). is_pinned (line_of_open core o) l) opens) ∙ off in
+      sym (ap (λ (o : Option Op). is_pinned (option_map (core_table.line_of core) o) l) opens) ∙ off in
       cc
 
   pub unpinned : (l : ℕ) → is_pinned (pinned_line core) l ≡ false → IsPinned f v.cores l c → ⊥

@@ -19,11 +19,10 @@ use Rattle.machine_table.specs.Machine.{Machine, with_core, with_bank, with_dram
 use Rattle.machine_table.specs.Opening.{dram_of, open_bank}
 use Rattle.machine_table.specs.Posted.{can_post, left, posted}
 use Rattle.machine_table.specs.Step as step
-use Rattle.machine_table.specs.Step.{Did, Kept, Step, Completes, core_step, bank_step, dram_step, did_answer}
-use Rattle.machine_table.specs.Step.{kept_answer, message_of}
+use Rattle.machine_table.specs.Step.{Step, Completes, core_step, bank_step, dram_step, message_of}
 use Rattle.machine_table.specs.Transition.{refused, changed, transition, tried}
 use Rattle.machine_table.proofs.Lemmas as outcome
-use Rattle.machine_table.proofs.Lemmas.{IsGiven, Outcome}
+use Rattle.machine_table.proofs.Lemmas.{IsGiven, Outcome, Fits, Keeping, Making, waits, requests}
 use Rattle.machine_theorem.specs.Bags.{bag_of}
 use Rattle.machine_theorem.specs.Kept.{Invariant}
 use Rattle.protocol.specs.Machine.{with_at}
@@ -46,13 +45,13 @@ module _ (m : Machine) (s : Invariant m) where
   unchanged = itself a
 
   -- what is answered to a step that changes nothing, and to one that is a move
-  kept_goes : (kept : Kept) → Effect m (kept_answer kept) m
-  kept_goes step.Waits = unchanged
-  kept_goes _ = unchanged
+  kept_goes : (why : Answer) → Keeping why → Effect m why m
+  kept_goes why waits = unchanged
+  kept_goes why _ = unchanged
 
-  did_goes : (did : Did) (after : Machine) → IsMove m after → Effect m (did_answer did) after
-  did_goes step.Requests after k = k
-  did_goes _ after k = k
+  made_goes : (why : Answer) (after : Machine) → Making why → IsMove m after → Effect m why after
+  made_goes why after requests k = k
+  made_goes why after _ k = k
 
   -- the messages beside the delivered one
   abbrev rest : Option ℕ → List Message
@@ -70,21 +69,21 @@ module _ (m : Machine) (s : Invariant m) where
   -- a step of a part of any kind, if it is a move
   step_goes : {S : Type 0} (n : Option ℕ) (put : S → Machine) (puts : S → State) →
       ((part : S) → Same (puts part) (seen (put part))) → ((part : S) → (puts part).counts ≡ m.mail.counts) →
-      (s : Step S) → ((after : State) → StepsTo a puts (rest n) s after → Move m.config a after) →
+      (s : Step S) → Fits s → ((after : State) → StepsTo a puts (rest n) s after → Move m.config a after) →
       Goes (changed m put n s)
-  step_goes n put puts here counts step.Exhausts move = unchanged
-  step_goes n put puts here counts (step.Keeps kept) move = kept_goes kept
-  step_goes n put puts here counts step.Drops move =
+  step_goes n put puts here counts step.Exhausts fits move = unchanged
+  step_goes n put puts here counts (step.Keeps why) fits move = kept_goes why fits
+  step_goes n put puts here counts step.Drops fits move =
       record {
         to = record a { bag = rest n };
         move = move _ refl;
         same = bag_put a m unchanged (rest n) (left m.mail n) (λ h. refl) refl;
       }
-  step_goes n put puts here counts (step.Makes did consumes sends part) move =
+  step_goes n put puts here counts (step.Makes why consumes sends part) fits move =
       cond_both (can_post m.config.messages m.mail consumes sends)
-      (did_answer did, record (put part) { mail = posted m.mail n consumes sends }) (refused m refusal.NetworkFull)
+      (why, record (put part) { mail = posted m.mail n consumes sends }) (refused m refusal.NetworkFull)
       Goes
-      (λ e. did_goes did _ (record {
+      (λ e. made_goes why _ fits (record {
         to = moves.with_answer (puts part) (cond consumes (rest n) a.bag) sends;
         move = move _ refl;
         same = posted_put (puts part) (put part) (here part) a.bag (rest n) m.mail n (λ h. refl) (λ h. refl)
@@ -119,26 +118,26 @@ module _ (m : Machine) (s : Invariant m) where
             (ap (λ x. core_step x step.Attempting) (is_core c core at) ∙ is);
         same = completion_put a m unchanged c op received ts (a.cores c) after (listed c core at);
       })
-  goes event o (outcome.core_steps c core act n done at given is) =
+  goes event o (outcome.core_steps c core act n done at given is fits) =
       let e = is_core c core at in
       step_goes n (with_core m c) (moves.with_core a c) (λ part. core_put a m unchanged c part (listed c core at))
-      (λ part. refl) done
+      (λ part. refl) done fits
       (λ after. core_steps c act (rest n) done (below c core at)
       (beside (node.Core c) core_has_case (a.cores c) core e (message_of act) n given)
       (ap (λ x. core_step x act) e ∙ is))
-  goes event o (outcome.bank_steps b bank act n done at given is) =
+  goes event o (outcome.bank_steps b bank act n done at given is fits) =
       let e = get_or_from_slice_get m.banks b bank (open_bank m.config b) at in
       let listed = slice_get_within m.banks b bank at in
       step_goes n (with_bank m b) (moves.with_bank a b) (λ part. bank_put a m unchanged b part listed)
-      (λ part. refl) done
+      (λ part. refl) done fits
       (λ after. bank_steps b act (rest n) done (let many = s.bank_count in omega arith)
       (beside (node.Bank b) bank_has_case (a.banks b) bank e (message_of act) n given)
       (ap (λ x. bank_step x act) e ∙ is))
-  goes event o (outcome.dram_steps b lines act n done at given is) =
+  goes event o (outcome.dram_steps b lines act n done at given is fits) =
       let e = get_or_from_slice_get m.drams b lines (dram_of m.config b (entries m.opening)) at in
       let listed = slice_get_within m.drams b lines at in
       step_goes n (with_dram m b) (moves.with_dram a b) (λ part. dram_put a m unchanged b part listed)
-      (λ part. refl) done
+      (λ part. refl) done fits
       (λ after. dram_steps b act (rest n) done (let many = s.dram_count in omega arith)
       (beside (node.Dram b) dram_has_case (a.drams b) lines e (message_of act) n given)
       (ap (λ x. dram_step x act) e ∙ is))

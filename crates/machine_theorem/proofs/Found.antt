@@ -15,7 +15,7 @@ use Rattle.machine_table.specs.declared.event.Event.TheVariants.{Deliver}
 use Rattle.machine_table.specs.declared.event.Refusal.TheVariants.{NoSuch, Stopped}
 use Rattle.machine_table.specs.Machine.{Machine, with_core, with_bank, with_dram}
 use Rattle.network.specs.Mail.{has_number, has_capacity}
-use Rattle.machine_table.specs.Transition.{changed, deliver_to, found, gets, on_event, refused, transition}
+use Rattle.machine_table.specs.Transition.{changed, deliver_to, if_there, gets, on_event, refused, transition}
 use Rattle.machine_table.specs.Step as step
 use Rattle.machine_table.specs.declared.event.Answer.{Answer}
 use Rattle.machine_theorem.specs.Cases.{takes, has_case_at, has_case}
@@ -43,7 +43,7 @@ module _ (m : Machine) (n : ℕ) where
 
   part_found : {S : Type 0} (put : S → Machine) (o : Option S) (has_case : S → Message → Bool)
       (reacts : S → Message → Option (Reaction × S)) (message : Message) → takes has_case o message ≡ true →
-      IsFound (found m o (λ x. gets m put n (has_case x message) (reacts x message)))
+      IsFound (if_there m o (λ x. gets m put n (has_case x message) (reacts x message)))
   part_found put None has_case reacts message has = absurd (let z : false ≡ true = has in cc)
   part_found put (Some part) has_case reacts message has =
       case_found (has_case part message) _ _ has (reacted_found put (reacts part message))
@@ -60,6 +60,6 @@ module _ (m : Machine) (n : ℕ) where
     where
       go : (b : Bool) → IsFound (cond b (refused m Stopped) (on_event m (Deliver n)))
       go true = λ e. cc
-      go false = subst (λ (o : Option Message). IsFound (found m o (λ x. deliver_to m n x x.to))) (sym number)
+      go false = subst (λ (o : Option Message). IsFound (if_there m o (λ x. deliver_to m n x x.to))) (sym number)
           (to_found message message.to (each_at_number (λ x. has_case m x.1 ≡ true) n m.mail.messages message
           number cases (λ k p. p)))

@@ -2,6 +2,7 @@
 use Rattle.std.proofs.Common.{◌≡◌, ℕ, ◌%◌, ◌/◌, ◌<◌, Bool, true, false, cond, eqb, List, [], ◌∷◌}
 use Rattle.std.proofs.Common.{Option, Some, None, refl, sym, ap, ◌∙◌, subst, arith}
 use Rattle.std.specs.List.{AllByRecursion as Each}
+use Rattle.std.specs.Option.{option_map}
 use Rattle.std.specs.Ordering.{nat_cmp}
 use Rattle.std.specs.FinMap.{FinMap, entries}
 use Rattle.std.proofs.lemmas.Option.{slice_get-get_or}
@@ -17,12 +18,12 @@ use Rattle.network.specs.Routes.{has_route}
 use Rattle.private_cache.specs.declared.line_copy.LineCopy.{LineCopy}
 use Rattle.private_cache.specs.CopyTable.{copy_of, place_for}
 use Rattle.core_pts.specs.CoreTable as core_table
-use Rattle.core_pts.specs.CoreTable.{CoreState, line_of_open, is_pinned, waits_for, is_shared_copy}
-use Rattle.core_pts.specs.CoreTable.{is_this_core, comes_to_core, core_has_case}
+use Rattle.core_pts.specs.CoreTable.{CoreState, is_pinned, waits_for, is_shared_copy, is_this_core, comes_to_core}
+use Rattle.core_pts.specs.CoreTable.{core_has_case}
 use Rattle.llc_bank.specs.declared.entry.Entry.{Entry}
 use Rattle.llc_bank.specs.declared.entry.Entry.TheVariants as entry
-use Rattle.llc_bank.specs.BankTable.{BankState, core_of, entry_of, is_core, is_owned, is_loading}
-use Rattle.llc_bank.specs.BankTable.{is_storing, is_this_bank, comes_to_bank, bank_has_case}
+use Rattle.llc_bank.specs.BankTable.{BankState, core_of, entry_of, is_core, is_owned, is_this_bank}
+use Rattle.llc_bank.specs.BankTable.{comes_to_bank, bank_has_case}
 use Rattle.dram_mts.specs.Table.{is_dram, comes_to_dram, dram_has_case}
 use Rattle.machine_table.specs.declared.config.Config.{Config}
 use Rattle.machine_table.specs.Machine.{Machine}
@@ -46,13 +47,15 @@ is_granted (Some (entry.Exclusive o)) h = refl
 is_granted (Some (entry.Recalling o)) h = refl
 is_granted _ h = absurd h
 
-is_loaded : (e : Option Entry) → entry_seen e ≡ by_line.Loading → is_loading e ≡ true
-is_loaded (Some entry.Loading) h = refl
-is_loaded _ h = absurd (cc)
+is_loaded : (from : Node) (words : List ℕ) (e : Option Entry) → entry_seen e ≡ by_line.Loading →
+    comes_to_bank from (body.DramLdRep words) e ≡ true
+is_loaded from words (Some entry.Loading) h = refl
+is_loaded from words _ h = absurd (cc)
 
-is_stored : (e : Option Entry) → entry_seen e ≡ by_line.Storing → is_storing e ≡ true
-is_stored (Some entry.Storing) h = refl
-is_stored _ h = absurd (cc)
+is_stored : (from : Node) (e : Option Entry) → entry_seen e ≡ by_line.Storing →
+    comes_to_bank from body.DramStRep e ≡ true
+is_stored from (Some entry.Storing) h = refl
+is_stored from _ h = absurd (cc)
 
 is_shared : (o : Option LineCopy) → IsShared (copy_or_none o) → is_shared_copy o ≡ true
 is_shared None h = absurd h
@@ -81,7 +84,8 @@ module _ (config : Config) (opening : FinMap nat_cmp ℕ) (a : State) (s : IsKep
     on w = ap (λ (k : ℕ). address w.1.0 / k) is.line_words ∙ w.1.2
 
     waiting : Waiting c → waits_for core x.line ≡ true
-    waiting w = both _ _ w.0 (ap (λ (o : Option Op). is_pinned (line_of_open core o) x.line) w.1.1 ∙ eq-eqb _ _ (on w))
+    waiting w = both _ _ w.0
+        (ap (λ (o : Option Op). is_pinned (option_map (core_table.line_of core) o) x.line) w.1.1 ∙ eq-eqb _ _ (on w))
 
     place : Waiting c → place_for core.cache x.line ≡ true
     place w = subst (λ (k : ℕ). place_for core.cache k ≡ true) (on w) (is.room w.1.0 w.1.1 w.0)
@@ -107,12 +111,12 @@ module _ (config : Config) (opening : FinMap nat_cmp ℕ) (a : State) (s : IsKep
     entry_is = ap (λ (k : ℕ). entry_in (a.banks k) x.line)
         (sym (subst (IsHome (x.line % config.banks)) to goes.1))
 
-    bank_end : (c : Body) → x.body ≡ c → b < config.banks → comes_to_bank x.from (entry_of bank x.line) c ≡ true →
+    bank_end : (c : Body) → x.body ≡ c → b < config.banks → comes_to_bank x.from c (entry_of bank x.line) ≡ true →
         Finds x.to
     bank_end c e below comes = subst Finds (sym to) (
       below,
       both _ _ (ap (is_this_bank bank.number) to ∙ eq-eqb b bank.number (sym (s.shape.each_bank b).numbered))
-          (ap (comes_to_bank x.from (entry_of bank x.line)) e ∙ comes),
+          (ap (λ k. comes_to_bank x.from k (entry_of bank x.line)) e ∙ comes),
     )
 
   dram_end : (b : Body) → x.body ≡ b → (k : ℕ) → x.to ≡ node.Dram k → k < config.banks → comes_to_dram b ≡ true →
@@ -164,9 +168,9 @@ module _ (config : Config) (opening : FinMap nat_cmp ℕ) (a : State) (s : IsKep
       dram_end _ e u.dram u.to_dram (let h = subst (IsHome (x.line % config.banks)) u.from_bank goes.0 in
       let d = subst (IsHome (x.line % config.banks)) u.to_dram goes.1 in let k = u.some_bank in omega arith) refl
   case_of (body.DramLdRep ws) e r w = let u = back_ends _ x.to x.from r in bank_end u.bank u.from_bank _ e u.some_bank
-      (is_loaded (entry_of (a.banks u.bank) x.line) (sym (entry_is u.bank u.from_bank) ∙ w))
+      (is_loaded x.from ws (entry_of (a.banks u.bank) x.line) (sym (entry_is u.bank u.from_bank) ∙ w))
   case_of body.DramStRep e r w = let u = back_ends _ x.to x.from r in bank_end u.bank u.from_bank _ e u.some_bank
-      (is_stored (entry_of (a.banks u.bank) x.line) (sym (entry_is u.bank u.from_bank) ∙ w))
+      (is_stored x.from (entry_of (a.banks u.bank) x.line) (sym (entry_is u.bank u.from_bank) ∙ w))
 
   -- it goes between nodes of its kind, to a part with a case for it
   pub finds_part : Waits x.body → FindsPart config a x

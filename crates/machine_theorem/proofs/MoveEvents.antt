@@ -14,6 +14,7 @@ use Rattle.llc_bank.specs.BankTable.{BankState, bank_has_case}
 use Rattle.dram_mts.specs.Table.{dram_has_case}
 use Rattle.machine_table.specs.declared.config.Config.{Config}
 use Rattle.machine_table.specs.declared.event.Answer.{Answer}
+use Rattle.machine_table.specs.declared.event.Answer.TheVariants.{Idle}
 use Rattle.machine_table.specs.declared.event.Event.TheVariants as event
 use Rattle.machine_table.specs.Machine.{Machine, with_core, with_bank, with_dram}
 use Rattle.machine_table.specs.Posted.{can_post, left}
@@ -145,7 +146,7 @@ module _ (config : Config) (opening : FinMap nat_cmp ℕ) (a : State) (s : IsKep
 
   -- a step that leads to a state does something
   does : {S : Type 0} (puts : S → State) (rest : List Message) (b : State) (done : Step S) →
-      moves.StepsTo a puts rest done b → done ≢ step.Keeps step.Idles
+      moves.StepsTo a puts rest done b → done ≢ step.Keeps Idle
   does puts rest b done to is = subst (λ s. moves.StepsTo a puts rest s b) is to
 
   pub move_event : (b : State) → Move config a b → IsEvent config opening a b

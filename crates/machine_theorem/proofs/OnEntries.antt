@@ -15,7 +15,7 @@ use Rattle.llc_bank.specs.declared.entry.Entry.{Entry}
 use Rattle.llc_bank.specs.declared.entry.Entry.TheVariants as entry
 use Rattle.llc_bank.specs.OnEntry as on_entry
 use Rattle.llc_bank.specs.BankTable.{BankState, entry_of, with_used, with_changed, without_entry, from_bank, to_dram}
-use Rattle.llc_bank.specs.BankTable.{after_decision, comes_to_bank, is_owned, is_loading, is_storing}
+use Rattle.llc_bank.specs.BankTable.{after_decision, comes_to_bank, is_owned}
 use Rattle.protocol.specs.Machine.{Message, Absent, Loading, Shared, Recalling, ShReq, ExReq, DramLd, DramLdRep}
 use Rattle.protocol.specs.Machine.{DramStRep, Line, LineTransition, load_starts, renewed, leased, upgraded, granted}
 use Rattle.protocol.specs.Machine.{wb_starts, flush_starts, flush_returns, wb_returns, loaded, stored}
@@ -137,17 +137,18 @@ module _ (lease : ℕ) (pinned : ℕ → Type 0) (t : ℕ) (x : Line) (rest : Li
     returns_go line (Some (entry.Recalling o)) at h mv = becomes _ _ _ at mv
     returns_go line _ at h mv = absurd (let z : false ≡ true = h in cc)
 
-    words_go : (ws : List ℕ) (e : Option Entry) → entry_of bank m.line ≡ e → is_loading e ≡ true →
-        IsPermutation x.messages (DramLdRep ws ∷ rest) → P (after_decision bank m (on_entry.filled t ws e))
+    words_go : (ws : List ℕ) (e : Option Entry) → entry_of bank m.line ≡ e →
+        comes_to_bank m.from (body.DramLdRep ws) e ≡ true → IsPermutation x.messages (DramLdRep ws ∷ rest) →
+        P (after_decision bank m (on_entry.filled t ws e))
     words_go ws (Some entry.Loading) at h p = becomes _ _ _ at (loaded ws rest p)
     words_go ws _ at h p = absurd (let z : false ≡ true = h in cc)
 
-    stored_goes : (e : Option Entry) → is_storing e ≡ true → IsPermutation x.messages (DramStRep ∷ rest) →
-        P (after_decision bank m (on_entry.stored e))
+    stored_goes : (e : Option Entry) → comes_to_bank m.from body.DramStRep e ≡ true →
+        IsPermutation x.messages (DramStRep ∷ rest) → P (after_decision bank m (on_entry.stored e))
     stored_goes (Some entry.Storing) h p = leaves (stored rest p)
     stored_goes _ h p = absurd (let z : false ≡ true = h in cc)
 
-    pub bank_goes : (room : Bool) (b : Body) → comes_to_bank m.from (entry_of bank m.line) b ≡ true →
+    pub bank_goes : (room : Bool) (b : Body) → comes_to_bank m.from b (entry_of bank m.line) ≡ true →
         AtRequest Up b → IsPermutation x.messages (body_seen c 0 b ∷ rest) →
         P (after_decision bank m (on_entry.at_bank lease t room c (entry_of bank m.line) b))
     bank_goes room (body.ShReq pts v) has up p = shared_goes room pts v _ up refl p

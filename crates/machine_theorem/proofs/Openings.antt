@@ -16,7 +16,7 @@ use Rattle.machine_table.specs.declared.config.Config.{Config}
 use Rattle.machine_table.specs.SetUp.{is_within, is_good}
 use Rattle.machine_table.specs.Opening.{dram_of, open_bank, open_core}
 use Rattle.machine_table.specs.Opening.{at_start}
-use Rattle.machine_table.proofs.Lemmas.{cores_many, banks_many, drams_many}
+use Rattle.machine_table.proofs.Lemmas.{row_many}
 use Rattle.protocol.specs.Machine as by_line
 use Rattle.protocol.specs.Machine.{OpensWith, at_first}
 use Rattle.machine_theorem.specs.PastWords.{IsReached}
@@ -127,9 +127,9 @@ module _ (c : Config) where
 
     pub at_start_invariant : Invariant (at_start c opening)
     at_start_invariant = record {
-      core_count = cores_many c 0 c.cores;
-      bank_count = banks_many c 0 c.banks;
-      dram_count = drams_many c (entries opening) 0 c.banks;
+      core_count = row_many (open_core c) 0 c.cores;
+      bank_count = row_many (open_bank c) 0 c.banks;
+      dram_count = row_many (λ b. dram_of c b (entries opening)) 0 c.banks;
       lists = length-replicate c.cores [];
       kept = kept_same c opening a (seen (at_start c opening)) (opening_same c opening) initial_kept;
     }

@@ -7,7 +7,7 @@ use Rattle.machine_table.specs.declared.event.Refusal.TheVariants as refusal
 use Rattle.machine_table.specs.Machine.{Machine, with_core, with_bank, with_dram}
 use Rattle.machine_table.specs.Posted.{can_post, posted}
 use Rattle.machine_table.specs.Step as step
-use Rattle.machine_table.specs.Step.{Step, did_answer}
+use Rattle.machine_table.specs.Step.{Step}
 use Rattle.machine_table.specs.Transition.{changed, refused, transition}
 use Rattle.machine_table.specs.Runs.{after_all}
 use Rattle.machine_table.specs.SetUp.{SetUpAs}
@@ -43,10 +43,10 @@ module _ (m : Machine) where
   -- whatever the step is, of a part that is put into the machine
   changed_same : {S : Type 0} (put : S → Machine) → ((part : S) → HasAsMany m (put part)) → (n : Option ℕ)
       (s : Step S) → HasAsMany m (changed m put n s).1
-  changed_same put keeps n (step.Makes did consumes sends part) =
+  changed_same put keeps n (step.Makes why consumes sends part) =
       let k = keeps part in
       cond_both (can_post m.config.messages m.mail consumes sends)
-      (did_answer did, record (put part) { mail = posted m.mail n consumes sends }) (refused m refusal.NetworkFull)
+      (why, record (put part) { mail = posted m.mail n consumes sends }) (refused m refusal.NetworkFull)
       (λ o. HasAsMany m o.1) (λ e. same _ k.config k.opening k.cores k.banks k.drams k.issued)
       (λ e. same _ refl refl refl refl refl refl)
   changed_same put keeps n step.Exhausts = same _ refl refl refl refl refl refl
@@ -58,11 +58,11 @@ module _ (m : Machine) where
       same _ refl refl (length-set m.cores c after) refl refl (length-set m.issued c _)
   as_many_parts event o (completes c op received ts core after at is) =
       same _ refl refl (length-set m.cores c after) refl refl refl
-  as_many_parts event o (core_steps c core act n s at given is) =
+  as_many_parts event o (core_steps c core act n s at given is fits) =
       changed_same (with_core m c) (λ part. same _ refl refl (length-set m.cores c part) refl refl refl) n s
-  as_many_parts event o (bank_steps b bank act n s at given is) =
+  as_many_parts event o (bank_steps b bank act n s at given is fits) =
       changed_same (with_bank m b) (λ part. same _ refl refl refl (length-set m.banks b part) refl refl) n s
-  as_many_parts event o (dram_steps b lines act n s at given is) =
+  as_many_parts event o (dram_steps b lines act n s at given is fits) =
       changed_same (with_dram m b) (λ part. same _ refl refl refl refl (length-set m.drams b part) refl) n s
 
   pub transition_same : (event : Event) → SetUpAs m (transition m event).1

@@ -53,9 +53,9 @@ AreBeside bag to has_case (Some message) rest =
 -- the state after a step of a part, which `put` puts into the state; a step that changes nothing is no move
 abbrev pub StepsTo : {S : Type 0} → State → (S → State) → List Message → Step S → State → Type 0
 StepsTo a put rest Exhausts after = ⊥
-StepsTo a put rest (Keeps kept) after = ⊥
+StepsTo a put rest (Keeps answer) after = ⊥
 StepsTo a put rest Drops after = after ≡ record a { bag = rest }
-StepsTo a put rest (Makes did consumes sends part) after =
+StepsTo a put rest (Makes answer consumes sends part) after =
     after ≡ with_answer (put part) (cond consumes rest a.bag) sends
 
 pub data Move (config : Config) : State → State → Type 0 where

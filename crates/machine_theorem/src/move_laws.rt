@@ -146,8 +146,8 @@ pub fn waiting_cores_stay()
     ensures { CoresStay }
 {}
 
-/// A bank that holds a message stays as it is, and it drops none that it has a case for; a DRAM answers each that it
-/// has a case for.
+/// A bank that holds or drops a message stays as it is, and it drops none that it has a case for; a DRAM answers each
+/// that it has a case for.
 pub fn waiting_banks_stay()
     ensures { BanksStay }
 {}

@@ -1,7 +1,8 @@
 -- What is known of a bank's seat, from what it stores and from the reached state that it stands in: what it does is a
 -- move, after which it stores what it holds.
-use Rattle.std.proofs.Common.{◌≡◌, ℕ, ◌+◌, ◌-◌, ◌<◌, ◌⊎◌, inl, inr, true, false, ◌++◌, Option, Some, None}
+use Rattle.std.proofs.Common.{◌≡◌, ℕ, ◌+◌, ◌-◌, ◌<◌, ◌⊎◌, inl, inr, true, false, List, ◌++◌, Option, Some, None}
 use Rattle.std.proofs.Common.{Result, Ok, Err, refl, sym, ap, ◌∙◌, subst, option_to_list, arith}
+use Rattle.std.specs.Option.{option_map}
 use Rattle.network.specs.declared.message.Node.{Node}
 use Rattle.network.specs.declared.message.Node.TheVariants.{Bank, Dram}
 use Rattle.network.specs.declared.message.Message.{Message}
@@ -15,7 +16,6 @@ use Rattle.llc_bank.specs.BankTable as bank_table
 use Rattle.llc_bank.specs.BankTable.{BankState, after_eviction, bank_has_case, entry_of}
 use Rattle.dram_mts.specs.Table.{dram_has_case, dram_table}
 use Rattle.machine_table.specs.Step as step
-use Rattle.machine_table.specs.Step.{sent_by_eviction}
 use Rattle.machine_theorem.specs.Bags.{SameBag}
 use Rattle.machine_theorem.specs.Shape.{IsBank}
 use Rattle.inbox.specs.declared.answer.Answer.{Answer}
@@ -30,19 +30,19 @@ use Rattle.seat_rule.specs.declared.views.Hold.{Hold}
 use Rattle.seat_rule.specs.Found.{MessagesFindParts, OfStanding}
 use Rattle.seat_rule.specs.Plays.{Standing}
 use Rattle.seat_rule.specs.Rule.{bag_of_hold, seat_count}
-use Rattle.seat_rule.specs.SeatMoves.{SeatMove, bank_steps, dram_steps, sorts}
+use Rattle.seat_rule.specs.SeatMoves.{HoldSends, HoldSteps, SeatMove, bank_steps, dram_steps, sorts}
 use Rattle.machine_theorem.specs.Staying.{BanksStay}
 use Rattle.mailboxes.specs.declared.machine.Machine.{Machine}
 use Rattle.mailboxes.specs.declared.mailbox.Mailbox.{Mailbox}
 use Rattle.mailboxes.specs.declared.sending.SendingBank.{SendingBank}
-use Rattle.mailboxes.specs.BankCalls.{IsBankMail, PartOf, evicted_part, evicted_inbox}
+use Rattle.mailboxes.specs.BankCalls.{IsBankMail, PartOf, evicted_part, evicted_inbox, sent_by_eviction}
 use Rattle.mailboxes.specs.BankServing.{bank_has_case_at, reacts_at, sending_bank_has_case, sending_bank_table}
 use Rattle.mailboxes.specs.BoxMoves.{hold}
 use Rattle.mailboxes.specs.PartServing.{told_if}
 use Rattle.mailboxes.specs.Stored.{stored_bank}
 use Rattle.mailboxes.proofs.FoundMessages.{ends, finds, have_cases, lies_own}
 use Rattle.mailboxes.proofs.MessageEnds.{bank_goes, bank_sends, dram_sends, own_ends}
-use Rattle.mailboxes.proofs.Reactions.{Did, did, dram_drops, sends}
+use Rattle.mailboxes.proofs.Reactions.{Did, did, dram_stays, sends}
 use Rattle.mailboxes.proofs.ServedParts.{Settled, answer_moves, answer_settles, by_answer, hold_sends, hold_stays}
 use Rattle.mailboxes.proofs.ServedParts.{sent_settles, stays_settled}
 use Rattle.mailboxes.proofs.StoredSeats.{bank_stays}
@@ -50,22 +50,15 @@ use Rattle.mailboxes.proofs.StoredSeats.{bank_stays}
 -- what an eviction sends comes from the bank
 abbrev evict_sender : Result Evict EvictError → Option Node
 evict_sender (Err e) = None
-evict_sender (Ok evict.Clean) = None
-evict_sender (Ok (evict.Stored s)) = Some s.from
-evict_sender (Ok (evict.Recalled s)) = Some s.from
+evict_sender (Ok done) = option_map (λ s. s.from) (sent_by_eviction done)
 
 evicted_from : (bank : BankState) (line : ℕ) (d : Eviction) (n : Node) →
     evict_sender (after_eviction bank line d).0 ≡ Some n → n ≡ Bank bank.number
 evicted_from bank line eviction.NotThere n e = cc
-evicted_from bank line eviction.IsBusy n e = cc
-evicted_from bank line (eviction.Drops rts) n e = cc
-evicted_from bank line (eviction.Stores rts words) n e = cc
-evicted_from bank line (eviction.AsksBack owner) n e = cc
+evicted_from bank line _ n e = cc
 
 sent_from : (e : Evict) (s : Message) → sent_by_eviction e ≡ Some s → evict_sender (Ok e) ≡ Some s.from
-sent_from evict.Clean s is = absurd (let no : None ≡ Some s = is in cc)
-sent_from (evict.Stored t) s is = let same : t ≡ s = cc in ap (λ (x : Message). Some x.from) same
-sent_from (evict.Recalled t) s is = let same : t ≡ s = cc in ap (λ (x : Message). Some x.from) same
+sent_from e s is = ap (option_map (λ (x : Message). x.from)) is
 
 -- a message to the seat itself is one more of those that came in
 inbox_bag : (b : InboxState Message) (e : Evict) →
@@ -78,6 +71,12 @@ inbox_bag b e f =
     let w = weigh-append f sent (hand ++ b.held) in
     let y = weigh-append f hand b.held in
     omega arith
+
+-- what an eviction makes of a seat
+evicted_holds : (a c : Hold) (p bank : BankState) (rest : List Message) (e : Evict) →
+    HoldSends a c (bag_of_hold a) (sent_by_eviction e) → HoldSteps a c p bank rest (step.entry_evicted (Ok e, bank))
+evicted_holds a c p bank rest evict.Clean sends = (refl, sends)
+evicted_holds a c p bank rest _ sends = (refl, sends)
 
 module _ (m : Machine) (b : Mailbox) (p : SendingBank) (is : IsBankMail m b) (has : PartOf b p) where
   abbrev z : SetUp
@@ -147,13 +146,10 @@ module _ (m : Machine) (b : Mailbox) (p : SendingBank) (is : IsBankMail m b) (ha
       (λ j. (sym part j, sym messages j))
       (stored (after now (evicted_inbox b.inbox e))
       (bank_steps i (step.Evicting line) (bag_of_hold (after p b.inbox))
-      (step.Makes (step.became e) false (sent_by_eviction e) bank) below named refl
-      (ap (λ r. step.entry_evicted (r, bank)) done) (
-        refl,
-        hold_sends false p.outbox now.outbox b.inbox (evicted_inbox b.inbox e) (parts p) (parts now)
-            (sent_by_eviction e) (told_if false (sent_by_eviction e)) (messages_of b.inbox)
-            (sends false p.outbox (sent_by_eviction e)) (inbox_bag b.inbox e),
-      ) (record { core = refl; issued = refl }) refl))
+      (step.entry_evicted (Ok e, bank)) below named refl (ap (λ r. step.entry_evicted (r, bank)) done)
+      (evicted_holds _ _ _ bank _ e (hold_sends false p.outbox now.outbox b.inbox (evicted_inbox b.inbox e)
+      (parts p) (parts now) (sent_by_eviction e) (told_if false (sent_by_eviction e)) (messages_of b.inbox)
+      (sends false p.outbox (sent_by_eviction e)) (inbox_bag b.inbox e))) (record { core = refl; issued = refl }) refl))
 
   module _ (found : MessagesFindParts) (shape : OfStanding (λ z id a. (k : ℕ) → k < z.config.banks →
       id ≡ z.config.cores + k → IsBank z.config k a.bank)) where
@@ -216,14 +212,14 @@ module _ (m : Machine) (b : Mailbox) (p : SendingBank) (is : IsBankMail m b) (ha
                 (λ rest s apart gives sent.
                 bank_steps i (step.Getting x) rest s below named (apart, t.0, t.1) gives sent
                 (record { core = refl; issued = refl }) d.1)
-                (λ e. absurd (stay.dropped p.bank q.bank x t.1 e)) at answer d.0 before left)
+                (stay.stays p.bank x) at answer d.0 before left)
             | inr t ↦ (let d = dram_did x (places b.inbox.held at) answer q t.0 asked.1 in
                 answer_moves false p.outbox q.outbox b.inbox c z b.number (parts p) (parts q) p.dram q.dram
                 (dram_table p.dram x) x
                 (λ rest s apart gives sent.
                 dram_steps i (step.Getting x) rest s below named (apart, t.0, t.1) gives sent
                 (record { core = refl; issued = refl }) d.1)
-                (λ e. dram_drops p.dram q.dram x e) at answer d.0 before left)
+                (dram_stays p.dram x x.body) at answer d.0 before left)
           ])
           (λ same stays.
           sorts (record { core = refl; issued = refl })

@@ -13,14 +13,14 @@ use Rattle.private_cache.specs.CopyTable.{copy_of, evicted}
 use Rattle.core_pts.specs.declared.attempt.IssueError.{IssueError}
 use Rattle.core_pts.specs.declared.attempt.IssueError.TheVariants.{Busy, TooMany}
 use Rattle.core_pts.specs.declared.decision.CoreReaction.{CoreReaction}
-use Rattle.core_pts.specs.declared.decision.CoreReaction.TheVariants.{Arrives, Grants, Returns, Drops, Holds, TooLate}
-use Rattle.core_pts.specs.declared.decision.CoreReaction.TheVariants.{NoCase}
+use Rattle.core_pts.specs.declared.decision.CoreReaction.TheVariants.{Arrives}
 use Rattle.core_pts.specs.CoreTable as core_table
 use Rattle.core_pts.specs.CoreTable.{CoreState, after_reaction, core_has_case, decided, line_of, pinned_line, sent_back}
 use Rattle.core_pts.specs.CoreTable.{to_bank}
 use Rattle.core_pts.specs.OnCopy.{is_exclusive}
-use Rattle.machine_table.specs.Step.{Advances, Advancing, Attempting, Does, Evicting, Evicts, Getting, Makes}
+use Rattle.machine_table.specs.Step.{Advancing, Attempting, Does, Evicting, Getting, Makes}
 use Rattle.machine_table.specs.Step.{advanced, asks, copy_evicted}
+use Rattle.machine_table.specs.declared.event.Answer.TheVariants.{Advanced, Evicted}
 use Rattle.inbox.specs.declared.answer.Answer.{Answer}
 use Rattle.inbox.specs.declared.answer.Refusal.{Refusal}
 use Rattle.inbox.specs.declared.answer.Served.{Served}
@@ -65,12 +65,7 @@ open_in core (Some r) = r.1.open_op
 open_stays : (core : CoreState) (line : ℕ) (d : CoreReaction) →
     open_in core (after_reaction core line d) ≡ core.open_op
 open_stays core line (Arrives copy) = refl
-open_stays core line (Grants copy) = refl
-open_stays core line (Returns kept sent) = refl
-open_stays core line Drops = refl
-open_stays core line Holds = refl
-open_stays core line TooLate = refl
-open_stays core line NoCase = refl
+open_stays core line _ = refl
 
 -- and so does an eviction
 back_keeps : (core : CoreState) (line : ℕ) (r : Result LineCopy CacheError × Sets LineCopy) →
@@ -167,7 +162,7 @@ module _ (m : Machine) (b : Mailbox) (p : SendingCore) (ops : List Op) (is : IsC
   pub advance_moves : (core : CoreState) → core_table.advance p.core ≡ (Some tt, core) →
       SeatMove z seat_number (hold b) (after (record { core = core; outbox = p.outbox }) b.inbox)
   advance_moves core done =
-      stored _ (core_steps Advancing (bag_of_hold before) (Makes Advances false None core) is.1 refl
+      stored _ (core_steps Advancing (bag_of_hold before) (Makes Advanced false None core) is.1 refl
       (ap (λ r. Does (advanced r)) done) (refl, record { bag = λ f. refl; counts = refl }) refl
       (record { bank = refl; dram = refl }))
 
@@ -187,7 +182,7 @@ module _ (m : Machine) (b : Mailbox) (p : SendingCore) (ops : List Op) (is : IsC
   pub evict_moves : (q : SendingCore) (line : ℕ) → TakesOut p line q →
       SeatMove z seat_number (hold b) (after q b.inbox)
   evict_moves q line t =
-      stored _ (core_steps (Evicting line) (bag_of_hold before) (Makes Evicts false t.0 q.core) is.1 refl
+      stored _ (core_steps (Evicting line) (bag_of_hold before) (Makes Evicted false t.0 q.core) is.1 refl
       (ap (λ r. Does (copy_evicted r)) t.1) (
         refl,
         hold_sends true p.outbox q.outbox b.inbox b.inbox (parts p.core) (parts q.core) t.0 None (messages_of b.inbox)
@@ -253,8 +248,8 @@ module _ (m : Machine) (b : Mailbox) (p : SendingCore) (ops : List Op) (is : IsC
           (λ rest s apart gives sent.
           core_steps (Getting x) rest s is.1 (apart, case.0, case.1) (ap Does gives) sent refl
           (record { bank = refl; dram = refl }))
-          (λ e. stay.dropped p.core q.core x e) at answer (core_did x (places b.inbox.held at) answer q asked.1) before
-          left)
+          (stay.stays p.core x) at answer
+          (core_did x (places b.inbox.held at) answer q asked.1) before left)
           (λ same stays.
           sorts (record { core = ap (λ (y : SendingCore). y.core) stays; issued = refl })
           (record { bank = refl; dram = refl })

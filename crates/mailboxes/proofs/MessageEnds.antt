@@ -173,9 +173,7 @@ reply_goes core line (reaction.Arrives copy) n stays e = cc
 reply_goes core line (reaction.Grants copy) n stays e = cc
 reply_goes core line (reaction.Returns kept sent) n stays e = sym (ap (target_in n) e)
 reply_goes core line reaction.Drops n stays e = cc
-reply_goes core line reaction.Holds n stays e = cc
-reply_goes core line reaction.TooLate n stays e = cc
-reply_goes core line reaction.NoCase n stays e = cc
+reply_goes core line _ n stays e = cc
 
 pub core_sends_to : (core : CoreState) (m s : Message) → IsSent (core_table core m) s →
     s.to ≡ Bank (m.line % core.banks)
@@ -187,13 +185,7 @@ core_sends_to core m s is =
 decided_sender : (bank : BankState) (m : Message) (d : Decision) (n : Node) →
     sender (after_decision bank m d) ≡ Some n → n ≡ Bank bank.number
 decided_sender bank m decision.Waits n e = cc
-decided_sender bank m decision.Loads n e = cc
-decided_sender bank m (decision.Recalls owner sent) n e = cc
-decided_sender bank m (decision.Grants entry sent) n e = cc
-decided_sender bank m (decision.Becomes entry) n e = cc
-decided_sender bank m decision.Leaves n e = cc
-decided_sender bank m decision.TooLate n e = cc
-decided_sender bank m decision.NoCase n e = cc
+decided_sender bank m _ n e = cc
 
 pub bank_sends : (bank : BankState) (m s : Message) → IsSent (bank_table bank m) s → s.from ≡ Bank bank.number
 bank_sends bank m s is = decided_sender bank m (decided bank m) s.from (sender_of (bank_table bank m) s is)

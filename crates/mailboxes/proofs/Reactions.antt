@@ -1,6 +1,6 @@
 -- What a part answers to a message, and what its seat sends then.
 use Rattle.std.proofs.Common.{◌≡◌, ℕ, Bool, true, false, cond, List, [], ◌∷◌, ◌++◌, Option, Some, None}
-use Rattle.std.proofs.Common.{refl, sym, ap, ◌∙◌, subst, true≢false, option_to_list, arith}
+use Rattle.std.proofs.Common.{refl, sym, subst, true≢false, option_to_list, arith}
 use Rattle.std.proofs.lemmas.Bool.{cond_both}
 use Rattle.std.specs.Ordering.{nat_cmp}
 use Rattle.std.specs.FinMap.{FinMap}
@@ -16,6 +16,7 @@ use Rattle.network.specs.Sends.{sent_by}
 use Rattle.core_pts.specs.CoreTable.{core_table}
 use Rattle.llc_bank.specs.BankTable.{bank_table}
 use Rattle.dram_mts.specs.Table.{dram_case, dram_table}
+use Rattle.machine_table.specs.Step.{Stays}
 use Rattle.machine_theorem.specs.Bags.{SameBag}
 use Rattle.inbox.specs.declared.answer.Answer.{Answer}
 use Rattle.inbox.specs.declared.answer.Answer.TheVariants.{Delivered, Dropped, Started, Held, Refused}
@@ -81,13 +82,13 @@ module _ (is_core : Bool) {P : Type 0} (out : OutboxState) (p : P) (r : Option (
   Did (Refused e) q o = (q ≡ p) × (o ≡ out) × (e ≡ NoMemory → ⊥)
 
   -- a part that holds a message stays as it is, and so does the outbox
-  quiet : ((q : P) → r ≡ Some (does.Held, q) → q ≡ p) → (answer : Answer Message) (q : P) (o : OutboxState) →
+  quiet : Stays p r → (answer : Answer Message) (q : P) (o : OutboxState) →
       Did answer q o → is_quiet answer ≡ true → (q ≡ p) × (o ≡ out)
-  quiet holds (Delivered sent) q o d h = absurd (true≢false (sym h))
-  quiet holds Dropped q o d h = absurd (true≢false (sym h))
-  quiet holds (Started sent) q o d h = absurd (true≢false (sym h))
-  quiet holds Held q o d h = (holds q d.0, d.1)
-  quiet holds (Refused e) q o d h = (d.0, d.1)
+  quiet stays (Delivered sent) q o d h = absurd (true≢false (sym h))
+  quiet stays Dropped q o d h = absurd (true≢false (sym h))
+  quiet stays (Started sent) q o d h = absurd (true≢false (sym h))
+  quiet stays Held q o d h = (subst (Stays p) d.0 stays, d.1)
+  quiet stays (Refused e) q o d h = (d.0, d.1)
 
 module _ (is_core : Bool) {P : Type 0} (out : OutboxState) (p : P) where
   abbrev Does : Option (Reaction × P) → Answer Message × P × OutboxState → Type 0
@@ -111,11 +112,11 @@ module _ (is_core : Bool) {P : Type 0} (out : OutboxState) (p : P) where
   did n r answer q o e = subst (Does r) e (reacts_did n r)
 
   -- a message that isn't consumed and starts nothing leaves both
-  leaves_both : (n : ℕ) (r : Option (Reaction × P)) → ((q : P) → r ≡ Some (does.Held, q) → q ≡ p) →
+  leaves_both : (n : ℕ) (r : Option (Reaction × P)) → Stays p r →
       is_quiet (reacts is_core out n p r).0 ≡ true →
       ((reacts is_core out n p r).1 ≡ p) × ((reacts is_core out n p r).2 ≡ out)
-  leaves_both n r holds h =
-      let x = reacts is_core out n p r in quiet is_core out p r holds x.0 x.1 x.2 (reacts_did n r) h
+  leaves_both n r stays h =
+      let x = reacts is_core out n p r in quiet is_core out p r stays x.0 x.1 x.2 (reacts_did n r) h
 
   -- the table never says that memory is lacking
   no_memory : (n : ℕ) (r : Option (Reaction × P)) → (reacts is_core out n p r).0 ≡ Refused NoMemory → ⊥
@@ -127,7 +128,7 @@ module _ (is_core : Bool) {P : Type 0} (out : OutboxState) (p : P) where
 
 pub core_leaves_part : CoresStay → LeavesPart sending_core_table
 core_leaves_part stay p m n h =
-    let q = leaves_both true p.outbox p.core n (core_table p.core m) (λ s e. stay.held p.core s m e) h in
+    let q = leaves_both true p.outbox p.core n (core_table p.core m) (stay.stays p.core m) h in
     λ i. record p { core = q.0 i; outbox = q.1 i }
 
 pub core_never : NeverNoMemory sending_core_table
@@ -135,42 +136,20 @@ core_never p m n e = no_memory true p.outbox p.core n (core_table p.core m) e
 
 -- Banks with their DRAMs
 
-abbrev is_quiet_in : {P : Type 0} → Option (Reaction × P) → Bool
-is_quiet_in None = true
-is_quiet_in (Some (does.Held, q)) = true
-is_quiet_in (Some (does.Dropped, q)) = true
-is_quiet_in (Some (does.Done m, q)) = false
-is_quiet_in (Some (does.HeldAfter m, q)) = false
-
-abbrev part_in : {P : Type 0} → P → Option (Reaction × P) → P
-part_in p None = p
-part_in p (Some r) = r.1
-
 -- a DRAM that doesn't answer stays as it is
-dram_stays : (lines : FinMap nat_cmp (List ℕ)) (m : Message) (b : Body) → is_quiet_in (dram_case lines m b) ≡ true →
-    part_in lines (dram_case lines m b) ≡ lines
-dram_stays lines m DramLd e = refl
-dram_stays lines m (DramSt words) e = absurd (true≢false (sym e))
-dram_stays lines m _ e = refl
-
-pub dram_holds : (lines after : FinMap nat_cmp (List ℕ)) (m : Message) → dram_table lines m ≡ Some (does.Held, after) →
-    after ≡ lines
-dram_holds lines after m e =
-    sym (ap (part_in lines) e) ∙ dram_stays lines m m.body (ap is_quiet_in e)
-
-pub dram_drops : (lines after : FinMap nat_cmp (List ℕ)) (m : Message) →
-    dram_table lines m ≡ Some (does.Dropped, after) → after ≡ lines
-dram_drops lines after m e =
-    sym (ap (part_in lines) e) ∙ dram_stays lines m m.body (ap is_quiet_in e)
+pub dram_stays : (lines : FinMap nat_cmp (List ℕ)) (m : Message) (b : Body) → Stays lines (dram_case lines m b)
+dram_stays lines m DramLd = tt
+dram_stays lines m (DramSt words) = tt
+dram_stays lines m _ = refl
 
 bank_leaves : BanksStay → (to : Node) (p : SendingBank) (m : Message) (n : ℕ) → is_quiet (reacts_at to p m n).0 ≡ true →
     (reacts_at to p m n).1 ≡ p
 bank_leaves stay (Core c) p m n h = refl
 bank_leaves stay (Bank b) p m n h =
-    let q = leaves_both false p.outbox p.bank n (bank_table p.bank m) (λ s e. stay.held p.bank s m e) h in
+    let q = leaves_both false p.outbox p.bank n (bank_table p.bank m) (stay.stays p.bank m) h in
     λ i. record p { bank = q.0 i; outbox = q.1 i }
 bank_leaves stay (Dram d) p m n h =
-    let q = leaves_both false p.outbox p.dram n (dram_table p.dram m) (λ s e. dram_holds p.dram s m e) h in
+    let q = leaves_both false p.outbox p.dram n (dram_table p.dram m) (dram_stays p.dram m m.body) h in
     λ i. record p { dram = q.0 i; outbox = q.1 i }
 
 pub bank_leaves_part : BanksStay → LeavesPart sending_bank_table

@@ -7,7 +7,8 @@ use Rattle.network.specs.declared.message.Message.{Message}
 use Rattle.network.specs.declared.part.Reaction.{Reaction}
 use Rattle.network.specs.declared.part.Reaction.TheVariants as does
 use Rattle.network.specs.Routes.{has_endpoints}
-use Rattle.machine_table.specs.Step.{Delivers, Drops, Makes, Starts, Step, reacted}
+use Rattle.machine_table.specs.declared.event.Answer.TheVariants as answers
+use Rattle.machine_table.specs.Step.{Drops, Makes, Stays, Step, reacted}
 use Rattle.machine_theorem.specs.Bags.{weigh, SameBag}
 use Rattle.inbox.specs.declared.answer.Answer.{Answer}
 use Rattle.inbox.specs.declared.answer.Answer.TheVariants.{Delivered, Dropped, Started, Held, Refused}
@@ -103,7 +104,7 @@ module _ (is_core : Bool) (out o : OutboxState) (b c : InboxState Message) where
       (steps : (rest : List Message) (s : Step P) → SameBag (bag_of_hold (holding h out b)) (m ∷ rest) →
       reacted r ≡ s → HoldSteps (holding h out b) (holding k o c) p q rest s →
       SeatMove z id (holding h out b) (holding k o c))
-      (drops : r ≡ Some (does.Dropped, q) → q ≡ p) where
+      (stays : Stays p r) where
     pub answer_moves : (at : Place) (answer : Answer Message) → Did is_core out p r answer q o →
         SameMessages (messages_of b) (m ∷ others b at) → Left b at answer c →
         SeatMove z id (holding h out b) (holding k o c)
@@ -122,15 +123,17 @@ module _ (is_core : Bool) (out o : OutboxState) (b c : InboxState Message) where
         by : (answer : Answer Message) → Did is_core out p r answer q o → Left b at answer c →
             SeatMove z id (holding h out b) (holding k o c)
         by (Delivered sent) d l =
-            steps rest (Makes Delivers true d.0 q) apart (ap reacted d.1) (
+            steps rest (Makes answers.Delivered true d.0 q) apart (ap reacted d.1) (
               refl,
               hold_sends h k d.0 sent (others b at) d.2 (bag_is (messages_of c) (sent_list sent ++ others b at) l),
             )
         by Dropped d l =
-            steps rest Drops apart (ap reacted d.0)
-            (drops d.0, hold_sends h k None None (others b at) d.1 (bag_is (messages_of c) (others b at) l))
+            steps rest Drops apart (ap reacted d.0) (
+              subst (Stays p) d.0 stays,
+              hold_sends h k None None (others b at) d.1 (bag_is (messages_of c) (others b at) l),
+            )
         by (Started sent) d l =
-            steps rest (Makes Starts false (Some d.0) q) apart (ap reacted d.1) (
+            steps rest (Makes answers.Started false (Some d.0) q) apart (ap reacted d.1) (
               refl,
               hold_sends h k (Some d.0) sent (messages_of b) d.2
                   (bag_is (messages_of c) (sent_list sent ++ messages_of b) l),

@@ -4,8 +4,8 @@ use Rattle.network.specs.declared.message.Node.{Node}
 use Rattle.network.specs.declared.message.Node.TheVariants as node
 use Rattle.network.specs.declared.message.Message.{Message}
 use Rattle.network.specs.declared.part.Reaction.{Reaction}
-use Rattle.network.specs.declared.part.Reaction.TheVariants as does
 use Rattle.network.specs.Sends.{sent_by}
+use Rattle.machine_table.specs.Step.{Step, Exhausts, Keeps, Drops, Makes, reacted}
 use Rattle.inbox.specs.declared.answer.Answer.{Answer}
 use Rattle.inbox.specs.declared.answer.Answer.TheVariants.{Delivered, Dropped, Started, Held, Refused}
 use Rattle.inbox.specs.declared.answer.Refusal.TheVariants.{Full, NoMemory, Exhausted}
@@ -52,24 +52,23 @@ module _ (is_core : Bool) where
   told_if None = None
   told_if (Some m) = told m
 
-  -- the answer to a delivered message, by what the part did with it, and the outbox afterwards
-  abbrev pub reaction_answer : Reaction → Answer Message
-  reaction_answer (does.Done answer) = Delivered (told_if answer)
-  reaction_answer does.Dropped = Dropped
-  reaction_answer does.Held = Held
-  reaction_answer (does.HeldAfter m) = Started (told m)
+  -- the answer to a delivered message, by the step of the part, and the outbox afterwards
+  abbrev pub step_answer : {S : Type 0} → OutboxState → Step S → Answer Message × OutboxState
+  step_answer out Exhausts = (Refused Exhausted, out)
+  step_answer out (Keeps why) = (Held, out)
+  step_answer out Drops = (Dropped, out)
+  step_answer out (Makes why true sends part) = (Delivered (told_if sends), posted_if out sends)
+  step_answer out (Makes why false sends part) = (Started (told_if sends), posted_if out sends)
 
-  abbrev pub sent_for : OutboxState → Reaction → OutboxState
-  sent_for out (does.Done answer) = posted_if out answer
-  sent_for out does.Dropped = out
-  sent_for out does.Held = out
-  sent_for out (does.HeldAfter m) = posted out m
+  -- so by what the part did with it
+  abbrev pub reaction_answer : OutboxState → Reaction → Answer Message × OutboxState
+  reaction_answer out reaction = step_answer out (reacted (Some (reaction, tt {0})))
 
   module _ {P : Type 0} where
     -- the answer of a part that does this, with the part and the outbox afterwards
     abbrev pub replied : OutboxState → P → Option (Reaction × P) → Answer Message × P × OutboxState
     replied out p None = (Refused Exhausted, p, out)
-    replied out p (Some r) = (reaction_answer r.0, r.1, sent_for out r.0)
+    replied out p (Some r) = let answer = reaction_answer out r.0 in (answer.0, r.1, answer.1)
 
     -- that, if what it would send finds its places; else Full, and nothing changed
     abbrev pub reacts : OutboxState → ℕ → P → Option (Reaction × P) → Answer Message × P × OutboxState

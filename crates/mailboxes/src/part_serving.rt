@@ -7,7 +7,7 @@ ghost use Rattle.inbox.specs.declared.answer.Refusal.TheVariants.{NoMemory};
 ghost use Rattle.inbox.specs.Effects.{Effect, LeavesPart, NeverNoMemory};
 ghost use Rattle.inbox.specs.Serving.{HaveCases, Serves, WantsMemory, is_quiet, needs, order_of};
 ghost use Rattle.mailboxes.specs.PartServing.{Reacts, reaction_answer, finds_places, leaves, places_for, posted};
-ghost use Rattle.mailboxes.specs.PartServing.{sent_for, told};
+ghost use Rattle.mailboxes.specs.PartServing.{told};
 ghost use Rattle.mailboxes.specs.SeatServing.{may_change};
 
 use closed_machine::Outbox;
@@ -75,8 +75,8 @@ pub(crate) fn post(is_core: bool, outbox: &mut Outbox, message: Message) -> Opti
 // Sends what a part sends, if anything, and answers what it did.
 fn answered(is_core: bool, outbox: &mut Outbox, reaction: Reaction) -> Answer<Message>
     requires { (places : ℕ) × IsTrue (finds_places is_core outbox.old places (sent_in reaction)) }
-    ensures answer { result ≡ reaction_answer is_core reaction }
-    ensures sent { outbox.new ≡ sent_for is_core outbox.old reaction }
+    ensures answer { result ≡ (reaction_answer is_core outbox.old reaction).0 }
+    ensures sent { outbox.new ≡ (reaction_answer is_core outbox.old reaction).1 }
 {
     match reaction {
         Reaction::Done(None) => Answer::Delivered(None),

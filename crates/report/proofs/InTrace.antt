@@ -19,7 +19,7 @@ use Rattle.physiological_order.proofs.Lemmas.{Follows-issued}
 use Rattle.machine_table.specs.declared.config.Config.{Config}
 use Rattle.machine_table.specs.Machine.{Machine, operation_of, open_op_of}
 use Rattle.protocol.specs.Issued.{listed}
-use Rattle.machine_table.specs.Opening.{at_start, cores_from}
+use Rattle.machine_table.specs.Opening.{at_start, open_core, row}
 use Rattle.machine_theorem.specs.Coherence.{coherent}
 use Rattle.machine_theorem.specs.Consistency.{IsConsistent}
 use Rattle.trace_texts.specs.Records.{AreComplete, HasItsValue}
@@ -90,7 +90,7 @@ issued_is [] (suc core) = refl
 issued_is (steps ∷ lanes) zero = refl
 issued_is (steps ∷ lanes) (suc core) = issued_is lanes core
 
-nothing_open : (config : Config) (start n k : ℕ) → open_op_of (slice_get (cores_from config start n) k) ≡ None
+nothing_open : (config : Config) (start n k : ℕ) → open_op_of (slice_get (row (open_core config) start n) k) ≡ None
 nothing_open config start zero k = refl
 nothing_open config start (suc n) zero = refl
 nothing_open config start (suc n) (suc k) = nothing_open config (start + 1) n k

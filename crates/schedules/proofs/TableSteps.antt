@@ -31,7 +31,7 @@ use Rattle.machine_table.specs.declared.event.Refusal.TheVariants as refusal
 use Rattle.machine_table.specs.Machine.{Machine, operation_of, with_core, with_bank, with_dram}
 use Rattle.machine_table.specs.Posted.{can_post, posted}
 use Rattle.machine_table.specs.Step as step
-use Rattle.machine_table.specs.Step.{Act, Step, Tried, core_step, did_answer, record_of}
+use Rattle.machine_table.specs.Step.{Act, Step, Tried, core_step, record_of}
 use Rattle.machine_table.specs.Transition.{changed, refused, transition}
 use Rattle.machine_table.specs.Answered.{Answered}
 use Rattle.machine_table.proofs.Lemmas.{Outcome, refuses, issues, completes, core_steps, bank_steps, dram_steps}
@@ -132,9 +132,9 @@ module _ (m : Machine) where
   changed_stays n put K puts step.Exhausts is = record { ops = λ core. refl; records = refl }
   changed_stays n put K puts (step.Keeps kept) is = same
   changed_stays n put K puts step.Drops is = record { ops = λ core. refl; records = refl }
-  changed_stays n put K puts (step.Makes did consumes sends part) is =
+  changed_stays n put K puts (step.Makes why consumes sends part) is =
       cond_both (can_post m.config.messages m.mail consumes sends)
-      (did_answer did, record (put part) { mail = posted m.mail n consumes sends })
+      (why, record (put part) { mail = posted m.mail n consumes sends })
       (refused m refusal.NetworkFull) Stays
       (λ t. record { ops = (puts part is).ops; records = (puts part is).records }) (λ t. same)
 
@@ -227,15 +227,15 @@ module _ (m : Machine) where
           records = refl;
         },
       )
-  by_outcome event o (core_steps c core act n s at given is) not_done =
+  by_outcome event o (core_steps c core act n s at given is fits) not_done =
       let stays = changed_stays n (with_core m c) (λ new. new.open_op ≡ core.open_op) (kept c core at) s
       (subst (Keeps core) is (step_keeps core act)) in
       quiet event _ stays (not_done stays)
-  by_outcome event o (bank_steps b bank act n s at given is) not_done =
+  by_outcome event o (bank_steps b bank act n s at given is fits) not_done =
       let stays = changed_stays n (with_bank m b) (λ part. Unit {0})
       (λ part known. record { ops = λ core. refl; records = refl }) s (any_part s) in
       quiet event _ stays (not_done stays)
-  by_outcome event o (dram_steps b lines act n s at given is) not_done =
+  by_outcome event o (dram_steps b lines act n s at given is fits) not_done =
       let stays = changed_stays n (with_dram m b) (λ part. Unit {0})
       (λ part known. record { ops = λ core. refl; records = refl }) s (any_part s) in
       quiet event _ stays (not_done stays)

@@ -10,7 +10,7 @@ use Rattle.network.specs.declared.message.TimedLine.{TimedLine}
 use Rattle.private_cache.specs.CopyTable.{copy_of}
 use Rattle.private_cache.specs.declared.line_copy.LineCopy.{LineCopy}
 use Rattle.timestamp_manager.specs.Lease.{fits, is_version, returned_lease, shared_lease}
-use Rattle.core_pts.specs.CoreTable.{after_body, after_reaction, core_table}
+use Rattle.core_pts.specs.CoreTable.{after_reaction, core_table, decided as decided_at}
 use Rattle.core_pts.specs.OnCopy.{is_exclusive, returned, written_back}
 use Rattle.core_pts.specs.declared.decision.CoreReaction.TheVariants.{Drops, Holds}
 use Rattle.llc_bank.specs.BankTable.{after_decision, bank_table, entry_of, set_of}
@@ -177,7 +177,7 @@ late_core : (p : SendingCore) (x : Message) (until : ℕ) (copy : LineCopy) → 
 late_core p x until copy is owns h =
     let core = p.core in
     let back = returned_lease copy.wts copy.rts until core.lease in
-    ap (λ b. after_body core x.line b) is
+    ap (λ b. after_reaction core x.line (decided_at core x.line b)) is
     ∙ ap (λ a. after_reaction core x.line (cond a Holds (written_back core.lease until
     (copy_of core.cache x.line)))) owns.0
     ∙ ap (λ c. after_reaction core x.line (written_back core.lease until c)) owns.1

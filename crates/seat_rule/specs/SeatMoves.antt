@@ -38,9 +38,9 @@ pub record HoldSends (a b : Hold) (rest : List Message) (sent : Option Message) 
 -- nothing is none
 abbrev pub HoldSteps : {S : Type 0} → Hold → Hold → S → S → List Message → Step S → Type 0
 HoldSteps a b p q rest Exhausts = ⊥
-HoldSteps a b p q rest (Keeps kept) = ⊥
+HoldSteps a b p q rest (Keeps answer) = ⊥
 HoldSteps a b p q rest Drops = (q ≡ p) × HoldSends a b rest None
-HoldSteps a b p q rest (Makes did consumes sends part) =
+HoldSteps a b p q rest (Makes answer consumes sends part) =
     (q ≡ part) × HoldSends a b (cond consumes rest (bag_of_hold a)) sends
 
 -- The seat id holds a, and then b. A core's seat has the number of its core, the seat of bank i the number cores + i.

@@ -14,16 +14,15 @@ abbrev pub is_version : ℕ → Option ℕ → Bool
 is_version wts None = false
 is_version wts (Some version) = version == wts
 
--- a request to read, at the reader's time pts: the lease is extended to the end of what it was, of a lease from the
--- last write and of one from the reader's time, whichever is latest. A reader that has the line's version needs no
--- words
+-- a request to read, at the reader's time pts: the lease goes to the latest of its old end, of a lease from the last
+-- write and of one from that time. A reader that has the line's version needs no words
 abbrev pub shared_lease : (wts rts pts : ℕ) → Option ℕ → (lease : ℕ) → Option (ℕ × Bool)
 shared_lease wts rts pts version lease =
     if fits (wts + lease) && fits (pts + lease)
     then Some (max (max rts (wts + lease)) (pts + lease), is_version wts version)
     else None
 
--- an owner that returns its line and keeps a copy to read: the lease is extended to the end of what it was, of a lease
--- from the last write and of the time that was asked for, whichever is latest
+-- an owner that returns its line and keeps a copy to read: the lease goes to the latest of its old end, of a lease from
+-- the last write and of the time that was asked for
 abbrev pub returned_lease : (wts rts until lease : ℕ) → Option ℕ
 returned_lease wts rts until lease = if fits (wts + lease) then Some (max (max rts (wts + lease)) until) else None

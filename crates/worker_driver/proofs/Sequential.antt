@@ -14,7 +14,7 @@ use Rattle.litmus_reader.specs.ThreadSteps.{Thread, next_operation}
 use Rattle.litmus_reader.specs.Truth.{end_value}
 use Rattle.machine_table.specs.declared.config.Config.{Config}
 use Rattle.machine_table.specs.Machine.{Machine, operation_of, open_op, open_op_of}
-use Rattle.machine_table.specs.Opening.{at_start, cores_from}
+use Rattle.machine_table.specs.Opening.{at_start, open_core, row}
 use Rattle.machine_theorem.specs.Coherence.{coherent}
 use Rattle.machine_theorem.specs.Consistency.{IsConsistent}
 use Rattle.programs.specs.declared.ends.End.{End}
@@ -43,7 +43,7 @@ value_from m start (suc n) (suc k) below =
     value_from m (start + 1) n k (omega (arith, below)) ∙ ap (λ i. Some (coherent m i)) (omega arith)
 
 -- no core opens with an operation
-nothing_open : (config : Config) (start n k : ℕ) → open_op_of (slice_get (cores_from config start n) k) ≡ None
+nothing_open : (config : Config) (start n k : ℕ) → open_op_of (slice_get (row (open_core config) start n) k) ≡ None
 nothing_open config start zero k = refl
 nothing_open config start (suc n) zero = refl
 nothing_open config start (suc n) (suc k) = nothing_open config (start + 1) n k

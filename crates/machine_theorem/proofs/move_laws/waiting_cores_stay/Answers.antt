@@ -1,5 +1,5 @@
-use Rattle.machine_theorem.proofs.StayingParts.{core_holds, core_drops, core_starts}
+use Rattle.machine_theorem.proofs.StayingParts.{core_stays, core_starts}
 use Rattle.machine_theorem.proofs.move_laws.waiting_cores_stay.Goals as goal
 
 pub returns : goal.returns
-returns c = record { held = core_holds; dropped = core_drops; started = core_starts }
+returns c = record { stays = core_stays; started = core_starts }

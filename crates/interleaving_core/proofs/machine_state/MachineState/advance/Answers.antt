@@ -8,7 +8,7 @@ use Rattle.machine_table.specs.Machine.{Machine, with_core}
 use Rattle.machine_table.specs.declared.event.Event.TheVariants.{Advance}
 use Rattle.machine_table.specs.Step.{advanced}
 use Rattle.machine_table.specs.Transition.{changed, on_event}
-use Rattle.machine_table.proofs.Lemmas.{finds}
+use Rattle.machine_table.proofs.Lemmas.{advance_fits, finds}
 use Rattle.interleaving_core.specs.contracts.machine_state.MachineState.{the_view}
 use Rattle.interleaving_core.specs.PartChanges.{answer_of}
 use Rattle.interleaving_core.proofs.ChangedParts.{made_without, set_same}
@@ -43,7 +43,7 @@ returns c =
     c.index_mut.result.now refl (omega (arith, c.if-at-len.false, c.len.ensures)) c.index_mut.ensures.value in
     made_without m (λ x. set m.cores c.args.core x) (λ x. m.banks) (λ x. m.drams) core
     (set_same m.cores c.args.core core here) refl refl
-    None _ (answer_of c.advance-plain.result) c.advance-plain.new.core m.mail
+    None _ (advance_fits (core_table.advance core)) (answer_of c.advance-plain.result) c.advance-plain.new.core m.mail
     c.stop_after.new.is_stopped (c.advance-plain.ensures m.config.messages m.mail) c.stop_after.ensures
     ∙ sym (finds m (λ x. changed m (with_core m c.args.core) None (advanced (core_table.advance x))) here)
     ∙ ap (λ (n : Machine). on_event n (Advance c.args.core)) c.self.view_is

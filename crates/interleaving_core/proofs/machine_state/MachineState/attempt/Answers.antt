@@ -7,7 +7,7 @@ use Rattle.machine_table.specs.Machine.{Machine}
 use Rattle.machine_table.specs.Step.{attempt_open}
 use Rattle.machine_table.specs.declared.event.Event.TheVariants.{Attempt}
 use Rattle.machine_table.specs.Transition.{on_event, tried}
-use Rattle.machine_table.proofs.Lemmas.{finds}
+use Rattle.machine_table.proofs.Lemmas.{attempt_fits, finds}
 use Rattle.machine_theorem.specs.Kept.{Invariant}
 use Rattle.interleaving_core.specs.contracts.machine_state.MachineState.{the_view}
 use Rattle.interleaving_core.specs.PartChanges.{StandsAfter, applied_attempt, with_record}
@@ -45,7 +45,8 @@ keep-requires c =
     owed_for x.1.open_op ≡ length c.self.inside.records.items + owed_for c.index_mut.result.now.open_op)
     (sym c.attempt-answer.ensures.done)
     (balanced c.index_mut.result.now c.args.core c.len-count.result c.self.inside.flight.capacity
-    c.self.inside.flight.mail c.self.inside.records.items _ (attempt_only c.index_mut.result.now)) in
+    c.self.inside.flight.mail c.self.inside.records.items _
+    (attempt_fits c.index_mut.result.now c.index_mut.result.now.open_op) (attempt_only c.index_mut.result.now)) in
     let all = owed_set c.self.inside.cores.items c.args.core c.index_mut.result.now c.attempt-answer.new.core here in
     omega (arith, count, all, c.self.invariant.reserved)
 
@@ -57,7 +58,8 @@ invariant_of-self c =
     owed_for x.1.open_op ≡ length c.self.inside.records.items + owed_for c.index_mut.result.now.open_op)
     (sym c.attempt-answer.ensures.done)
     (balanced c.index_mut.result.now c.args.core c.len-count.result c.self.inside.flight.capacity
-    c.self.inside.flight.mail c.self.inside.records.items _ (attempt_only c.index_mut.result.now)) in
+    c.self.inside.flight.mail c.self.inside.records.items _
+    (attempt_fits c.index_mut.result.now c.index_mut.result.now.open_op) (attempt_only c.index_mut.result.now)) in
     let all = owed_set c.self.inside.cores.items c.args.core c.index_mut.result.now c.attempt-answer.new.core here in
     let kept = ap length c.keep.ensures.records in
     let stands = subst (λ (x : Answer × CoreState × Mail). StandsAfter x.0 c.index_mut.result.now x.1)
@@ -87,7 +89,7 @@ returns-clause-tried c =
     (set_same m.cores c.args.core core here) refl refl
     (applied_attempt c.args.core (length m.records) m.config.messages m.mail core tries)
     (tried m c.args.core core tries)
-    (is_tried m c.args.core core (set_same m.cores c.args.core core here) tries)
+    (is_tried m c.args.core core (set_same m.cores c.args.core core here) tries (attempt_fits core core.open_op))
     c.attempt-answer.result c.attempt-answer.new.core c.attempt-answer.new.flight.mail
     c.keep.new.records.items c.stop.new.is_stopped
     done c.keep.ensures.records c.stop.ensures

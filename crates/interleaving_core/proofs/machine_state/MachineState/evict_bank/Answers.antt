@@ -5,7 +5,7 @@ use Rattle.machine_table.specs.Machine.{Machine, with_bank}
 use Rattle.machine_table.specs.Step.{entry_evicted}
 use Rattle.machine_table.specs.declared.event.Event.TheVariants.{EvictBank}
 use Rattle.machine_table.specs.Transition.{changed, on_event}
-use Rattle.machine_table.proofs.Lemmas.{finds}
+use Rattle.machine_table.proofs.Lemmas.{entry_fits, finds}
 use Rattle.machine_theorem.specs.Kept.{Invariant}
 use Rattle.interleaving_core.specs.contracts.machine_state.MachineState.{the_view}
 use Rattle.interleaving_core.specs.PartChanges.{answer_of}
@@ -35,7 +35,7 @@ returns c =
     (omega (arith, c.if-at-len.false, c.len.ensures)) c.index_mut.ensures.value in
     event_done m (λ x. m.cores) (λ x. set m.banks c.args.bank x) (λ x. m.drams) part refl
     (set_same m.banks c.args.bank part here) refl
-    None (entry_evicted (bank_table.evict part c.args.line))
+    None (entry_evicted (bank_table.evict part c.args.line)) (entry_fits (bank_table.evict part c.args.line))
     c.self.inside.flight.capacity c.self.invariant.capacity_is _ c.self.view_is
     (λ n. on_event n (EvictBank c.args.bank c.args.line))
     (sym (finds m (λ x. changed m (with_bank m c.args.bank) None

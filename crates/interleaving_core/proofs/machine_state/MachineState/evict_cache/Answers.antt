@@ -8,7 +8,7 @@ use Rattle.machine_table.specs.Machine.{Machine, with_core}
 use Rattle.machine_table.specs.Step.{copy_evicted}
 use Rattle.machine_table.specs.declared.event.Event.TheVariants.{EvictCache}
 use Rattle.machine_table.specs.Transition.{changed, on_event}
-use Rattle.machine_table.proofs.Lemmas.{finds}
+use Rattle.machine_table.proofs.Lemmas.{copy_fits, finds}
 use Rattle.machine_theorem.specs.Kept.{Invariant}
 use Rattle.interleaving_core.specs.contracts.machine_state.MachineState.{the_view}
 use Rattle.interleaving_core.specs.PartChanges.{answer_of}
@@ -55,7 +55,7 @@ returns c =
     (omega (arith, c.if-at-len.false, c.len.ensures)) c.index_mut.ensures.value in
     event_done m (λ x. set m.cores c.args.core x) (λ x. m.banks) (λ x. m.drams) part
     (set_same m.cores c.args.core part here) refl refl
-    None (copy_evicted (core_table.evict part c.args.line))
+    None (copy_evicted (core_table.evict part c.args.line)) (copy_fits (core_table.evict part c.args.line))
     c.self.inside.flight.capacity c.self.invariant.capacity_is _ c.self.view_is
     (λ n. on_event n (EvictCache c.args.core c.args.line))
     (sym (finds m (λ x. changed m (with_core m c.args.core) None (copy_evicted (core_table.evict x c.args.line))) here))

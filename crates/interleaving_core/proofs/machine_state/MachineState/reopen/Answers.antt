@@ -1,4 +1,7 @@
-use Rattle.std.proofs.Common.{ap, subst, sym, ◌∙◌, arith, length}
+use Rattle.std.proofs.Common.{◌≡◌, false, [], ap, subst, sym, ◌∙◌, arith, length, replicate}
+use Rattle.machine_table.specs.Machine.{Machine}
+use Rattle.machine_table.specs.Opening.{at_start}
+use Rattle.interleaving_core.specs.contracts.machine_state.MachineState.{the_view}
 use Rattle.interleaving_core.specs.CoreMasks.{AreMasks}
 use Rattle.interleaving_core.specs.Reservation.{owed}
 use Rattle.network.specs.Flight.{Flight}
@@ -16,3 +19,22 @@ invariant_of-result c =
       reserved = omega (arith, none, empty);
       masked = subst (AreMasks _) (sym c.in_ok-reopen_parts.ensures.cores) (c.all_idle.ensures c.self.inside.config);
     }
+
+pub returns : goal.returns
+returns c =
+    let m : Machine = the_view c.self.inside in
+    let made = c.in_ok-reopen_parts.ensures in
+    let many : length m.issued ≡ m.config.cores =
+    subst (λ (n : Machine). length n.issued ≡ n.config.cores) (sym c.self.view_is) c.requires.issued in
+    (λ i. record {
+      config = m.config;
+      opening = c.args.memory;
+      cores = made.cores i;
+      banks = made.banks i;
+      drams = made.drams i;
+      mail = ap (λ (t : Flight). t.mail) c.clear.ensures i;
+      issued = (c.clear_operations.ensures ∙ ap (λ n. replicate n []) many) i;
+      records = c.clear-2.ensures i;
+      is_stopped = false;
+    })
+    ∙ ap (λ (n : Machine). at_start n.config c.args.memory) c.self.view_is

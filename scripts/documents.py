@@ -8,8 +8,9 @@ or tests them. The pages are those at the top, docs/*.md, examples/README.md and
 A table stands between the lines `<!-- table NAME -->` and `<!-- end -->`. A quotation stands between the lines
 `<!-- source FILE ITEM .. -->` and `<!-- end -->`: a file of crates/ and the functions or types of it that are quoted,
 each with the comment above it. The script also tests that each path of a file that a document names or links to is
-there, that of a crate's proofs only proofs/Lemmas.antt is open to the crates above, and that the rules of the grammar
-in docs/TEXTS.md are those above the forms of litmus tests.
+there, that of a crate's proofs only proofs/Lemmas.antt is open to the crates above, that the cases of what a part does
+stand in no more files than they should, and that the rules of the grammar in docs/TEXTS.md are those above the forms of
+litmus tests.
 """
 import re
 import sys
@@ -45,6 +46,12 @@ GROUPS = [
     ("Laws for later layers: of the table's histories, of the moves of a state, of the protocol by lines", [
         ("machine_theorem", "*", ""), ("protocol", "*", "")]),
 ]
+
+# What a part does, by cases; and the parts, which decide by them. Outside these, two files of definitions name more than
+# one case of each, and two of code, so that a new case is added there and the prover leads to the rest.
+WALKED = (("network", "part.Reaction"), ("core_pts", "attempt.Attempt"))
+PARTS = ("core_pts", "llc_bank", "dram_mts")
+WALKS_AT_MOST = 2
 
 # How many definitions of a file the table of docs/TRUST.md names, where it means a part of the file.
 NAMED_AT_MOST = 10
@@ -288,6 +295,28 @@ def open_proofs():
                 yield "%s opens %s: crates above use proofs/Lemmas.antt alone" % (lib.relative_to(CRATES), name)
 
 
+def cases_named(file, crate, enum):
+    """The cases of an enum that a file names."""
+    text = file.read_text(encoding="utf-8")
+    module = r"use Rattle\.%s\.specs\.declared\.%s\.TheVariants" % (crate, re.escape(enum))
+    names = re.findall(r"\b%s::([A-Z]\w+)" % enum.split(".")[1], text)
+    for some in re.findall(module + r"\.\{([^}]*)\}", text):
+        names += [name.split(" as ")[0].strip() for name in some.split(",")]
+    for alias in re.findall(module + r" as (\w+)", text):
+        names += re.findall(r"\b%s\.([A-Z]\w+)" % alias, text)
+    return set(names)
+
+
+def walks():
+    """The files outside the parts that name more than one case of what a part does, if they are too many."""
+    for crate, enum in WALKED:
+        for kind, pattern in (("definitions", "*/specs/*.antt"), ("code", "*/src/**/*.rt")):
+            files = [str(file.relative_to(CRATES)) for file in sorted(CRATES.glob(pattern))
+                     if file.relative_to(CRATES).parts[0] not in PARTS and len(cases_named(file, crate, enum)) > 1]
+            if len(files) > WALKS_AT_MOST:
+                yield "%s is walked in too many files of %s: %s" % (enum.split(".")[1], kind, ", ".join(files))
+
+
 def other_rules():
     """The rules of docs/TEXTS.md that no form of a litmus test has above it, and those of forms that the page lacks."""
     shown = re.findall(r"^(\w+ := .+)$", (TOP / "docs/TEXTS.md").read_text(encoding="utf-8"), re.M)
@@ -322,7 +351,7 @@ def main():
     for document in pages():
         written(document, with_quotations, check, faults)
         faults += list(missing_paths(document)) + list(missing_links(document))
-    faults += list(open_proofs()) + list(other_rules())
+    faults += list(open_proofs()) + list(other_rules()) + list(walks())
     for fault in faults:
         print("documents.py: " + fault)
     raise SystemExit(1 if faults else 0)

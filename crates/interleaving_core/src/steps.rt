@@ -121,17 +121,22 @@ impl MachineState {
         let Some(message) = self.flight.look(number) else {
             return Ok(PlainAnswer::Refused(Refusal::NoSuch));
         };
-        let response = match message.to {
+        match message.to {
             Node::Core(core) => {
                 let at = core as usize;
                 let response = respond(&mut self.cores[at], &self.flight, message);
                 note_delivery(&mut self.masks, core, &self.cores[at]);
-                response
+                Ok(conclude(&mut self.flight, &mut self.is_stopped, number, response?))
             }
-            Node::Bank(bank) => respond(&mut self.banks[bank as usize], &self.flight, message),
-            Node::Dram(bank) => respond(&mut self.drams[bank as usize], &self.flight, message),
-        };
-        Ok(conclude(&mut self.flight, &mut self.is_stopped, number, response?))
+            Node::Bank(bank) => {
+                let response = respond(&mut self.banks[bank as usize], &self.flight, message);
+                Ok(conclude(&mut self.flight, &mut self.is_stopped, number, response?))
+            }
+            Node::Dram(bank) => {
+                let response = respond(&mut self.drams[bank as usize], &self.flight, message);
+                Ok(conclude(&mut self.flight, &mut self.is_stopped, number, response?))
+            }
+        }
     }
 
     // What the table answers to an event, if there is memory for it.

@@ -57,7 +57,7 @@ held-fits : (n : ℕ) (a : Answer Message) → nat_eq n 0 ≡ false → a ≡ He
 held-fits n a some e =
     ap (λ x. stays_held (fitted n x)) e ∙ ap (λ b. stays_held {T = Message} (cond b (Refused Full) Held)) some
 
-core-wait : (held : List Message) (p : SendingCore) → length held ≤ 256 →
+pub core-wait : (held : List Message) (p : SendingCore) → length held ≤ 256 →
     ((i : ℕ) (x : Message) → slice_get held i ≡ Some x → core_table p.core x ≡ Some (does.Held, p.core)) →
     AllWait sending_core_table sending_core_takes_memory held p
 core-wait held p few wait i x e =
@@ -65,7 +65,7 @@ core-wait held p few wait i x e =
     held-fits n (sending_core_table p x n).0 (some-place (length held) few)
     (ap (λ r. (reacts true p.outbox n p.core r).0) (wait i x e))
 
-bank-wait : (held : List Message) (p : SendingBank) → length held ≤ 256 →
+pub bank-wait : (held : List Message) (p : SendingBank) → length held ≤ 256 →
     ((i : ℕ) (x : Message) → slice_get held i ≡ Some x →
     ((b : ℕ) × (x.to ≡ node.Bank b)) × (bank_table p.bank x ≡ Some (does.Held, p.bank))) →
     AllWait sending_bank_table sending_bank_takes_memory held p

@@ -9,3 +9,4 @@ mod StoppedSeats
 mod PutTurns
 mod Turns
 mod WaitingMessages
+mod FullLists

@@ -1,15 +1,16 @@
--- What a serving does where the hand is empty and all held messages wait.
+-- What a serving does where all held messages wait, and the hand is empty or its message finds no place.
 use Rattle.std.proofs.Common.{◌≡◌, ℕ, suc, ◌+◌, ◌-◌, ◌||◌, inl, inr, Bool, true, false, not, cond}
 use Rattle.std.proofs.Common.{List, [], ◌∷◌, length}
-use Rattle.std.proofs.Common.{Some, None, Result, refl, sym, ap, ◌∙◌, subst, true≢false}
+use Rattle.std.proofs.Common.{Some, None, Result, Err, refl, sym, ap, ◌∙◌, subst, true≢false}
 use Rattle.std.specs.Prelude.{slice_get}
 use Rattle.std.specs.List.{find, list_any}
 use Rattle.inbox.specs.declared.answer.Answer.{Answer}
 use Rattle.inbox.specs.declared.answer.Answer.TheVariants.{Delivered, Dropped, Started, Held, Refused}
 use Rattle.inbox.specs.declared.answer.Refusal.{Refusal}
+use Rattle.inbox.specs.declared.answer.Refusal.TheVariants.{Full}
 use Rattle.inbox.specs.declared.answer.Served.{Served}
 use Rattle.inbox.specs.Inboxes.{InboxState, inbox}
-use Rattle.inbox.specs.Serving.{Place, held_at, held_from, finds_no_place, stays_held, answer_to, asked}
+use Rattle.inbox.specs.Serving.{Place, in_hand, held_at, held_from, finds_no_place, stays_held, answer_to, asked}
 use Rattle.inbox.specs.Serving.{none_served}
 use Rattle.inbox.specs.Serving.{is_served, served_of, is_refused, serve, serve_by, Serves}
 use Rattle.mailboxes.specs.SeatServing.{seat_result}
@@ -88,3 +89,31 @@ module _ {T : Type 0} where
         let w = waits-held b.held p wait served c q
         (subst (λ (y : InboxState T). Serves table takes_memory y p served c q) same s) in
         (w.0 ∙ sym same, w.1)
+
+    module _ (held : List T) (p : P) (m : T)
+        (full : finds_no_place (asked table p m (256 - length held)).0 ≡ true) (wait : AllWait held p) where
+      none-served : served_of table held p ((in_hand, m) ∷ held_from 0 held) ≡ None
+      none-served =
+          ap (λ b. cond (not b) (Some (in_hand, m)) (find (is_served table held p) (held_from 0 held))) full
+          ∙ (waited held p wait).0
+
+      full-unserved : serve table (inbox (Some m) held) p ≡ (Err Full, inbox (Some m) held, p)
+      full-unserved =
+          ap (λ y. serve_by table (is_refused table held p ((in_hand, m) ∷ held_from 0 held)) y (inbox (Some m) held) p)
+          none-served
+          ∙ ap (λ b. serve_by table (b || list_any (λ x. finds_no_place (answer_to table held p x).0) (held_from 0 held))
+          None (inbox (Some m) held) p) full
+
+      -- nothing comes of the message in the hand either
+      pub waits-full : (served : Result Served Refusal) (c : InboxState T) (q : P) →
+          Serves table takes_memory (inbox (Some m) held) p served c q →
+          (served ≡ Err Full) × (c ≡ inbox (Some m) held) × (q ≡ p)
+      waits-full served c q s =
+          elim s [
+            | inl f ↦ (
+              ap (λ (y : Result Served Refusal × InboxState T × P). y.0) (f ∙ full-unserved),
+              ap (λ (y : Result Served Refusal × InboxState T × P). y.1) (f ∙ full-unserved),
+              ap (λ (y : Result Served Refusal × InboxState T × P). y.2) (f ∙ full-unserved),
+            )
+            | inr f ↦ absurd (let some : None ≡ Some f.3.0 = sym none-served ∙ f.3.1 in cc)
+          ]

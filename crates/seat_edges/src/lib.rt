@@ -12,7 +12,7 @@ ghost use Rattle.seat_edges.specs.StopLaws.{LateReadersStop, LateRecallsStop, La
 ghost use Rattle.seat_edges.specs.TurnLaws.{BankTurnsPut, CoreTurnsPut, EmptyBankHandsTake, EmptyCoreHandsTake};
 ghost use Rattle.seat_edges.specs.TurnLaws.{FullBankHandsTakeNothing, FullBanksTakeNothing};
 ghost use Rattle.seat_edges.specs.TurnLaws.{FullCoreHandsTakeNothing, FullCoresTakeNothing, TakesBegin, TakesMoveOn};
-ghost use Rattle.seat_edges.specs.WaitLaws.{BanksServeBehind, CoresServeBehind};
+ghost use Rattle.seat_edges.specs.WaitLaws.{BanksServeBehind, CoresServeBehind, FullBanksHoldNoMore, FullCoresHoldNoMore};
 
 use mailboxes::laws::all_incoming_slots_are_looked_at;
 
@@ -101,6 +101,13 @@ pub fn turns_put_first()
 pub fn later_messages_are_served()
     ensures cores { CoresServeBehind }
     ensures banks { BanksServeBehind }
+{}
+
+/// A message in the hand that has to wait needs a place in the held list. If 256 messages are held and all of these
+/// wait, too, the answer is NetworkFull, and nothing changes.
+pub fn full_held_lists_hold_no_more()
+    ensures cores { FullCoresHoldNoMore }
+    ensures banks { FullBanksHoldNoMore }
 {}
 
 /// If the only held message finds no place in a full outbox, and none of the outbox is put, a turn answers NetworkFull

@@ -8,8 +8,8 @@ use crate::begun::Begun;
 use crate::told::{Told, told_of_turn};
 use mailboxes::{BankSeat, Machine};
 
-/// A turn of a bank's seat, which has begun at a gate. If a held request waits for room, the turn evicts the line that makes room for it. Then
-/// the seat puts, serves and takes messages. docs/SCHEDULES.md has the order.
+/// A turn of a bank's seat, which has begun at a gate. If a held request waits for room, the turn evicts the line that
+/// makes room for it. Then the seat puts, serves and takes messages. docs/SCHEDULES.md has the order.
 pub fn bank_turn(machine: &Machine, _begun: &Begun, seat: &mut BankSeat) -> Told
     requires { IsBankSeat machine.now seat.old }
     ensures seat { IsBankSeat machine.now seat.new ×

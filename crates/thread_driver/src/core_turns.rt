@@ -15,10 +15,10 @@ use physiological_order::Op;
 use programs::Step;
 use programs::program::Program;
 
-/// A turn of a core's seat, which has begun at a gate. It attempts the open operation. If none is open, it does the program's next step: it
-/// issues an operation and then attempts it, or advances the core. If there is no place for the operation's line, it
-/// evicts a copy. The program receives what was completed, and goes on after an advance. Then the seat puts, serves
-/// and takes messages. docs/SCHEDULES.md has the order.
+/// A turn of a core's seat, which has begun at a gate. It attempts the open operation. If none is open, it does the
+/// program's next step: it issues an operation and then attempts it, or advances the core. If there is no place for the
+/// operation's line, it evicts a copy. The program receives what was completed, and goes on after an advance. Then the
+/// seat puts, serves and takes messages. docs/SCHEDULES.md has the order.
 pub fn core_turn<P: Program>(
     machine: &Machine,
     _begun: &Begun,

@@ -431,13 +431,16 @@ exhausted() {
 }
 
 # The seat that stops is core 0's, which stores after the last time or can't advance in its first turn; or the bank's,
-# which has no lease for either core.
+# which has no lease for either core. At last core 0 can't advance in its 100,001st turn, while core 1 is busy with its
+# own line: by then it has done a part of its 3,000,001 operations.
 seats_that_stop() {
     printf '0 R 0x0\n1 R 0x8\n' >"$work/loads"
     printf 'trace 2\n0 A\n1 R 0x0\n' >"$work/at_once"
     exhausted "$work/last" 18446744073709551614 6 8
     exhausted "$work/loads" 18446744073709551614 0 0
     exhausted "$work/at_once" 18446744073709551615 0 0
+    { echo 'trace 2'; yes '0 A' | head -n 100001; echo '1 W 0x8 3'; yes '1 R 0x8' | head -n 3000000; } >"$work/busy"
+    exhausted "$work/busy" 18446744073709451615 0 2999999
 }
 
 threads() {
@@ -542,14 +545,16 @@ many_lines() {
     refused "a fault behind 700,001 lines" 2 'tardis: line 700002: 7 BadValue' trace "$work/steps"
 }
 
-# Sixteen cores load 4,000 words, each word once.
+# Sixteen cores load 200,000 words, each word once.
 many_words() {
-    awk 'BEGIN { for (k = 0; k < 4000; k++) printf "%d R 0x%x\n", k % 16, 8 * k }' >"$work/steps"
-    { loads_of 16 4000; awk 'BEGIN { for (k = 0; k < 4000; k++) printf "word 0x%x 0\n", 8 * k }'; } >"$work/wanted"
-    told "4,000 words" 0 "$work/wanted" /dev/null trace --limit 4294967295 "$work/steps"
+    awk 'BEGIN { for (k = 0; k < 200000; k++) printf "%d R 0x%x\n", k % 16, 8 * k }' >"$work/steps"
+    { loads_of 16 200000; awk 'BEGIN { for (k = 0; k < 200000; k++) printf "word 0x%x 0\n", 8 * k }'; } >"$work/wanted"
+    told "200,000 words" 0 "$work/wanted" /dev/null trace --limit 4294967295 "$work/steps"
+    told "200,000 words by threads" 0 "$work/wanted" /dev/null \
+        trace --schedule threads --limit 4294967295 "$work/steps"
     "$tardis" trace --records --limit 4294967295 "$work/steps" >"$work/records"
     echo legal >"$work/wanted"
-    told "4,000 words: the records" 0 "$work/wanted" /dev/null check "$work/steps" "$work/records"
+    told "200,000 words: the records" 0 "$work/wanted" /dev/null check "$work/steps" "$work/records"
 }
 
 # Of 4,000 loads the last received another value, or its number is one too great.

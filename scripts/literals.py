@@ -6,7 +6,7 @@
 
 A body that does something else past some size may meet each clause, but needs a number for it. So each number has its
 reason in the table, and one more, or another one, fails. Clauses, comments, texts and the numbers of errors
-(`Kind::BadTable => 7,`) don't count.
+(`Kind::BadTable => 7,`) don't count. `u8::MAX` counts as 255, and so does `u8::BITS`.
 """
 import re
 import sys
@@ -17,9 +17,10 @@ TOP = Path(__file__).resolve().parent.parent
 TABLE = TOP / "tests/literals.table"
 NOT_PRODUCTION = ("test_", "bench", "play_", "event_text", "guide_uses")
 TEXT = r"//.*|b?'(?:\\.|[^'\\])'|\"(?:\\[^']|[^\"\\])*\""
-QUIET = re.compile(TEXT + r"|#!?\[[^]]*\]|(?:Kind|Refusal|\w+Error)::\w+(?:\(_\))? => \d+,")
+QUIET = re.compile(TEXT + r"|#!?\[[^]]*\]|(?:Kind|Refusal|\w+Error)::\w+(?:\(_\))? => \d\d?,")
 CLAUSE = re.compile(r"\b(?:ensures|requires)\b[^{]*\{|\bghost [^;{]*[;{]")
-NUMBER = re.compile(r"(?<![\w.])(0x[\da-f_]+|\d[\d_]*?)(?:_?[ui](?:8|16|32|64|128|size))?(?!\w)")
+NUMBER = re.compile(r"(?<!\w)(?<!(?<!\.)\.)(0[xbo][\da-f_]+|\d[\d_]*?)(?:_?[ui](?:8|16|32|64|128|size))?(?!\w)")
+GREATEST = re.compile(r"\bu(8|16|32|64|128)::(?:MAX|BITS)\b")
 ROW = re.compile(r"(\w+) \| (\d+) \| (\d+) \| \S")
 
 
@@ -49,6 +50,7 @@ def numbers():
         if not crate.startswith(NOT_PRODUCTION):
             code = without_clauses(QUIET.sub(" ", file.read_text(encoding="utf-8")))
             found.update((crate, int(each.replace("_", ""), 0)) for each in NUMBER.findall(code))
+            found.update((crate, 2 ** int(bits) - 1) for bits in GREATEST.findall(code))
     return Counter({each: count for each, count in found.items() if each[1] > 1})
 
 

@@ -227,11 +227,12 @@ def sweep(tester, name, what, how):
 KINDS = ("no memory", "ended for want of memory", "by one thread", "done")
 
 
-def are_started(tester, *words):
-    """As many workers as these are the calling thread, and one thread that is started for each of the others."""
-    for workers in range(1, 17):
+def are_started(tester, *words, runs=1):
+    """In each run the workers are the calling thread, and one thread that is started for each of the others."""
+    for workers in range(1, 17) if runs == 1 else (1, 3):
         ran = tester.run([*words, "--workers", workers])
-        tester.expect(ran.started == workers - 1, f"{words} by {workers} workers: {ran.started} threads were started")
+        tester.expect(ran.started == runs * (workers - 1),
+                      f"{words} by {workers} workers: {ran.started} threads were started")
 
 
 def refused_threads(tester):
@@ -242,6 +243,9 @@ def refused_threads(tester):
         cores = Path(folder, "64-cores.trace")
         cores.write_text("trace 2\n63 R 0x0\n")
         are_started(tester, "trace", "--schedule", "threads", cores)
+        are_started(tester, "litmus", "--schedule", "threads", "--runs", 300, LITMUS, runs=300)
+        cores.write_text("trace 2\n4 R 0x0\n")
+        are_started(tester, "trace", "--schedule", "threads", "--banks", 2, cores)
         cases = {"three runs of SB by threads": Litmus(), f"{TRACE.name} by threads": Trace(),
                  f"{TRACE.name} by threads, its records": Records(tester, Path(folder, "records"))}
         for name, what in cases.items():

@@ -111,6 +111,7 @@ seeds() {
         if is_seeded "$text"; then setting "$text"; fi
     done
     one_seed_more
+    one_state
 }
 
 # Run 65,536 of a batch has the seed 65,536, and not the first one's again: by the second program it adds other counts.
@@ -120,6 +121,15 @@ one_seed_more() {
     "$examples/oracle.py" litmus --schedule seed --seed 65536 "$text" >"$work/behind"
     "$examples/merge.py" "$work/front" "$work/behind" >"$work/wanted"
     told "65,537 seeds of SB" 0 "$work/wanted" /dev/null litmus --schedule seed --runs 65537 "$text"
+}
+
+# So many runs end in one state that 16 bits don't count them.
+one_state() {
+    printf 'RISCV ONE\n{ 0:x5=1; 0:x6=x; }\nP0 ;\nsw x5,0(x6) ;\nexists x=1\n' >"$work/one.litmus"
+    printf '%s\n' 'test ONE' 'threads 1' 'runs 70000' 'all-done 70000' 'stalled 0' 'limit 0' 'exhausted 0' 'memory 0' \
+        'states 1' '70000 x=1' 'condition exists' 'held 70000' 'verdict yes' 'completed 70000' 'renewals 0' \
+        'upgrades 0' 'flushes 0' 'write-backs 0' 'stale-hits 0' >"$work/wanted"
+    told "70,000 runs of one store" 0 "$work/wanted" /dev/null litmus --runs 70000 "$work/one.litmus"
 }
 
 # The number of workers shows in no report.

@@ -1,7 +1,7 @@
 #!/usr/bin/env python3
-"""Counts the numbers from 2 on that the code of the production crates has.
+"""Counts the numbers from 2 on that the code of the production crates has, and its casts to fewer bits.
 
-    scripts/literals.py            lists them: crate, number, how often
+    scripts/literals.py            lists them: crate, number or cast, how often
     scripts/literals.py --check    compares them with tests/literals.table, and fails if they differ
 
 A body that does something else past some size may meet each clause, but needs a number for it. So each number has its
@@ -21,7 +21,8 @@ QUIET = re.compile(TEXT + r"|#!?\[[^]]*\]|(?:Kind|Refusal|\w+Error)::\w+(?:\(_\)
 CLAUSE = re.compile(r"\b(?:ensures|requires)\b[^{]*\{|\bghost [^;{]*[;{]")
 NUMBER = re.compile(r"(?<!\w)(?<!(?<!\.)\.)(0[xbo][\da-f_]+|\d[\d_]*?)(?:_?[ui](?:8|16|32|64|128|size))?(?!\w)")
 GREATEST = re.compile(r"\bu(8|16|32|64|128)::(?:MAX|BITS)\b")
-ROW = re.compile(r"(\w+) \| (\d+) \| (\d+) \| \S")
+CAST = re.compile(r"\bas [iu](?:8|16|32)\b")
+ROW = re.compile(r"(\w+) \| ([\w ]+) \| (\d+) \| \S")
 
 
 def past_brace(text, at):
@@ -43,33 +44,34 @@ def without_clauses(text):
 
 
 def numbers():
-    """The numbers of all production crates, as (crate, number), each with how often it stands there."""
+    """The numbers and casts of all production crates, as (crate, what), each with how often it stands there."""
     found = Counter()
     for file in sorted((TOP / "crates").glob("*/src/**/*.rt")):
         crate = file.relative_to(TOP / "crates").parts[0]
         if not crate.startswith(NOT_PRODUCTION):
             code = without_clauses(QUIET.sub(" ", file.read_text(encoding="utf-8")))
-            found.update((crate, int(each.replace("_", ""), 0)) for each in NUMBER.findall(code))
-            found.update((crate, 2 ** int(bits) - 1) for bits in GREATEST.findall(code))
-    return Counter({each: count for each, count in found.items() if each[1] > 1})
+            written = [int(each.replace("_", ""), 0) for each in NUMBER.findall(code)]
+            written += [2 ** int(bits) - 1 for bits in GREATEST.findall(code)]
+            found.update((crate, str(each)) for each in [*filter(lambda each: each > 1, written), *CAST.findall(code)])
+    return found
 
 
 def main():
     found = numbers()
     if sys.argv[1:] != ["--check"]:
-        for (crate, number), count in sorted(found.items()):
-            print(f"{crate} | {number} | {count}")
+        for (crate, what), count in sorted(found.items()):
+            print(f"{crate} | {what} | {count}")
         return
     rows = [ROW.match(line) for line in TABLE.read_text(encoding="utf-8").splitlines()]
-    wanted = Counter({(row[1], int(row[2])): int(row[3]) for row in rows if row})
-    for crate, number in sorted(found.keys() | wanted.keys()):
-        count, listed = found[crate, number], wanted[crate, number]
+    wanted = Counter({(row[1], row[2]): int(row[3]) for row in rows if row})
+    for crate, what in sorted(found.keys() | wanted.keys()):
+        count, listed = found[crate, what], wanted[crate, what]
         if count != listed:
-            print(f"literals.py: {number} stands {count} times in the code of {crate}, and {listed} times in "
+            print(f"literals.py: {what} stands {count} times in the code of {crate}, and {listed} times in "
                   "tests/literals.table")
     if found != wanted or not found:
         raise SystemExit(1)
-    print(f"{sum(found.values())} numbers from 2 on, each with its reason in tests/literals.table")
+    print(f"{sum(found.values())} numbers from 2 on and casts, each with its reason in tests/literals.table")
 
 
 if sys.argv[1:2] in (["-h"], ["--help"]):

@@ -6,8 +6,7 @@
    moved by each call before the Nth, which is an error), or, for a write, nothing (no byte is taken).
    Bytes go to descriptor REFUSE_TOLD: a t for each thread that is started; and, if something is refused for the first
    time, a w where work is shared by threads (in a thread that was started, or in the first one while it works beside
-   such a thread), and else an exclamation mark; and at the end a y for each time that a thread let others run, but no
-   more than 1,000. */
+   such a thread), and else an exclamation mark. */
 #define _GNU_SOURCE
 #include <dlfcn.h>
 #include <errno.h>
@@ -15,7 +14,6 @@
 #include <stdio.h>
 #include <stdlib.h>
 #include <string.h>
-#include <sys/syscall.h>
 #include <sys/uio.h>
 #include <unistd.h>
 
@@ -36,7 +34,6 @@ struct refusal {
 static struct refusal growth, reading, writing;
 static int told = -1;
 static unsigned long asked; /* bytes, by all growths */
-static unsigned yields;
 static int works; /* the first thread, beside another one */
 static ssize_t (*next_read)(int, void *, size_t);
 static ssize_t (*next_write)(int, const void *, size_t);
@@ -73,6 +70,10 @@ __attribute__((constructor)) static void begin(void) {
     open_refusal(&growth, "REFUSE_GROWTH");
 }
 
+__attribute__((destructor)) static void tell_bytes(void) {
+    char *text = getenv("REFUSE_BYTES");
+    if (text) dprintf(atoi(text), "%lu\n", asked);
+}
 
 static int is_first_thread(void) {
     return gettid() == getpid();
@@ -80,12 +81,6 @@ static int is_first_thread(void) {
 
 static void tell(const char *byte) {
     if (told >= 0) next_write(told, byte, 1);
-}
-
-__attribute__((destructor)) static void end(void) {
-    char *text = getenv("REFUSE_BYTES");
-    if (text) dprintf(atoi(text), "%lu\n", asked);
-    for (unsigned i = 0; i < yields && i < 1000; i++) tell("y");
 }
 
 static enum how answer_of(struct refusal *it) {
@@ -151,9 +146,4 @@ int pthread_create(pthread_t *thread, const pthread_attr_t *how, void *(*run)(vo
 int pthread_join(pthread_t thread, void **result) {
     if (is_first_thread()) works = 0;
     return next_join(thread, result);
-}
-
-int sched_yield(void) {
-    __atomic_add_fetch(&yields, 1, __ATOMIC_SEQ_CST);
-    return syscall(SYS_sched_yield);
 }

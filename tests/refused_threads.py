@@ -34,7 +34,6 @@ LIMITS = (100_000, 5_000_000, 200_000_000)
 MOST_TURNS = 4_294_967_295
 LAST_TIME = 2**64 - 1  # at this time no lease fits, and a run is exhausted
 PASSES = 200  # after so many of one worker alone nothing in these runs goes on any more
-IDLE = 256  # after so many passes that came to nothing, a worker lets another thread run
 SCHEDULE = ["--schedule", "threads", "--workers", WORKERS]
 
 
@@ -210,9 +209,6 @@ def sweep(tester, name, what, how):
         if not ran.refused:
             break
         kinds[kind] += 1
-        if kind == "by one thread":
-            yields = WORKERS * ((LIMITS[0] - PASSES) // IDLE)
-            tester.expect(ran.yields >= yields, f"{name}, growth {number}{how}: {ran.yields} of {yields} yields")
         if not how and ran.is_at_work and kinds[kind] == 1:
             # The other worker finds the end: it doesn't go on for as many turns as there may be.
             ran = tester.run([*what.words, "--limit", MOST_TURNS], growth=f"{number}")

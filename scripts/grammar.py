@@ -6,6 +6,7 @@ has, by itself and by the rules that it uses, must be those that its form has, b
 uses. So a sign or word more, or another one, fails, even if definition and code agree on it.
 """
 import re
+import sys
 from pathlib import Path
 
 TOP = Path(__file__).resolve().parent.parent
@@ -79,4 +80,6 @@ def main():
     raise SystemExit(1 if faults else 0)
 
 
+if sys.argv[1:2] in (["-h"], ["--help"]):
+    raise SystemExit(print(__doc__))
 main()

@@ -1,6 +1,6 @@
 -- What is read of a whole text is in the grammar, and each text of the grammar is read.
 use Rattle.std.proofs.Common.{◌≡◌, ℕ, ◌≤◌, true, false, eqb, ltb, List, [], length, Result, Ok, Err}
-use Rattle.std.proofs.Common.{refl, ap, subst, inl, inr}
+use Rattle.std.proofs.Common.{refl, sym, ap, ◌∙◌, subst, inl, inr}
 use Rattle.std.specs.Prelude.{IfOk}
 use Rattle.std.specs.List.{list_all, prefix_len}
 use Rattle.std.proofs.lemmas.Bool.{cond_both, eq-eqb, ltb-false, le-ltb, both_ways}
@@ -67,3 +67,9 @@ found-told text (Err e) h = tt
 pub only-told : (text : List ℕ) (r : Result Test LitmusError) → IsReadOrNoMemory test_of r (test_at text) →
     (test : Litmus) → IsTest text test → IsReadOrNoMemory test_of r (Ok test)
 only-told text r told test h = subst (IsReadOrNoMemory test_of r) (read_again text test h) told
+
+-- a text is read as one test
+pub one-test : (text : List ℕ) (one other : Litmus) → IsTest text one → IsTest text other → one ≡ other
+one-test text one other h k =
+    let same : Ok {E = LitmusError} one ≡ Ok other = sym (read_again text one h) ∙ read_again text other k in
+    cc

@@ -3,6 +3,7 @@
 
 mod contents;
 mod ends;
+pub mod laws;
 mod opening;
 mod reading;
 mod thread_programs;

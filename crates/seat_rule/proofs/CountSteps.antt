@@ -208,6 +208,9 @@ module _ (z : SetUp) (n : ℕ) (from to : ℕ → ℕ) (slots : ℕ) where
                 log) good whole).legal,
           );
           own = subst (λ j. of_core j log ≡ v.mine.records ++ new ∷ []) (sym named) own;
+          by_number = laws.in_order z.config z.memory
+              (state_of z n (with_value_at r.seats id h) (in_flight n slots (with_value_at r.seats id h) r.phases) log)
+              good whole;
           view = refl;
           carried = refl;
           standing =

@@ -124,6 +124,9 @@ pub record finished (z : SetUp) (n : ℕ) (core : CoreState) (op : Op) (received
       Legal (flat z.memory) issued (log ++ drawn m op received ts r ∷ [])
   pub own :
       of_core m.0.number (log ++ drawn m op received ts r ∷ []) ≡ m.0.mine.records ++ drawn m op received ts r ∷ []
+  -- they stand by number
+  pub by_number : (k : ℕ) (done : Record) → slice_get (log ++ drawn m op received ts r ∷ []) k ≡ Some done →
+      done.number ≡ k
   -- the seat now holds it, and has seen all records up to it
   pub view : m'.0 ≡ with_hold m.0 (complete_hold m.0.mine core log (drawn m op received ts r))
   pub carried : m'.1 ≡ m.1

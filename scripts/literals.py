@@ -1,11 +1,13 @@
 #!/usr/bin/env python3
-"""Counts the numbers from 2 on that the code of the production crates has, and its casts to fewer bits.
+"""Counts the numbers from 2 on that the code of the production crates has, and what stands for one: uses of constants
+that are numbers or structures, casts to fewer bits, `try_from` and `try_into`, the types i8, i16 and u16, shifts, and
+the ends of signed types and of usize.
 
-    scripts/literals.py            lists them: crate, number or cast, how often
+    scripts/literals.py            lists them: crate, number or other sign, how often
     scripts/literals.py --check    compares them with tests/literals.table, and fails if they differ
 
-A body that does something else past some size may meet each clause, but needs a number for it. So each number has its
-reason in the table, and one more, or another one, fails. Clauses, comments, texts and the numbers of errors
+A body that does something else past some size may meet each clause, but needs one of these for it. So each has its
+reason in the table, and one more, or another one, fails. Clauses, imports, comments, texts and the numbers of errors
 (`Kind::BadTable => 7,`) don't count. `u8::MAX` counts as 255, and so does `u8::BITS`.
 """
 import re
@@ -18,11 +20,14 @@ TABLE = TOP / "tests/literals.table"
 NOT_PRODUCTION = ("test_", "bench", "play_", "event_text", "guide_uses")
 TEXT = r"//.*|b?'(?:\\.|[^'\\])'|\"(?:\\[^']|[^\"\\])*\""
 QUIET = re.compile(TEXT + r"|#!?\[[^]]*\]|(?:Kind|Refusal|\w+Error)::\w+(?:\(_\))? => \d\d?,")
+IMPORT = re.compile(r"\buse [^;]*;")
 CLAUSE = re.compile(r"\b(?:ensures|requires)\b[^{]*\{|\bghost [^;{]*[;{]")
 NUMBER = re.compile(r"(?<!\w)(?<!(?<!\.)\.)(0[xbo][\da-f_]+|\d[\d_]*?)(?:_?[ui](?:8|16|32|64|128|size))?(?!\w)")
 GREATEST = re.compile(r"\bu(8|16|32|64|128)::(?:MAX|BITS)\b")
-CAST = re.compile(r"\bas [iu](?:8|16|32)\b")
-ROW = re.compile(r"(\w+) \| ([\w ]+) \| (\d+) \| \S")
+CONSTANT = re.compile(r"\bconst (\w+): (?:\w+ = \d|(\w+) = \2 \{)")
+SIGN = re.compile(r"\bas [iu](?:8|16|32)\b|\btry_(?:from|into)\b|\b(?:i8|[iu]16)\b|"
+                  r"\b(?:i\w+|usize)::(?:MAX|MIN|BITS)\b|(?<=[\w)\]] )(?:<<|>>)(?==? )")
+ROW = re.compile(r"(\w+) \| ([\w <>:]+) \| (\d+) \| \S")
 
 
 def past_brace(text, at):
@@ -43,16 +48,23 @@ def without_clauses(text):
     return "".join(kept) + text[at:]
 
 
-def numbers():
-    """The numbers and casts of all production crates, as (crate, what), each with how often it stands there."""
-    found = Counter()
+def production():
+    """The code of the production crates, as (crate, code of a file)."""
     for file in sorted((TOP / "crates").glob("*/src/**/*.rt")):
         crate = file.relative_to(TOP / "crates").parts[0]
         if not crate.startswith(NOT_PRODUCTION):
-            code = without_clauses(QUIET.sub(" ", file.read_text(encoding="utf-8")))
-            written = [int(each.replace("_", ""), 0) for each in NUMBER.findall(code)]
-            written += [2 ** int(bits) - 1 for bits in GREATEST.findall(code)]
-            found.update((crate, str(each)) for each in [*filter(lambda each: each > 1, written), *CAST.findall(code)])
+            yield crate, IMPORT.sub("", without_clauses(QUIET.sub(" ", file.read_text(encoding="utf-8"))))
+
+
+def numbers():
+    """The numbers and other signs of all production crates, as (crate, what), each with how often it stands there."""
+    files, found = list(production()), Counter()
+    names = "|".join({name for _, code in files for name, _ in CONSTANT.findall(code)})
+    for crate, code in files:
+        written = [int(each.replace("_", ""), 0) for each in NUMBER.findall(code)]
+        written += [2 ** int(bits) - 1 for bits in GREATEST.findall(code)]
+        signs = SIGN.findall(code) + re.findall(rf"(?<!const )\b(?:{names})\b", code)
+        found.update((crate, str(each)) for each in [*filter(lambda each: each > 1, written), *signs])
     return found
 
 
@@ -71,7 +83,7 @@ def main():
                   "tests/literals.table")
     if found != wanted or not found:
         raise SystemExit(1)
-    print(f"{sum(found.values())} numbers from 2 on and casts, each with its reason in tests/literals.table")
+    print(f"{sum(found.values())} numbers from 2 on and signs for one, each with its reason in tests/literals.table")
 
 
 if sys.argv[1:2] in (["-h"], ["--help"]):

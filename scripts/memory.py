@@ -1,14 +1,15 @@
 #!/usr/bin/env python3
 """Lists each place of the production crates that answers a failed allocation by itself, and doesn't pass on what an
-allocation answered by `?` or by an arm such as `Err(AllocError) => ..`.
+allocation answered by `?` or by an arm such as `Err(AllocError) => ..`. Those that count a failed read or write
+(`.rise()`) are listed, too.
 
     scripts/memory.py            lists them: file, function, and the blocks around the answer
     scripts/memory.py --check    compares them with tests/memory.table, and fails if they differ
 
-No contract can say that an allocation really failed. So a place that answers so by itself needs a reason, which the
-table has. A place that isn't there might be one that gives up past some size. So might one that asks for an amount that
-it works out: each is listed, with what its function binds to the names in it, unless the amount is a number, the length
-of a list or a parameter.
+No contract can say that an allocation, a read or a write really failed. So a place that answers so by itself needs a
+reason, which the table has. A place that isn't there might be one that gives up past some size. So might one that asks
+for too much, or for nothing: each amount is listed, with what its function binds to the names in it, unless it is a
+number or the length of a list.
 """
 import re
 import sys
@@ -18,13 +19,13 @@ from pathlib import Path
 TOP = Path(__file__).resolve().parent.parent
 TABLE = TOP / "tests/memory.table"
 NOT_PRODUCTION = ("test_", "bench", "play_", "event_text", "guide_uses")
-WANT = r"(?:\bAllocError\b|\b(?:ReadError::Memory|Stop::Refused|[A-Z]\w*::NoMemory)\b|\bErr\(NoMemory\)|= NoMemory;)"
+WANT = (r"(?:\bAllocError\b|\bAllocFailed\b(?!<)|\b(?:ReadError::Memory|Stop::Refused|[A-Z]\w*::NoMemory)\b|"
+        r"\bErr\(NoMemory\)|= NoMemory;|\.rise\(\))")
 PASSED_ON = re.compile(r"\s*(?:Err\()?(?:AllocError|(?:\w+::)+(?:NoMemory|Memory))\)?\s*")
 SKIPPED = re.compile(r"\s*(ghost |ensures\b|requires\b|impl\b|\) ->|[^=]*[≡≢])")
-CALL = re.compile(r"(?<!fn )\b(?:reserve|with_capacity|from_elem)\w*(?:::<.*?>)?(?=\()")
+CALL = re.compile(r"(?<!fn )\b(?:reserve|with_capacity|from_elem)\w*(?:::<.*?>)?(?=\()|\bvec!(?=\[in )")
 BOUND = re.compile(r"\s*(?:let (?P<pattern>.*?)(?:: .*?)?|(?P<name>\w+)) [-+*/%&|^<>]*=(?!=)")
-PARAMETER = re.compile(r"(?:^\s*|\(|, )(?:mut )?(\w+): ")
-PLAIN = re.compile(r"(?:[\d_]+|(?:\w+\.)+len\(\)|(?P<name>\w+)(?:\.\w+)*)(?: as usize)?")
+PLAIN = re.compile(r"(?:[\d_]+|(?:\w+\.)+len\(\))(?: as usize)?")
 IMPORT = re.compile(r"\s*(pub )?use ")
 FUNCTION = re.compile(r"\s*(?:pub(?:\(crate\))? )?(?:const )?fn (\w+)")
 TYPES = re.compile(r"Result<[^;{]*?AllocError>|#\[.*\]")
@@ -48,25 +49,22 @@ def answers(line):
 
 
 def amount_of(line, at):
-    """The last argument of the call whose parenthesis opens there; `..`, if that doesn't close in the line."""
+    """The last argument of the call whose parenthesis opens there; `..`, if the call doesn't end in the line."""
     depth, begun = 0, at + 1
     for end in range(at, len(line)):
         depth += (line[end] in "([{") - (line[end] in ")]}")
         if depth == 0:
             return line[begun:end].strip()
-        if depth == 1 and line[end] == ",":
+        if depth == 1 and line[end] in ",;":
             begun = end + 1
     return ".."
 
 
 class Names:
-    """What a function binds to names: its parameters, and the lines that bind the others or change them."""
+    """The lines of a function that bind names or change what they are bound to."""
 
     def __init__(self):
-        self.parameters, self.bound, self.whole = set(), {}, True
-
-    def parameter(self, line):
-        self.parameters |= {"self", *PARAMETER.findall(line)}
+        self.bound, self.whole = {}, True
 
     def bind(self, line, depth):
         if not self.whole:
@@ -78,15 +76,11 @@ class Names:
         for name in re.findall(r"\w+", (binds["pattern"] or binds["name"]) if binds else ""):
             self.bound.setdefault(name, []).append(self.last)
 
-    def is_plain(self, amount):
-        plain = PLAIN.fullmatch(amount)
-        return plain and (plain["name"] is None or plain["name"] in self.parameters - self.bound.keys())
-
     def amounts(self, line):
-        """What the line asks room for by amounts that are worked out, each behind what binds the names in it."""
+        """What the line asks room for by amounts that aren't plain, each behind what binds the names in it."""
         for call in CALL.finditer(line):
             amount = amount_of(line, call.end())
-            if amount and not self.is_plain(amount):
+            if amount and not PLAIN.fullmatch(amount):
                 lines, names = [], re.findall(r"\w+", amount)
                 for name in names:
                     for each in self.bound.get(name, ()):
@@ -99,7 +93,7 @@ class Names:
 def places_of(text):
     """The places of a source file as (function, code): the code is the blocks around the answer, from the outermost of
     the function on, and the answer's own line."""
-    function, around, heads, names = "-", [], False, Names()
+    function, around, names = "-", [], Names()
     for line in text.splitlines():
         line = re.sub(r"//.*", "", line).rstrip()
         if not line or SKIPPED.match(line):
@@ -108,14 +102,10 @@ def places_of(text):
         around = [each for each in around if each[0] < depth]
         named = FUNCTION.match(line)
         if named:
-            function, around, heads, names = named.group(1), [], True, Names()
-        if heads:
-            names.parameter(line)
-            heads = not line.endswith("{")
-        else:
-            for amount in names.amounts(line.strip()):
-                yield function, amount
-            names.bind(line.strip(), depth)
+            function, around, names = named.group(1), [], Names()
+        for amount in names.amounts(line.strip()):
+            yield function, amount
+        names.bind(line.strip(), depth)
         for _ in range(answers(line)):
             own = [] if re.match(r"\s*return\b", line) else [line.strip()]
             yield function, " > ".join([code for _, code in around] + own)
@@ -148,12 +138,11 @@ def main():
     wanted = listed()
     for place in sorted(found.keys() | wanted.keys()):
         if found[place] != wanted[place]:
-            print(f"memory.py: {' '.join(place)}: {found[place]} such places answer want of memory by themselves, and "
-                  f"tests/memory.table has {wanted[place]}")
+            print(f"memory.py: {' '.join(place)}: there are {found[place]} such places, and tests/memory.table has "
+                  f"{wanted[place]}")
     if found != wanted or not found:
         raise SystemExit(1)
-    print(f"{sum(found.values())} places answer want of memory by themselves, each with its reason in "
-          "tests/memory.table")
+    print(f"{sum(found.values())} places, each with its reason in tests/memory.table")
 
 
 if sys.argv[1:2] in (["-h"], ["--help"]):

@@ -127,7 +127,8 @@ def cell_at_fault(text, number, kind):
     """The thread and the cell of a row that has a fault of kind 8 to 12; None elsewhere."""
     lines = text.split("\n")
     head = next((at for at, line in enumerate(lines, 1) if re.match(r"[ \t\r]*P0\b", line)), len(lines) + 1)
-    if kind not in range(8, 13) or number <= head or re.match(r"\s*(~?exists|forall)\b", lines[number - 1]):
+    is_condition = any(re.match(r"\s*(~?exists|forall)\b", line) for line in lines[head:number])
+    if kind not in range(8, 13) or number <= head or is_condition:
         return None
     opening = "\n".join(lines[:head - 1])
     addresses = {(int(thread), name) for thread, name in re.findall(r"(\d+):(x\d+)\s*=\s*[A-Za-z_]", opening)}

@@ -76,6 +76,7 @@ TEXTS = [
     (".litmus", PLAIN + OPENING + "li x5,2; li x7,2 | ;\nexists x=0\n", ["line 4", "7 BadTable", "one instruction"]),
     (".litmus", PLAIN + OPENING + "exists [x]=0\n", ["line 4", "13 BadCondition", "from_herd"]),
     (".litmus", PLAIN + OPENING + "exists x=0 && x=1\n", ["line 4", "13 BadCondition", "Atoms are"]),
+    (".litmus", PLAIN + OPENING + "exists 0:\nx6=0\n", ["line 5, `x6=0`", "11 AddressAsValue", "the address"]),
     (".litmus", PLAIN + OPENING, ["line 3", "14 CutShort", "The condition"]),
     (".trace", "0 R 0x0\n16 R 0x8\n", ["line 2, `16 R 0x8`, CORE: `16`", "4 BadCore", "`trace 2`"]),
     (".trace", "0,R,0x0\n", ["line 1", "CORE: `0,R,0x0`", "not commas"]),

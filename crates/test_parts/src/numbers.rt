@@ -37,12 +37,12 @@ fn errors_have_these_numbers(rt: HostRuntime) {
     );
 }
 
-/// Whether an arena with cells for these many bytes, and with these many lists, is too large.
-fn is_too_large(alloc: Global, cells: u32, lists: u32) -> bool {
-    matches!(
-        Arena::<u8>::new(alloc, cells, lists),
-        Err(ArenaError::TooLarge)
-    )
+/// Why an arena with cells for these many bytes, and with these many lists, isn't made, by number; 0 if it is.
+fn refusal(alloc: Global, cells: u32, lists: u32) -> u8 {
+    match Arena::<u8>::new(alloc, cells, lists) {
+        Ok(_) => 0,
+        Err(error) => error.number(),
+    }
 }
 
 #[test]
@@ -50,11 +50,11 @@ fn arenas_have_limits(rt: HostRuntime) {
     let alloc = rt.alloc();
     assert_eq!(rt;
         [
-            is_too_large(alloc, 16_777_216, 1),
-            is_too_large(alloc, 16_777_217, 1),
-            is_too_large(alloc, 1, 1_048_576),
-            is_too_large(alloc, 1, 1_048_577),
+            refusal(alloc, 16_777_216, 1),
+            refusal(alloc, 16_777_217, 1),
+            refusal(alloc, 1, 1_048_576),
+            refusal(alloc, 1, 1_048_577),
         ],
-        [false, true, false, true]
+        [0, 2, 0, 2]
     );
 }

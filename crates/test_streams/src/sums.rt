@@ -1,4 +1,4 @@
-//! A report on runs that no machine makes: their sums pass 2^64, and one would pass 2^128.
+//! Reports on runs that no machine makes: their sums pass 2^64, and some would pass 2^128.
 use litmus_reader::read;
 use machine_table::Counts;
 use programs::End;
@@ -13,6 +13,22 @@ forall flag_1=0 /\\ (data=1 \\/ 1:x7=3)
 ";
 
 const GREATEST: u64 = 18446744073709551615;
+
+const GREATEST_COUNT: u128 = 340282366920938463463374607431768211455;
+
+const COUNTS: Counts = Counts {
+    renewals: GREATEST_COUNT,
+    upgrades: 8,
+    flushes: 9223372036854775808,
+    write_backs: 18446744073709551615,
+};
+
+const GREATEST_COUNTS: Counts = Counts {
+    renewals: GREATEST_COUNT,
+    upgrades: GREATEST_COUNT,
+    flushes: GREATEST_COUNT,
+    write_backs: GREATEST_COUNT,
+};
 
 // Completed operations, write-backs and stale hits: three times 2^64 - 1 each; renewals 2^128 - 1, since
 // their sum is greater; upgrades three times 8, and flushes three times 2^63.
@@ -36,7 +52,28 @@ write-backs 55340232221128654845
 stale-hits 55340232221128654845
 ";
 
-fn runs(alloc: Global) -> Result<Vec<RunEnd>, AllocError> {
+// The same, but each count is 2^128 - 1, since its sum is greater.
+const GREATEST_REPORT: &[u8] = b"test L
+threads 2
+runs 3
+all-done 0
+stalled 0
+limit 3
+exhausted 0
+memory 0
+states 0
+condition forall
+held 0
+verdict yes
+completed 55340232221128654845
+renewals 340282366920938463463374607431768211455
+upgrades 340282366920938463463374607431768211455
+flushes 340282366920938463463374607431768211455
+write-backs 340282366920938463463374607431768211455
+stale-hits 55340232221128654845
+";
+
+fn runs(alloc: Global, counts: Counts) -> Result<Vec<RunEnd>, AllocError> {
     let mut runs = Vec::new(alloc);
     for _ in 0..3 {
         runs.push(RunEnd {
@@ -44,26 +81,23 @@ fn runs(alloc: Global) -> Result<Vec<RunEnd>, AllocError> {
             state: None,
             completed: GREATEST,
             stale: GREATEST,
-            counts: Counts {
-                renewals: 340282366920938463463374607431768211455,
-                upgrades: 8,
-                flushes: 9223372036854775808,
-                write_backs: 18446744073709551615,
-            },
+            counts,
         })?;
     }
     Ok(runs)
 }
 
-fn reported(alloc: Global) -> Result<bool, AllocError> {
-    let runs = runs(alloc)?;
+fn is_reported(alloc: Global, counts: Counts, report: &[u8]) -> Result<bool, AllocError> {
+    let runs = runs(alloc, counts)?;
     match read(alloc, TEXT) {
-        Ok(test) => Ok(litmus_text(alloc, &test, &runs)?.as_slice() == REPORT),
+        Ok(test) => Ok(litmus_text(alloc, &test, &runs)?.as_slice() == report),
         Err(_) => Ok(false),
     }
 }
 
 #[test]
 fn great_sums(rt: HostRuntime) {
-    assert_eq!(rt; reported(rt.alloc()), Ok(true));
+    for (counts, report) in [(COUNTS, REPORT), (GREATEST_COUNTS, GREATEST_REPORT)] {
+        assert_eq!(rt; is_reported(rt.alloc(), counts, report), Ok(true));
+    }
 }

@@ -21,6 +21,7 @@ from reference.traces import Fault, Trace, read_records  # noqa: E402
 
 KINDS = ("NoMemory TooLarge BadByte BadHeader BadInitial DoubleInitial BadTable BadInstruction ValueRange MixedWidth "
          "AddressAsValue ValueAsAddress BadCondition CutShort").split()
+MORE = "\n\nFor more information, try '--help'.\n"
 BAD_HEADER, BAD_INITIAL, BAD_TABLE, BAD_CONDITION, CUT_SHORT, ACCEPTED = 4, 5, 7, 13, 14, 0
 
 # The text of store buffering in pieces: if the text ends behind any byte of a piece, its fault has that kind.
@@ -361,9 +362,11 @@ def words_of_the_line(tester):
 
 
 def refuses_words(tester, status, error, *words):
+    """Standard error is this line; or it begins with `error: `, and has the whole text, to its last line."""
     got = tester.run(*words)
-    tester.expect(got[:2] == (status, "") and got[2].startswith(error),
-                  f"{[word[:20] for word in words[:4]]}: {got[0]} {got[2][:80]!r}")
+    whole = got[2].startswith(error) and got[2].endswith(MORE) if error == "error: " else got[2] == error
+    tester.expect(got[:2] == (status, "") and whole,
+                  f"{[word[:20] for word in words[:4]]}: {got[0]} {got[2][:80]!r} .. {got[2][-80:]!r}")
 
 
 PIECES = [b"0", b" ", b"\n", b"#", b"18446744073709551616", b"64", b"trace 2\n", b"x8"]

@@ -8,13 +8,8 @@ import os
 import shlex
 import subprocess
 import sys
-from pathlib import Path
 
-TOP = Path(__file__).resolve().parent.parent
-sys.path.insert(0, str(TOP / "examples"))
-import oracle  # noqa: E402
-
-MORE = "\n\nFor more information, try '--help'."
+from texts import MORE, TOP, oracle
 
 
 def blocks():
@@ -47,7 +42,7 @@ def answers():
             yield from ((line, (wanted, out, "")) for line in words)
         else:
             answer = "\n".join(named.get(line, line) for line in answer.split("\n"))
-            error = answer + (MORE if answer.startswith("error: ") else "") + "\n"
+            error = answer + (MORE if answer.startswith("error: ") else "\n")
             yield from ((line, (status, "", error)) for line in words)
             if "bad configuration" in answer:
                 by_oracle = [subprocess.run(["examples/oracle.py", *line], capture_output=True) for line in words]

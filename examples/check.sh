@@ -332,9 +332,9 @@ a_million_turns() {
     echo '0 0 R 0x0 0 1000001 0' >"$work/wanted"
     told "1,000,001 turns" 0 "$work/wanted" /dev/null trace --schedule threads --records --limit 4294967295 \
         "$work/steps"
-    yes '0 R 0x0' | head -n 1000001 >"$work/steps"
-    seq 0 1000000 | sed 's/.*/0 & R 0x0 0 0 &/' >"$work/wanted"
-    told "1,000,001 operations by threads" 0 "$work/wanted" /dev/null trace --schedule threads --records \
+    yes '0 R 0x0' | head -n 1100001 >"$work/steps"
+    seq 0 1100000 | sed 's/.*/0 & R 0x0 0 0 &/' >"$work/wanted"
+    told "1,100,001 operations by threads" 0 "$work/wanted" /dev/null trace --schedule threads --records \
         --limit 4294967295 "$work/steps"
 }
 
@@ -541,30 +541,30 @@ lines_of_256_bytes() {
     told "a record, and a comment up to byte 256" 1 "$work/wanted" /dev/null check "$work/steps" "$work/records"
 }
 
-# 700,000 loads of one core, on one line that it asks for once, and a store; lines stand across the ends of blocks.
+# 1,400,000 loads of one core, on one line that it asks for once, and a store; lines stand across the ends of blocks.
 many_lines() {
-    { yes '0 R 0xabc0' | head -n 700000; printf '0 W 0x8 1'; } >"$work/steps"
-    { loads_of 1 700000 | sed -e 's/^\(issued\|completed\) .*/\1 700001/' -e 's/^stores 0/stores 1/'; } >"$work/wanted"
+    { yes '0 R 0xabc0' | head -n 1400000; printf '0 W 0x8 1'; } >"$work/steps"
+    { loads_of 1 1400000 | sed -e 's/^\(issued\|completed\) .*/\1 1400001/' -e 's/^stores 0/stores 1/'; } >"$work/wanted"
     printf '%s\n' 'word 0x8 1' 'word 0xabc0 0' >>"$work/wanted"
-    told "700,001 lines" 0 "$work/wanted" /dev/null trace --limit 4294967295 "$work/steps"
-    { seq 0 699999 | sed 's/.*/0 & R 0xabc0 0 0 &/'; echo '0 700000 W 0x8 1 1 700000'; } >"$work/records"
-    told "700,001 records" 0 "$work/records" /dev/null trace --records --limit 4294967295 "$work/steps"
+    told "1,400,001 lines" 0 "$work/wanted" /dev/null trace --limit 4294967295 "$work/steps"
+    { seq 0 1399999 | sed 's/.*/0 & R 0xabc0 0 0 &/'; echo '0 1400000 W 0x8 1 1 1400000'; } >"$work/records"
+    told "1,400,001 records" 0 "$work/records" /dev/null trace --records --limit 4294967295 "$work/steps"
     echo legal >"$work/wanted"
-    told "700,001 records, checked" 0 "$work/wanted" /dev/null check "$work/steps" "$work/records"
+    told "1,400,001 records, checked" 0 "$work/wanted" /dev/null check "$work/steps" "$work/records"
     printf '\n0 W 0x8' >>"$work/steps"
-    refused "a fault behind 700,001 lines" 2 'tardis: line 700002: 7 BadValue' trace "$work/steps"
+    refused "a fault behind 1,400,001 lines" 2 'tardis: line 1400002: 7 BadValue' trace "$work/steps"
 }
 
-# Sixteen cores load 200,000 words, each word once.
+# Sixteen cores load 300,000 words, each word once.
 many_words() {
-    awk 'BEGIN { for (k = 0; k < 200000; k++) printf "%d R 0x%x\n", k % 16, 8 * k }' >"$work/steps"
-    { loads_of 16 200000; awk 'BEGIN { for (k = 0; k < 200000; k++) printf "word 0x%x 0\n", 8 * k }'; } >"$work/wanted"
-    told "200,000 words" 0 "$work/wanted" /dev/null trace --limit 4294967295 "$work/steps"
-    told "200,000 words by threads" 0 "$work/wanted" /dev/null \
+    awk 'BEGIN { for (k = 0; k < 300000; k++) printf "%d R 0x%x\n", k % 16, 8 * k }' >"$work/steps"
+    { loads_of 16 300000; awk 'BEGIN { for (k = 0; k < 300000; k++) printf "word 0x%x 0\n", 8 * k }'; } >"$work/wanted"
+    told "300,000 words" 0 "$work/wanted" /dev/null trace --limit 4294967295 "$work/steps"
+    told "300,000 words by threads" 0 "$work/wanted" /dev/null \
         trace --schedule threads --limit 4294967295 "$work/steps"
     "$tardis" trace --records --limit 4294967295 "$work/steps" >"$work/records"
     echo legal >"$work/wanted"
-    told "200,000 words: the records" 0 "$work/wanted" /dev/null check "$work/steps" "$work/records"
+    told "300,000 words: the records" 0 "$work/wanted" /dev/null check "$work/steps" "$work/records"
 }
 
 # Of 4,000 loads the last received another value, or its number is one too great.
@@ -593,13 +593,13 @@ verdicts() {
     falling_times
 }
 
-# 66,000 stores of one core, whose times fall as their numbers rise, so that the records must be sorted.
+# 140,000 stores of one core, whose times fall as their numbers rise, so that the records must be sorted.
 falling_times() {
-    awk 'BEGIN { for (k = 0; k < 66000; k++) printf "0 W 0x%x %d\n", 8 * k, k }' >"$work/steps"
-    awk 'BEGIN { for (k = 65999; k >= 0; k--) printf "0 %d W 0x%x %d %d %d\n", k, 8 * k, k, k, 65999 - k }' \
+    awk 'BEGIN { for (k = 0; k < 140000; k++) printf "0 W 0x%x %d\n", 8 * k, k }' >"$work/steps"
+    awk 'BEGIN { for (k = 139999; k >= 0; k--) printf "0 %d W 0x%x %d %d %d\n", k, 8 * k, k, k, 139999 - k }' \
         >"$work/records"
     echo legal >"$work/wanted"
-    told "66,000 records whose times fall" 0 "$work/wanted" /dev/null check "$work/steps" "$work/records"
+    told "140,000 records whose times fall" 0 "$work/wanted" /dev/null check "$work/steps" "$work/records"
 }
 
 # faults TABLE WORDS..: each text of the table, written to a file whose name follows the words.

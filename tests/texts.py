@@ -250,7 +250,7 @@ def line_sizes(tester):
                 tester.refuses("line 1: 3 TooLong", sign * 65536, *words)
                 tester.refuses("line 3: 3 TooLong", b"\n" + good + b"\n" + sign * 257, *words)
             tester.refuses(None, b"\n" * 65536, *words, accepted=accepted)
-            tester.refuses(None, (b"#" * 256 + b"\n") * 140000, *words, accepted=accepted)  # 36 MB
+            tester.refuses("line 1200001: 4 BadCore", (b"#" * 256 + b"\n") * 1200000 + b"(", *words)  # 308 MB
         tester.refuses("line 16777217: 3 TooLong", b"\n" * 16777216 + b"0", "check", some.name, "/dev/stdin")
         tester.refuses(None, b"\n" * 16777216, "check", some.name, "/dev/stdin", accepted="legal\n")
 

@@ -10,8 +10,10 @@ is done. If one growth was refused, the answer is one of these, and the shim say
   it, and all is done.
 
 How many turns a seat may have must not matter: if the threads of a run were all started and it ends at its limit, the
-script makes it again with a higher one.
+script makes it again with a higher one. Where nothing is refused, it also tries how many threads are started, and that
+two workers on one processor need few turns.
 """
+import os
 import tempfile
 from collections import Counter
 from pathlib import Path
@@ -32,6 +34,7 @@ OPERATIONS = 4
 WORKERS = 2
 LIMITS = (100_000, 5_000_000, 200_000_000)
 MOST_TURNS = 4_294_967_295
+FEW_TURNS = 20_000  # of each seat: enough on one processor, where a worker that waits lets the other one run
 LAST_TIME = 2**64 - 1  # at this time no lease fits, and a run is exhausted
 PASSES = 200  # after so many of one worker alone nothing in these runs goes on any more
 SCHEDULE = ["--schedule", "threads", "--workers", WORKERS]
@@ -231,7 +234,17 @@ def are_started(tester, *words, runs=1):
                       f"{words} by {workers} workers: {ran.started} threads were started")
 
 
+def lets_others_run(tester):
+    """A worker that waits lets the other one run long before its time slice ends."""
+    processors = os.sched_getaffinity(0)
+    os.sched_setaffinity(0, {min(processors)})
+    ran = tester.run(["litmus", *SCHEDULE, "--runs", 20, "--limit", FEW_TURNS, LITMUS])
+    os.sched_setaffinity(0, processors)
+    tester.expect("all-done 20\n" in ran.out, f"two workers on one processor: {ran.answer()}")
+
+
 def refused_threads(tester):
+    lets_others_run(tester)
     are_started(tester, "litmus", "--schedule", "threads", LITMUS)
     are_started(tester, "litmus", "--schedule", "threads", "--time", LAST_TIME, LITMUS)
     are_started(tester, "trace", "--schedule", "threads", TRACE)

@@ -1,5 +1,5 @@
 -- Workers of a batch.
-use Rattle.std.specs.Prelude.{◌≡◌, ◌⊎◌, ◌<◌, ◌≤◌, ◌++◌, ◌∷◌, ℕ, List, [], map}
+use Rattle.std.specs.Prelude.{◌≡◌, ◌⊎◌, ◌<◌, ◌≤◌, ◌++◌, ◌∷◌, ℕ, List, [], map, None, Some}
 use Rattle.std.specs.Int.{div_ceil}
 use Rattle.std.specs.VecDeque.{deque_capacity}
 use Rattle.drawn_numbers.specs.declared.numbers.Numbers.{Numbers}
@@ -14,9 +14,10 @@ abbrev pub IsAtWork : {X : Type 0} → Numbers → (ℕ → X → Type 0) → �
 IsAtWork numbers gives count w =
     IsDrawerOf numbers w.drawer × AreOfJobsBelow count w.results.items × AllGiven gives w.results.items
 
--- the worker can claim jobs by these numbers, has drawn none of them, and has no result yet
+-- the worker can claim jobs by these numbers, has drawn none of them, has no result yet, and hasn't stopped
 abbrev pub IsNewWorker : {X : Type 0} → Numbers → Worker X → Type 0
-IsNewWorker numbers w = IsDrawerOf numbers w.drawer × (w.results.items ≡ []) × (w.drawer.drawn.items ≡ [])
+IsNewWorker numbers w =
+    IsDrawerOf numbers w.drawer × (w.results.items ≡ []) × (w.drawer.drawn.items ≡ []) × (w.stop ≡ None)
 
 -- the worker has room for an equal share of the jobs, or for no result if memory for these was refused
 abbrev pub HasShare : {X : Type 0} → ℕ → ℕ → Worker X → Type 0
@@ -31,3 +32,9 @@ HasDone w more = w.drawer.drawn.items ≡ map (λ p. p.0) w.results.items ++ mor
 abbrev pub HasStopped : {X : Type 0} → ℕ → Stop → Worker X → Type 0
 HasStopped count stop.NoMoreJobs w = (number : ℕ) × (count ≤ number) × HasDone w (number ∷ [])
 HasStopped count stop.Refused w = HasDone w [] ⊎ ((number : ℕ) × (number < count) × HasDone w (number ∷ []))
+
+-- the worker has stopped, and says why
+pub record HasEnded {X : Type 0} (count : ℕ) (w : Worker X) : Type 0 where
+  pub stop : Stop
+  pub said : w.stop ≡ Some stop
+  pub so : HasStopped count stop w

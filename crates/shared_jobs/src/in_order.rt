@@ -1,6 +1,7 @@
 //! The results of all workers, in the order of their jobs.
 ghost use Rattle.std.specs.Prelude.{◌≡◌, ◌++◌, [], length, IfOk, IfSome, None, All, vec_capacity};
 ghost use Rattle.shared_jobs.specs.Results.{AllGiven, AreGiven, HasOtherFront, numbered_result};
+ghost use Rattle.shared_jobs.specs.Teams.{HasEnded};
 
 use crate::gate::Gate;
 use crate::jobs::{Jobs, run_left};
@@ -9,8 +10,8 @@ use std::alloc::AllocError;
 use std::collections::VecDeque;
 
 /// The results of the jobs 0 to `count - 1`, in this order, one after the other in a list that has room for them alone.
-/// If no worker has a job's result in front, the call runs the job. AllocError if memory for such a job can't be
-/// allocated.
+/// All workers have stopped. If none has a job's result in front, the call runs the job. AllocError if memory for such
+/// a job can't be allocated.
 pub fn in_order<X: Drop, S: Drop, J: Jobs<X, S>, G: Gate>(
     jobs: &J,
     gate: &G,
@@ -19,6 +20,7 @@ pub fn in_order<X: Drop, S: Drop, J: Jobs<X, S>, G: Gate>(
     mut results: Vec<X>,
 ) -> Result<Vec<X>, AllocError>
     requires given { All (λ w. AllGiven (J.gives jobs.now) w.results.items) team.items }
+    requires ended { All (HasEnded count) team.items }
     requires room { (results.items ≡ []) × (vec_capacity results ≡ count) }
     ensures long { IfOk result (λ v. length v.items ≡ count) }
     ensures room { IfOk result (λ v. vec_capacity v ≡ count) }

@@ -1,22 +1,25 @@
 //! What each worker does: it claims jobs until there are no more.
-ghost use Rattle.std.specs.Prelude.{◌≡◌, ◌+◌, ℕ, ◌<◌, [], length, Err, IfOk};
+ghost use Rattle.std.specs.Prelude.{◌≡◌, ◌+◌, ℕ, ◌<◌, ◌++◌, ◌∷◌, [], length, Err, IfOk, OnErr, OnOk};
+ghost use Rattle.std.specs.VecDeque.{deque_capacity, deque_len};
 ghost use Rattle.drawn_numbers.specs.Drawers.{IsDrawerOf};
 ghost use Rattle.drawn_numbers.specs.Drawn.{RisesFrom};
 ghost use Rattle.shared_jobs.specs.declared.workers.Stop.{Stop};
 ghost use Rattle.shared_jobs.specs.Results.{AllGiven, AreOfJobsBelow};
-ghost use Rattle.shared_jobs.specs.Teams.{HasDone, HasStopped, IsAtWork, IsNewWorker};
+ghost use Rattle.shared_jobs.specs.Teams.{HasDone, HasEnded, HasStopped, IsAtWork, IsNewWorker};
 
 use crate::gate::Gate;
 use crate::jobs::{Jobs, run_one};
 use drawn_numbers::{Drawer, Numbers};
+use std::alloc::AllocError;
 use std::collections::VecDeque;
 
 /// A worker: what it claims jobs with, and the results that it has, each with its job's number, in the order in which
-/// it claimed them.
+/// it claimed them. Once it has stopped, it says why.
 #[derive(Drop)]
 pub struct Worker<X: Drop> {
     pub drawer: Drawer,
     pub results: VecDeque<(u64, X)>,
+    pub stop: Option<Stop>,
 }
 
 /// Why a worker has stopped.
@@ -37,18 +40,22 @@ pub fn work<X: Drop, S: Drop, J: Jobs<X, S>, G: Gate>(
     gate: &G,
     count: u64,
     worker: &mut Worker<X>,
-) -> Stop
+)
     requires { IsNewWorker numbers.now worker.old }
     ensures work { IsAtWork numbers.now (J.gives jobs.now) count worker.new }
-    ensures stop { HasStopped count result worker.new }
+    ensures stop { HasEnded count worker.new }
 {
     let Ok(mut state) = jobs.open() else {
-        return Stop::Refused;
+        worker.stop = Some(Stop::Refused);
+        return;
     };
     loop {
         match do_one(numbers, jobs, gate, count, worker, state) {
             Ok(next) => state = next,
-            Err(stop) => return stop,
+            Err(stop) => {
+                worker.stop = Some(stop);
+                return;
+            }
         }
     }
 }
@@ -85,9 +92,30 @@ fn do_one<X: Drop, S: Drop, J: Jobs<X, S>, G: Gate>(
     if number >= count {
         return Err(Stop::NoMoreJobs);
     }
-    let Ok((result, next)) = run_one(jobs, gate, state, number) else {
+    let Ok(next) = do_claimed(jobs, gate, worker, state, number) else {
         return Err(Stop::Refused);
     };
+    Ok(next)
+}
+
+// Runs a job that was claimed, and keeps its result, for which there is a place. AllocError if an allocation of the
+// job's fails.
+fn do_claimed<X: Drop, S: Drop, J: Jobs<X, S>, G: Gate>(
+    jobs: &J,
+    gate: &G,
+    worker: &mut Worker<X>,
+    state: S,
+    number: u64,
+) -> Result<S, AllocError>
+    requires place { deque_len worker.old.results < deque_capacity worker.old.results }
+    requires ready { J.ready jobs.now state }
+    ensures kept { OnOk result ((x : X) × J.gives jobs.now number x ×
+        (worker.new.results.items ≡ worker.old.results.items ++ (number, x) ∷ [])) }
+    ensures left { OnErr result (worker.new.results.items ≡ worker.old.results.items) }
+    ensures drawer { worker.new.drawer ≡ worker.old.drawer }
+    ensures ready { IfOk result (J.ready jobs.now) }
+{
+    let (result, next) = run_one(jobs, gate, state, number)?;
     worker.results.push_back_reserved((number, result));
     Ok(next)
 }

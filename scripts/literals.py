@@ -26,7 +26,7 @@ NUMBER = re.compile(r"(?<!\w)(?<!(?<!\.)\.)(0[xbo][\da-f_]+|\d[\d_]*?)(?:_?[ui](
 GREATEST = re.compile(r"\bu(8|16|32|64|128)::(?:MAX|BITS)\b")
 CONSTANT = re.compile(r"\bconst (\w+): (?:\w+ = \d|(\w+) = \2 \{)")
 SIGN = re.compile(r"\bas [iu](?:8|16|32)\b|\btry_(?:from|into)\b|\b(?:i8|[iu]16)\b|"
-                  r"\b(?:i\w+|usize)::(?:MAX|MIN|BITS)\b|(?<=[\w)\]] )(?:<<|>>)(?==? )")
+                  r"\b(?:i\w+|usize)::(?:MAX|MIN|BITS)\b|(?<=\s)(?:<<|>>)(?==?\s)")
 ROW = re.compile(r"(\w+) \| ([\w <>:]+) \| (\d+) \| \S")
 
 

@@ -68,13 +68,16 @@ pub fn drive_threads<R: Threads + Sync, P: Program + Send + Drop, G: Gate + Sync
 {
     records_of_seats_are_counted();
     let mut shift = Shift {
-        end: End::NoMemory,
+        end: End::TurnsUsed,
         cores,
         banks,
         programs,
     };
     match drive_shift(rt, alloc, machine, &mut shift, workers, turn_limit, gate) {
-        Err(AllocError) => shift,
+        Err(AllocError) => {
+            shift.end = End::NoMemory;
+            shift
+        }
         Ok(told) => {
             shift.end = end_of(&mut shift, told);
             shift

@@ -2,6 +2,7 @@ use Rattle.std.proofs.Common.{inl, inr, refl, sym, subst, arith}
 use Rattle.std.specs.Prelude.{List}
 use Rattle.std.specs.declared.vec.Vec.{Vec}
 use Rattle.std.specs.declared.alloc.Global.{Global}
+use Rattle.programs.specs.declared.ends.End.TheVariants as end
 use Rattle.mailboxes.specs.declared.core_seat.CoreSeat.{CoreSeat}
 use Rattle.mailboxes.specs.declared.bank_seat.BankSeat.{BankSeat}
 use Rattle.thread_driver.specs.declared.shift.Shift.{Shift}
@@ -42,7 +43,7 @@ returns-in-Err g c =
       whole = comes.whole;
       served = comes.are_served;
       ended = inl (subst (λ (s : Shift g.row.P.Denot). RefusedAtOnce cores banks programs s.cores.items s.banks.items
-          s.programs.items s.end) (sym c.in-Err.ensures.refused)
+          s.programs.items end.NoMemory) (sym c.in-Err.ensures.refused)
           (record { end_is = refl; same_cores = refl; same_banks = refl; same_programs = refl }));
     }
 

@@ -1,9 +1,13 @@
 -- What is read of the next field: rules for what holds of every reading, and for what is read.
-use Rattle.std.proofs.Common.{◌≡◌, ℕ, List, [], ◌∷◌, Option, Some, None, refl, sym, ◌∙◌}
-use Rattle.std.specs.Prelude.{Result, Ok, Err}
+use Rattle.std.proofs.Common.{◌≡◌, ℕ, List, [], ◌∷◌, Option, Some, None, refl, sym, ◌∙◌, ◌==◌, inl, inr}
+use Rattle.std.specs.Prelude.{Result, Ok, Err, option_map}
+use Rattle.std.specs.List.{prefix_len}
+use Rattle.std.proofs.lemmas.Bool.{cases_Bool, eqb-true}
 use Rattle.trace_lines.specs.declared.errors.Kind.{Kind}
 use Rattle.trace_lines.specs.Causes.{Missing}
-use Rattle.trace_lines.specs.Reading.{field_at}
+use Rattle.trace_lines.specs.Fields.{is_within, front_field}
+use Rattle.trace_lines.specs.Fronts.{front_says}
+use Rattle.trace_lines.specs.Reading.{FieldsRead, field_at}
 use Rattle.text_lines.specs.Reading.{◌>>=◌, found}
 
 -- the next field is missing, or says nothing
@@ -42,3 +46,20 @@ pub read_as : {X Y : Type 0} (kind : Kind) (says : List ℕ → Option X) (field
     (field_at kind says (field ∷ fields) >>= f) ≡ y
 unfolding field_at
 read_as kind says field fields x f y e g = rw e g
+
+found-mapped : {X : Type 0} (kind : Kind) (o : Option X) (fields : List (List ℕ)) (r : FieldsRead X) →
+    r ≡ found kind o (λ x. Ok (x, fields)) → r ≡ found kind (option_map (λ x. (x, fields)) o) (λ x. Ok x)
+found-mapped kind (Some x) fields r e = e
+found-mapped kind None fields r e = e
+
+-- what the field in front says is read
+pub front-read : {X : Type 0} (kind : Kind) (says : List ℕ → Option X) → says [] ≡ None → (bytes : List ℕ)
+    (o : Option (X × List (List ℕ))) (fields : List (List ℕ)) → fields ≡ front_field bytes → o ≡ front_says says bytes
+    → field_at kind says fields ≡ found kind o (λ x. Ok x)
+unfolding field_at front_field
+front-read kind says silent bytes o fields f e =
+    elim (cases_Bool (prefix_len is_within bytes == 0)) [
+      | inl h ↦ let none : prefix_len is_within bytes ≡ 0 = eqb-true _ _ h in
+          rw (f, e, none, silent) refl
+      | inr h ↦ rw (f, e, h) (found-mapped kind _ _ _ refl)
+    ]

@@ -7,7 +7,7 @@ ghost use Rattle.trace_lines.specs.Reading.{operation_at, address_at};
 ghost use Rattle.trace_lines.specs.Views.{GivesViewed, view_fields_read};
 
 use crate::errors::Kind;
-use crate::lines::next_field;
+use crate::lines::{behind_blanks, next_field};
 use crate::steps::Access;
 use crate::words::{VALUE_BOUND, access, address, decimal};
 
@@ -27,11 +27,8 @@ fn decimal_field<'a>(
         (field_at kind (decimal_in digits bound) (fields_of line.now)) }
     ensures small { IfOk result (λ read. read.0 < bound) }
 {
-    let Some((field, rest)) = next_field(line) else {
-        return Err(kind);
-    };
-    match decimal(field, digits, bound) {
-        Some(number) => Ok((number, rest)),
+    match decimal(behind_blanks(line), digits, bound) {
+        Some(read) => Ok(read),
         None => Err(kind),
     }
 }

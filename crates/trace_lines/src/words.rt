@@ -1,10 +1,14 @@
 //! What single fields say.
 
-ghost use Rattle.std.specs.Prelude.{◌≡◌, ◌≤◌, ◌<◌, ◌^◌, min, IfSome};
+ghost use Rattle.std.specs.Prelude.{◌≡◌, ◌≤◌, ◌<◌, ◌^◌, min, option_map, IfSome};
+ghost use Rattle.trace_lines.specs.Fronts.{front_says, put_digit, number_of};
+ghost use Rattle.trace_lines.specs.Views.{view_fields_read};
 ghost use Rattle.std.specs.List.{list_all};
+ghost use Rattle.std.specs.Option.{SomeIff};
 ghost use Rattle.trace_lines.specs.Spelling.{is_digit, is_hex_digit, is_few, decimal_of, hex_digit, hex_of};
 ghost use Rattle.trace_lines.specs.Reading.{decimal_in, hex_in, address_in, access_in};
 
+use crate::lines::is_within;
 use crate::steps::Access;
 use physiological_order::WordAddr;
 
@@ -23,12 +27,6 @@ fn is_hex_digit(b: u8) -> bool
     matches!(b, b'0'..=b'9' | b'a'..=b'f')
 }
 
-fn all_digits(field: &[u8]) -> bool
-    ensures { result ≡ list_all is_digit field.now }
-{
-    field.iter().all(|b| is_digit(*b))
-}
-
 fn all_hex_digits(field: &[u8]) -> bool
     ensures { result ≡ list_all is_hex_digit field.now }
 {
@@ -45,15 +43,30 @@ fn hex_digit(b: u8) -> u8
     }
 }
 
-/// The value of decimal digits if it fits 64 bits, and else `VALUE_BOUND`.
-fn decimal_value(digits: &[u8]) -> u128
-    ensures { result ≡ min (decimal_of digits.now) (2 ^ 64) }
+fn with_digit(value: u64, b: u8) -> Option<u64>
+    ensures { SomeIff result (put_digit value b < 2 ^ 64) (put_digit value b) }
 {
-    let mut value = 0u128;
-    for digit in digits {
-        value = (10 * value + u128::from(digit.saturating_sub(b'0'))).min(VALUE_BOUND);
+    let tens = value.checked_mul(10)?;
+    tens.checked_add(u64::from(b.saturating_sub(b'0')))
+}
+
+/// The number of the decimal field in front, and its length; nothing if a byte of it is no digit, or the number doesn't
+/// fit 64 bits.
+#[inline(always)]
+fn decimal_read(bytes: &[u8]) -> Option<(u64, usize)>
+    ensures { result ≡ number_of is_digit put_digit 0 0 bytes.now }
+{
+    let mut value = 0u64;
+    for (count, b) in bytes.iter().enumerate() {
+        if is_digit(*b) {
+            value = with_digit(value, *b)?;
+        } else if is_within(*b) {
+            return None;
+        } else {
+            return Some((value, count));
+        }
     }
-    value
+    Some((value, bytes.len()))
 }
 
 /// The value of hexadecimal digits if it fits 64 bits, and else `VALUE_BOUND`.
@@ -67,33 +80,25 @@ fn hex_value(digits: &[u8]) -> u128
     value
 }
 
-fn is_decimal(field: &[u8], digits: usize) -> bool
-    ensures { result ≡ is_few is_digit digits field.now }
-{
-    all_digits(field) && !field.is_empty() && field.len() <= digits
-}
-
 fn is_hexadecimal(field: &[u8]) -> bool
     ensures { result ≡ is_few is_hex_digit 16 field.now }
 {
     all_hex_digits(field) && !field.is_empty() && field.len() <= 16
 }
 
-/// The number of a field of 1 to `digits` decimal digits, if it is below a bound.
-pub(crate) fn decimal(field: &[u8], digits: usize, bound: u128) -> Option<u64>
+/// The number of the field in front, of 1 to `digits` decimal digits, if it is below a bound, and what follows it.
+#[inline(always)]
+pub(crate) fn decimal(bytes: &[u8], digits: usize, bound: u128) -> Option<(u64, &[u8])>
     requires { bound ≤ 2 ^ 64 }
-    ensures number { result ≡ decimal_in digits bound field.now }
-    ensures small { IfSome result (λ number. number < bound) }
+    ensures number { option_map view_fields_read result ≡ front_says (decimal_in digits bound) bytes.now }
+    ensures small { IfSome result (λ read. read.0 < bound) }
 {
-    if !is_decimal(field, digits) {
+    let (value, count) = decimal_read(bytes)?;
+    if count == 0 || count > digits || u128::from(value) >= bound {
         return None;
     }
-    let value = decimal_value(field);
-    if value < bound {
-        Some(value as u64)
-    } else {
-        None
-    }
+    let (_, rest) = bytes.split_at(count);
+    Some((value, rest))
 }
 
 /// The number of 1 to 16 hexadecimal digits.

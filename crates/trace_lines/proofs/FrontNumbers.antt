@@ -7,8 +7,7 @@ use Rattle.std.proofs.lemmas.List.{drop_more, drop_all}
 use Rattle.std.proofs.lemmas.Bool.Decides.{nat_tests}
 use Rattle.text_lines.proofs.Lemmas.{take-one_more}
 use Rattle.trace_lines.specs.Fields.{is_within}
-use Rattle.trace_lines.specs.Fronts.{put_digit, number_read, number_of}
-use Rattle.trace_lines.specs.Spelling.{is_digit}
+use Rattle.trace_lines.specs.Fronts.{is_digit_of, put_digit, number_read, number_of}
 
 -- a digit only makes a number greater
 grown : (put : ℕ → ℕ → ℕ) → ((value b : ℕ) → value ≤ put value b) → (digits : List ℕ) (value : ℕ) →
@@ -94,11 +93,16 @@ goes-through is_one put bytes value i end known e le = rw (drop_all i bytes le, 
 
 -- ---- decimal and hexadecimal digits
 
-digit-inside : (b : ℕ) → is_digit b ≡ true → is_within b ≡ true
-digit-inside b e = grind (arith, nat_tests)
+digit-inside : (is_hexadecimal : Bool) (b : ℕ) → is_digit_of is_hexadecimal b ≡ true → is_within b ≡ true
+digit-inside true b e = grind (arith, nat_tests)
+digit-inside false b e = grind (arith, nat_tests)
 
-digit-more : (value b : ℕ) → value ≤ put_digit value b
-digit-more value b = omega arith
+digit-more : (is_hexadecimal : Bool) (value b : ℕ) → value ≤ put_digit is_hexadecimal value b
+digit-more true value b = omega arith
+digit-more false value b = omega arith
 
-pub decimal-goes : (bytes : List ℕ) → Goes is_digit put_digit bytes 0 0
-decimal-goes bytes = number-read is_digit put_digit digit-inside digit-more bytes 0 0 (omega arith)
+pub digits-go : (is_hexadecimal : Bool) (bytes : List ℕ) →
+    Goes (is_digit_of is_hexadecimal) (put_digit is_hexadecimal) bytes 0 0
+digits-go is_hexadecimal bytes =
+    number-read (is_digit_of is_hexadecimal) (put_digit is_hexadecimal) (digit-inside is_hexadecimal)
+    (digit-more is_hexadecimal) bytes 0 0 (omega arith)

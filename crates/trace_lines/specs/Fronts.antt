@@ -3,19 +3,29 @@ use Rattle.std.specs.Prelude.{ℕ, ◌+◌, ◌*◌, ◌-◌, ◌^◌, ◌&&◌,
 use Rattle.std.specs.Prelude.{option_map}
 use Rattle.std.specs.List.{list_all, fold, prefix_len}
 use Rattle.trace_lines.specs.Fields.{is_within, fields_of}
-use Rattle.trace_lines.specs.Spelling.{hex_digit}
+use Rattle.trace_lines.specs.Spelling.{is_digit, is_hex_digit, is_few, hex_digit}
 
 -- what the field in front says, and the fields after it
 abbrev pub front_says : {X : Type 0} → (List ℕ → Option X) → List ℕ → Option (X × List (List ℕ))
 front_says says bytes =
     option_map (λ x. (x, fields_of (drop (prefix_len is_within bytes) bytes))) (says (take (prefix_len is_within bytes) bytes))
 
--- a number with one more digit
-abbrev pub put_digit : ℕ → ℕ → ℕ
-put_digit value b = 10 * value + (b - 48)
+abbrev pub is_digit_of : Bool → ℕ → Bool
+is_digit_of is_hexadecimal b = if is_hexadecimal then is_hex_digit b else is_digit b
 
-abbrev pub put_hex_digit : ℕ → ℕ → ℕ
-put_hex_digit value b = 16 * value + hex_digit b
+-- a number with one more digit
+abbrev pub put_digit : Bool → ℕ → ℕ → ℕ
+put_digit is_hexadecimal value b = if is_hexadecimal then 16 * value + hex_digit b else 10 * value + (b - 48)
+
+-- a number below a bound, in at most so many digits
+abbrev pub number_in : Bool → ℕ → ℕ → List ℕ → Option ℕ
+number_in is_hexadecimal most bound field =
+    if is_few (is_digit_of is_hexadecimal) most field && nat_lt (fold (put_digit is_hexadecimal) 0 field) bound
+    then Some (fold (put_digit is_hexadecimal) 0 field) else None
+
+abbrev pub letter_in : List ℕ → Option ℕ
+letter_in (a ∷ []) = Some a
+letter_in field = None
 
 -- digit by digit, the number of the field in front, behind digits whose number is known, and the field's length;
 -- nothing if it isn't all digits, or the number doesn't fit 64 bits

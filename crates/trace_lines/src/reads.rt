@@ -7,9 +7,9 @@ ghost use Rattle.trace_lines.specs.Reading.{operation_at, address_at};
 ghost use Rattle.trace_lines.specs.Views.{GivesViewed, view_fields_read};
 
 use crate::errors::Kind;
-use crate::lines::{behind_blanks, next_field};
+use crate::lines::behind_blanks;
 use crate::steps::Access;
-use crate::words::{VALUE_BOUND, access, address, decimal};
+use crate::words::{VALUE_BOUND, access, address, letter, number};
 
 /// One more than the largest number of 32 bits.
 const PLACE_BOUND: u128 = 1 << 32;
@@ -27,7 +27,7 @@ fn decimal_field<'a>(
         (field_at kind (decimal_in digits bound) (fields_of line.now)) }
     ensures small { IfOk result (λ read. read.0 < bound) }
 {
-    match decimal(behind_blanks(line), digits, bound) {
+    match number(false, behind_blanks(line), digits, bound) {
         Some(read) => Ok(read),
         None => Err(kind),
     }
@@ -68,10 +68,10 @@ pub(crate) fn number_field(line: &[u8]) -> Result<(u64, &[u8]), Kind>
 pub(crate) fn operation_field(line: &[u8]) -> Result<(Access, &[u8]), Kind>
     ensures { GivesViewed view_fields_read result (operation_at (fields_of line.now)) }
 {
-    let Some((field, rest)) = next_field(line) else {
+    let Some((letter, rest)) = letter(behind_blanks(line)) else {
         return Err(Kind::BadOperation);
     };
-    match access(field) {
+    match access(letter) {
         Some(access) => Ok((access, rest)),
         None => Err(Kind::BadOperation),
     }
@@ -84,11 +84,8 @@ pub(crate) fn address_field(line: &[u8]) -> Result<(u64, &[u8]), Kind>
     ensures read { GivesViewed view_fields_read result (address_at (fields_of line.now)) }
     ensures small { IfOk result (λ read. read.0 < 2 ^ 61) }
 {
-    let Some((field, rest)) = next_field(line) else {
-        return Err(Kind::BadAddress);
-    };
-    match address(field) {
-        Some(word) => Ok((word.word(), rest)),
+    match address(behind_blanks(line)) {
+        Some(read) => Ok(read),
         None => Err(Kind::BadAddress),
     }
 }

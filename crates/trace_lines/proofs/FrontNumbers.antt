@@ -54,44 +54,42 @@ number-read is_one put inside more (b ∷ bytes) value count fits =
     ]
 
 -- what is read from a byte on gives the whole
-abbrev pub Goes : (ℕ → Bool) → (ℕ → ℕ → ℕ) → List ℕ → ℕ → ℕ → Type 0
-Goes is_one put bytes value i = number_read is_one put value i (drop i bytes) ≡ number_of is_one put 0 0 bytes
+abbrev pub Goes : Bool → List ℕ → ℕ → ℕ → Type 0
+Goes x bytes value i = number_read (is_digit_of x) (put_digit x) value i (drop i bytes)
+    ≡ number_of (is_digit_of x) (put_digit x) 0 0 bytes
 
-pub goes-on : (is_one : ℕ → Bool) (put : ℕ → ℕ → ℕ) (bytes : List ℕ) (value i next : ℕ) →
-    Goes is_one put bytes value i → i < length bytes → is_one (get_or bytes i 0) ≡ true →
-    put value (get_or bytes i 0) < 18446744073709551616 → next ≡ put value (get_or bytes i 0) →
-    Goes is_one put bytes next (i + 1)
+pub goes-on : (x : Bool) (bytes : List ℕ) (value i next : ℕ) → Goes x bytes value i → i < length bytes →
+    is_digit_of x (get_or bytes i 0) ≡ true → put_digit x value (get_or bytes i 0) < 18446744073709551616 →
+    next ≡ put_digit x value (get_or bytes i 0) → Goes x bytes next (i + 1)
 unfolding number_read
-goes-on is_one put bytes value i next known lt h fits e =
-    let test : ltb (put value (get_or bytes i 0)) 18446744073709551616 ≡ true = grind (arith, nat_tests) in
+goes-on x bytes value i next known lt h fits e =
+    let test : ltb (put_digit x value (get_or bytes i 0)) 18446744073709551616 ≡ true = grind (arith, nat_tests) in
     rw e (sym (rw (drop_more bytes i 0 lt, h, test) refl) ∙ known)
 
-pub goes-over : (is_one : ℕ → Bool) (put : ℕ → ℕ → ℕ) (bytes : List ℕ) (value i : ℕ) →
-    Goes is_one put bytes value i → i < length bytes → is_one (get_or bytes i 0) ≡ true →
-    (put value (get_or bytes i 0) < 18446744073709551616 → ⊥) → None ≡ number_of is_one put 0 0 bytes
+pub goes-over : (x : Bool) (bytes : List ℕ) (value i : ℕ) → Goes x bytes value i → i < length bytes →
+    is_digit_of x (get_or bytes i 0) ≡ true → (put_digit x value (get_or bytes i 0) < 18446744073709551616 → ⊥) →
+    None ≡ number_of (is_digit_of x) (put_digit x) 0 0 bytes
 unfolding number_read
-goes-over is_one put bytes value i known lt h over =
-    let test : ltb (put value (get_or bytes i 0)) 18446744073709551616 ≡ false = grind (arith, nat_tests) in
+goes-over x bytes value i known lt h over =
+    let test : ltb (put_digit x value (get_or bytes i 0)) 18446744073709551616 ≡ false = grind (arith, nat_tests) in
     rw (drop_more bytes i 0 lt, h, test) at known
 
-pub goes-wrong : (is_one : ℕ → Bool) (put : ℕ → ℕ → ℕ) (bytes : List ℕ) (value i : ℕ) →
-    Goes is_one put bytes value i → i < length bytes → is_one (get_or bytes i 0) ≡ false →
-    is_within (get_or bytes i 0) ≡ true → None ≡ number_of is_one put 0 0 bytes
+pub goes-wrong : (x : Bool) (bytes : List ℕ) (value i : ℕ) → Goes x bytes value i → i < length bytes →
+    is_digit_of x (get_or bytes i 0) ≡ false → is_within (get_or bytes i 0) ≡ true →
+    None ≡ number_of (is_digit_of x) (put_digit x) 0 0 bytes
 unfolding number_read
-goes-wrong is_one put bytes value i known lt h w = rw (drop_more bytes i 0 lt, h, w) at known
+goes-wrong x bytes value i known lt h w = rw (drop_more bytes i 0 lt, h, w) at known
 
-pub goes-to : (is_one : ℕ → Bool) (put : ℕ → ℕ → ℕ) (bytes : List ℕ) (value i : ℕ) →
-    Goes is_one put bytes value i → i < length bytes → is_one (get_or bytes i 0) ≡ false →
-    is_within (get_or bytes i 0) ≡ false → Some (value, i) ≡ number_of is_one put 0 0 bytes
+pub goes-to : (x : Bool) (bytes : List ℕ) (value i : ℕ) → Goes x bytes value i → i < length bytes →
+    is_digit_of x (get_or bytes i 0) ≡ false → is_within (get_or bytes i 0) ≡ false →
+    Some (value, i) ≡ number_of (is_digit_of x) (put_digit x) 0 0 bytes
 unfolding number_read
-goes-to is_one put bytes value i known lt h w = rw (drop_more bytes i 0 lt, h, w) at known
+goes-to x bytes value i known lt h w = rw (drop_more bytes i 0 lt, h, w) at known
 
-pub goes-through : (is_one : ℕ → Bool) (put : ℕ → ℕ → ℕ) (bytes : List ℕ) (value i end : ℕ) →
-    Goes is_one put bytes value i → i ≡ end → length bytes ≤ i → Some (value, end) ≡ number_of is_one put 0 0 bytes
+pub goes-through : (x : Bool) (bytes : List ℕ) (value i : ℕ) → Goes x bytes value i → length bytes ≤ i →
+    Some (value, i) ≡ number_of (is_digit_of x) (put_digit x) 0 0 bytes
 unfolding number_read
-goes-through is_one put bytes value i end known e le = rw (drop_all i bytes le, e) at known
-
--- ---- decimal and hexadecimal digits
+goes-through x bytes value i known le = rw (drop_all i bytes le) at known
 
 digit-inside : (is_hexadecimal : Bool) (b : ℕ) → is_digit_of is_hexadecimal b ≡ true → is_within b ≡ true
 digit-inside true b e = grind (arith, nat_tests)
@@ -102,7 +100,7 @@ digit-more true value b = omega arith
 digit-more false value b = omega arith
 
 pub digits-go : (is_hexadecimal : Bool) (bytes : List ℕ) →
-    Goes (is_digit_of is_hexadecimal) (put_digit is_hexadecimal) bytes 0 0
+    Goes is_hexadecimal bytes 0 0
 digits-go is_hexadecimal bytes =
     number-read (is_digit_of is_hexadecimal) (put_digit is_hexadecimal) (digit-inside is_hexadecimal)
     (digit-more is_hexadecimal) bytes 0 0 (omega arith)

@@ -48,16 +48,15 @@ fn digits(is_hexadecimal: bool, bytes: &[u8]) -> Option<(u64, usize)>
     ensures { result ≡ number_of (is_digit_of is_hexadecimal) (put_digit is_hexadecimal) 0 0 bytes.now }
 {
     let mut value = 0u64;
-    for (count, b) in bytes.iter().enumerate() {
-        if is_digit(is_hexadecimal, *b) {
-            value = with_digit(is_hexadecimal, value, *b)?;
-        } else if is_within(*b) {
-            return None;
-        } else {
-            return Some((value, count));
-        }
+    let mut count = 0;
+    while count < bytes.len() && is_digit(is_hexadecimal, bytes[count]) {
+        value = with_digit(is_hexadecimal, value, bytes[count])?;
+        count += 1;
     }
-    Some((value, bytes.len()))
+    if count < bytes.len() && is_within(bytes[count]) {
+        return None;
+    }
+    Some((value, count))
 }
 
 /// The number of the field in front, of 1 to `most` digits, if it is below a bound, and what follows it.

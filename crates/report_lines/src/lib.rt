@@ -4,5 +4,5 @@
 mod addresses;
 mod lines;
 
-pub use addresses::put_address;
+pub use addresses::{put_address, write_address};
 pub use lines::{put_counts, put_field, put_value, put_word};

@@ -1,2 +1,3 @@
+mod LineFeeds
 mod ByLines
 pub mod Lemmas

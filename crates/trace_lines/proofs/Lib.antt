@@ -1,4 +1,5 @@
 mod Parts
+mod FrontNumbers
 mod HexBound
 mod Rules
 mod Spellings

@@ -1,29 +1,30 @@
--- How the fields of bytes begin.
-use Rattle.std.proofs.Common.{◌≡◌, ℕ, ◌+◌, ◌<◌, Bool, true, false}
-use Rattle.std.proofs.Common.{List, [], ◌∷◌, take, drop, length, refl, sym, ap, subst, ◌∙◌}
-use Rattle.std.proofs.Common.{arith, inl, inr}
+-- How the fields of a line begin.
+use Rattle.std.proofs.Common.{◌≡◌, ℕ, ◌+◌, ◌<◌, ◌==◌, true, false}
+use Rattle.std.proofs.Common.{List, [], ◌∷◌, take, drop, length, get_or, refl, sym, ap, ◌∙◌, arith, inl, inr}
 use Rattle.std.specs.Prelude.{not}
-use Rattle.std.proofs.lemmas.Bool.{cases_Bool, false_from_ne_true, both_ways}
+use Rattle.std.proofs.lemmas.Bool.{cases_Bool}
+use Rattle.std.proofs.lemmas.Bool.Decides.{nat_tests}
+use Rattle.std.proofs.lemmas.List.{nil_from_length}
 use Rattle.std.specs.List.{prefix_len}
 use Rattle.text_lines.proofs.Lemmas.{take-one_more, drop-one_more}
-use Rattle.trace_lines.specs.Fields.{is_blank, begins_inside_field, first_grown, parted}
+use Rattle.trace_lines.specs.Fields.{is_blank, before_comment, begins_inside_field, first_grown, parted, fields_of}
+use Rattle.trace_lines.specs.Fields.{is_within, front_field, has_fields}
 
-abbrev pub is_field_byte : ℕ → Bool
-is_field_byte b = not (is_blank b)
+comment-none : (b : ℕ) (bytes : List ℕ) → (b == 35) ≡ true → before_comment (b ∷ bytes) ≡ []
+comment-none b bytes e = rw e refl
+
+comment-later : (b : ℕ) (bytes : List ℕ) → (b == 35) ≡ false → before_comment (b ∷ bytes) ≡ b ∷ before_comment bytes
+comment-later b bytes e = rw (e, take-one_more (prefix_len (λ c. not (c == 35)) bytes) b bytes) refl
+
+no-comment : (b : ℕ) → is_blank b ≡ true → (b == 35) ≡ false
+no-comment b e = grind (arith, nat_tests)
+
+within-parts : (b : ℕ) → is_within b ≡ true → (is_blank b ≡ false) × ((b == 35) ≡ false)
+within-parts b e = (grind (arith, nat_tests), grind (arith, nat_tests))
 
 parted-blank : (b : ℕ) (bytes : List ℕ) → is_blank b ≡ true → parted (b ∷ bytes) ≡ parted bytes
 unfolding parted
 parted-blank b bytes e = rw e refl
-
--- blanks in front don't count
-parted-after_blanks : (bytes : List ℕ) → parted bytes ≡ parted (drop (prefix_len is_blank bytes) bytes)
-parted-after_blanks [] = refl
-parted-after_blanks (b ∷ bytes) =
-    elim (cases_Bool (is_blank b)) [
-      | inl e ↦ rw e (parted-blank b bytes e ∙ parted-after_blanks bytes
-          ∙ ap parted (sym (drop-one_more (prefix_len is_blank bytes) b bytes)))
-      | inr e ↦ rw e refl
-    ]
 
 parted-alone : (b : ℕ) (bytes : List ℕ) → is_blank b ≡ false → begins_inside_field bytes ≡ false →
     parted (b ∷ bytes) ≡ (b ∷ []) ∷ parted bytes
@@ -35,69 +36,93 @@ parted-joined : (b : ℕ) (bytes : List ℕ) → is_blank b ≡ false → begins
 unfolding parted
 parted-joined b bytes e f = rw (e, f) refl
 
-joined-none : begins_inside_field [] ≡ false
-unfolding begins_inside_field
-joined-none = refl
+fields-blank : (b : ℕ) (bytes : List ℕ) → is_blank b ≡ true → fields_of (b ∷ bytes) ≡ fields_of bytes
+fields-blank b bytes e =
+    rw (comment-later b bytes (no-comment b e)) (parted-blank b (before_comment bytes) e)
 
-joined-first : (b : ℕ) (bytes : List ℕ) → begins_inside_field (b ∷ bytes) ≡ is_field_byte b
+-- whether a field goes on
+goes-on : (b : ℕ) (bytes : List ℕ) → begins_inside_field (before_comment (b ∷ bytes)) ≡ is_within b
 unfolding begins_inside_field
-joined-first b bytes = refl
+goes-on b bytes =
+    elim (cases_Bool (b == 35)) [
+      | inl e ↦ let outside : is_within b ≡ false = grind (arith, nat_tests) in rw (comment-none b bytes e, outside) refl
+      | inr e ↦ let same : not (is_blank b) ≡ is_within b = grind (arith, nat_tests) in
+          rw (comment-later b bytes e) same
+    ]
 
--- a field in front goes as far as there are no blanks
-field-first : (b : ℕ) (bytes : List ℕ) → is_blank b ≡ false → parted (b ∷ bytes)
-    ≡ (b ∷ take (prefix_len is_field_byte bytes) bytes) ∷ parted (drop (prefix_len is_field_byte bytes) bytes)
-field-first b [] h = parted-alone b [] h joined-none
+ends : begins_inside_field (before_comment []) ≡ false
+unfolding begins_inside_field
+ends = refl
+
+-- a field in front goes as far as its bytes
+field-first : (b : ℕ) (bytes : List ℕ) → is_within b ≡ true → fields_of (b ∷ bytes)
+    ≡ (b ∷ take (prefix_len is_within bytes) bytes) ∷ fields_of (drop (prefix_len is_within bytes) bytes)
+field-first b [] h =
+    let w = within-parts b h in
+    rw (comment-later b [] w.1) (parted-alone b (before_comment []) w.0 ends)
 field-first b (c ∷ bytes) h =
-    elim (cases_Bool (is_blank c)) [
-      | inl e ↦ rw e (parted-alone b (c ∷ bytes) h (joined-first c bytes ∙ ap not e))
-      | inr e ↦ rw (
-        e,
-        drop-one_more (prefix_len is_field_byte bytes) c bytes,
-        take-one_more (prefix_len is_field_byte bytes) c bytes,
-      ) (parted-joined b (c ∷ bytes) h (joined-first c bytes ∙ ap not e) ∙ ap (first_grown b) (field-first c bytes e))
+    let w = within-parts b h in
+    let n : ℕ = prefix_len is_within bytes in
+    elim (cases_Bool (is_within c)) [
+      | inl e ↦ rw (e, drop-one_more n c bytes, take-one_more n c bytes, comment-later b (c ∷ bytes) w.1)
+          (parted-joined b (before_comment (c ∷ bytes)) w.0 (goes-on c bytes ∙ e)
+          ∙ ap (first_grown b) (field-first c bytes e))
+      | inr e ↦ rw (e, comment-later b (c ∷ bytes) w.1)
+          (parted-alone b (before_comment (c ∷ bytes)) w.0 (goes-on c bytes ∙ e))
     ]
 
--- behind n blanks
-pub parted-none : (bytes : List ℕ) (n : ℕ) → n ≡ prefix_len is_blank bytes → drop n bytes ≡ [] → parted bytes ≡ []
+fronted-none : front_field [] ≡ []
+unfolding front_field
+fronted-none = refl
+
+fronted-first : (b : ℕ) (bytes : List ℕ) → is_blank b ≡ false → fields_of (b ∷ bytes) ≡ front_field (b ∷ bytes)
+unfolding front_field parted
+fronted-first b bytes e =
+    let n : ℕ = prefix_len is_within bytes in
+    elim (cases_Bool (is_within b)) [
+      | inl h ↦ let some : (1 + n == 0) ≡ false = grind (arith, nat_tests) in
+          rw (h, some, drop-one_more n b bytes, take-one_more n b bytes) (field-first b bytes h)
+      | inr h ↦ let comment : (b == 35) ≡ true = grind (arith, nat_tests) in
+          rw (h, comment-none b bytes comment) refl
+    ]
+
+-- behind the blanks in front
+pub fronted : (line : List ℕ) → fields_of line ≡ front_field (drop (prefix_len is_blank line) line)
 unfolding parted
-parted-none bytes n h e = parted-after_blanks bytes ∙ ap (λ k. parted (drop k bytes)) (sym h) ∙ ap parted e
-
-parted-whole : (all : List ℕ) → 0 < length all → begins_inside_field all ≡ true → parted all
-    ≡ take (prefix_len is_field_byte all) all ∷ parted (drop (prefix_len is_field_byte all) all)
-unfolding begins_inside_field
-parted-whole [] lt h = absurd (omega arith)
-parted-whole (b ∷ after) lt h =
-    let e : is_blank b ≡ false = false_from_ne_true (is_blank b) (λ y. both_ways (not (is_blank b)) (ap not y) h) in
-    rw (
-      e,
-      drop-one_more (prefix_len is_field_byte after) b after,
-      take-one_more (prefix_len is_field_byte after) b after,
-    ) (field-first b after e)
-
--- what follows the blanks in front begins inside a field
-begun : (bytes : List ℕ) → 0 < length (drop (prefix_len is_blank bytes) bytes) →
-    begins_inside_field (drop (prefix_len is_blank bytes) bytes) ≡ true
-unfolding begins_inside_field
-begun [] lt = absurd (omega arith)
-begun (b ∷ bytes) lt =
+fronted [] = sym fronted-none
+fronted (b ∷ bytes) =
     elim (cases_Bool (is_blank b)) [
-      | inl e ↦ let lt' : 0 < length (drop (1 + prefix_len is_blank bytes) (b ∷ bytes)) = rw e at lt in
-          let lt'' : 0 < length (drop (prefix_len is_blank bytes) bytes) =
-          rw (drop-one_more (prefix_len is_blank bytes) b bytes) at lt' in
-          rw (e, drop-one_more (prefix_len is_blank bytes) b bytes) (begun bytes lt'')
-      | inr e ↦ rw (e, e) refl
+      | inl e ↦ rw (e, drop-one_more (prefix_len is_blank bytes) b bytes) (fields-blank b bytes e ∙ fronted bytes)
+      | inr e ↦ rw e (fronted-first b bytes e)
     ]
 
-parted-begun : (bytes : List ℕ) → 0 < length (drop (prefix_len is_blank bytes) bytes) → (all : List ℕ) →
-    all ≡ drop (prefix_len is_blank bytes) bytes → parted bytes
-    ≡ take (prefix_len is_field_byte all) all ∷ parted (drop (prefix_len is_field_byte all) all)
-parted-begun bytes lt all e =
-    parted-after_blanks bytes
-    ∙ rw e (parted-whole (drop (prefix_len is_blank bytes) bytes) lt (begun bytes lt))
+pub fronted-by : (line bytes : List ℕ) (n : ℕ) → n ≡ prefix_len is_blank line → bytes ≡ drop n line →
+    fields_of line ≡ front_field bytes
+fronted-by line bytes n e f = rw (f, e) (fronted line)
 
-pub parted-split : (bytes all : List ℕ) (n : ℕ) → n ≡ prefix_len is_blank bytes → all ≡ drop n bytes →
-    0 < length all → (m : ℕ) → m ≡ prefix_len is_field_byte all → (field rest : List ℕ) →
-    field ≡ take m all → rest ≡ drop m all → parted bytes ≡ field ∷ parted rest
-parted-split bytes all n h e lt m g field rest x y =
-    let whole : all ≡ drop (prefix_len is_blank bytes) bytes = e ∙ ap (λ k. drop k bytes) h in
-    rw (x, y, g) (parted-begun bytes (subst (λ (w : List ℕ). 0 < length w) whole lt) all whole)
+pub none-fronted : (bytes : List ℕ) → prefix_len is_within bytes ≡ 0 → front_field bytes ≡ []
+unfolding front_field
+none-fronted bytes e = rw e refl
+
+pub one-fronted : (bytes : List ℕ) (n : ℕ) → n ≡ prefix_len is_within bytes → 0 < n →
+    front_field bytes ≡ take n bytes ∷ fields_of (drop n bytes)
+unfolding front_field
+one-fronted bytes n e lt = let some : (n == 0) ≡ false = grind (arith, nat_tests) in rw (sym e, some) refl
+
+has-none : has_fields (front_field []) ≡ false
+unfolding front_field
+has-none = refl
+
+pub fronted-has_none : (bytes : List ℕ) → length bytes ≡ 0 → has_fields (front_field bytes) ≡ false
+fronted-has_none bytes e = rw (nil_from_length bytes e) has-none
+
+pub fronted-has : (bytes : List ℕ) → 0 < length bytes →
+    has_fields (front_field bytes) ≡ is_within (get_or bytes 0 0)
+unfolding front_field
+fronted-has [] lt = absurd (omega arith)
+fronted-has (b ∷ bytes) lt =
+    elim (cases_Bool (is_within b)) [
+      | inl h ↦ let some : (1 + prefix_len is_within bytes == 0) ≡ false = grind (arith, nat_tests) in
+          rw (h, some) refl
+      | inr h ↦ rw h refl
+    ]

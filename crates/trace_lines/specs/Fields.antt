@@ -1,5 +1,5 @@
 -- A line as its fields, in order.
-use Rattle.std.specs.Prelude.{ℕ, ◌==◌, ◌||◌, not, Bool, false, if◌then◌else◌, List, [], ◌∷◌, take}
+use Rattle.std.specs.Prelude.{ℕ, ◌==◌, ◌||◌, ◌&&◌, not, Bool, true, false, if◌then◌else◌, List, [], ◌∷◌, take, drop}
 use Rattle.std.specs.List.{prefix_len}
 
 -- space, tab
@@ -29,3 +29,16 @@ parted (b ∷ bytes) = if is_blank b then parted bytes else if begins_inside_fie
 -- the fields of a line: what its blanks part, up to a comment
 abbrev pub fields_of : List ℕ → List (List ℕ)
 fields_of line = parted (before_comment line)
+
+-- a byte of a field: no blank, and not where a comment begins
+abbrev pub is_within : ℕ → Bool
+is_within b = not (is_blank b) && not (b == 35)
+
+-- the fields of bytes that no blank begins: the bytes up to the first that is none of a field, and what follows
+unfoldable pub front_field : List ℕ → List (List ℕ)
+front_field bytes = if prefix_len is_within bytes == 0 then []
+    else take (prefix_len is_within bytes) bytes ∷ fields_of (drop (prefix_len is_within bytes) bytes)
+
+abbrev pub has_fields : List (List ℕ) → Bool
+has_fields [] = false
+has_fields (field ∷ fields) = true

@@ -1,5 +1,6 @@
 pub mod Kinds
 pub mod Fields
+pub mod Fronts
 pub mod Spelling
 pub mod Reading
 pub mod Views

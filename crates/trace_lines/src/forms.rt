@@ -3,18 +3,18 @@
 ghost use Rattle.std.specs.Prelude.{◌≡◌, [], Ok, Some, None, MatchOption, IfOk, IfErr};
 ghost use Rattle.trace_lines.specs.declared.steps.Form.{Form};
 ghost use Rattle.trace_lines.specs.Causes.{FormCause};
-ghost use Rattle.trace_lines.specs.Fields.{fields_of, parted};
+ghost use Rattle.trace_lines.specs.Fields.{fields_of};
 ghost use Rattle.trace_lines.specs.Grammar.{IsFormLine};
 ghost use Rattle.trace_lines.specs.Reading.{form_named, form_line_at};
 
 use crate::errors::Kind;
-use crate::lines::{before_comment, next_field};
+use crate::lines::next_field;
 use crate::steps::Form;
 
 /// The form that follows `trace`: `2`, and nothing else.
 #[tactic(auto, unfolding(crate::specs::Reading::ended))]
 fn form_named(line: &[u8]) -> Result<Option<Form>, Kind>
-    ensures { result ≡ form_named (parted line.now) }
+    ensures { result ≡ form_named (fields_of line.now) }
 {
     match next_field(line) {
         Some((b"2", rest)) => match next_field(rest) {
@@ -29,7 +29,7 @@ fn form_named(line: &[u8]) -> Result<Option<Form>, Kind>
 fn told(line: &[u8]) -> Result<Option<Form>, Kind>
     ensures { result ≡ form_line_at (fields_of line.now) }
 {
-    match next_field(before_comment(line)) {
+    match next_field(line) {
         None => Ok(None),
         Some((b"trace", rest)) => form_named(rest),
         Some(_) => Ok(Some(Form::One)),

@@ -1,14 +1,21 @@
-//! A line's fields, from the left.
+//! A line's fields, from the left, up to its comment.
 
-ghost use Rattle.std.specs.Prelude.{◌≡◌, ◌≤◌, ◌==◌, not, [], ◌∷◌, List, ℕ, length, MatchOption};
+ghost use Rattle.std.specs.Prelude.{◌≡◌, ◌≤◌, [], ◌∷◌, length, MatchOption};
 ghost use Rattle.std.specs.List.{prefix_len};
-ghost use Rattle.trace_lines.specs.Fields.{is_blank, before_comment, parted};
+ghost use Rattle.trace_lines.specs.Fields.{is_blank, is_within, front_field, has_fields, fields_of};
 
 /// Space or tab.
 fn is_blank(b: u8) -> bool
     ensures { result ≡ is_blank b }
 {
     b == b' ' || b == b'\t'
+}
+
+/// A byte of a field: no blank, and not where a comment begins.
+pub(crate) fn is_within(b: u8) -> bool
+    ensures { result ≡ is_within b }
+{
+    !matches!(b, b' ' | b'\t' | b'#')
 }
 
 fn blank_count(bytes: &[u8]) -> usize
@@ -19,36 +26,42 @@ fn blank_count(bytes: &[u8]) -> usize
 }
 
 fn field_count(bytes: &[u8]) -> usize
-    ensures count { result ≡ prefix_len (λ b. not (is_blank b)) bytes.now }
+    ensures count { result ≡ prefix_len is_within bytes.now }
     ensures within { result ≤ length bytes.now }
 {
-    bytes.iter().take_while(|b| !is_blank(**b)).count()
+    bytes.iter().take_while(|b| is_within(**b)).count()
 }
 
-fn count_before_comment(line: &[u8]) -> usize
-    ensures count { result ≡ prefix_len (λ b. not (b == 35)) line.now }
-    ensures within { result ≤ length line.now }
+/// A line from its first byte that is no blank on.
+#[inline(always)]
+pub(crate) fn behind_blanks(line: &[u8]) -> &[u8]
+    ensures { fields_of line.now ≡ front_field result.now }
 {
-    line.iter().take_while(|b| **b != b'#').count()
+    let (_, bytes) = line.split_at(blank_count(line));
+    bytes
 }
 
-/// A line up to its comment.
-pub(crate) fn before_comment(line: &[u8]) -> &[u8]
-    ensures { result.now ≡ before_comment line.now }
+/// Whether a line has a field.
+pub(crate) fn has_field(line: &[u8]) -> bool
+    ensures { result ≡ has_fields (fields_of line.now) }
 {
-    let (told, _) = line.split_at(count_before_comment(line));
-    told
+    match behind_blanks(line) {
+        [first, ..] => is_within(*first),
+        [] => false,
+    }
 }
 
-/// The first field of bytes without a comment, and what follows it.
+/// The first field of a line, and what follows it.
+#[inline(always)]
 pub(crate) fn next_field(line: &[u8]) -> Option<(&[u8], &[u8])>
-    ensures { MatchOption result (parted line.now ≡ [])
-        (λ r. parted line.now ≡ r.0.now ∷ parted r.1.now) }
+    ensures { MatchOption result (fields_of line.now ≡ [])
+        (λ r. fields_of line.now ≡ r.0.now ∷ fields_of r.1.now) }
 {
-    let (_, line) = line.split_at(blank_count(line));
-    if line.is_empty() {
+    let bytes = behind_blanks(line);
+    let count = field_count(bytes);
+    if count == 0 {
         return None;
     }
-    let (field, rest) = line.split_at(field_count(line));
+    let (field, rest) = bytes.split_at(count);
     Some((field, rest))
 }

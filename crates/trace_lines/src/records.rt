@@ -3,12 +3,12 @@
 ghost use Rattle.std.specs.Prelude.{◌≡◌, [], Ok, Some, None, MatchOption, IfOk, IfErr};
 ghost use Rattle.physiological_order.specs.declared.operation.Record.{Record};
 ghost use Rattle.trace_lines.specs.Causes.{RecordCause};
-ghost use Rattle.trace_lines.specs.Fields.{fields_of, parted};
+ghost use Rattle.trace_lines.specs.Fields.{fields_of};
 ghost use Rattle.trace_lines.specs.Grammar.{IsRecordLine};
 ghost use Rattle.trace_lines.specs.Reading.{timed_at, record_rest_at, record_fields_at, record_line_at};
 
 use crate::errors::Kind;
-use crate::lines::{before_comment, next_field};
+use crate::lines::{has_field, next_field};
 use crate::reads::{address_field, core_field, number_field, operation_field, place_field};
 use crate::steps::Access;
 use physiological_order::{Op, Record, WordAddr};
@@ -16,7 +16,7 @@ use physiological_order::{Op, Record, WordAddr};
 /// A record whose time and completion number follow, and no more.
 #[tactic(auto, unfolding(crate::specs::Reading::timed_at, crate::specs::Reading::ended))]
 fn timed(core: u32, place: u32, op: Op, received: Option<u64>, line: &[u8]) -> Result<Record, Kind>
-    ensures { result ≡ timed_at core place op received (parted line.now) }
+    ensures { result ≡ timed_at core place op received (fields_of line.now) }
 {
     let (ts, rest) = number_field(line)?;
     let (number, rest) = number_field(rest)?;
@@ -41,7 +41,7 @@ fn completed(
     word: WordAddr,
     line: &[u8],
 ) -> Result<Record, Kind>
-    ensures { result ≡ record_rest_at core place access word (parted line.now) }
+    ensures { result ≡ record_rest_at core place access word (fields_of line.now) }
 {
     match access {
         Access::Read => {
@@ -62,7 +62,7 @@ fn completed(
 
 #[tactic(auto, unfolding(crate::specs::Reading::record_fields_at))]
 fn record_fields(line: &[u8]) -> Result<Record, Kind>
-    ensures { result ≡ record_fields_at (parted line.now) }
+    ensures { result ≡ record_fields_at (fields_of line.now) }
 {
     let (core, rest) = core_field(line, 64)?;
     let (place, rest) = place_field(rest)?;
@@ -75,14 +75,11 @@ fn record_fields(line: &[u8]) -> Result<Record, Kind>
 fn told(line: &[u8]) -> Result<Option<Record>, Kind>
     ensures { result ≡ record_line_at (fields_of line.now) }
 {
-    let line = before_comment(line);
-    match next_field(line) {
-        None => Ok(None),
-        Some(_) => {
-            let told = record_fields(line)?;
-            Ok(Some(told))
-        }
+    if !has_field(line) {
+        return Ok(None);
     }
+    let told = record_fields(line)?;
+    Ok(Some(told))
 }
 
 /// The record that a line writes, given without its line feed, of a core 0 to 63 and a place of 32 bits; nothing if

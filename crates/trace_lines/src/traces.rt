@@ -4,13 +4,13 @@ ghost use Rattle.std.specs.Prelude.{◌≡◌, ℕ, [], Ok, Some, None, option_m
 ghost use Rattle.trace_lines.specs.Causes.{TraceCause};
 ghost use Rattle.trace_lines.specs.Grammar.{IsTraceLine};
 ghost use Rattle.programs.specs.declared.steps.Step.{Step};
-ghost use Rattle.trace_lines.specs.Fields.{fields_of, parted};
+ghost use Rattle.trace_lines.specs.Fields.{fields_of};
 ghost use Rattle.trace_lines.specs.Reading.{ended, operand_at, op_at, behind_advance, step_at, trace_at};
 ghost use Rattle.trace_lines.specs.Reading.{trace_line_at};
 ghost use Rattle.trace_lines.specs.Spelling.{most_cores_named};
 
 use crate::errors::Kind;
-use crate::lines::{before_comment, next_field};
+use crate::lines::{has_field, next_field};
 use crate::reads::{address_field, core_field, number_field, operation_field};
 use crate::steps::{Access, Form};
 use physiological_order::{Op, WordAddr};
@@ -29,7 +29,7 @@ fn core_count(form: Form) -> u8
 /// An operation that no field follows.
 #[tactic(auto, unfolding(crate::specs::Reading::ended))]
 fn ended_op(op: Op, line: &[u8]) -> Result<Op, Kind>
-    ensures { result ≡ ended op (parted line.now) }
+    ensures { result ≡ ended op (fields_of line.now) }
 {
     match next_field(line) {
         None => Ok(op),
@@ -39,7 +39,7 @@ fn ended_op(op: Op, line: &[u8]) -> Result<Op, Kind>
 
 /// The operation on a word, with its value if it writes one, where no field follows.
 fn operand_fields(access: Access, word: WordAddr, line: &[u8]) -> Result<Op, Kind>
-    ensures { result ≡ operand_at access word (parted line.now) }
+    ensures { result ≡ operand_at access word (fields_of line.now) }
 {
     match access {
         Access::Read => ended_op(Op::Load(word), line),
@@ -56,7 +56,7 @@ fn operand_fields(access: Access, word: WordAddr, line: &[u8]) -> Result<Op, Kin
 
 #[tactic(auto, unfolding(crate::specs::Reading::op_at))]
 fn op_fields(line: &[u8]) -> Result<Op, Kind>
-    ensures { result ≡ op_at (parted line.now) }
+    ensures { result ≡ op_at (fields_of line.now) }
 {
     let (access, rest) = operation_field(line)?;
     let (word, rest) = address_field(rest)?;
@@ -65,8 +65,8 @@ fn op_fields(line: &[u8]) -> Result<Op, Kind>
 
 /// What follows `A`, which form 2 has.
 fn behind_advance(form: Form, line: &[u8]) -> Option<&[u8]>
-    ensures { option_map (λ rest. parted rest.now) result
-        ≡ behind_advance form (parted line.now) }
+    ensures { option_map (λ rest. fields_of rest.now) result
+        ≡ behind_advance form (fields_of line.now) }
 {
     match (form, next_field(line)) {
         (Form::Two, Some((b"A", rest))) => Some(rest),
@@ -76,7 +76,7 @@ fn behind_advance(form: Form, line: &[u8]) -> Option<&[u8]>
 
 #[tactic(auto, unfolding(crate::specs::Reading::step_at, crate::specs::Reading::ended))]
 fn step_fields(form: Form, line: &[u8]) -> Result<Step, Kind>
-    ensures { result ≡ step_at form (parted line.now) }
+    ensures { result ≡ step_at form (fields_of line.now) }
 {
     match behind_advance(form, line) {
         Some(rest) => match next_field(rest) {
@@ -92,7 +92,7 @@ fn step_fields(form: Form, line: &[u8]) -> Result<Step, Kind>
 
 #[tactic(auto, unfolding(crate::specs::Reading::trace_at))]
 fn trace_fields(form: Form, line: &[u8]) -> Result<(u32, Step), Kind>
-    ensures { result ≡ trace_at form (parted line.now) }
+    ensures { result ≡ trace_at form (fields_of line.now) }
 {
     let (core, rest) = core_field(line, core_count(form))?;
     let step = step_fields(form, rest)?;
@@ -103,14 +103,11 @@ fn trace_fields(form: Form, line: &[u8]) -> Result<(u32, Step), Kind>
 fn told(form: Form, line: &[u8]) -> Result<Option<(u32, Step)>, Kind>
     ensures { result ≡ trace_line_at form (fields_of line.now) }
 {
-    let line = before_comment(line);
-    match next_field(line) {
-        None => Ok(None),
-        Some(_) => {
-            let told = trace_fields(form, line)?;
-            Ok(Some(told))
-        }
+    if !has_field(line) {
+        return Ok(None);
     }
+    let told = trace_fields(form, line)?;
+    Ok(Some(told))
 }
 
 /// What a line of a trace says, given without its line feed: a core, 0 to 15 in form 1 and 0 to 63 in form 2, and its

@@ -157,3 +157,6 @@ address-plain word h =
       omega (arith, short),
       (hex_digits 16 (8 * word), refl, few is_hex_digit 16 (hex_digits 16 (8 * word)) k.digit k.some k.short, k.value),
     )
+
+pub short-decimal : (n : ℕ) → n < 18446744073709551616 → length (decimal n) ≤ 20
+short-decimal n lt = length-decimal-le 20 n (omega arith) (omega (arith, lt)) lt

@@ -1,36 +1,55 @@
 //! The text of a list of records.
 
-ghost use Rattle.std.specs.Prelude.{◌≡◌, ◌≤◌, ◌++◌, length, IfOk, OnOk};
+ghost use Rattle.std.specs.Prelude.{◌≡◌, ◌+◌, ◌≤◌, ◌++◌, drop, length, IfOk, OnOk};
 ghost use Rattle.trace_texts.specs.Records.{AreComplete, AreRanged, IsRanged, IsRangedEnd};
 ghost use Rattle.trace_texts.specs.Records.{end_text, record_text, records_text};
 ghost use Rattle.trace_reader.specs.declared.limits.TheConstants.{MOST_LINES};
 ghost use Rattle.trace_reader.specs.Grammar.{AreRecords};
 ghost use Rattle.text_lines.specs.Lines.{lines_of};
 
-use crate::fields::{put_next, put_number, put_op, put_value};
+use crate::fields::{write_next, write_op, write_value};
+use itoa::write_digits;
 use physiological_order::Record;
 use std::alloc::{AllocError, Global};
 
-/// What follows the operation.
-fn put_end(out: &mut Vec<u8>, told: &Record) -> Result<(), AllocError>
-    ensures text { OnOk result (out.new.items ≡ out.old.items ++ end_text told.now) }
-    ensures ranged { OnOk result (IsRangedEnd told.now) }
+/// Bytes for a line, if each of its numbers had 20 digits.
+const ROOM: usize = 147;
+
+/// What follows the operation: where it begins.
+fn write_end(told: &Record, bytes: &mut [u8], end: usize) -> usize
+    requires room { 64 ≤ end }
+    requires within { end ≤ length bytes.old }
+    ensures written { drop result bytes.new ≡ end_text told.now ++ drop end bytes.old }
+    ensures begins { end ≤ result + 64 }
+    ensures ends { result ≤ end }
+    ensures ranged { IsRangedEnd told.now }
 {
-    put_value(out, told.received)?;
-    put_next(out, told.ts)?;
-    put_next(out, told.number)?;
-    out.push(b'\n')?;
-    Ok(())
+    bytes[end - 1] = b'\n';
+    let at = write_next(told.number, bytes, end - 1);
+    let at = write_next(told.ts, bytes, at);
+    write_value(told.received, bytes, at)
+}
+
+/// A line: where it begins.
+fn write_record(told: &Record, bytes: &mut [u8], end: usize) -> usize
+    requires room { 147 ≤ end }
+    requires within { end ≤ length bytes.old }
+    ensures written { drop result bytes.new ≡ record_text told.now ++ drop end bytes.old }
+    ensures ranged { IsRanged told.now }
+{
+    let at = write_end(told, bytes, end);
+    let at = write_op(told.op, bytes, at);
+    let at = write_next(u64::from(told.place), bytes, at);
+    write_digits(u64::from(told.core), bytes, at)
 }
 
 fn put_record(out: &mut Vec<u8>, told: &Record) -> Result<(), AllocError>
     ensures text { OnOk result (out.new.items ≡ out.old.items ++ record_text told.now) }
     ensures ranged { OnOk result (IsRanged told.now) }
 {
-    put_number(out, u64::from(told.core))?;
-    put_next(out, u64::from(told.place))?;
-    put_op(out, told.op)?;
-    put_end(out, told)
+    let mut bytes = [0; ROOM];
+    let at = write_record(told, &mut bytes, ROOM);
+    out.extend_from_slice(&bytes[at..])
 }
 
 /// The text of records, a line each in the order in which they are given: numbers in decimal and addresses in

@@ -1,16 +1,17 @@
-use Rattle.std.proofs.Common.{◌≡◌, ◌<◌, length, sym, ◌∙◌, arith}
-use Rattle.std.proofs.lemmas.List.{nil_from_length}
+use Rattle.std.proofs.Common.{◌<◌, ◌≡◌, ◌∙◌, arith}
 use Rattle.std.proofs.lemmas.Bool.Decides.{nat_tests}
-use Rattle.trace_lines.proofs.Parts.{parted-none, parted-split}
+use Rattle.std.specs.List.{prefix_len}
+use Rattle.trace_lines.specs.Fields.{is_within}
+use Rattle.trace_lines.proofs.Parts.{none-fronted, one-fronted}
 use Rattle.trace_lines.proofs.lines.next_field.Goals as goal
 
-pub returns-then-is_empty : goal.returns-then-is_empty
-returns-then-is_empty c =
-    let none : length c.split_at.result.1.now ≡ 0 = grind (arith, nat_tests) in
-    parted-none _ _ c.blank_count.ensures.count (sym c.split_at.ensures.back ∙ nil_from_length _ none)
+pub returns-then-count-eq0 : goal.returns-then-count-eq0
+returns-then-count-eq0 c =
+    let none : prefix_len is_within c.behind_blanks-bytes.result.now ≡ 0 = grind (arith, nat_tests, c.field_count-count.ensures.count) in
+    c.behind_blanks-bytes.ensures ∙ none-fronted _ none
 
 pub returns : goal.returns
 returns c =
-    let some : 0 < length c.split_at.result.1.now = grind (arith, nat_tests) in
-    parted-split _ _ _ c.blank_count.ensures.count c.split_at.ensures.back some _ c.field_count.ensures.count _ _
-    c.split_at-2.ensures.front c.split_at-2.ensures.back
+    let some : 0 < c.field_count-count.result = grind (arith, nat_tests) in
+    rw (c.split_at.ensures.front, c.split_at.ensures.back)
+    (c.behind_blanks-bytes.ensures ∙ one-fronted _ _ c.field_count-count.ensures.count some)

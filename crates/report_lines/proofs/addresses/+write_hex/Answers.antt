@@ -1,0 +1,13 @@
+use Rattle.report_lines.proofs.HexDigits.{hex-alone, hex-behind}
+use Rattle.report_lines.proofs.addresses.+write_hex.Goals as goal
+
+pub returns-then-number-lt16-clause-written : goal.returns-then-number-lt16-clause-written
+returns-then-number-lt16-clause-written t c =
+    hex-alone c.args.places c.args.number c.hex_glyph.result c.args.end c.args.bytes.now c.if-places-eq0.false
+    c.if-number-lt16.true c.hex_glyph.ensures c.requires.room c.requires.within
+
+pub returns-clause-written : goal.returns-clause-written
+returns-clause-written t c =
+    hex-behind c.args.places c.args.number c.hex_glyph.result c.args.end c.args.bytes.now _
+    c.if-places-eq0.false c.if-number-lt16.false c.hex_glyph.ensures c.requires.room c.requires.within
+    c.write_hex.ensures.written

@@ -1,0 +1,106 @@
+-- The number of the field in front: read digit by digit, and as a whole.
+use Rattle.std.proofs.Common.{◌≡◌, ℕ, ◌+◌, ◌<◌, ◌≤◌, ◌&&◌, Bool, true, false, ltb, cond}
+use Rattle.std.proofs.Common.{List, [], ◌∷◌, take, drop, length, get_or, Option, Some, None, refl, sym, ◌∙◌, arith, inl, inr}
+use Rattle.std.specs.List.{list_all, fold, prefix_len}
+use Rattle.std.proofs.lemmas.Bool.{cases_Bool}
+use Rattle.std.proofs.lemmas.List.{drop_more, drop_all}
+use Rattle.std.proofs.lemmas.Bool.Decides.{nat_tests}
+use Rattle.text_lines.proofs.Lemmas.{take-one_more}
+use Rattle.trace_lines.specs.Fields.{is_within}
+use Rattle.trace_lines.specs.Fronts.{is_digit_of, put_digit, number_read, number_of}
+
+-- a digit only makes a number greater
+grown : (put : ℕ → ℕ → ℕ) → ((value b : ℕ) → value ≤ put value b) → (digits : List ℕ) (value : ℕ) →
+    value ≤ fold put value digits
+grown put more [] value = omega arith
+grown put more (b ∷ digits) value =
+    let here = more value b in
+    let later = grown put more digits (put value b) in
+    omega (arith, here, later)
+
+never : (b : Bool) (x : Option (ℕ × ℕ)) → None ≡ cond (b && false) x None
+never true x = refl
+never false x = refl
+
+ended-here : (is_one : ℕ → Bool) (put : ℕ → ℕ → ℕ) (value count : ℕ) → value < 18446744073709551616 →
+    number_of is_one put value count [] ≡ Some (value, count)
+ended-here is_one put value count fits =
+    let test : ltb value 18446744073709551616 ≡ true = grind (arith, nat_tests) in
+    let same : count + 0 ≡ count = omega arith in
+    rw (test, same) refl
+
+pub number-read : (is_one : ℕ → Bool) (put : ℕ → ℕ → ℕ) → ((b : ℕ) → is_one b ≡ true → is_within b ≡ true)
+    → ((value b : ℕ) → value ≤ put value b) → (bytes : List ℕ) (value count : ℕ) → value < 18446744073709551616 →
+    number_read is_one put value count bytes ≡ number_of is_one put value count bytes
+unfolding number_read
+number-read is_one put inside more [] value count fits = sym (ended-here is_one put value count fits)
+number-read is_one put inside more (b ∷ bytes) value count fits =
+    let n : ℕ = prefix_len is_within bytes in
+    elim (cases_Bool (is_one b)) [
+      | inl e ↦ elim (cases_Bool (ltb (put value b) 18446744073709551616)) [
+        | inl lt ↦ let fits' : put value b < 18446744073709551616 = grind (arith, nat_tests) in
+            let same : count + (1 + n) ≡ count + 1 + n = omega arith in
+            rw (e, lt, inside b e, take-one_more n b bytes, e, same)
+            (number-read is_one put inside more bytes (put value b) (count + 1) fits')
+        | inr ge ↦ let least = grown put more (take n bytes) (put value b) in
+            let over : ltb (fold put (put value b) (take n bytes)) 18446744073709551616 ≡ false =
+            grind (arith, nat_tests) in
+            rw (e, ge, inside b e, take-one_more n b bytes, e, over) (never (list_all is_one (take n bytes)) _)
+      ]
+      | inr e ↦ elim (cases_Bool (is_within b)) [
+        | inl w ↦ rw (e, w, take-one_more n b bytes, e) refl
+        | inr w ↦ rw (e, w) (sym (ended-here is_one put value count fits))
+      ]
+    ]
+
+-- what is read from a byte on gives the whole
+abbrev pub Goes : Bool → List ℕ → ℕ → ℕ → Type 0
+Goes x bytes value i = number_read (is_digit_of x) (put_digit x) value i (drop i bytes)
+    ≡ number_of (is_digit_of x) (put_digit x) 0 0 bytes
+
+pub goes-on : (x : Bool) (bytes : List ℕ) (value i next : ℕ) → Goes x bytes value i → i < length bytes →
+    is_digit_of x (get_or bytes i 0) ≡ true → put_digit x value (get_or bytes i 0) < 18446744073709551616 →
+    next ≡ put_digit x value (get_or bytes i 0) → Goes x bytes next (i + 1)
+unfolding number_read
+goes-on x bytes value i next known lt h fits e =
+    let test : ltb (put_digit x value (get_or bytes i 0)) 18446744073709551616 ≡ true = grind (arith, nat_tests) in
+    rw e (sym (rw (drop_more bytes i 0 lt, h, test) refl) ∙ known)
+
+pub goes-over : (x : Bool) (bytes : List ℕ) (value i : ℕ) → Goes x bytes value i → i < length bytes →
+    is_digit_of x (get_or bytes i 0) ≡ true → (put_digit x value (get_or bytes i 0) < 18446744073709551616 → ⊥) →
+    None ≡ number_of (is_digit_of x) (put_digit x) 0 0 bytes
+unfolding number_read
+goes-over x bytes value i known lt h over =
+    let test : ltb (put_digit x value (get_or bytes i 0)) 18446744073709551616 ≡ false = grind (arith, nat_tests) in
+    rw (drop_more bytes i 0 lt, h, test) at known
+
+pub goes-wrong : (x : Bool) (bytes : List ℕ) (value i : ℕ) → Goes x bytes value i → i < length bytes →
+    is_digit_of x (get_or bytes i 0) ≡ false → is_within (get_or bytes i 0) ≡ true →
+    None ≡ number_of (is_digit_of x) (put_digit x) 0 0 bytes
+unfolding number_read
+goes-wrong x bytes value i known lt h w = rw (drop_more bytes i 0 lt, h, w) at known
+
+pub goes-to : (x : Bool) (bytes : List ℕ) (value i : ℕ) → Goes x bytes value i → i < length bytes →
+    is_digit_of x (get_or bytes i 0) ≡ false → is_within (get_or bytes i 0) ≡ false →
+    Some (value, i) ≡ number_of (is_digit_of x) (put_digit x) 0 0 bytes
+unfolding number_read
+goes-to x bytes value i known lt h w = rw (drop_more bytes i 0 lt, h, w) at known
+
+pub goes-through : (x : Bool) (bytes : List ℕ) (value i : ℕ) → Goes x bytes value i → length bytes ≤ i →
+    Some (value, i) ≡ number_of (is_digit_of x) (put_digit x) 0 0 bytes
+unfolding number_read
+goes-through x bytes value i known le = rw (drop_all i bytes le) at known
+
+digit-inside : (is_hexadecimal : Bool) (b : ℕ) → is_digit_of is_hexadecimal b ≡ true → is_within b ≡ true
+digit-inside true b e = grind (arith, nat_tests)
+digit-inside false b e = grind (arith, nat_tests)
+
+digit-more : (is_hexadecimal : Bool) (value b : ℕ) → value ≤ put_digit is_hexadecimal value b
+digit-more true value b = omega arith
+digit-more false value b = omega arith
+
+pub digits-go : (is_hexadecimal : Bool) (bytes : List ℕ) →
+    Goes is_hexadecimal bytes 0 0
+digits-go is_hexadecimal bytes =
+    number-read (is_digit_of is_hexadecimal) (put_digit is_hexadecimal) (digit-inside is_hexadecimal)
+    (digit-more is_hexadecimal) bytes 0 0 (omega arith)

@@ -1,6 +1,0 @@
-use Rattle.std.proofs.Common.{◌≡◌, min, take}
-use Rattle.trace_lines.specs.Spelling.{hex_of}
-use Rattle.trace_lines.proofs.words.hex_value.Given as goal
-
-abbrev pub invariant-loop-digit : goal.invariant-loop-digit
-invariant-loop-digit l = l.value ≡ min (hex_of (take l.digit-index l.digits)) 18446744073709551616

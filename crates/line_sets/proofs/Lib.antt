@@ -6,6 +6,7 @@ mod RowLaws
 mod SwappedRows
 mod StoredSets
 mod TableLaws
+mod Tags
 mod TaggedCells
 mod Walks
 pub mod Lemmas

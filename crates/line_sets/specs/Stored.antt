@@ -1,9 +1,17 @@
 -- How a table is stored: lists of lines and values in the cells of an arena, in order of use, and beside them a row of
 -- lines and cells for each set.
-use Rattle.std.specs.Prelude.{◌≡◌, ℕ, ◌+◌, ◌*◌, ◌<◌, ◌≤◌, Bool, not, List, [], length, map, get_or}
+use Rattle.std.specs.Prelude.{◌≡◌, ℕ, ◌+◌, ◌*◌, ◌/◌, ◌%◌, ◌^◌, ◌<◌, ◌≤◌, Bool, not, List, [], length, map, get_or}
 use Rattle.line_arena.specs.Arenas.{Lists}
 use Rattle.line_sets.specs.Order.{find, lines_passing, without, IsDistinct}
 use Rattle.line_sets.specs.SetTable.{set_at}
+
+-- the tag of a line: eight bits, which are the same for one in 256 pairs of lines
+unfoldable pub tag_of : ℕ → ℕ
+tag_of line = line * 11400714819323198485 % 2 ^ 64 / 2 ^ 56
+
+-- each of so many lines has its tag
+pub record AreTagged (count : ℕ) (tags : List ℕ) (entries : List (ℕ × ℕ)) : Type 0 where
+  pub each : (k : ℕ) → k < count → get_or tags k 0 ≡ tag_of (get_or entries k (0, 0)).0
 
 -- a row without one of its lines, in any order
 pub record IsCut (row : List (ℕ × ℕ)) (line : ℕ) (new : List (ℕ × ℕ)) : Type 0 where

@@ -1,30 +1,58 @@
-//! One row: lines, each with the cell where it is kept.
-ghost use Rattle.std.specs.Prelude.{◌≡◌, ◌<◌, ◌++◌, ◌∷◌, [], length, IfSome, None};
+//! One row: lines, each with the cell where it is kept, and with a tag that finds it.
+ghost use Rattle.std.specs.Prelude.{◌≡◌, ◌<◌, ◌++◌, ◌∷◌, ◌==◌, [], length, not, IfSome, None};
+ghost use Rattle.std.specs.List.{prefix_len};
 ghost use Rattle.line_sets.specs.Order.{find, IsDistinct, IsIndexOf};
-ghost use Rattle.line_sets.specs.Stored.{IsCut};
+ghost use Rattle.line_sets.specs.Stored.{tag_of, IsCut};
 
 use std::marker::Model;
+use std::simd::prelude::*;
 
-/// Lines with their cells, 16 at most. How many there are stands beside the first of them. Contracts see the list.
+/// Lines with their cells, 16 at most. The tags and how many lines there are stand before the lines: a search compares
+/// all tags at once, and seldom reads more than one line. Contracts see the list.
 #[derive(Drop)]
 pub struct Row {
+    tags: [u8; 16],
     count: u32,
     entries: [(u64, u32); 16],
 }
 
 impl Model for Row {
     ghost use Rattle.std.specs.Prelude.{◌≤◌, List, ℕ, take};
+    ghost use Rattle.line_sets.specs.Stored.{AreTagged};
 
     ghost Value = { List (ℕ × ℕ) };
 
     ghost view = { λ row. take row.count row.entries };
 
-    ghost invariant = { λ row. row.count ≤ 16 };
+    ghost invariant = { λ row. (row.count ≤ 16) × AreTagged row.count row.tags row.entries };
 }
 
-/// The index of a line. The last lines are looked at first: those that came last are asked for most often.
+/// The tag of a line.
+#[tactic(auto, unfolding(crate::specs::Stored::tag_of))]
 #[inline(always)]
-fn index_of(entries: &[(u64, u32)], line: u64) -> Option<usize>
+fn tag_of(line: u64) -> u8
+    ensures { result ≡ tag_of line }
+{
+    (line.wrapping_mul(0x9E37_79B9_7F4A_7C15) >> 56) as u8
+}
+
+/// How many tags come before the first that is this one: 16 if none is.
+#[inline(always)]
+fn others_before(tags: &[u8; 16], tag: u8) -> usize
+    ensures { result ≡ prefix_len (λ other. not (other == tag)) tags.now }
+{
+    let same = u8x16::from_array(*tags)
+        .simd_eq(u8x16::splat(tag))
+        .to_bitmask();
+    if same == 0 {
+        return 16;
+    }
+    same.trailing_zeros() as usize
+}
+
+/// The index of a line, which is searched from the last line on.
+#[inline(always)]
+fn searched_index_of(entries: &[(u64, u32)], line: u64) -> Option<usize>
     requires { IsDistinct entries.now }
     ensures index { IsIndexOf entries.now line result }
     ensures below { IfSome result (λ at. at < length entries.now) }
@@ -39,27 +67,34 @@ fn index_of(entries: &[(u64, u32)], line: u64) -> Option<usize>
     None
 }
 
-/// The cell of a line.
-#[inline(always)]
-fn find_cell(entries: &[(u64, u32)], line: u64) -> Option<u32>
-    requires { IsDistinct entries.now }
-    ensures { result ≡ find entries.now line }
-{
-    match index_of(entries, line) {
-        Some(at) => Some(entries[at].1),
-        None => None,
-    }
-}
-
 impl Row {
     /// No lines.
     pub(crate) fn new() -> Row
         ensures { result ≡ [] }
     {
         Row {
+            tags: [0; 16],
             count: 0,
             entries: [(0, 0); 16],
         }
+    }
+
+    /// The index of a line. It is that of the first line with the same tag, but where two lines have one tag.
+    #[inline(always)]
+    fn index_of(&self, line: u64) -> Option<usize>
+        requires { IsDistinct self.now }
+        ensures index { IsIndexOf self.now line result }
+        ensures below { IfSome result (λ at. at < length self.now) }
+    {
+        let count = self.count as usize;
+        let at = others_before(&self.tags, tag_of(line));
+        if at >= count {
+            return None;
+        }
+        if self.entries[at].0 == line {
+            return Some(at);
+        }
+        searched_index_of(&self.entries[..count], line)
     }
 
     /// The cell of a line.
@@ -68,7 +103,10 @@ impl Row {
         requires { IsDistinct self.now }
         ensures { result ≡ find self.now line }
     {
-        find_cell(&self.entries[..self.count as usize], line)
+        match self.index_of(line) {
+            Some(at) => Some(self.entries[at].1),
+            None => None,
+        }
     }
 
     /// Puts a line with its cell at the end.
@@ -76,6 +114,7 @@ impl Row {
         requires { length self.old < 16 }
         ensures { self.new ≡ self.old ++ (line, cell) ∷ [] }
     {
+        self.tags[self.count as usize] = tag_of(line);
         self.entries[self.count as usize] = (line, cell);
         self.count += 1;
     }
@@ -89,10 +128,11 @@ impl Row {
         ensures items { IfSome result (λ _. IsCut self.old line self.new) }
     {
         let count = self.count as usize;
-        let Some(at) = index_of(&self.entries[..count], line) else {
+        let Some(at) = self.index_of(line) else {
             return None;
         };
         let cell = self.entries[at].1;
+        self.tags[at] = self.tags[count - 1];
         self.entries[at] = self.entries[count - 1];
         self.count -= 1;
         Some(cell)

@@ -12,7 +12,10 @@ ghost use Rattle.llc_bank.specs.BankTable.{core_of};
 
 use crate::choice::choose;
 use crate::config::BankConfig;
-use crate::decision::{Decision, Eviction, decide, decide_eviction};
+use crate::decision::{
+    Decision, Eviction, decide_eviction, exclusive_request, filled, given_back, shared_request,
+    stored,
+};
 use crate::entry::{Entry, Evict, EvictError};
 use dram_mts::MemoryTime;
 use line_sets::LineSets;
@@ -200,7 +203,8 @@ impl Bank {
         self.from_bank(line, Node::Dram(self.number), body)
     }
 
-    // What the bank does at a message, by its line's set.
+    // What the bank does at a message, by its line's set. Each kind looks the entry up for itself, so the kind isn't
+    // tested again.
     #[inline(always)]
     fn decided(&self, message: &Message, set: usize) -> Decision
         requires set { set ≡ set_of self.now message.now.line }
@@ -209,14 +213,29 @@ impl Bank {
         ensures way { IsTrue (finds_place (is_some (entry_of self.now message.now.line)) (has_room
             self.now.table (set_of self.now message.now.line)) result) }
     {
-        decide(
-            self.lease,
-            self.memory_time(),
-            self.table.has_room(set),
-            core_of(message.from),
-            self.entry_in(set, message.line),
-            &message.body,
-        )
+        let line = message.line;
+        let room = self.table.has_room(set);
+        match message.body {
+            Body::ShReq { pts, version } => {
+                shared_request(self.lease, room, pts, version, self.entry_in(set, line))
+            }
+            Body::ExReq { version } => {
+                exclusive_request(
+                    room,
+                    core_of(message.from),
+                    version,
+                    self.entry_in(set, line),
+                )
+            }
+            Body::FlushRep(timed) | Body::WbRep(timed) => {
+                given_back(timed, self.entry_in(set, line))
+            }
+            Body::DramLdRep(words) => {
+                filled(self.memory_time(), words, self.entry_in(set, line))
+            }
+            Body::DramStRep => stored(self.entry_in(set, line)),
+            _ => Decision::NoCase,
+        }
     }
 
     /// Evicts a line. A Shared line raises the memory time to the end of its lease; a clean one is gone then, and the

@@ -1,9 +1,9 @@
 //! What a message and an eviction do to a bank's entry of one line: decisions, which change nothing.
-ghost use Rattle.std.specs.Prelude.{◌≡◌, IsTrue, is_some};
+ghost use Rattle.std.specs.Prelude.{◌≡◌};
 ghost use Rattle.std.specs.Option.{option_copied};
 ghost use Rattle.std.specs.Result.{result_ok};
-ghost use Rattle.llc_bank.specs.OnEntry.{asked_back, at_bank, evicted, exclusive_request, filled, finds_place};
-ghost use Rattle.llc_bank.specs.OnEntry.{given_back, leased, loaded, read_answer, shared_request, stored};
+ghost use Rattle.llc_bank.specs.OnEntry.{asked_back, evicted, exclusive_request, filled, given_back, leased, loaded};
+ghost use Rattle.llc_bank.specs.OnEntry.{read_answer, shared_request, stored};
 
 use crate::entry::Entry;
 use network::{Body, TimedLine, Words};
@@ -106,9 +106,9 @@ fn asked_back(owner: u32, until: Result<u64, Exhausted>) -> Decision
     }
 }
 
-// A request to read.
+/// A request to read.
 #[inline(always)]
-fn shared_request(
+pub(crate) fn shared_request(
     lease: u64,
     room: bool,
     pts: u64,
@@ -129,9 +129,14 @@ fn shared_request(
     }
 }
 
-// A request to own, by a core.
+/// A request to own, by a core.
 #[inline(always)]
-fn exclusive_request(room: bool, core: u32, version: Option<u64>, entry: Option<&Entry>) -> Decision
+pub(crate) fn exclusive_request(
+    room: bool,
+    core: u32,
+    version: Option<u64>,
+    entry: Option<&Entry>,
+) -> Decision
     ensures { result ≡ exclusive_request room core version (option_copied entry.entry) }
 {
     match entry {
@@ -155,9 +160,9 @@ fn exclusive_request(room: bool, core: u32, version: Option<u64>, entry: Option<
     }
 }
 
-// The owner gives the line back.
+/// The owner gives the line back.
 #[inline(always)]
-fn given_back(line: TimedLine, entry: Option<&Entry>) -> Decision
+pub(crate) fn given_back(line: TimedLine, entry: Option<&Entry>) -> Decision
     ensures { result ≡ given_back line (option_copied entry.entry) }
 {
     let returned = Entry::Shared { dirty: true, line };
@@ -167,9 +172,9 @@ fn given_back(line: TimedLine, entry: Option<&Entry>) -> Decision
     }
 }
 
-// The words come from DRAM.
+/// The words come from DRAM.
 #[inline(always)]
-fn filled(mts: u64, words: Words, entry: Option<&Entry>) -> Decision
+pub(crate) fn filled(mts: u64, words: Words, entry: Option<&Entry>) -> Decision
     ensures { result ≡ filled mts words (option_copied entry.entry) }
 {
     match entry {
@@ -185,36 +190,12 @@ fn filled(mts: u64, words: Words, entry: Option<&Entry>) -> Decision
     }
 }
 
-// DRAM has the words.
-fn stored(entry: Option<&Entry>) -> Decision
+/// DRAM has the words.
+pub(crate) fn stored(entry: Option<&Entry>) -> Decision
     ensures { result ≡ stored (option_copied entry.entry) }
 {
     match entry {
         Some(Entry::Storing) => Decision::Leaves,
-        _ => Decision::NoCase,
-    }
-}
-
-/// What a bank with this lease and memory time does at a message with this body about a line that it has this entry of,
-/// and whose set has room or not. A request comes from `core`.
-#[inline(always)]
-pub(crate) fn decide(
-    lease: u64,
-    mts: u64,
-    room: bool,
-    core: u32,
-    entry: Option<&Entry>,
-    body: &Body,
-) -> Decision
-    ensures decision { result ≡ at_bank lease mts room core (option_copied entry.entry) body.now }
-    ensures way { IsTrue (finds_place (is_some entry.entry) room result) }
-{
-    match *body {
-        Body::ShReq { pts, version } => shared_request(lease, room, pts, version, entry),
-        Body::ExReq { version } => exclusive_request(room, core, version, entry),
-        Body::FlushRep(line) | Body::WbRep(line) => given_back(line, entry),
-        Body::DramLdRep(words) => filled(mts, words, entry),
-        Body::DramStRep => stored(entry),
         _ => Decision::NoCase,
     }
 }

@@ -9,12 +9,12 @@ pub returns-in_default-clause-value : goal.returns-in_default-clause-value
 returns-in_default-clause-value c =
     let row = take c.self.inside.count c.self.inside.entries in
     rw (← c.self.view_is) (sym (missing-find row c.args.line
-    (rw c.in_default.is at c.index_of.ensures.index)))
+    (rw (c.in_default.is, ← c.self.view_is) at c.index_of.ensures.index)))
 
 pub returns-clause-value : goal.returns-clause-value
 returns-clause-value c =
     let row = take c.self.inside.count c.self.inside.entries in
-    let h : IsFirstAt row c.args.line c.in-Some.at = rw c.in-Some.is at c.index_of.ensures.index in
+    let h : IsFirstAt row c.args.line c.in-Some.at = rw (c.in-Some.is, ← c.self.view_is) at c.index_of.ensures.index in
     let below = first-below row c.args.line c.in-Some.at h in
     let most = length-take c.self.inside.count c.self.inside.entries in
     let low : c.in-Some.at < c.self.inside.count = omega arith in
@@ -25,7 +25,7 @@ returns-clause-value c =
 pub returns-clause-items : goal.returns-clause-items
 returns-clause-items c =
     let xs = c.self.inside.entries in let count = c.self.inside.count in
-    let h : IsFirstAt (take count xs) c.args.line c.in-Some.at = rw c.in-Some.is at c.index_of.ensures.index in
+    let h : IsFirstAt (take count xs) c.args.line c.in-Some.at = rw (c.in-Some.is, ← c.self.view_is) at c.index_of.ensures.index in
     let distinct = rw (← c.self.view_is) at c.requires in
     rw (← c.self.view_is) (cut-swapped xs count c.args.line c.in-Some.at (0, 0)
     (omega (arith, c.self.invariant, c.self.ranges)) distinct h)

@@ -1,7 +1,7 @@
 use Rattle.std.proofs.Common.{◌-◌, arith, inl, inr}
 use Rattle.std.proofs.lemmas.Bool.{cases_eq}
 use Rattle.line_sets.proofs.Indices.{distinct-first, nowhere-missing}
-use Rattle.line_sets.proofs.entries.index_of.Goals as goal
+use Rattle.line_sets.proofs.entries.searched_index_of.Goals as goal
 
 pub loop-left-preserved : goal.loop-left-preserved
 loop-left-preserved c = record {

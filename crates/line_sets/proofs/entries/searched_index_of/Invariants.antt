@@ -1,5 +1,5 @@
 use Rattle.std.proofs.Common.{◌≢◌, ◌<◌, ◌≤◌, ℕ, length, get_or}
-use Rattle.line_sets.proofs.entries.index_of.Given as goal
+use Rattle.line_sets.proofs.entries.searched_index_of.Given as goal
 
 abbrev pub invariant-loop-left : goal.invariant-loop-left
 invariant-loop-left l = record {

@@ -1,6 +1,7 @@
 -- The number of the field in front: read digit by digit, and as a whole.
 use Rattle.std.proofs.Common.{◌≡◌, ℕ, ◌+◌, ◌<◌, ◌≤◌, ◌&&◌, Bool, true, false, ltb, cond}
-use Rattle.std.proofs.Common.{List, [], ◌∷◌, take, drop, length, get_or, Option, Some, None, refl, sym, ◌∙◌, arith, inl, inr}
+use Rattle.std.proofs.Common.{List, [], ◌∷◌, take, drop, length, get_or, Option}
+use Rattle.std.proofs.Common.{Some, None, refl, sym, ◌∙◌, arith, inl, inr}
 use Rattle.std.specs.List.{list_all, fold, prefix_len}
 use Rattle.std.proofs.lemmas.Bool.{cases_Bool}
 use Rattle.std.proofs.lemmas.List.{drop_more, drop_all}
@@ -55,52 +56,50 @@ number-read is_one put inside more (b ∷ bytes) value count fits =
 
 -- what is read from a byte on gives the whole
 abbrev pub Goes : Bool → List ℕ → ℕ → ℕ → Type 0
-Goes x bytes value i = number_read (is_digit_of x) (put_digit x) value i (drop i bytes)
-    ≡ number_of (is_digit_of x) (put_digit x) 0 0 bytes
+Goes hex bytes value i = number_read (is_digit_of hex) (put_digit hex) value i (drop i bytes)
+    ≡ number_of (is_digit_of hex) (put_digit hex) 0 0 bytes
 
-pub goes-on : (x : Bool) (bytes : List ℕ) (value i next : ℕ) → Goes x bytes value i → i < length bytes →
-    is_digit_of x (get_or bytes i 0) ≡ true → put_digit x value (get_or bytes i 0) < 18446744073709551616 →
-    next ≡ put_digit x value (get_or bytes i 0) → Goes x bytes next (i + 1)
+pub goes-on : (hex : Bool) (bytes : List ℕ) (value i next : ℕ) → Goes hex bytes value i → i < length bytes →
+    is_digit_of hex (get_or bytes i 0) ≡ true → put_digit hex value (get_or bytes i 0) < 18446744073709551616 →
+    next ≡ put_digit hex value (get_or bytes i 0) → Goes hex bytes next (i + 1)
 unfolding number_read
-goes-on x bytes value i next known lt h fits e =
-    let test : ltb (put_digit x value (get_or bytes i 0)) 18446744073709551616 ≡ true = grind (arith, nat_tests) in
+goes-on hex bytes value i next known lt h fits e =
+    let test : ltb (put_digit hex value (get_or bytes i 0)) 18446744073709551616 ≡ true = grind (arith, nat_tests) in
     rw e (sym (rw (drop_more bytes i 0 lt, h, test) refl) ∙ known)
 
-pub goes-over : (x : Bool) (bytes : List ℕ) (value i : ℕ) → Goes x bytes value i → i < length bytes →
-    is_digit_of x (get_or bytes i 0) ≡ true → (put_digit x value (get_or bytes i 0) < 18446744073709551616 → ⊥) →
-    None ≡ number_of (is_digit_of x) (put_digit x) 0 0 bytes
+pub goes-over : (hex : Bool) (bytes : List ℕ) (value i : ℕ) → Goes hex bytes value i → i < length bytes →
+    is_digit_of hex (get_or bytes i 0) ≡ true → (put_digit hex value (get_or bytes i 0) < 18446744073709551616 → ⊥) →
+    None ≡ number_of (is_digit_of hex) (put_digit hex) 0 0 bytes
 unfolding number_read
-goes-over x bytes value i known lt h over =
-    let test : ltb (put_digit x value (get_or bytes i 0)) 18446744073709551616 ≡ false = grind (arith, nat_tests) in
+goes-over hex bytes value i known lt h over =
+    let test : ltb (put_digit hex value (get_or bytes i 0)) 18446744073709551616 ≡ false = grind (arith, nat_tests) in
     rw (drop_more bytes i 0 lt, h, test) at known
 
-pub goes-wrong : (x : Bool) (bytes : List ℕ) (value i : ℕ) → Goes x bytes value i → i < length bytes →
-    is_digit_of x (get_or bytes i 0) ≡ false → is_within (get_or bytes i 0) ≡ true →
-    None ≡ number_of (is_digit_of x) (put_digit x) 0 0 bytes
+pub goes-wrong : (hex : Bool) (bytes : List ℕ) (value i : ℕ) → Goes hex bytes value i → i < length bytes →
+    is_digit_of hex (get_or bytes i 0) ≡ false → is_within (get_or bytes i 0) ≡ true →
+    None ≡ number_of (is_digit_of hex) (put_digit hex) 0 0 bytes
 unfolding number_read
-goes-wrong x bytes value i known lt h w = rw (drop_more bytes i 0 lt, h, w) at known
+goes-wrong hex bytes value i known lt h w = rw (drop_more bytes i 0 lt, h, w) at known
 
-pub goes-to : (x : Bool) (bytes : List ℕ) (value i : ℕ) → Goes x bytes value i → i < length bytes →
-    is_digit_of x (get_or bytes i 0) ≡ false → is_within (get_or bytes i 0) ≡ false →
-    Some (value, i) ≡ number_of (is_digit_of x) (put_digit x) 0 0 bytes
+pub goes-to : (hex : Bool) (bytes : List ℕ) (value i : ℕ) → Goes hex bytes value i → i < length bytes →
+    is_digit_of hex (get_or bytes i 0) ≡ false → is_within (get_or bytes i 0) ≡ false →
+    Some (value, i) ≡ number_of (is_digit_of hex) (put_digit hex) 0 0 bytes
 unfolding number_read
-goes-to x bytes value i known lt h w = rw (drop_more bytes i 0 lt, h, w) at known
+goes-to hex bytes value i known lt h w = rw (drop_more bytes i 0 lt, h, w) at known
 
-pub goes-through : (x : Bool) (bytes : List ℕ) (value i : ℕ) → Goes x bytes value i → length bytes ≤ i →
-    Some (value, i) ≡ number_of (is_digit_of x) (put_digit x) 0 0 bytes
+pub goes-through : (hex : Bool) (bytes : List ℕ) (value i : ℕ) → Goes hex bytes value i → length bytes ≤ i →
+    Some (value, i) ≡ number_of (is_digit_of hex) (put_digit hex) 0 0 bytes
 unfolding number_read
-goes-through x bytes value i known le = rw (drop_all i bytes le) at known
+goes-through hex bytes value i known le = rw (drop_all i bytes le) at known
 
-digit-inside : (is_hexadecimal : Bool) (b : ℕ) → is_digit_of is_hexadecimal b ≡ true → is_within b ≡ true
+digit-inside : (hex : Bool) (b : ℕ) → is_digit_of hex b ≡ true → is_within b ≡ true
 digit-inside true b e = grind (arith, nat_tests)
 digit-inside false b e = grind (arith, nat_tests)
 
-digit-more : (is_hexadecimal : Bool) (value b : ℕ) → value ≤ put_digit is_hexadecimal value b
+digit-more : (hex : Bool) (value b : ℕ) → value ≤ put_digit hex value b
 digit-more true value b = omega arith
 digit-more false value b = omega arith
 
-pub digits-go : (is_hexadecimal : Bool) (bytes : List ℕ) →
-    Goes is_hexadecimal bytes 0 0
-digits-go is_hexadecimal bytes =
-    number-read (is_digit_of is_hexadecimal) (put_digit is_hexadecimal) (digit-inside is_hexadecimal)
-    (digit-more is_hexadecimal) bytes 0 0 (omega arith)
+pub digits-go : (hex : Bool) (bytes : List ℕ) → Goes hex bytes 0 0
+digits-go hex bytes =
+    number-read (is_digit_of hex) (put_digit hex) (digit-inside hex) (digit-more hex) bytes 0 0 (omega arith)

@@ -45,7 +45,8 @@ goes-on : (b : ℕ) (bytes : List ℕ) → begins_inside_field (before_comment (
 unfolding begins_inside_field
 goes-on b bytes =
     elim (cases_Bool (b == 35)) [
-      | inl e ↦ let outside : is_within b ≡ false = grind (arith, nat_tests) in rw (comment-none b bytes e, outside) refl
+      | inl e ↦ let outside : is_within b ≡ false = grind (arith, nat_tests) in
+          rw (comment-none b bytes e, outside) refl
       | inr e ↦ let same : not (is_blank b) ≡ is_within b = grind (arith, nat_tests) in
           rw (comment-later b bytes e) same
     ]

@@ -70,7 +70,8 @@ abbrev pub beside : {X : Type 0} → List (List ℕ) → Option X → Option (X 
 beside fields o = option_map (λ x. (x, fields)) o
 
 letter-first : (field : List ℕ) (fields : List (List ℕ)) (b : ℕ) (rest : List (List ℕ)) →
-    Some (b, rest) ≡ beside fields (letter_in field) → beside rest (access_in (b ∷ [])) ≡ beside fields (access_in field)
+    Some (b, rest) ≡ beside fields (letter_in field) →
+    beside rest (access_in (b ∷ [])) ≡ beside fields (access_in field)
 letter-first [] fields b rest e = absurd cc
 letter-first (a ∷ []) fields b rest e =
     let pair : ◌≡◌ {A = ℕ × List (List ℕ)} (b, rest) (a, fields) = cc in

@@ -1,5 +1,6 @@
 -- What the field in front says, where no blank comes before it.
-use Rattle.std.specs.Prelude.{ℕ, ◌+◌, ◌*◌, ◌-◌, ◌^◌, ◌&&◌, nat_lt, Bool, if◌then◌else◌, List, [], ◌∷◌, take, drop, Option, Some, None}
+use Rattle.std.specs.Prelude.{ℕ, ◌+◌, ◌*◌, ◌-◌, ◌^◌, ◌&&◌, nat_lt, Bool}
+use Rattle.std.specs.Prelude.{if◌then◌else◌, List, [], ◌∷◌, take, drop, Option, Some, None}
 use Rattle.std.specs.Prelude.{option_map}
 use Rattle.std.specs.List.{list_all, fold, prefix_len}
 use Rattle.trace_lines.specs.Fields.{is_within, fields_of}
@@ -7,8 +8,8 @@ use Rattle.trace_lines.specs.Spelling.{is_digit, is_hex_digit, is_few, hex_digit
 
 -- what the field in front says, and the fields after it
 abbrev pub front_says : {X : Type 0} → (List ℕ → Option X) → List ℕ → Option (X × List (List ℕ))
-front_says says bytes =
-    option_map (λ x. (x, fields_of (drop (prefix_len is_within bytes) bytes))) (says (take (prefix_len is_within bytes) bytes))
+front_says says bytes = option_map (λ x. (x, fields_of (drop (prefix_len is_within bytes) bytes)))
+    (says (take (prefix_len is_within bytes) bytes))
 
 abbrev pub is_digit_of : Bool → ℕ → Bool
 is_digit_of is_hexadecimal b = if is_hexadecimal then is_hex_digit b else is_digit b

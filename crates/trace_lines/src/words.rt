@@ -80,8 +80,8 @@ pub(crate) fn number(
     Some((value, rest))
 }
 
-/// The number of the word at the byte address in front, written as `0x` and 1 to 16 hexadecimal digits, if it is a multiple of 8, and
-/// what follows it.
+/// The number of the word at the byte address in front, written as `0x` and 1 to 16 hexadecimal digits, if it is a
+/// multiple of 8, and what follows it.
 #[inline(always)]
 pub(crate) fn address(bytes: &[u8]) -> Option<(u64, &[u8])>
     ensures number { option_map view_fields_read result ≡ front_says address_in bytes.now }

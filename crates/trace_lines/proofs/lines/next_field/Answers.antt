@@ -7,7 +7,8 @@ use Rattle.trace_lines.proofs.lines.next_field.Goals as goal
 
 pub returns-then-count-eq0 : goal.returns-then-count-eq0
 returns-then-count-eq0 c =
-    let none : prefix_len is_within c.behind_blanks-bytes.result.now ≡ 0 = grind (arith, nat_tests, c.field_count-count.ensures.count) in
+    let none : prefix_len is_within c.behind_blanks-bytes.result.now ≡ 0 =
+    grind (arith, nat_tests, c.field_count-count.ensures.count) in
     c.behind_blanks-bytes.ensures ∙ none-fronted _ none
 
 pub returns : goal.returns

@@ -22,7 +22,14 @@ returns-clause-written c =
     let same : c.write_digits-at.result - 1 + 1 ≡ c.write_digits-at.result =
     omega (arith, short, c.requires.room, c.write_digits-at.ensures.start) in
     let lt : c.write_digits-at.result - 1 < length c.write_digits-at.new.buf =
-    omega (arith, short, c.requires.room, c.requires.within, c.write_digits-at.ensures.start, c.write_digits-at.auto.buf) in
+    omega (
+      arith,
+      short,
+      c.requires.room,
+      c.requires.within,
+      c.write_digits-at.ensures.start,
+      c.write_digits-at.auto.buf,
+    ) in
     drop-set c.write_digits-at.new.buf (c.write_digits-at.result - 1) 32 lt
     ∙ ap (λ k. 32 ∷ drop k c.write_digits-at.new.buf) same ∙ ap (λ tail. 32 ∷ tail) c.write_digits-at.ensures.written
 

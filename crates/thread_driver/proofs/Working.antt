@@ -1,6 +1,7 @@
 -- A worker before each pass: what it gave its seats and what it has signaled. And how it ends.
-use Rattle.std.proofs.Common.{◌≡◌, ℕ, ◌+◌, ◌<◌, ◌≤◌, ◌^◌, true, false, List, length, refl, sym, ap, subst, ◌∙◌, arith}
-use Rattle.std.proofs.Common.{true≢false}
+use Rattle.std.proofs.Common.{◌≡◌, ℕ, ◌+◌, ◌%◌, ◌<◌, ◌≤◌, ◌^◌, Bool, true, false, List, length, refl, sym, ap, ◌∙◌}
+use Rattle.std.proofs.Common.{subst, arith, true≢false}
+use Rattle.std.proofs.lemmas.Bool.{or_parts}
 use Rattle.std.specs.List.{zip}
 use Rattle.std.specs.declared.alloc.Global.{Global}
 use Rattle.std.specs.declared.vec.Vec.{Vec}
@@ -18,11 +19,22 @@ use Rattle.thread_driver.specs.declared.worker.Rota.{Rota}
 use Rattle.thread_driver.specs.declared.worker.Worker.{Worker}
 use Rattle.thread_driver.specs.Given.{AtMost, Exactly, quiet, told_by_both}
 use Rattle.thread_driver.specs.Playing.{AreAhead}
-use Rattle.thread_driver.specs.Teams.{HasWorked, IsAtWork, IsReady, SeatsPassed, ends_all, over_in}
+use Rattle.thread_driver.specs.Teams.{HasWorked, IsAtWork, IsReady, SeatsPassed, ends_all, over_in, rested}
 use Rattle.thread_driver.proofs.Counted.{over_rises}
 use Rattle.thread_driver.proofs.Passes.{none_ends, second_ends}
 use Rattle.thread_driver.proofs.Worked.{Gave, SameLists, ahead_told, banks_told, cores_told, given_all, given_more}
 use Rattle.thread_driver.proofs.Worked.{not_given, works_told}
+
+-- If no pass brought anything on so far, as many came to nothing as there were.
+pub idle_passes : (all told both : Told) (idle passes turn : ℕ) (is_due : Bool) → both ≡ told_by_both all told →
+    (passes, is_due) ≡ rested idle told.has_progressed →
+    (all.has_progressed ≡ false → idle ≡ turn % 256) → both.has_progressed ≡ false → passes ≡ (turn + 1) % 256
+idle_passes all told both idle passes turn is_due told_is rests was none =
+    let parts = or_parts all.has_progressed told.has_progressed
+    (sym (ap (λ (t : Told). t.has_progressed) told_is) ∙ none) in
+    let before = was parts.0 in
+    let now : passes ≡ (idle + 1) % 256 = ap (λ (p : ℕ × Bool). p.0) (rests ∙ ap (rested idle) parts.1) in
+    omega arith
 
 module _ {P : Type 0} (acts : Acts P) (m : Machine) (signals : Signals) where
   -- The worker w, now l, gave each of its seats exactly so many turns, and none ended all.

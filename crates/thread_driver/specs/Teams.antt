@@ -1,6 +1,6 @@
 -- Workers, and what they do with what they were dealt.
-use Rattle.std.specs.Prelude.{◌≡◌, ◌⊎◌, ◌||◌, ◌&&◌, is_none, Bool, true, false, ℕ, zero, suc, ◌+◌, ◌<◌, ◌≤◌, ◌^◌}
-use Rattle.std.specs.Prelude.{List, [], ◌∷◌, length, Some, slice_get}
+use Rattle.std.specs.Prelude.{◌≡◌, ◌⊎◌, ◌||◌, ◌&&◌, is_none, Bool, true, false, ℕ, zero, suc, ◌+◌, ◌%◌, ◌<◌, ◌≤◌, ◌^◌}
+use Rattle.std.specs.Prelude.{List, [], ◌∷◌, length, Some, nat_eq, slice_get}
 use Rattle.std.specs.Int.{from_bool}
 use Rattle.std.specs.List.{zip}
 use Rattle.mailboxes.specs.declared.machine.Machine.{Machine}
@@ -38,6 +38,12 @@ pub data PassGiven {X : Type 0} (Turn : X → Told → X → Type 0) : ℕ → L
 -- A pass is whole: all of the list had a turn, unless one ended all.
 abbrev pub IsWhole : {X : Type 0} → ℕ → List X → Told → Type 0
 IsWhole n xs told = ends_all told ≡ false → n ≡ length xs
+
+-- How many passes in a row came to nothing, modulo 256, after one more; and whether another thread is due: after each
+-- 256th of them.
+abbrev pub rested : ℕ → Bool → ℕ × Bool
+rested idle true = (0, false)
+rested idle false = let n = (idle + 1) % 256 in (n, nat_eq n 0)
 
 module _ {P : Type 0} (acts : Acts P) where
   -- whether a core has no open operation, and its program no next step

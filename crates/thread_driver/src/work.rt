@@ -3,8 +3,9 @@ ghost use Rattle.std.specs.Prelude.{◌≡◌, ◌≤◌, ◌<◌, ◌^◌, None
 ghost use Rattle.std.specs.List.{zip};
 ghost use Rattle.mailboxes.specs.Seats.{AllBankSeats, AllCoreSeats};
 ghost use Rattle.stop_flags.specs.Signalers.{IsSignalerOf, last_look, number_of};
+ghost use Rattle.thread_driver.specs.Given.{told_by_both};
 ghost use Rattle.thread_driver.specs.Playing.{AreAhead};
-ghost use Rattle.thread_driver.specs.Teams.{FoundEnd, FoundNoEnd, IsReady, SeatsPassed, Works, over_in};
+ghost use Rattle.thread_driver.specs.Teams.{FoundEnd, FoundNoEnd, IsReady, SeatsPassed, Works, over_in, rested};
 
 use crate::counting::over_count;
 use crate::pass::{bank_pass, core_pass, ends_all};
@@ -35,26 +36,32 @@ pub(crate) fn work<P: Program + Drop, G: Gate>(
         let Some(told) = pass(machine, signals, gate, rota, worker, turn) else {
             return;
         };
-        worker.told = both(worker.told, told);
+        let (all, passes, is_due) = after_pass(worker.told, idle, told);
+        worker.told = all;
+        idle = passes;
         if ends_all(&told) {
             worker.signaler.stop(signals);
             return;
         }
-        idle = rest(idle, told.has_progressed);
+        if is_due {
+            thread::yield_now();
+        }
     }
     tell(signals, worker);
 }
 
-// Counts passes in a row that came to nothing. After 256 of them another thread has its turn at the processor.
-fn rest(idle: u8, has_progressed: bool) -> u8 {
-    if has_progressed {
-        return 0;
+// What a worker keeps after a pass: what all its turns reported, and how many passes in a row came to nothing. And
+// whether another thread is due at the processor: after each 256th of these.
+fn after_pass(all: Told, idle: u8, told: Told) -> (Told, u8, bool)
+    ensures told { result.0 ≡ told_by_both all told }
+    ensures idle { (result.1, result.2) ≡ rested idle told.has_progressed }
+{
+    let all = both(all, told);
+    if told.has_progressed {
+        return (all, 0, false);
     }
     let idle = idle.wrapping_add(1);
-    if idle == 0 {
-        thread::yield_now();
-    }
-    idle
+    (all, idle, idle == 0)
 }
 
 // Tells which programs are finished, and looks. If that finds no end, each seat of the worker has a turn.

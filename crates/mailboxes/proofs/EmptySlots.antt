@@ -1,6 +1,6 @@
 -- Slots that come in, looked at one after the other and going round.
 use Rattle.std.proofs.Common.{◌≡◌, ℕ, zero, suc, ◌+◌, ◌-◌, ◌*◌, ◌/◌, ◌%◌, ◌<◌, ◌≤◌, List, [], ◌∷◌, ◌++◌, append_assoc}
-use Rattle.std.proofs.Common.{append-nil, cond, nat_lt, Option, Some, None, ⊎_elim, sym, ap, ◌∙◌}
+use Rattle.std.proofs.Common.{append-nil, cond, nat_lt, Bool, true, false, Option, Some, None, ⊎_elim, sym, ap, ◌∙◌}
 use Rattle.std.proofs.Common.{subst, arith, mod-eq_of_lt}
 use Rattle.std.specs.Prelude.{MatchOption}
 use Rattle.std.proofs.Math.Nat.{mod-add-mod}
@@ -15,15 +15,16 @@ use Rattle.seat_rule.specs.declared.views.Stage.TheVariants.{Idle, Reading}
 use Rattle.seat_rule.specs.Plays.{SeatState, looked, looking, saw_in}
 use Rattle.seat_rule.specs.Rule.{node_of}
 use Rattle.mailboxes.specs.BoxMoves.{FindsFull, FindsNone}
-use Rattle.mailboxes.specs.Places.{EndsAt, found_empty, incoming, incoming_count, incoming_link}
+use Rattle.mailboxes.specs.Places.{EndsAt, found_empty, incoming, incoming_count, incoming_link, incoming_stride}
 use Rattle.mailboxes.proofs.LinkEnds.{slot_ends}
 
 -- the place after the n-th from a start is so far from there
-pub place_on : (start n k place count : ℕ) → place ≡ (start + n) % count →
+place_on : (start n k place count : ℕ) → place % count ≡ (start + n) % count →
     (place + k) % count ≡ (start + (n + k)) % count
 place_on start n k place count is =
     let whole : start + n + k ≡ start + (n + k) = omega arith in
-    ap (λ m. (m + k) % count) is ∙ mod-add-mod (start + n) count k ∙ ap (λ m. m % count) whole
+    sym (mod-add-mod place count k) ∙ ap (λ m. (m + k) % count) is ∙ mod-add-mod (start + n) count k
+    ∙ ap (λ m. m % count) whole
 
 -- the place of the last slots that are looked at, which are those of the first link
 pub last_place : (cursor count column : ℕ) → 0 < count → column ≤ cursor % count →
@@ -53,15 +54,42 @@ link_slot cores banks number place k slots slot near few less is =
     let next : slot + k ≡ incoming cores banks number (place + k) = omega (arith, is, links, column) in
     (within, next ∙ ap (incoming cores banks number) (sym (mod-eq_of_lt within)))
 
--- the first place of a link, and its slot
-pub first_slot : (cores banks number place slot : ℕ) → slot ≡ incoming cores banks number place →
-    (place % 4 ≤ slot) × (slot - place % 4 ≡ incoming cores banks number (place - place % 4))
-    × ((place - place % 4) % 4 ≡ 0)
-first_slot cores banks number place slot is =
-    let row : (place - place % 4) / 4 ≡ place / 4 = omega arith in
-    let column : (place - place % 4) % 4 ≡ 0 = omega arith in
+-- the slot of a place, from the first one of its link
+pub in_link : (cores banks number place slot : ℕ) → slot ≡ incoming cores banks number (4 * (place / 4)) →
+    slot + place % 4 ≡ incoming cores banks number place
+in_link cores banks number place slot is =
+    let row : 4 * (place / 4) / 4 ≡ place / 4 = omega arith in
+    let column : 4 * (place / 4) % 4 ≡ 0 = omega arith in
     let links = ap (incoming_link cores banks number) row in
-    (omega (arith, is), omega (arith, is, links, column), column)
+    omega (arith, is, links, column)
+
+-- the slot that is a link further
+next_number : (b : Bool) (cores banks number i : ℕ) →
+    cond b (cores * banks + (suc i * cores + number)) (suc i * banks + (number - cores))
+    ≡ cond b (cores * banks + (i * cores + number)) (i * banks + (number - cores)) + cond b cores banks
+next_number true cores banks number i = let more = suc-mul i cores in omega (arith, more)
+next_number false cores banks number i = let more = suc-mul i banks in omega (arith, more)
+
+pub next_slot : (cores banks number place : ℕ) →
+    incoming cores banks number place + incoming_stride cores banks number ≡ incoming cores banks number (place + 4)
+next_slot cores banks number place =
+    let row : (place + 4) / 4 ≡ suc (place / 4) = omega arith in
+    let column : (place + 4) % 4 ≡ place % 4 = omega arith in
+    let links = ap (incoming_link cores banks number) row in
+    let next = next_number (nat_lt number cores) cores banks number (place / 4) in
+    omega (arith, links, column, next)
+
+-- the first slot of a link
+pub link_slots : (cores banks number from : ℕ) →
+    incoming cores banks number 0 + from * incoming_stride cores banks number ≡ incoming cores banks number (4 * from)
+link_slots cores banks number zero = omega arith
+link_slots cores banks number (suc from) =
+    let further : 4 * from + 4 ≡ 4 * suc from = omega arith in
+    let slot = ap (incoming cores banks number) further in
+    let before = link_slots cores banks number from in
+    let next = next_slot cores banks number (4 * from) in
+    let more = suc-mul from (incoming_stride cores banks number) in
+    omega (arith, slot, before, next, more)
 
 -- each place has a slot, which comes in
 pub place_ends : (z : SetUp) (number start n place slot : ℕ) → number < z.config.cores + z.config.banks →
@@ -130,7 +158,8 @@ none_yet z number start s idle out =
 
 -- more looks, after n from a start that found nothing
 module _ (z : SetUp) (number start n place : ℕ) (s t : SeatState) (so : FindsNone z number start n s t)
-    (at : place ≡ (start + n) % incoming_count z.config.cores z.config.banks number) where
+    (at : place % incoming_count z.config.cores z.config.banks number
+    ≡ (start + n) % incoming_count z.config.cores z.config.banks number) where
   abbrev all : ℕ
   all = incoming_count z.config.cores z.config.banks number
 

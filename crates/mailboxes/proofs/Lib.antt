@@ -22,5 +22,6 @@ mod StoredSeats
 mod Sweeps
 mod Rooms
 mod EmptySlots
+mod Rounds
 mod SureTurns
 mod WholeSeats

@@ -7,6 +7,7 @@ pub mod CoreCalls
 pub mod CoreServing
 pub mod CoreTurns
 pub mod Evictions
+pub mod Incoming
 pub mod PartServing
 pub mod Places
 pub mod Remains

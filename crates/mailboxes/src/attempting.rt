@@ -1,5 +1,5 @@
 //! A core's seat attempts its open operation.
-ghost use Rattle.std.specs.Prelude.{◌≡◌, ◌≢◌};
+ghost use Rattle.std.specs.Prelude.{◌≡◌, ◌≢◌, false};
 ghost use Rattle.core_pts.specs.CoreTable as core_table;
 ghost use Rattle.mailboxes.specs.Attempts.{Asks, Attempts, AttemptsSo, Tries, sent_if_room, tried};
 ghost use Rattle.mailboxes.specs.CoreCalls.{SamePlace};
@@ -82,6 +82,7 @@ impl CoreSeat {
     /// line and its set is full; else NetworkFull exactly if a request is needed, and the outbox has no place or the
     /// seat sent 2 ^ 64 - 1 messages. These refusals change nothing. Exhausted exactly if a sum of times doesn't fit:
     /// the seat is then stopped, and nothing else changes. The call never answers NoMemory.
+    #[inline(always)]
     pub fn attempt(&mut self, machine: &Machine) -> Answer
         requires { IsCoreSeat machine.now self.old }
         ensures seat { IsCoreSeat machine.now self.new × SamePlace self.old self.new }
@@ -91,6 +92,21 @@ impl CoreSeat {
         if self.is_stopped {
             return Answer::Refused(Refusal::Stopped);
         }
+        if self.part.core.is_waiting() {
+            return Answer::Waiting;
+        }
+        self.attempt_open(machine)
+    }
+
+    // The same of a seat that goes on: a call of its own, since most attempts find a core that waits for its line.
+    #[inline(never)]
+    fn attempt_open(&mut self, machine: &Machine) -> Answer
+        requires seat { IsCoreSeat machine.now self.old }
+        requires goes_on { self.old.is_stopped ≡ false }
+        ensures seat { IsCoreSeat machine.now self.new × SamePlace self.old self.new }
+        ensures attempt { Attempts machine.now self.old result self.new }
+        ensures sure { result ≢ Answer.Refused Refusal.NoMemory }
+    {
         match try_open(&mut self.part.core) {
             Outcome::Keeps(answer) => answer,
             Outcome::Exhausts => {

@@ -48,6 +48,7 @@ impl BankSeat {
     /// the outbox, or the seat sent 2^64 - 1 messages. Exhausted if a sum of times doesn't fit 64 bits: the seat is
     /// then stopped. NoMemory only if the message that would be served is a store to DRAM. A refusal changes nothing
     /// else.
+    #[inline(always)]
     pub fn serve(&mut self, machine: &Machine) -> Result<Served, Refusal>
         requires { IsBankSeat machine.now self.old }
         ensures seat { IsBankSeat machine.now self.new × SameBankPlace self.old self.new }

@@ -22,6 +22,7 @@ use seat_rule::parts::{messages_of_seats_find_their_parts, parts_of_seats_have_t
 
 impl Mailbox {
     /// Serves a message of a bank's seat by its part.
+    #[inline(always)]
     pub(crate) fn serve_bank(
         &mut self,
         machine: &Machine,

@@ -11,6 +11,7 @@ ghost use Rattle.mailboxes.specs.Places.{AllLinked};
 ghost use Rattle.closed_machine.specs.Sending.{no_outbox};
 ghost use Rattle.mailboxes.specs.Ties.{BankTied};
 
+use crate::ends::incoming_slots;
 use crate::machine::Machine;
 use crate::mailbox::Mailbox;
 use crate::sending::SendingBank;
@@ -70,6 +71,7 @@ impl BankSeat {
             number,
             cores: config.cores,
             banks: config.banks,
+            slots: incoming_slots(&config, number),
             inbox,
             cursor: 0,
         };

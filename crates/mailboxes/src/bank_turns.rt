@@ -32,6 +32,7 @@ impl Turner for BankSeat {
         self.put(machine)
     }
 
+    #[inline(always)]
     fn serve_one(&mut self, machine: &Machine) -> Result<Served, Refusal> {
         self.serve(machine)
     }

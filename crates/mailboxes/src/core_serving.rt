@@ -25,6 +25,7 @@ use seat_rule::parts::messages_of_seats_find_their_parts;
 
 impl Mailbox {
     /// Serves a message of a core's seat by its part.
+    #[inline(always)]
     pub(crate) fn serve_core(
         &mut self,
         machine: &Machine,
@@ -60,6 +61,7 @@ impl CoreSeat {
     /// list, or in the outbox for what the core would send, or the seat sent 2^64 - 1 messages. Exhausted if a sum of
     /// times doesn't fit 64 bits: the seat is then stopped. The call never answers NoMemory. A refusal changes nothing
     /// else.
+    #[inline(always)]
     pub fn serve(&mut self, machine: &Machine) -> Result<Served, Refusal>
         requires { IsCoreSeat machine.now self.old }
         ensures seat { IsCoreSeat machine.now self.new × SamePlace self.old self.new }

@@ -5,9 +5,35 @@ ghost use Rattle.seat_rule.specs.declared.views.SetUp.{SetUp};
 ghost use Rattle.seat_rule.specs.Rule.{slot_count, source, target, node_of, to_of};
 ghost use Rattle.mailboxes.specs.Places.{end_of, has_link_to, link_to, incoming};
 ghost use Rattle.mailboxes.specs.Places.{incoming_count, incoming_link, incoming_stride};
+ghost use Rattle.mailboxes.specs.Incoming.{AreIncoming};
 
 use machine_table::Config;
 use network::Node;
+
+/// Where the slots are that come in to a seat.
+#[derive(Clone, Copy)]
+pub struct Slots {
+    /// How many they are.
+    pub(crate) count: usize,
+    /// The first one.
+    pub(crate) first: usize,
+    /// How far the first slots of two links are apart that come in one after the other.
+    pub(crate) stride: usize,
+}
+
+/// The slots that come in to a seat.
+pub fn incoming_slots(config: &Config, number: u32) -> Slots
+    requires good { is_good config.now ≡ true }
+    requires number { number < config.now.cores + config.now.banks }
+    ensures { AreIncoming config.now.cores config.now.banks number result }
+{
+    let count = incoming_count(config, number);
+    Slots {
+        count,
+        first: incoming(config, number, 0),
+        stride: incoming_stride(config, number),
+    }
+}
 
 /// The number of the link from a seat to a node.
 pub fn link_to(config: &Config, number: u32, to: &Node) -> usize

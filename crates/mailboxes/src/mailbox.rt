@@ -1,8 +1,10 @@
 //! The messages of a seat, of either kind.
 ghost use Rattle.std.specs.Prelude.{◌≡◌, ◌<◌, is_some};
+ghost use Rattle.mailboxes.specs.Incoming.{AreIncoming};
 ghost use Rattle.mailboxes.specs.Places.{AllOwn};
 ghost use Rattle.mailboxes.specs.Ties.{BoxTied};
 
+use crate::ends::Slots;
 use crate::steps::SlotSeat;
 use inbox::Inbox;
 use network::Message;
@@ -17,12 +19,15 @@ pub struct Mailbox {
     // How many cores and banks the machine has.
     pub(crate) cores: u32,
     pub(crate) banks: u32,
+    // The slots that come in.
+    pub(crate) slots: Slots,
     // The message that was taken last, until it is served, and the messages that wait for the part.
     pub(crate) inbox: Inbox<Message>,
     // Where the next look for a message begins, among the slots that come in.
     pub(crate) cursor: usize,
     pub ghost tied: { BoxTied seat number inbox.hand inbox.held },
     pub ghost own: { AllOwn cores number inbox },
+    pub ghost incoming: { AreIncoming cores banks number slots },
     pub ghost turned: { cursor < 256 },
 }
 

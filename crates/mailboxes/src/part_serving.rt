@@ -137,6 +137,7 @@ pub(crate) fn react<P: Part>(
 }
 
 // Whether no message came in that isn't served.
+#[inline(always)]
 fn is_empty(came_in: &Inbox<Message>) -> bool
     ensures { result ≡ true → came_in.now ≡ inbox None [] }
 {
@@ -144,6 +145,7 @@ fn is_empty(came_in: &Inbox<Message>) -> bool
 }
 
 /// Serves a message by the seat's part.
+#[inline(always)]
 pub(crate) fn serve_part<P: Receiver<Message>>(
     came_in: &mut Inbox<Message>,
     part: &mut P,
@@ -161,6 +163,25 @@ pub(crate) fn serve_part<P: Receiver<Message>>(
     if is_empty(came_in) {
         return Ok(Served::Nothing);
     }
+    serve_filled(came_in, part)
+}
+
+// The same, by a call of its own: most servings find no message.
+#[inline(never)]
+fn serve_filled<P: Receiver<Message>>(
+    came_in: &mut Inbox<Message>,
+    part: &mut P,
+) -> Result<Served, Refusal>
+    requires cases { HaveCases P.has_case came_in.old part.old }
+    requires quiet { LeavesPart P.table }
+    requires never { NeverNoMemory P.table }
+    ensures served { Serves P.table P.takes_memory came_in.old part.old result came_in.new part.new }
+    ensures effect { Effect P.table came_in.old part.old result came_in.new part.new }
+    ensures same { may_change (is_some came_in.old.hand) result ≡ false →
+        (came_in.new ≡ came_in.old) × (part.new ≡ part.old) }
+    ensures memory { result ≡ Err NoMemory → WantsMemory P.table P.takes_memory came_in.old.held
+        part.old (order_of came_in.old.hand came_in.old.held) }
+{
     servings_do_one_of_five::<Message, P>();
     memory_is_wanted_for_the_served::<Message, P>();
     came_in.serve(part)

@@ -1,10 +1,11 @@
 //! A seat takes messages out of slots.
 ghost use Rattle.std.specs.Prelude.{◌≡◌, ℕ, ◌+◌, ◌*◌, ◌%◌, ◌<◌, ◌≤◌, [], false, IfSome, MatchOption};
 ghost use Rattle.seat_rule.specs.declared.views.Stage.TheVariants.{Idle};
-ghost use Rattle.mailboxes.specs.Places.{incoming, incoming_count, incoming_stride};
+ghost use Rattle.mailboxes.specs.Incoming.{AreIncoming};
+ghost use Rattle.mailboxes.specs.Places.{incoming, incoming_count};
 ghost use Rattle.mailboxes.specs.BoxMoves.{FindsFull, FindsNone, IsAt, Stands, Stays, Takes, hold};
 
-use crate::ends::{incoming, incoming_count, incoming_stride};
+use crate::ends::Slots;
 use crate::machine::Machine;
 use crate::mailbox::Mailbox;
 use crate::steps::{SlotSeat, look_in, receive};
@@ -21,20 +22,31 @@ fn place_after(place: usize, count: usize) -> usize
     if place + 1 == count { 0 } else { place + 1 }
 }
 
-// The first place of the next link, going round, and its slot, from those of a link.
-fn next_link(place: usize, slot: usize, count: usize, first: usize, stride: usize) -> (usize, usize)
-    requires { (place + 4 ≤ count) × (count ≤ 256) × (slot < 4096) × (stride ≤ 256) }
-    ensures { (cores banks number : ℕ) → count ≡ incoming_count cores banks number →
-        first ≡ incoming cores banks number 0 →
-        stride ≡ incoming_stride cores banks number →
-        slot ≡ incoming cores banks number place → place % 4 ≡ 0 →
-        (result.0 ≡ (place + 4) % count) × (result.1 ≡ incoming cores banks number result.0) ×
-        (result.0 % 4 ≡ 0) }
+// The place that a cursor stands for.
+#[inline(always)]
+fn place_of(cursor: usize, count: usize) -> usize
+    requires { 0 < count }
+    ensures { result ≡ cursor % count }
 {
-    if place + 4 == count {
-        return (0, first);
+    if cursor < count {
+        return cursor;
     }
-    (place + 4, slot + stride)
+    cursor % count
+}
+
+// The first slot of the link from the core or bank of this number.
+#[inline(always)]
+fn first_slot(machine: &Machine, number: u32, slots: &Slots, from: usize) -> usize
+    requires number { number < machine.now.set_up.config.cores + machine.now.set_up.config.banks }
+    requires slots { AreIncoming machine.now.set_up.config.cores machine.now.set_up.config.banks
+        number slots.now }
+    requires from { 4 * from < slots.now.count }
+    ensures slot { result ≡ incoming machine.now.set_up.config.cores
+        machine.now.set_up.config.banks number (4 * from) }
+    ensures within { result < 4096 }
+{
+    slots_are_few(&machine.set_up.config);
+    slots.first + from * slots.stride
 }
 
 // The first one that is found full of so many slots of a link, and the place after it. The slots begin at this place,
@@ -44,42 +56,83 @@ fn find_in_link(
     machine: &Machine,
     seat: &mut SlotSeat,
     number: u32,
+    slots: &Slots,
     place: usize,
     slot: usize,
-    slots: usize,
+    looks: usize,
 ) -> Option<(usize, usize)>
     requires table { seat.old.table_id ≡ machine.now.table.shared.table_id }
     requires number { (number < machine.now.set_up.config.cores + machine.now.set_up.config.banks) ×
         (seat.old.me.0.number ≡ number) }
     requires idle { (seat.old.me.0.spent ≡ false) × (seat.old.me.0.mine.stage ≡ Idle) ×
         (seat.old.me.1 ≡ []) }
-    requires place { (place < incoming_count machine.now.set_up.config.cores
-        machine.now.set_up.config.banks number) × (place % 4 + slots ≤ 4) }
+    requires slots { AreIncoming machine.now.set_up.config.cores machine.now.set_up.config.banks
+        number slots.now }
+    requires place { (place < slots.now.count) × (place % 4 + looks ≤ 4) }
     requires slot { slot ≡ incoming machine.now.set_up.config.cores
         machine.now.set_up.config.banks number place }
     ensures table { (seat.new.table_id ≡ seat.old.table_id) × (seat.new.id ≡ seat.old.id) }
     ensures found { MatchOption result
-        (FindsNone machine.now.set_up number place slots seat.old.me seat.new.me)
-        (λ f. FindsFull machine.now.set_up number place slots f seat.old.me seat.new.me) }
+        (FindsNone machine.now.set_up number place looks seat.old.me seat.new.me)
+        (λ f. FindsFull machine.now.set_up number place looks f seat.old.me seat.new.me) }
     ensures within { IfSome result (λ f. f.1 < 256) }
 {
-    let config = &machine.set_up.config;
-    slots_are_few(config);
-    for k in 0..slots {
+    slots_are_few(&machine.set_up.config);
+    for k in 0..looks {
         if look_in(&machine.table.shared, seat, slot + k) != 0 {
-            let after = place_after(place + k, incoming_count(config, number));
+            let after = place_after(place + k, slots.count);
             return Some((slot + k, after));
         }
     }
     None
 }
 
+// The same of so many links, one after the other.
+#[inline(always)]
+fn find_in_links(
+    machine: &Machine,
+    seat: &mut SlotSeat,
+    number: u32,
+    slots: &Slots,
+    place: usize,
+    slot: usize,
+    links: usize,
+) -> Option<(usize, usize)>
+    requires table { seat.old.table_id ≡ machine.now.table.shared.table_id }
+    requires number { (number < machine.now.set_up.config.cores + machine.now.set_up.config.banks) ×
+        (seat.old.me.0.number ≡ number) }
+    requires idle { (seat.old.me.0.spent ≡ false) × (seat.old.me.0.mine.stage ≡ Idle) ×
+        (seat.old.me.1 ≡ []) }
+    requires slots { AreIncoming machine.now.set_up.config.cores machine.now.set_up.config.banks
+        number slots.now }
+    requires place { (place + 4 * links ≤ slots.now.count) × (place % 4 ≡ 0) }
+    requires slot { slot ≡ incoming machine.now.set_up.config.cores
+        machine.now.set_up.config.banks number place }
+    ensures table { (seat.new.table_id ≡ seat.old.table_id) × (seat.new.id ≡ seat.old.id) }
+    ensures found { MatchOption result
+        (FindsNone machine.now.set_up number place (4 * links) seat.old.me seat.new.me)
+        (λ f. FindsFull machine.now.set_up number place (4 * links) f seat.old.me seat.new.me) }
+    ensures within { IfSome result (λ f. f.1 < 256) }
+{
+    slots_are_few(&machine.set_up.config);
+    let mut at = slot;
+    for n in 0..links {
+        if let Some(found) = find_in_link(machine, seat, number, slots, place + 4 * n, at, 4) {
+            return Some(found);
+        }
+        at += slots.stride;
+    }
+    None
+}
+
 // The first slot that comes in and is found full, from the cursor on and going round, and the place after it. The slot
 // is then out with the seat. All are looked at if none is full.
+#[inline(always)]
 fn find_full(
     machine: &Machine,
     seat: &mut SlotSeat,
     number: u32,
+    slots: &Slots,
     cursor: usize,
 ) -> Option<(usize, usize)>
     requires table { seat.old.table_id ≡ machine.now.table.shared.table_id }
@@ -87,6 +140,8 @@ fn find_full(
         (seat.old.me.0.number ≡ number) }
     requires idle { (seat.old.me.0.spent ≡ false) × (seat.old.me.0.mine.stage ≡ Idle) ×
         (seat.old.me.1 ≡ []) }
+    requires slots { AreIncoming machine.now.set_up.config.cores machine.now.set_up.config.banks
+        number slots.now }
     ensures table { (seat.new.table_id ≡ seat.old.table_id) × (seat.new.id ≡ seat.old.id) }
     ensures found { MatchOption result
         (FindsNone machine.now.set_up number cursor (incoming_count machine.now.set_up.config.cores
@@ -96,25 +151,23 @@ fn find_full(
         seat.new.me) }
     ensures within { IfSome result (λ f. f.1 < 256) }
 {
-    let config = &machine.set_up.config;
-    slots_are_few(config);
-    let count = incoming_count(config, number);
-    let first = incoming(config, number, 0);
-    let stride = incoming_stride(config, number);
-    let start = cursor % count;
-    let slot = incoming(config, number, start);
+    let start = place_of(cursor, slots.count);
     let column = start % 4;
-    if let Some(found) = find_in_link(machine, seat, number, start, slot, 4 - column) {
+    let link = start - column;
+    let slot = first_slot(machine, number, slots, start / 4);
+    let at = slot + column;
+    if let Some(found) = find_in_link(machine, seat, number, slots, start, at, 4 - column) {
         return Some(found);
     }
-    let mut link = next_link(start - column, slot - column, count, first, stride);
-    for n in 0..count / 4 - 1 {
-        if let Some(found) = find_in_link(machine, seat, number, link.0, link.1, 4) {
-            return Some(found);
-        }
-        link = next_link(link.0, link.1, count, first, stride);
+    let later = slots.count / 4 - start / 4 - 1;
+    let next = slot + slots.stride;
+    if let Some(found) = find_in_links(machine, seat, number, slots, link + 4, next, later) {
+        return Some(found);
     }
-    find_in_link(machine, seat, number, start - column, slot - column, column)
+    if let Some(found) = find_in_links(machine, seat, number, slots, 0, slots.first, start / 4) {
+        return Some(found);
+    }
+    find_in_link(machine, seat, number, slots, link, slot, column)
 }
 
 impl Mailbox {
@@ -132,8 +185,14 @@ impl Mailbox {
             return Take::HandFull;
         }
         seats_stand();
-        let Some((slot, after)) = find_full(machine, &mut self.seat, self.number, self.cursor)
-        else {
+        let found = find_full(
+            machine,
+            &mut self.seat,
+            self.number,
+            &self.slots,
+            self.cursor,
+        );
+        let Some((slot, after)) = found else {
             return Take::Nothing;
         };
         let message = receive(&machine.table.shared, &mut self.seat, slot);

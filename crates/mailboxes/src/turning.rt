@@ -95,6 +95,7 @@ fn is_idle(served: &Result<Served, Refusal>) -> bool
 }
 
 // Takes a message and serves it; if none came, the answer is the earlier one.
+#[inline(always)]
 fn take_and_serve<S: Turner>(
     seat: &mut S,
     machine: &Machine,
@@ -114,6 +115,7 @@ fn take_and_serve<S: Turner>(
 }
 
 // Serves the hand if it is full; else a held message, and if nothing comes of these, a message that is taken.
+#[inline(always)]
 fn serve_first<S: Turner>(seat: &mut S, machine: &Machine) -> Result<Served, Refusal>
     requires { S.is_here machine.now seat.old }
     ensures seat { S.is_here machine.now seat.new }
@@ -132,6 +134,7 @@ fn serve_first<S: Turner>(seat: &mut S, machine: &Machine) -> Result<Served, Ref
 }
 
 /// Puts what can be put, and serves.
+#[inline(always)]
 pub(crate) fn turn_of<S: Turner>(seat: &mut S, machine: &Machine) -> Result<Turn, Refusal>
     requires { S.is_here machine.now seat.old }
     ensures seat { S.is_here machine.now seat.new }
@@ -141,6 +144,8 @@ pub(crate) fn turn_of<S: Turner>(seat: &mut S, machine: &Machine) -> Result<Turn
     ensures within { IfOk result (λ turn. turn.put ≤ 256) }
 {
     let put = put_all(seat, machine);
-    let served = serve_first(seat, machine)?;
-    Ok(Turn { put, served })
+    match serve_first(seat, machine) {
+        Ok(served) => Ok(Turn { put, served }),
+        Err(refusal) => Err(refusal),
+    }
 }

@@ -115,6 +115,7 @@ fn issue_next<P: Program>(
 
 // Attempts the open operation, and tells the program if it is completed. If there is no place for its line, a copy
 // goes.
+#[inline(always)]
 fn try_open<P: Program>(
     machine: &Machine,
     seat: &mut CoreSeat,
@@ -138,6 +139,7 @@ fn try_open<P: Program>(
 
 // For a refusal of an attempt: a copy goes if there is no place for the line, and then no step is done. Any other is
 // told.
+#[inline(never)]
 fn refused(machine: &Machine, seat: &mut CoreSeat, refusal: Refusal) -> Result<bool, Refusal>
     requires { IsCoreSeat machine.now seat.old }
     ensures seat { IsCoreSeat machine.now seat.new }

@@ -33,6 +33,7 @@ pub(crate) fn advance(machine: &Machine, seat: &mut CoreSeat) -> Result<(), Refu
 }
 
 /// Attempts the open operation: the record if it is completed, none if it waits, or why it was refused.
+#[inline(always)]
 pub(crate) fn attempt(machine: &Machine, seat: &mut CoreSeat) -> Result<Option<Record>, Refusal>
     requires seat { IsCoreSeat machine.now seat.old }
     ensures seat { IsCoreSeat machine.now seat.new }

@@ -12,8 +12,8 @@ look_in-requires-clause-slot c =
     let z = m.set_up in
     let k = c.loop-k.k in
     let count = incoming_count z.config.cores z.config.banks c.args.number in
-    let near = c.requires.place.0 in
-    let at = link_slot z.config.cores z.config.banks c.args.number c.args.place k c.args.slots c.args.slot near
+    let near = subst (λ n. c.args.place < n) c.requires.slots.count c.requires.place.0 in
+    let at = link_slot z.config.cores z.config.banks c.args.number c.args.place k c.args.looks c.args.slot near
     c.requires.place.1 c.loop-k-test.true c.requires.slot in
     let here = place_ends z c.args.number c.args.place k ((c.args.place + k) % count) (c.args.slot + k)
     c.requires.number.0 (omega (arith, near)) refl at.1 in
@@ -23,22 +23,24 @@ look_in-requires-clause-slot c =
 pub place_after-after-requires : goal.place_after-after-requires
 place_after-after-requires c =
     let z = c.args.machine.now.set_up in
-    let at = link_slot z.config.cores z.config.banks c.args.number c.args.place c.loop-k.k c.args.slots c.args.slot
-    c.requires.place.0 c.requires.place.1 c.loop-k-test.true c.requires.slot in
-    let count = c.incoming_count.ensures in
-    (subst (λ n. c.args.place + c.loop-k.k < n) (sym count.count) at.0, count.within.1)
+    let slots = c.requires.slots in
+    let at = link_slot z.config.cores z.config.banks c.args.number c.args.place c.loop-k.k c.args.looks c.args.slot
+    (subst (λ n. c.args.place < n) slots.count c.requires.place.0) c.requires.place.1 c.loop-k-test.true
+    c.requires.slot in
+    (subst (λ n. c.args.place + c.loop-k.k < n) (sym slots.count) at.0, slots.few)
 
 pub returns-then-look_in-ne0-clause-found : goal.returns-then-look_in-ne0-clause-found
 returns-then-look_in-ne0-clause-found c =
     let m = c.args.machine.now in
     let z = m.set_up in
     let k = c.loop-k.k in
-    let count = c.incoming_count.ensures.count in
-    let at = link_slot z.config.cores z.config.banks c.args.number c.args.place k c.args.slots c.args.slot
-    c.requires.place.0 c.requires.place.1 c.loop-k-test.true c.requires.slot in
+    let count = c.requires.slots.count in
+    let at = link_slot z.config.cores z.config.banks c.args.number c.args.place k c.args.looks c.args.slot
+    (subst (λ n. c.args.place < n) count c.requires.place.0) c.requires.place.1 c.loop-k-test.true
+    c.requires.slot in
     first_full z c.args.number c.args.place k (c.args.slot + k) c.look_in.result c.args.seat.now.me c.loop-k.seat.me
     c.look_in.new.seat.me c.requires.number.1 c.loop-k.invariant.2 at.1 m.table.shared.key m.keyed
-    c.look_in.ensures.saw c.place_after-after.result c.args.slots
+    c.look_in.ensures.saw c.place_after-after.result c.args.looks
     (c.place_after-after.ensures ∙ (λ j. (c.args.place + k + 1) % count j)
     ∙ sym (mod-add-mod (c.args.place + k) (incoming_count z.config.cores z.config.banks c.args.number) 1))
     c.loop-k-test.true c.if-look_in-ne0.true
@@ -49,8 +51,9 @@ loop-k-preserved c =
     let z = m.set_up in
     let k = c.loop-k.k in
     let i = c.loop-k.invariant in
-    let at = link_slot z.config.cores z.config.banks c.args.number c.args.place k c.args.slots c.args.slot
-    c.requires.place.0 c.requires.place.1 c.loop-k-test.true c.requires.slot in (
+    let near = subst (λ n. c.args.place < n) c.requires.slots.count c.requires.place.0 in
+    let at = link_slot z.config.cores z.config.banks c.args.number c.args.place k c.args.looks c.args.slot near
+    c.requires.place.1 c.loop-k-test.true c.requires.slot in (
       c.look_in.ensures.table.0 ∙ i.0,
       c.look_in.ensures.table.1 ∙ i.1,
       one_more_empty z c.args.number c.args.place k (c.args.slot + k) c.look_in.result c.args.seat.now.me

@@ -23,7 +23,7 @@ invariant_of-self-2 c =
         box_stands p.mail.seat c.change_core.new.seat
             (stored_core p.mail.seat.me.0.mine part p.issued.items p.mail.inbox) p.mail.number p.mail.inbox.hand
             p.mail.inbox.held p.mail.inbox changed p.mail.tied refl refl refl,
-        (p.mail.own, (p.mail.turned, tt)),
+        (p.mail.own, (p.mail.incoming, (p.mail.turned, tt))),
       ),
       (
         core_stands p.mail.seat c.change_core.new.seat part p.issued.items p.records.items p.mail.inbox changed

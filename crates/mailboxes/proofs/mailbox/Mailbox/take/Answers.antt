@@ -27,7 +27,7 @@ invariant_of-self-2-clause-own c =
     let p = c.args.self.now in
     let z = c.args.machine.now.set_up in
     own_after z p.cores p.number p.cursor (incoming_count z.config.cores z.config.banks p.number)
-    (c.in-Some.slot, c.in-Some.after) p.seat.me c.find_full.new.seat.me
+    (c.in-Some.slot, c.in-Some.after) p.seat.me c.find_full-found.new.seat.me
     c.receive-message.result p.inbox c.fill_hand.new.self c.requires.seat.2 c.in-Some.ensures.found
     c.receive-message.ensures.taken.0 p.own
     c.fill_hand.ensures

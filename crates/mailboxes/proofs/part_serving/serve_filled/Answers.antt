@@ -1,5 +1,5 @@
 use Rattle.mailboxes.proofs.StoredSeats.{nothing_changed}
-use Rattle.mailboxes.proofs.part_serving.serve_part.Goals as goal
+use Rattle.mailboxes.proofs.part_serving.serve_filled.Goals as goal
 
 pub returns-clause-effect : goal.returns-clause-effect
 returns-clause-effect g c =

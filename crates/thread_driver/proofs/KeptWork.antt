@@ -1,10 +1,12 @@
 -- What turns of a core's seat leave: its number, its operations and its records, and so the operation that is open.
-use Rattle.std.proofs.Common.{◌≡◌, ℕ, ◌<◌, List, ◌++◌, map, Option, Some, None}
+use Rattle.std.proofs.Common.{◌≡◌, ◌≢◌, ℕ, ◌<◌, List, ◌++◌, map, Option, Some, None}
 use Rattle.std.proofs.Common.{Bool, true, Result, refl, sym, ap, subst, ◌∙◌}
 use Rattle.std.proofs.lemmas.List.{append_cancel_left}
 use Rattle.physiological_order.specs.declared.operation.Op.{Op}
 use Rattle.physiological_order.specs.declared.operation.Record.{Record}
 use Rattle.protocol.specs.Issued.{IsIssued, listed}
+use Rattle.machine_table.specs.declared.event.Answer.{Answer}
+use Rattle.machine_table.specs.declared.event.Answer.TheVariants.{Completed}
 use Rattle.machine_table.specs.declared.event.Refusal.{Refusal}
 use Rattle.core_pts.specs.CoreTable.{CoreState}
 use Rattle.machine_table.specs.SetUp.{is_good}
@@ -17,7 +19,11 @@ use Rattle.mailboxes.specs.declared.machine.Machine.{Machine}
 use Rattle.mailboxes.specs.declared.core_seat.CoreSeat.{CoreSeat}
 use Rattle.mailboxes.specs.declared.taken.Take.{Take}
 use Rattle.mailboxes.specs.declared.turning.Turn.{Turn}
+use Rattle.mailboxes.specs.declared.outcome.Outcome.{Outcome}
+use Rattle.mailboxes.specs.declared.outcome.Outcome.TheVariants.{Keeps, Exhausts, Requests, Completes as CompletesWith}
+use Rattle.mailboxes.specs.Attempts.{Attempts, AttemptsSo, outcome}
 use Rattle.mailboxes.specs.BoxMoves.{hold}
+use Rattle.mailboxes.specs.CoreCalls.{SamePlace}
 use Rattle.mailboxes.specs.CoreTurns.{CorePuts, CoreServes, CoreTakes, CoreTurns, core_hand}
 use Rattle.mailboxes.specs.Seats.{IsCoreSeat}
 use Rattle.thread_driver.specs.Playing.{SameWork}
@@ -114,3 +120,30 @@ same_both p r q a b =
       records = b.records ∙ a.records;
       open_op = b.open_op ∙ a.open_op;
     }
+
+-- what holds the same has the same work
+same_held : (p q : CoreSeat) → SamePlace p q → hold q.mail ≡ hold p.mail → SameWork p q
+same_held p q place same =
+    record {
+      number = place.0;
+      records = sym q.tied.records ∙ ap (λ (a : Hold). a.records) same ∙ p.tied.records;
+      open_op = ap (λ (c : CoreState). c.open_op) (sym q.tied.core) ∙ ap (λ (a : Hold). a.core.open_op) same
+          ∙ ap (λ (c : CoreState). c.open_op) p.tied.core;
+    }
+
+-- an attempt that completes nothing leaves the work as it is
+attempt_stays : (m : Machine) (p q : CoreSeat) (given : Answer) → SamePlace p q →
+    ((r : Record) → given ≢ Completed r) → (o : Outcome) → AttemptsSo m p given q o → SameWork p q
+attempt_stays m p q given place not (Keeps kept) e = same_held p q place e.1.0
+attempt_stays m p q given place not Exhausts e = same_held p q place e.1.0
+attempt_stays m p q given place not (Requests request) e =
+    record {
+      number = place.0;
+      records = sym q.tied.records ∙ ap (λ (a : Hold). a.records) e.1 ∙ p.tied.records;
+      open_op = ap (λ (c : CoreState). c.open_op) (sym q.tied.core) ∙ ap (λ (a : Hold). a.core.open_op) e.1;
+    }
+attempt_stays m p q given place not (CompletesWith done) e = absurd (not e.0 e.1)
+
+pub attempted_stays : (m : Machine) (p q : CoreSeat) (given : Answer) → SamePlace p q →
+    ((r : Record) → given ≢ Completed r) → Attempts m p given q → SameWork p q
+attempted_stays m p q given place not e = attempt_stays m p q given place not (outcome p.is_stopped p.part) e

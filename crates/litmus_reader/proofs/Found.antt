@@ -71,5 +71,4 @@ only-told text r told test h = subst (IsReadOrNoMemory test_of r) (read_again te
 -- a text is read as one test
 pub one-test : (text : List ℕ) (one other : Litmus) → IsTest text one → IsTest text other → one ≡ other
 one-test text one other h k =
-    let same : Ok {E = LitmusError} one ≡ Ok other = sym (read_again text one h) ∙ read_again text other k in
-    cc
+    let same = sym (read_again text one h) ∙ read_again text other k in cc

@@ -24,7 +24,7 @@ failed=0
 told() {
     name=$1 status=$2 out=$3 err=$4
     shift 4
-    "$tardis" "$@" >"$work/out" 2>"$work/err"
+    timeout 120 "$tardis" "$@" >"$work/out" 2>"$work/err"
     got=$?
     good=yes
     [ "$got" -eq "$status" ] || { echo "$name: status $got, wanted $status"; good=no; }

@@ -1,7 +1,7 @@
 #!/usr/bin/env python3
 """Counts the numbers from 2 on that the code of the production crates has, and what stands for one: uses of constants
-that are numbers or structures, casts to fewer bits, `try_from` and `try_into`, the types i8, i16 and u16, shifts, and
-the ends of signed types and of usize.
+that are numbers or structures, casts to fewer bits, `try_from` and `try_into`, the types i8, i16 and u16, shifts, the
+ends of signed types and of usize, and room that doesn't double (`reserve_exact`, `shrink_to`).
 
     scripts/literals.py            lists them: crate, number or other sign, how often
     scripts/literals.py --check    compares them with tests/literals.table, and fails if they differ
@@ -25,7 +25,7 @@ CLAUSE = re.compile(r"\b(?:ensures|requires)\b[^{]*\{|\bghost [^;{]*[;{]")
 NUMBER = re.compile(r"(?<!\w)(?<!(?<!\.)\.)(0[xbo][\da-f_]+|\d[\d_]*?)(?:_?[ui](?:8|16|32|64|128|size))?(?!\w)")
 GREATEST = re.compile(r"\bu(8|16|32|64|128)::(?:MAX|BITS)\b")
 CONSTANT = re.compile(r"\bconst (\w+): (?:\w+ = \d|(\w+) = \2 \{)")
-SIGN = re.compile(r"\bas [iu](?:8|16|32)\b|\btry_(?:from|into)\b|\b(?:i8|[iu]16)\b|"
+SIGN = re.compile(r"\b(?:reserve_exact|shrink_to(?:_fit)?)\b|\bas [iu](?:8|16|32)\b|\btry_(?:from|into)\b|\b(?:i8|[iu]16)\b|"
                   r"\b(?:i\w+|usize)::(?:MAX|MIN|BITS)\b|(?<=\s)(?:<<|>>)(?==?\s)")
 ROW = re.compile(r"(\w+) \| ([\w <>:]+) \| (\d+) \| \S")
 

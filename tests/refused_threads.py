@@ -34,7 +34,7 @@ OPERATIONS = 4
 WORKERS = 2
 LIMITS = (100_000, 5_000_000, 200_000_000)
 MOST_TURNS = 4_294_967_295
-FEW_TURNS = 20_000  # of each seat: enough on one processor, where a worker that waits lets the other one run
+FEW_TURNS = 40_000  # of each seat: enough on one processor, where a worker that waits lets another one run
 LAST_TIME = 2**64 - 1  # at this time no lease fits, and a run is exhausted
 PASSES = 200  # after so many of one worker alone nothing in these runs goes on any more
 SCHEDULE = ["--schedule", "threads", "--workers", WORKERS]
@@ -235,12 +235,14 @@ def are_started(tester, *words, runs=1):
 
 
 def lets_others_run(tester):
-    """A worker that waits lets the other one run long before its time slice ends."""
+    """A worker that waits, even one without seats, lets another one run long before its time slice ends."""
     processors = os.sched_getaffinity(0)
     os.sched_setaffinity(0, {min(processors)})
-    ran = tester.run(["litmus", *SCHEDULE, "--runs", 20, "--limit", FEW_TURNS, LITMUS])
+    for workers in (2, 3, 4):
+        words = ["litmus", "--schedule", "threads", "--workers", workers, "--runs", 20, "--limit", FEW_TURNS, LITMUS]
+        ran = tester.run(words)
+        tester.expect("all-done 20\n" in ran.out, f"{workers} workers on one processor: {ran.answer()}")
     os.sched_setaffinity(0, processors)
-    tester.expect("all-done 20\n" in ran.out, f"two workers on one processor: {ran.answer()}")
 
 
 def refused_threads(tester):

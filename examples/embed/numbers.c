@@ -149,6 +149,10 @@ static void runs(void) {
     MUST(has("test ONE\nthreads 1\nruns 0\nall-done 0\nstalled 0\nlimit 0\nexhausted 0\nmemory 0\nstates 0\n"
              "condition exists\nheld 0\nverdict no\ncompleted 0\nrenewals 0\nupgrades 0\nflushes 0\nwrite-backs 0\n"
              "stale-hits 0\n"));
+    options.lease = 0; /* without runs, too, the text is read and then the configuration looked at */
+    MUST(litmus(TEST, &options, 1000) == TARDIS_BAD_MACHINE && has("tardis: bad configuration\n"));
+    MUST(litmus("RISCV ", &options, 1000) == TARDIS_BAD_TEST && has("tardis: line 1: 4 BadHeader\n"));
+    options.lease = 10;
     options.runs = 1000001; /* one above what the program takes */
     MUST(litmus(TEST, &options, 1000) == TARDIS_DONE && memcmp(buffer + 19, "runs 1000001\n", 13) == 0);
     memset(buffer, '~', sizeof buffer);

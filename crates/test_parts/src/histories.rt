@@ -60,12 +60,14 @@ fn the_greatest_time_of_a_write_is_kept(rt: HostRuntime) {
     assert!(rt; rises_by_number(&records) && stale_hits(rt.alloc(), &records) == Ok(1));
 }
 
-// How many steps a check of a store and a load behind it takes, and how many there are with their stale hits.
+// How many steps a check of a store, a swap and a load takes, and how many there are with their stale hits.
 fn counted(alloc: Global) -> Result<(u128, u128), AllocError> {
-    let issued = [vec![in alloc; store(0, 1), load(0)]?];
+    let swap = Op::Swap(WordAddr::at(0), 2);
+    let issued = [vec![in alloc; store(0, 1), swap, load(0)]?];
     let records = [
         record(0, 0, store(0, 1), None, 1, 0),
-        record(0, 1, load(0), Some(1), 1, 1),
+        record(0, 1, swap, Some(1), 2, 1),
+        record(0, 2, load(0), Some(2), 2, 2),
     ];
     let mut steps = Steps::new();
     check_counted(alloc, &mut steps, &Memory::new(alloc), &issued, &records)?;
@@ -76,8 +78,8 @@ fn counted(alloc: Global) -> Result<(u128, u128), AllocError> {
     Ok((of_check, steps.made()))
 }
 
-// As docs/ORDER.md counts them: the load is compared with the store; the store looks twice, the load once.
+// As docs/ORDER.md counts them: two records are compared with the one before; store and swap look twice, the load once.
 #[test]
 fn steps_are_those_of_the_page(rt: HostRuntime) {
-    assert!(rt; counted(rt.alloc()) == Ok((1, 4)));
+    assert!(rt; counted(rt.alloc()) == Ok((2, 7)));
 }

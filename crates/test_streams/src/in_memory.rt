@@ -175,10 +175,12 @@ fn why(came: &Result<Report, RunError>) -> (u8, usize) {
 }
 
 // No machine has the lease 0, and faults of a text go before that.
-fn why_none(alloc: Global) -> [(u8, usize); 6] {
+fn why_none(alloc: Global) -> [(u8, usize); 8] {
     [
         why(&litmus(alloc, b"RISC T\n", 1, by_rounds(9, 0))),
         why(&litmus(alloc, TEST, 1, by_rounds(9, 0))),
+        why(&litmus(alloc, b"RISC T\n", 0, by_rounds(9, 0))),
+        why(&litmus(alloc, TEST, 0, by_rounds(9, 0))),
         why(&trace(alloc, b"0 R 0x0\n0 R 0x4\n", false, by_rounds(9, 0))),
         why(&trace(alloc, TRACE, false, by_rounds(9, 0))),
         why(&check_report(alloc, b"\n0 X\n", b"0 0\n")),
@@ -189,5 +191,16 @@ fn why_none(alloc: Global) -> [(u8, usize); 6] {
 #[test]
 fn no_reports_in_memory(rt: HostRuntime) {
     let told = why_none(rt.alloc());
-    assert!(rt; told == [(4, 1), (6, 0), (5, 2), (6, 0), (5, 2), (5, 3)]);
+    assert!(rt;
+        told == [
+            (4, 1),
+            (6, 0),
+            (4, 1),
+            (6, 0),
+            (5, 2),
+            (6, 0),
+            (5, 2),
+            (5, 3)
+        ]
+    );
 }

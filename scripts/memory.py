@@ -1,7 +1,7 @@
 #!/usr/bin/env python3
 """Lists each place of the production crates that answers a failed allocation by itself, and doesn't pass on what an
-allocation answered by `?` or by an arm such as `Err(AllocError) => ..`. Those that count a failed read or write
-(`.rise()`) are listed, too.
+allocation answered by `?` or by an arm such as `Err(AllocError) => Err(..)`. Arms that go on without the memory are
+listed, too, and so are places that count a failed read or write (`.rise()`).
 
     scripts/memory.py            lists them: file, function, and the blocks around the answer
     scripts/memory.py --check    compares them with tests/memory.table, and fails if they differ
@@ -22,6 +22,7 @@ NOT_PRODUCTION = ("test_", "bench", "play_", "event_text", "guide_uses")
 WANT = (r"(?:\bAllocError\b|\bAllocFailed\b(?!<)|\b(?:ReadError::Memory|Stop::Refused|[A-Z]\w*::NoMemory)\b|"
         r"\bErr\(NoMemory\)|= NoMemory;|\.rise\(\))")
 PASSED_ON = re.compile(r"\s*(?:Err\()?(?:AllocError|(?:\w+::)+(?:NoMemory|Memory))\)?\s*")
+GOES_ON = re.compile(r"\s*Err\(AllocError\) => (?!\{|(?:return )?Err\(|.*NoMemory)")
 SKIPPED = re.compile(r"\s*(ghost |ensures\b|requires\b|impl\b|\) ->|[^=]*[≡≢])")
 CALL = re.compile(r"(?<!fn )\b(?:reserve|with_capacity|from_elem)\w*(?:::<.*?>)?(?=\()|\bvec!(?=\[in )")
 BOUND = re.compile(r"\s*(?:let (?P<pattern>.*?)(?:: .*?)?|(?P<name>\w+)) [-+*/%&|^<>]*=(?!=)")
@@ -30,7 +31,7 @@ IMPORT = re.compile(r"\s*(pub )?use ")
 FUNCTION = re.compile(r"\s*(?:pub(?:\(crate\))? )?(?:const )?fn (\w+)")
 TYPES = re.compile(r"Result<[^;{]*?AllocError>|#\[.*\]")
 PATTERNS = re.compile(r"matches!\([^,]*, [^)]*\)*|if let [^=]* =")
-ROW = re.compile(r"(\w+/src/[\w/]+\.rt) \| (\w+) \| (.+) \| \S")
+ROW = re.compile(r"(\w+/src/[\w/]+\.rt) \| (\w+|-) \| (.+) \| \S")
 
 
 def answers(line):
@@ -106,7 +107,7 @@ def places_of(text):
         for amount in names.amounts(line.strip()):
             yield function, amount
         names.bind(line.strip(), depth)
-        for _ in range(answers(line)):
+        for _ in range(answers(line) or bool(GOES_ON.match(line))):
             own = [] if re.match(r"\s*return\b", line) else [line.strip()]
             yield function, " > ".join([code for _, code in around] + own)
         if line.endswith(" {") and not named and line.strip() != "{":

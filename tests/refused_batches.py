@@ -63,7 +63,8 @@ def sweep(tester, words, how):
 
 def refused_batches(tester):
     text = TOP / "examples" / "litmus" / "SB.litmus"
-    are_started(tester, "litmus", "--schedule", "seed", "--runs", 40, text)
+    for runs in (3, 40):
+        are_started(tester, "litmus", "--schedule", "seed", "--runs", runs, text)
     ran = tester.run(["litmus", "--schedule", "seed", "--runs", 100_000, "--workers", 16, text])
     tester.expect(ran.started == 15, f"100,000 runs by 16 workers: {ran.started} threads were started")
     for test in ("SB", "SB+forall"):

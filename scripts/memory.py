@@ -1,7 +1,8 @@
 #!/usr/bin/env python3
 """Lists each place of the production crates that answers a failed allocation by itself, and doesn't pass on what an
-allocation answered by `?` or by an arm such as `Err(AllocError) => Err(..)`. Arms that go on without the memory are
-listed, too, and so are places that count a failed read or write (`.rise()`).
+allocation answered by `?` or by an arm such as `Err(AllocError) => Err(..)`. Each place that drops an error and goes
+on (`let Ok(..) =`, `Err(_)`, `.is_err()`, `.unwrap_or(..)`) is listed, too, and each that counts a failed read or write
+(`.rise()`).
 
     scripts/memory.py            lists them: file, function, and the blocks around the answer
     scripts/memory.py --check    compares them with tests/memory.table, and fails if they differ
@@ -22,7 +23,8 @@ NOT_PRODUCTION = ("test_", "bench", "play_", "event_text", "guide_uses")
 WANT = (r"(?:\bAllocError\b|\bAllocFailed\b(?!<)|\b(?:ReadError::Memory|Stop::Refused|[A-Z]\w*::NoMemory)\b|"
         r"\bErr\(NoMemory\)|= NoMemory;|\.rise\(\))")
 PASSED_ON = re.compile(r"\s*(?:Err\()?(?:AllocError|(?:\w+::)+(?:NoMemory|Memory))\)?\s*")
-GOES_ON = re.compile(r"\s*Err\(AllocError\) => (?!\{|(?:return )?Err\(|.*NoMemory)")
+GOES_ON = re.compile(r"\s*Err\(AllocError\) => (?!(?:return )?Err\(|\w+\(Err\(|.*NoMemory)|.*(?:\bErr\(_\w*\)|"
+                     r"\.(?:ok|is_err|is_ok|unwrap_or\w*)\(|\blet Ok\()")
 SKIPPED = re.compile(r"\s*(ghost |ensures\b|requires\b|impl\b|\) ->|[^=]*[≡≢])")
 CALL = re.compile(r"(?<!fn )\b(?:reserve|with_capacity|from_elem)\w*(?:::<.*?>)?(?=\()|\bvec!(?=\[in )")
 BOUND = re.compile(r"\s*(?:let (?P<pattern>.*?)(?:: .*?)?|(?P<name>\w+)) [-+*/%&|^<>]*=(?!=)")
@@ -91,9 +93,9 @@ class Names:
                 yield " > ".join([*(each for each, in reversed(lines)), line])
 
 
-def places_of(text):
-    """The places of a source file as (function, code): the code is the blocks around the answer, from the outermost of
-    the function on, and the answer's own line."""
+def answers_of(text):
+    """The places of a source file, as (function, code, whether it only drops an error): the code is the blocks around
+    the answer, from the outermost of the function on, and the answer's own line."""
     function, around, names = "-", [], Names()
     for line in text.splitlines():
         line = re.sub(r"//.*", "", line).rstrip()
@@ -105,13 +107,25 @@ def places_of(text):
         if named:
             function, around, names = named.group(1), [], Names()
         for amount in names.amounts(line.strip()):
-            yield function, amount
+            yield function, amount, False
         names.bind(line.strip(), depth)
-        for _ in range(answers(line) or bool(GOES_ON.match(line))):
-            own = [] if re.match(r"\s*return\b", line) else [line.strip()]
-            yield function, " > ".join([code for _, code in around] + own)
+        own = [] if re.match(r"\s*return\b", line) else [line.strip().removesuffix(" {")]
+        code = " > ".join([code for _, code in around] + own)
+        for _ in range(answers(line)):
+            yield function, code, False
+        if not answers(line) and GOES_ON.match(line):
+            yield function, code, True
         if line.endswith(" {") and not named and line.strip() != "{":
             around.append((depth, line.strip().removesuffix(" {")))
+
+
+def places_of(text):
+    """The places of a source file. One that drops an error is left out if an answer behind it is listed."""
+    found = list(answers_of(text))
+    told = [(function, code + " > ") for function, code, drops in found if not drops]
+    for function, code, drops in found:
+        if not drops or not any(name == function and each.startswith(code + " > ") for name, each in told):
+            yield function, code
 
 
 def places():

@@ -11,7 +11,7 @@ is done. If one growth was refused, the answer is one of these, and the shim say
 
 How many turns a seat may have must not matter: if the threads of a run were all started and it ends at its limit, the
 script makes it again with a higher one. Where nothing is refused, it also tries how many threads are started, and that
-two workers on one processor need few turns.
+two to four workers on one processor need few turns.
 """
 import os
 import tempfile

@@ -134,6 +134,22 @@ pub(crate) fn measure<R: Clock>(
     one_call(rt, alloc, word, &history, &lists)
 }
 
+/// Checks a history whose times fall, which isn't legal; how many records it has.
+pub(crate) fn fallen(alloc: Global, [records, cores, _, _]: [u32; 4]) -> Option<u64> {
+    if cores == 0 {
+        return None;
+    }
+    let mut history = made(alloc, records, cores).ok()?;
+    let lists = issued(alloc, &history, cores).ok()?;
+    for at in 0..history.len() {
+        history[at].ts = u64::from(records.saturating_sub(at as u32));
+    }
+    match check(alloc, &Memory::new(alloc), &lists, &history).ok()? {
+        Verdict::Legal => None,
+        _ => Some(history.len() as u64),
+    }
+}
+
 /// Makes a history, and gives what all calls answer about it.
 fn measure_all(alloc: Global, [records, cores, _, _]: [u32; 4]) -> Option<Seen> {
     if cores == 0 {

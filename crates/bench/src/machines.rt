@@ -3,7 +3,7 @@
 
 use interleaving_core::{Answer, Config, Event, Refusal, System};
 use network::LineNo;
-use physiological_order::{Memory, Op, WordAddr};
+use physiological_order::{Memory, Op, Verdict, WordAddr, check};
 use std::alloc::{AllocError, Global};
 
 /// The machine that is measured, but for its cores: the program's defaults.
@@ -114,4 +114,17 @@ pub(crate) fn measure(alloc: Global, [events, cores, words, machines]: [u32; 4])
         return None;
     }
     Some(u64::from(events))
+}
+
+/// Checks no records on an opening memory of `words` words, and opens a machine with it; the value of its last word.
+pub(crate) fn opened(alloc: Global, [words, _, _, _]: [u32; 4]) -> Option<u64> {
+    let mut memory = Memory::new(alloc);
+    for word in 0..u64::from(words) {
+        memory.set(WordAddr::at(word), word).ok()?;
+    }
+    if check(alloc, &memory, &[], &[]).ok()? != Verdict::Legal {
+        return None;
+    }
+    let system = System::new(alloc, ONE_CORE, memory).ok()?;
+    Some(system.coherent(WordAddr::at(u64::from(words).saturating_sub(1))))
 }

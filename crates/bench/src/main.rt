@@ -8,6 +8,8 @@
 //! | `make`, `move`, `churn` | rounds, cells, lists | a sum of what was seen |
 //! | `history` | records, cores | its stale hits, and the verdicts as it lies and backwards |
 //! | `made`, `check`, `stale_hits`, `records_text` | records, cores | nothing, comparisons, looks, bytes |
+//! | `fallen` | records, cores | the records, whose times fall |
+//! | `opened` | words of an opening memory | the value of the last word |
 //! | `machine` | events, cores, words, machines that are opened | the first number |
 #![tactic(auto)]
 
@@ -45,6 +47,8 @@ fn measure<R: AllocGlobal + Clock>(rt: &R, word: &str, numbers: [u32; 4]) -> Opt
         "make" => arenas::make(alloc, numbers)?,
         "move" => arenas::moves(alloc, numbers)?,
         "churn" => arenas::churn(alloc, numbers)?,
+        "fallen" => histories::fallen(alloc, numbers)?,
+        "opened" => machines::opened(alloc, numbers)?,
         "machine" => machines::measure(alloc, numbers)?,
         _ => return histories::measure(rt, alloc, word, numbers),
     };

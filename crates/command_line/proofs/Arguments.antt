@@ -1,5 +1,5 @@
 -- One argument after the other, and one command after the other.
-use Rattle.std.proofs.Common.{◌≡◌, ◌∙◌, Result, IfOk, Ok, ap, ap₂}
+use Rattle.std.proofs.Common.{◌≡◌, ◌∙◌, Result, IfOk, Ok, ap₂}
 use Rattle.std.proofs.lemmas.Result.{IfOk-at_ok, IfOk-weaker}
 use Rattle.std.specs.Prelude.{◌||◌}
 use Rattle.clap.specs.Built.{AddsArg, AddsSubcommand}

@@ -1,15 +1,12 @@
 -- The subcommand that was found is the one that the words name, and words are refused only where they aren't taken.
-use Rattle.std.proofs.Common.{◌≡◌, ℕ, true, List, Option, Some, None, refl, sym, ap, ◌∙◌, subst, [], inl, inr}
-use Rattle.std.specs.Prelude.{option_map, unwrap_or}
-use Rattle.std.specs.Borrow.{Bor}
-use Rattle.clap.specs.Words.{App, HasMatchesOf, Row, Text, first_of, first_value, is_simple, rows_of, subcommand_of}
+use Rattle.std.proofs.Common.{◌≡◌, true, List, Option, Some, None, refl, sym, ap, ◌∙◌, subst, [], inl, inr}
+use Rattle.std.specs.Prelude.{option_map}
+use Rattle.clap.specs.Words.{App, HasMatchesOf, Row, Text, first_value, is_simple, subcommand_of}
 use Rattle.clap.specs.Words.{subcommand_rows_of, subcommand_name_of, HasKind, IsAmong, fault_of, is_simple_and_free}
 use Rattle.clap.specs.Words.{kind_of}
 use Rattle.clap.specs.declared.error.Error.{Error}
 use Rattle.clap.specs.declared.error.kind.ErrorKind.TheVariants.{OutOfMemory}
 use Rattle.clap.specs.declared.parser.matches.ArgMatches.{ArgMatches}
-use Rattle.clap.specs.declared.parser.matches.Found.{Found}
-use Rattle.clap.proofs.WalkLemmas.{first_value-rows}
 use Rattle.clap.proofs.OnLiterals.{clap_on_literals}
 use Rattle.command_line.specs.App.{NameSchedules, Parsers, tardis_app}
 use Rattle.command_line.specs.Job.{GivesJob, IsAskedBy}
@@ -33,15 +30,6 @@ pub found_is : (a : App) (p : Parsers) (words : List Text) (m : ArgMatches) (n :
 found_is a p words m n r e h f g =
     let matches = h (ap is_simple e ∙ simple p) in
     ap (λ (b : App). subcommand_of b words) (sym e) ∙ sym matches.1 ∙ both_known _ _ _ n r f g
-
--- the text of an argument, or another where it has none
-pub file_is : (f : Found) (id path : Text) (r : Option (Bor (List ℕ))) (other file : Bor (List ℕ)) →
-    option_map (λ s. s.now) r ≡ first_value f id → file ≡ unwrap_or r other → first_of id (rows_of f) ≡ Some
-    path → file.now ≡ path
-file_is f id path None other file given is e = let bad : None ≡ Some path =
-    given ∙ first_value-rows f id ∙ e in absurd cc
-file_is f id path (Some s) other file given is e = let same : Some s.now ≡ Some path =
-    given ∙ first_value-rows f id ∙ e in ap (λ (x : Bor (List ℕ)). x.now) is ∙ cc
 
 free : (p : Parsers) → is_simple_and_free (tardis_app p) ≡ true
 unfolding clap_on_literals

@@ -2,7 +2,7 @@
 use Rattle.std.specs.Prelude.{ℕ, ◌+◌, ◌-◌, ◌/◌, ◌%◌, ◌^◌, ◌==◌, nat_lt, Bool, true, false, ◌&&◌, Option, Some, None}
 use Rattle.std.specs.Prelude.{option_map, Result, Ok, Err, if◌then◌else◌}
 use Rattle.physiological_order.specs.declared.operation.Op.{Op}
-use Rattle.physiological_order.specs.declared.operation.Op.TheVariants.{Load, Store, Swap}
+use Rattle.physiological_order.specs.declared.operation.Op.TheVariants.{Load}
 use Rattle.physiological_order.specs.Order.{address}
 use Rattle.network.specs.declared.message.Node.{Node}
 use Rattle.network.specs.declared.message.Node.TheVariants.{Core, Bank}

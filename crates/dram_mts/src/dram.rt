@@ -111,6 +111,7 @@ impl Part for Dram {
         Some((message.from, false))
     }
 
+    #[inline(always)]
     fn deliver(&mut self, message: &Message) -> Result<Reaction, PartError>
         requires { IsTrue (dram_has_case self.old message.now) }
         ensures done { IfOk result (λ reaction. dram_table self.old message.now ≡ Some

@@ -1,14 +1,13 @@
 -- The cells are taken out one after the other: a list whose head isn't empty yet has a cell that is still there.
-use Rattle.std.proofs.Common.{◌≡◌, ℕ, ◌+◌, ◌<◌, ◌≤◌, ◌⊎◌, inl, inr, List, [], ◌∷◌, length, get_or}
-use Rattle.std.proofs.Common.{set, replicate, Option, Some, None, refl, sym, ap, subst, ◌∙◌, arith, length-set}
-use Rattle.std.proofs.Common.{get_or-set_same, get_or-set_other, ext_get_or}
-use Rattle.std.proofs.lemmas.Bool.{cases_eq, cases_lt}
+use Rattle.std.proofs.Common.{◌≡◌, ℕ, ◌+◌, ◌<◌, ◌≤◌, ◌⊎◌, inl, inr, List, [], length, get_or}
+use Rattle.std.proofs.Common.{replicate, Option, Some, None, sym, ap, subst, ◌∙◌, arith}
+use Rattle.std.proofs.Common.{ext_get_or}
+use Rattle.std.proofs.lemmas.Bool.{cases_lt}
 use Rattle.std.proofs.lemmas.List.{length-replicate}
 use Rattle.line_arena.specs.declared.node.Node.{Node}
-use Rattle.line_arena.specs.declared.node.Head.{Head}
 use Rattle.line_arena.specs.declared.chains.Chains.{Chains}
 use Rattle.line_arena.specs.Filled.{IsFilled}
-use Rattle.line_arena.specs.Rings.{no_head, IsRing, Tied, rings}
+use Rattle.line_arena.specs.Rings.{no_head, Tied, rings}
 use Rattle.line_arena.specs.Chains.{AreEmpty, empty_head, rings_of, total, IsTied}
 use Rattle.line_arena.specs.Arenas.{IsArena}
 use Rattle.line_arena.proofs.Starts.{none_at, tied_new, total_zero}
@@ -43,86 +42,12 @@ module _ {X : Type 0} where
   abbrev pub unused : Chains X → Chains X
   unused c = record c { used = 0; spares = 0 }
 
-  same_node : (a b : Node X) → Some a ≡ Some b → a ≡ b
-  same_node a b e = cc
-
-  -- a list with no cell has the head of an empty list, else its first cell is on it
-  head_or_cell : (c : Chains X) (l : ℕ) (h : Head) (xs : List (ℕ × Option X)) → IsRing c.block c.capacity l h xs →
-      (h ≡ empty_head (c.capacity + l)) ⊎ HasCell 0 l c
-  head_or_cell c l h [] ring = inl (λ i. record { first = ring.first i; last = ring.last i; count = ring.count i })
-  head_or_cell c l h (a ∷ xs) ring = inr (record {
-    cell = a.0;
-    node = _;
-    past = omega arith;
-    there = ring.linked.0;
-    on = refl;
-  })
-
-  pub halfway_first : (c : Chains X) → IsArena c → IsHalfway 0 c c
-  halfway_first c a = record {
-    bound = omega arith;
-    before = λ y lt. absurd (omega (arith, lt));
-    after = λ y le. refl;
-    heads = λ l lt. head_or_cell c l (get_or c.heads.items l no_head) (get_or (rings_of c) l [])
-        (a.tied.tied.ring l lt);
-    many = refl;
-    long = refl;
-    sizes = (refl, refl);
-  }
-
   -- the next cell is there
   pub halfway_cell : (k : ℕ) (c d : Chains X) → IsArena c → IsHalfway k c d → k < d.used →
       IsFilled d.block k
   halfway_cell k c d a h low =
       let used = h.sizes.1 in let full = a.uses.0 k (omega (arith, low, used)) in
       (full.0, h.after k (omega arith) ∙ full.1)
-
-  pub halfway_next : (at : ℕ) (n : Node X) (c d e : Chains X) → IsArena c → IsHalfway at c d →
-      at < d.used → get_or d.block at None ≡ Some n →
-      e.block ≡ set d.block at None → e.heads.items ≡ set d.heads.items n.list (empty_head (d.capacity + n.list)) →
-      (e.capacity ≡ d.capacity) × (e.used ≡ d.used) → IsHalfway (at + 1) c e
-  halfway_next at n c d e a h low there block heads sizes =
-      let is : get_or c.block at None ≡ Some n = sym (h.after at (omega arith)) ∙ there in
-      let used = h.sizes.1 in let cells = a.tied.tied.cells in let most = a.total.1 in
-      let in_cells : at < length c.block = omega (arith, low, used, cells, most) in
-      let long_block : length e.block ≡ length d.block = ap length block ∙ length-set d.block at None in
-      let long_heads : length e.heads.items ≡ length d.heads.items = ap length heads
-      ∙ length-set d.heads.items n.list (empty_head (d.capacity + n.list)) in
-      let dl = h.long in let dm = h.many in
-      record {
-        bound = omega (arith, low, used);
-        before = λ y lt. elim (cases_eq y at) [
-          | inl i ↦ ap (λ k. get_or e.block k None) i ∙ ap (λ cs. get_or cs at None) block
-              ∙ get_or-set_same d.block at None None (omega (arith, in_cells, dl))
-          | inr ne ↦ ap (λ cs. get_or cs y None) block ∙ get_or-set_other d.block at y None None ne
-              ∙ h.before y (omega (arith, lt, ne))
-        ];
-        after = λ y le. ap (λ cs. get_or cs y None) block ∙ get_or-set_other d.block at y None None (λ i. absurd
-            (omega (arith, le, i))) ∙ h.after y (omega (arith, le));
-        heads = λ l lt. elim (cases_eq l n.list) [
-          | inl i ↦ inl (ap (λ k. get_or e.heads.items k no_head) i ∙ ap (λ hs. get_or hs n.list no_head) heads
-              ∙ get_or-set_same d.heads.items n.list _ no_head (omega (arith, lt, i, dm))
-              ∙ (λ j. empty_head (h.sizes.0 j + sym i j)))
-          | inr ne ↦ elim (h.heads l lt) [
-            | inl was ↦ inl (ap (λ hs. get_or hs l no_head) heads
-                ∙ get_or-set_other d.heads.items n.list l _ no_head ne ∙ was)
-            | inr has ↦ elim (cases_eq has.cell at) [
-              | inl i ↦ absurd (ne (sym has.on ∙ ap (λ (m : Node X). m.list) (same_node has.node n
-                  (sym has.there ∙ ap (λ k. get_or c.block k None) i ∙ is))))
-              | inr other ↦ inr (record {
-                cell = has.cell;
-                node = has.node;
-                past = (let past = has.past in omega (arith, past, other));
-                there = has.there;
-                on = has.on;
-              })
-            ]
-          ]
-        ];
-        many = long_heads ∙ h.many;
-        long = long_block ∙ h.long;
-        sizes = (sizes.0 ∙ h.sizes.0, sizes.1 ∙ h.sizes.1);
-      }
 
   pub halfway_cells : (at : ℕ) (c d : Chains X) → IsArena c → IsHalfway at c d → c.used ≤ at →
       d.block ≡ replicate c.capacity None

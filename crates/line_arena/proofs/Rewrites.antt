@@ -49,11 +49,6 @@ module _ {X : Type 0} (x : ℕ) (o : Option X) where
   length_r [] = refl
   length_r (a ∷ xs) = ap suc (length_r xs)
 
-  absent_r : (xs : List (ℕ × Option X)) → (Has xs x → ⊥) → R xs ≡ xs
-  absent_r [] no_x = refl
-  absent_r (a ∷ xs) no_x = λ k. (a.0, if (ne_eqb a.0 x (λ e. no_x (inl e))) k then o else a.1) ∷ absent_r xs
-      (λ w. no_x (inr w)) k
-
   module _ (cs : List (Option (Node X))) (n : Node X) (here : get_or cs x None ≡ Some n) where
     abbrev ds : List (Option (Node X))
     ds = set cs x (Some (with_item o n))

@@ -7,7 +7,7 @@ use Rattle.std.specs.Option.{is_some}
 use Rattle.std.proofs.lemmas.Bool.{cases_eq}
 use Rattle.std.proofs.lemmas.List.{get_or-map, length-map, length-replicate, map-set, set-set, set-get_or}
 use Rattle.std.proofs.lemmas.List.Sums.{sum_by-cons}
-use Rattle.line_arena.specs.CellLists.{find_cell, look_up, next_in, next_cell, first_cell, or_else, rewritten}
+use Rattle.line_arena.specs.CellLists.{find_cell, look_up, next_in, next_cell, or_else, rewritten}
 use Rattle.line_arena.specs.CellLists as cell
 use Rattle.line_arena.specs.Arenas.{Lists, lists_of, pushed, unlinked, free_cells, IsOnce}
 use Rattle.line_arena.specs.ListLaws.{LookUpLaws, WithoutLaws}

@@ -1,9 +1,11 @@
 -- Laws of a table of sets: look-ups and lengths after each change.
-use Rattle.std.proofs.Common.{◌≡◌, ◌≢◌, ℕ, ◌<◌, true, List, [], length, set, Some, None, arith, refl}
+use Rattle.std.proofs.Common.{◌≡◌, ◌≢◌, ℕ, zero, suc, ◌<◌, Bool, true, List, [], ◌∷◌, ◌++◌, length, set, take}
+use Rattle.std.proofs.Common.{Some, None, arith, refl, ap}
 use Rattle.std.proofs.Common.{get_or-set_same, get_or-set_other, length-set}
 use Rattle.std.proofs.lemmas.Bool.{cases_eq}
-use Rattle.line_sets.specs.Order.{find, is_there, put_last, put_in_place, without}
-use Rattle.line_sets.specs.SetTable.{set_at, look, put, put_within, drop_line}
+use Rattle.std.proofs.lemmas.List.{length-append, take_all}
+use Rattle.line_sets.specs.Order.{find, is_there, lines_passing, put_last, put_in_place, without}
+use Rattle.line_sets.specs.SetTable.{all_listed, set_at, look, put, put_within, drop_line}
 use Rattle.line_sets.proofs.OrderLaws.{find-put_last_same, find-put_last_other, find-put_in_place_same}
 use Rattle.line_sets.proofs.OrderLaws.{find-put_in_place_other, find-without_same, find-without_other}
 
@@ -66,3 +68,18 @@ module _ {X : Type 0} (sets : List (List (ℕ × X))) (i : ℕ) where
 
   pub length-drop_line : (l : ℕ) → length (drop_line sets i l) ≡ length sets
   length-drop_line l = length-set sets i (without (set_at sets i) l)
+
+none-there : (xs : List ℕ) → 0 ≡ length xs → [] ≡ xs
+none-there [] few = refl
+none-there (x ∷ xs) few = absurd (omega (arith, few))
+
+-- where the first sets have as many listed lines as all sets, they have all of them
+pub all-taken : {X : Type 0} (passes : X → Bool) (sets : List (List (ℕ × X))) (k : ℕ) →
+    length (all_listed passes (take k sets)) ≡ length (all_listed passes sets) →
+    all_listed passes (take k sets) ≡ all_listed passes sets
+all-taken passes [] k few = ap (all_listed passes) (take_all k [] (omega arith))
+all-taken passes (ps ∷ sets) zero few = none-there (all_listed passes (ps ∷ sets)) few
+all-taken passes (ps ∷ sets) (suc k) few =
+    let some = length-append (lines_passing passes ps) (all_listed passes (take k sets)) in
+    let every = length-append (lines_passing passes ps) (all_listed passes sets) in
+    ap (λ us. lines_passing passes ps ++ us) (all-taken passes sets k (omega (arith, few, some, every)))

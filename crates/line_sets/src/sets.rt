@@ -344,12 +344,15 @@ impl<V: Copy + Listed> LineSets<V> {
         Ok(lines)
     }
 
-    // The listed lines of all sets, set by set.
+    // The listed lines of all sets, set by set. The sets after the last listed line aren't looked at.
     fn gathered(&self) -> Result<Vec<u64>, AllocError>
         ensures { IfOk result (λ lines. lines.items ≡ all_listed V.is_listed self.now.sets) }
     {
         let mut lines = Vec::new(self.rows.allocator());
         for set in 0..self.sets() {
+            if lines.len() == self.listed {
+                return Ok(lines);
+            }
             self.push_listed(&mut lines, set)?;
         }
         Ok(lines)

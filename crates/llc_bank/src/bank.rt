@@ -379,6 +379,7 @@ impl Part for Bank {
     }
 
     #[inline(always)]
+    #[inline(always)]
     fn deliver(&mut self, message: &Message) -> Result<Reaction, PartError>
         requires { IsTrue (bank_has_case self.old message.now) }
         ensures done { IfOk result (λ reaction. bank_table self.old message.now ≡ Some

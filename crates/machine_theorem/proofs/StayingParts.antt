@@ -17,7 +17,7 @@ use Rattle.llc_bank.specs.declared.decision.Decision.TheVariants as on_entry
 use Rattle.llc_bank.specs.BankTable as banks
 use Rattle.llc_bank.specs.BankTable.{BankState, bank_table, bank_has_case, after_decision, is_this_bank, entry_of}
 use Rattle.llc_bank.specs.BankTable.{comes_to_bank}
-use Rattle.dram_mts.specs.Table.{comes_to_dram, is_dram, dram_case, dram_table, dram_has_case}
+use Rattle.dram_mts.specs.Table.{comes_to_dram, is_dram, dram_case, dram_has_case}
 use Rattle.machine_table.specs.declared.event.Answer.TheVariants.{Delivered, Started}
 use Rattle.machine_table.specs.Step.{Step, Drops, Makes, Stays, reacted}
 use Rattle.protocol.specs.Machine.{Line}

@@ -54,15 +54,6 @@ link_slot cores banks number place k slots slot near few less is =
     let next : slot + k ≡ incoming cores banks number (place + k) = omega (arith, is, links, column) in
     (within, next ∙ ap (incoming cores banks number) (sym (mod-eq_of_lt within)))
 
--- the slot of a place, from the first one of its link
-pub in_link : (cores banks number place slot : ℕ) → slot ≡ incoming cores banks number (4 * (place / 4)) →
-    slot + place % 4 ≡ incoming cores banks number place
-in_link cores banks number place slot is =
-    let row : 4 * (place / 4) / 4 ≡ place / 4 = omega arith in
-    let column : 4 * (place / 4) % 4 ≡ 0 = omega arith in
-    let links = ap (incoming_link cores banks number) row in
-    omega (arith, is, links, column)
-
 -- the slot that is a link further
 next_number : (b : Bool) (cores banks number i : ℕ) →
     cond b (cores * banks + (suc i * cores + number)) (suc i * banks + (number - cores))

@@ -1,7 +1,7 @@
 -- What sending and taking do to the slots, and to what is still there.
 use Rattle.std.proofs.Common.{◌≡◌, ℕ, zero, suc, ◌+◌, ◌<◌, ◌≤◌, ◌++◌, List, [], ◌∷◌, length, filter, Bool}
-use Rattle.std.proofs.Common.{is_some, Option, Some, None, refl, sym, ap, ◌∙◌, IfSome}
-use Rattle.std.proofs.Common.{option_copied, Bor, arith, length-append}
+use Rattle.std.proofs.Common.{is_some, Option, Some, None, refl, sym, ap, ◌∙◌}
+use Rattle.std.proofs.Common.{arith, length-append}
 use Rattle.std.proofs.Common.{get_or, map, option_map}
 use Rattle.std.specs.List.{remove}
 use Rattle.std.specs.Prelude.{slice_get, slice_set, IsTrue}
@@ -184,14 +184,3 @@ pub AllHaveEndpoints-without_number : (cores banks n : ℕ) (xs : List (ℕ × M
 AllHaveEndpoints-without_number cores banks n [] all = tt
 AllHaveEndpoints-without_number cores banks n (x ∷ xs) all =
     let rest = AllHaveEndpoints-without_number cores banks n xs all.1 in grind arith
-
--- the same of what is found, or not, by a reference
-pub ends_if_found : (cores banks n : ℕ) (r : Option Message) (xs : List (ℕ × Message)) → AllHaveEndpoints cores banks
-    xs → r ≡ at_number n xs → IfSome r (λ m. IsTrue (has_endpoints cores banks m))
-ends_if_found cores banks n None xs all is = tt
-ends_if_found cores banks n (Some m) xs all is = AllHaveEndpoints-at_number cores banks n m xs all (sym is)
-
-pub ends_if_seen : (cores banks n : ℕ) (r : Option (Bor Message)) (xs : List (ℕ × Message)) → AllHaveEndpoints cores
-    banks xs → option_copied r ≡ at_number n xs → IfSome r (λ m. IsTrue (has_endpoints cores banks m.now))
-ends_if_seen cores banks n None xs all is = tt
-ends_if_seen cores banks n (Some m) xs all is = AllHaveEndpoints-at_number cores banks n m.now xs all (sym is)

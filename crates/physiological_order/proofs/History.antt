@@ -2,7 +2,7 @@
 use Rattle.std.proofs.Common.{◌≡◌, ℕ, ◌<◌, ◌≤◌, ◌≢◌, Bool, true, false, cond, leb, eqb, List, [], ◌∷◌, map, Some}
 use Rattle.std.proofs.Common.{refl, sym, ap, ap₂, ◌∙◌, arith}
 use Rattle.std.specs.List.{AllByRecursion as Each}
-use Rattle.std.proofs.lemmas.Bool.{cond_both, leb-true, leb-false, le-leb, lt-leb, cond-false, ne_eqb}
+use Rattle.std.proofs.lemmas.Bool.{cond_both, leb-false, le-leb, lt-leb, cond-false, ne_eqb}
 use Rattle.physiological_order.specs.declared.operation.Op.{Op}
 use Rattle.physiological_order.specs.declared.operation.Op.TheVariants.{Load, Store, Swap}
 use Rattle.physiological_order.specs.declared.operation.Record.{Record}
@@ -23,13 +23,6 @@ each_placed P r [] p h = (p, tt)
 each_placed P r (s ∷ ss) p h =
     cond_both (leb s.ts r.ts) (s ∷ placed r ss) (r ∷ s ∷ ss) (λ xs. Each P xs) (λ e. (h.0, each_placed P r ss p h.1))
     (λ e. (p, h))
-
-pub sorted_placed : (r : Record) (rs : List Record) → Sorted rs → Sorted (placed r rs)
-sorted_placed r [] h = (tt, tt)
-sorted_placed r (s ∷ ss) h =
-    cond_both (leb s.ts r.ts) (s ∷ placed r ss) (r ∷ s ∷ ss) Sorted
-    (λ e. (each_placed (λ x. s.ts ≤ x.ts) r ss (leb-true s.ts r.ts e) h.0, sorted_placed r ss h.1))
-    (λ e. let lt = leb-false s.ts r.ts e in ((omega arith, each_weaker (λ x k. omega arith) ss h.0), h))
 
 -- records after a time change nothing up to it
 pub memory_at-late : (m : Memory) (rs : List Record) (t : ℕ) → Each (λ s. t < s.ts) rs → memory_at m rs t ≡ m

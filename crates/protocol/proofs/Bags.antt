@@ -1,4 +1,4 @@
-use Rattle.std.proofs.Common.{◌≡◌, ℕ, ◌+◌, List, [], ◌∷◌, refl, sym, ap, ◌∙◌, arith}
+use Rattle.std.proofs.Common.{◌≡◌, ℕ, ◌+◌, List, [], ◌∷◌, refl, sym, ap, ◌∙◌}
 use Rattle.std.specs.Prelude.{sum_by}
 use Rattle.std.specs.List.{AllByRecursion as Each}
 use Rattle.std.specs.List.Sorted.{IsPermutation}
@@ -20,16 +20,6 @@ tally-taken w xs ys h = tally-sum w xs ∙ sym (sum_by-IsPermutation w xs ys h) 
 
 pub each_taken : {X : Type 0} (P : X → Type 0) (xs ys : List X) → IsPermutation xs ys → Each P xs → Each P ys
 each_taken P xs ys h e = recursion_from_All P ys (All-permutation P xs ys h (All-from_recursion P xs e))
-
--- where nothing weighs anything, each weighs nothing
-pub each_weightless : {X : Type 0} (w : X → ℕ) (xs : List X) → tally w xs ≡ 0 → Each (λ x. w x ≡ 0) xs
-each_weightless w [] h = tt
-each_weightless w (x ∷ xs) h = (omega arith, each_weightless w xs (omega arith))
-
-pub each_both : {X : Type 0} {P Q R : X → Type 0} → ((x : X) → P x → Q x → R x) → (xs : List X) → Each P xs →
-    Each Q xs → Each R xs
-each_both f [] p q = tt
-each_both f (x ∷ xs) p q = (f x p.0 q.0, each_both f xs p.1 q.1)
 
 pub each_map : {X : Type 0} {P Q : X → Type 0} → ((x : X) → P x → Q x) → (xs : List X) → Each P xs → Each Q xs
 each_map f [] p = tt

@@ -9,7 +9,7 @@ use Rattle.machine_table.specs.Transition.{transition}
 use Rattle.machine_table.specs.Runs.{after_all}
 use Rattle.interleaving_core.specs.LookUps.{make_room, victim_for_core}
 use Rattle.programs.specs.declared.ends.End.{End}
-use Rattle.programs.specs.declared.ends.End.TheVariants.{AllDone, Stalled, TurnsUsed, Exhausted, NoMemory}
+use Rattle.programs.specs.declared.ends.End.TheVariants.{AllDone, Stalled, TurnsUsed, NoMemory}
 use Rattle.programs.specs.Acts.{next_in}
 use Rattle.schedules.specs.Schedules.{Choice, Does, Tries, Delivers, Advances, Goes, Over}
 use Rattle.schedules.specs.Runs.{Plan, Stage, Before, Within, Evicting, MakingRoom, OutOfTimes, Position, Continuation}

@@ -22,7 +22,7 @@ use Rattle.programs.specs.declared.steps.Step.TheVariants as step
 use Rattle.programs.specs.Acts.{Acts, next_in}
 use Rattle.schedules.specs.Schedules.{Choice, Does, Tries, Delivers, Advances, Over}
 use Rattle.schedules.specs.RoundSchedule.{numbers_in_flight}
-use Rattle.schedules.specs.SeedSchedule.{Seeded, advances, core_step, core_steps, choice_at, drawn_list, line_events, steps}
+use Rattle.schedules.specs.SeedSchedule.{Seeded, advances, core_step, core_steps, choice_at, line_events, steps}
 use Rattle.schedules.specs.SeedSchedule.{passed, seeded}
 use Rattle.schedules.specs.Notes.{Led, Point, step_choice}
 use Rattle.schedules.specs.SeedViews.{IsTurn, was_made}
@@ -196,14 +196,6 @@ module _ {P : Type 0} (acts : Acts P) (m : Machine) (programs : List P) (b at co
       let long = length-map m.mail.messages (λ message. message.0) in
       let there = slice_get-get_or (numbers_in_flight m) (at - count) 0 (omega (arith, below, long, here, past)) in
       let bad = sym none ∙ there in absurd cc
-
--- from three on the list is that of steps
-pub drawn_steps : {P : Type 0} (acts : Acts P) (m : Machine) (programs : List P) (k : ℕ) → k ≢ 0 → k ≢ 1 → k ≢ 2 →
-    drawn_list acts m programs k ≡ steps acts m programs
-drawn_steps acts m programs zero none one two = absurd (none refl)
-drawn_steps acts m programs (suc zero) none one two = absurd (one refl)
-drawn_steps acts m programs (suc (suc zero)) none one two = absurd (two refl)
-drawn_steps acts m programs (suc (suc (suc k))) none one two = refl
 
 pub is_turn : {P : Type 0} (acts : Acts P) (p q : Point P Seeded) (r : Result (Unit {0}) End) →
     Led acts (seeded acts) p r (record q { own = passed false p.own }) → IsTurn acts p (was_made r) q

@@ -1,7 +1,7 @@
 //! Laws for callers: of new seats, of turns and the end that they decide, and of a machine that was closed. The
 //! functions do nothing: their contracts are the laws.
-ghost use Rattle.std.specs.Prelude.{◌≡◌, ◌≢◌, ◌⊎◌, ◌<◌, ◌≤◌, ℕ, Bool, true, false, List, [], length, slice_index_or};
-ghost use Rattle.std.specs.Prelude.{Result, Ok, Err};
+ghost use Rattle.std.specs.Prelude.{◌≡◌, ◌≢◌, ◌⊎◌, ◌+◌, ◌<◌, ◌≤◌, ℕ, Bool, true, false, List, []};
+ghost use Rattle.std.specs.Prelude.{length, slice_index_or, Result, Ok, Err};
 ghost use Rattle.machine_theorem.specs.Consistency.{IsConsistent};
 ghost use Rattle.machine_table.specs.declared.event.Refusal.{Refusal};
 ghost use Rattle.machine_table.specs.declared.event.Refusal.TheVariants.{NoMemory, NoRoom};
@@ -20,6 +20,7 @@ ghost use Rattle.thread_driver.specs.Calls.{RoomMade, VictimLeft, victim_of_seat
 ghost use Rattle.thread_driver.specs.Given.{IsBankTurn, IsCoreTurn, TurnsGiven};
 ghost use Rattle.thread_driver.specs.Reports.{IsDecided, IsReport, Moved, SomeLacked, SomeStopped, Stopped, Went};
 ghost use Rattle.thread_driver.specs.Shifts.{AreBanksInOrder, AreCoresInOrder, NoneOpen, Ran};
+ghost use Rattle.thread_driver.specs.Teams.{rested};
 ghost use Rattle.thread_driver.specs.ThreadRuns.{machine_of};
 ghost use Rattle.thread_driver.specs.Turns.{AfterRefusal, BankHadTurn, CoreHadTurn};
 
@@ -59,10 +60,10 @@ pub fn turns_report_what_calls_answered<P: Program>()
         (Moved turn.moved) }
 {}
 
-/// Which evictions the calls of a turn make, and when. An attempt that is refused for another reason than NoRoom is followed
-/// by no eviction, and the step comes to that refusal. One refused by NoRoom is followed by the eviction of the victim
-/// of the open operation's line, if there is one, and else by nothing. A bank's turn first evicts the line that makes room, if there is one.
-/// Then each seat has its own turn.
+/// Which evictions the calls of a turn make, and when. An attempt that is refused for another reason than NoRoom is
+/// followed by no eviction, and the step comes to that refusal. One refused by NoRoom is followed by the eviction of the
+/// victim of the open operation's line, if there is one, and else by nothing. A bank's turn first evicts the line that
+/// makes room, if there is one. Then each seat has its own turn.
 pub fn turns_make_these_calls<P: Program>()
     ensures refused { (r : Refusal) (p q : CoreSeat) (done : Result Bool Refusal) → r ≢ NoRoom →
         AfterRefusal r p done q → (done ≡ Err r) × (q ≡ p) }
@@ -73,6 +74,13 @@ pub fn turns_make_these_calls<P: Program>()
         CoreTurns m turn.between turn.moved q }
     ensures room { (m : Machine) (p q : BankSeat) (told : Told) (turn : BankHadTurn m p told q) →
         RoomMade p turn.between × BankTurns m turn.between turn.moved q }
+{}
+
+/// When a worker lets another thread run: after each 256th pass in a row in which no turn of its seats made progress.
+pub fn waiting_workers_let_others_run()
+    ensures progress { (idle : ℕ) → rested idle true ≡ (0, false) }
+    ensures waits { (idle : ℕ) → idle < 255 → rested idle false ≡ (idle + 1, false) }
+    ensures due { rested 255 false ≡ (0, true) }
 {}
 
 /// Unless all is done, turns end NoMemory exactly if a call of some turn was refused memory, else Exhausted exactly if

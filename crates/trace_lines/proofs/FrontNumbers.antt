@@ -2,13 +2,22 @@
 use Rattle.std.proofs.Common.{◌≡◌, ℕ, ◌+◌, ◌<◌, ◌≤◌, ◌&&◌, Bool, true, false, ltb, cond}
 use Rattle.std.proofs.Common.{List, [], ◌∷◌, take, drop, length, get_or, Option}
 use Rattle.std.proofs.Common.{Some, None, refl, sym, ◌∙◌, arith, inl, inr}
+use Rattle.std.specs.Prelude.{◌^◌, nat_lt, if◌then◌else◌}
 use Rattle.std.specs.List.{list_all, fold, prefix_len}
 use Rattle.std.proofs.lemmas.Bool.{cases_Bool}
 use Rattle.std.proofs.lemmas.List.{drop_more, drop_all}
 use Rattle.std.proofs.lemmas.Bool.Decides.{nat_tests}
 use Rattle.text_lines.proofs.Lemmas.{take-one_more}
 use Rattle.trace_lines.specs.Fields.{is_within}
-use Rattle.trace_lines.specs.Fronts.{is_digit_of, put_digit, number_read, number_of}
+use Rattle.trace_lines.specs.Fronts.{is_digit_of, put_digit, number_of}
+
+-- digit by digit, the number of the field in front, behind digits whose number is known, and the field's length;
+-- nothing if it isn't all digits, or the number doesn't fit 64 bits
+unfoldable pub number_read : (ℕ → Bool) → (ℕ → ℕ → ℕ) → ℕ → ℕ → List ℕ → Option (ℕ × ℕ)
+number_read is_one put value count [] = Some (value, count)
+number_read is_one put value count (b ∷ bytes) =
+    if is_one b then (if nat_lt (put value b) (2 ^ 64) then number_read is_one put (put value b) (count + 1) bytes
+    else None) else if is_within b then None else Some (value, count)
 
 -- a digit only makes a number greater
 grown : (put : ℕ → ℕ → ℕ) → ((value b : ℕ) → value ≤ put value b) → (digits : List ℕ) (value : ℕ) →

@@ -28,14 +28,6 @@ abbrev pub letter_in : List ℕ → Option ℕ
 letter_in (a ∷ []) = Some a
 letter_in field = None
 
--- digit by digit, the number of the field in front, behind digits whose number is known, and the field's length;
--- nothing if it isn't all digits, or the number doesn't fit 64 bits
-unfoldable pub number_read : (ℕ → Bool) → (ℕ → ℕ → ℕ) → ℕ → ℕ → List ℕ → Option (ℕ × ℕ)
-number_read is_one put value count [] = Some (value, count)
-number_read is_one put value count (b ∷ bytes) =
-    if is_one b then (if nat_lt (put value b) (2 ^ 64) then number_read is_one put (put value b) (count + 1) bytes
-    else None) else if is_within b then None else Some (value, count)
-
 -- the number of a field, if it is all digits and the number fits 64 bits, and the field's length
 abbrev pub number_of : (ℕ → Bool) → (ℕ → ℕ → ℕ) → ℕ → ℕ → List ℕ → Option (ℕ × ℕ)
 number_of is_one put value count bytes =

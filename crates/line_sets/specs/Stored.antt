@@ -5,7 +5,7 @@ use Rattle.line_arena.specs.Arenas.{Lists}
 use Rattle.line_sets.specs.Order.{find, lines_passing, without, IsDistinct}
 use Rattle.line_sets.specs.SetTable.{set_at}
 
--- the tag of a line: eight bits, which are the same for one in 256 pairs of lines
+-- the tag of a line: the upper eight of 64 bits of its product with an odd number (2^64 by the golden ratio)
 unfoldable pub tag_of : ℕ → ℕ
 tag_of line = line * 11400714819323198485 % 2 ^ 64 / 2 ^ 56
 

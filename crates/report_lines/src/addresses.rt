@@ -1,6 +1,6 @@
 //! Addresses in hexadecimal, each appended to the text so far. If allocation fails, part of it may be in the text.
 
-ghost use Rattle.std.specs.Prelude.{◌≡◌, ◌+◌, ◌≤◌, ◌<◌, ◌++◌, drop, length, OnOk};
+ghost use Rattle.std.specs.Prelude.{◌≡◌, ◌+◌, ◌≤◌, ◌<◌, ◌++◌, drop, length, take, OnOk};
 ghost use Rattle.report_lines.specs.Hexadecimal.{address_text, hex_digits, hex_glyph};
 
 use physiological_order::WordAddr;
@@ -19,6 +19,7 @@ fn write_hex(places: usize, number: u64, bytes: &mut [u8], end: usize) -> usize
     requires room { places ≤ end }
     requires within { end ≤ length bytes.old }
     ensures written { drop result bytes.new ≡ hex_digits places number ++ drop end bytes.old }
+    ensures front { take result bytes.new ≡ take result bytes.old }
     ensures begins { end ≤ result + places }
     ensures ends { result ≤ end }
 {
@@ -32,12 +33,14 @@ fn write_hex(places: usize, number: u64, bytes: &mut [u8], end: usize) -> usize
     write_hex(places - 1, number / 16, bytes, end - 1)
 }
 
-/// The byte address of a word, as `put_address` puts it, with its last digit before `end`: where it begins.
+/// The byte address of a word, as `put_address` puts it, with its last digit before `end`: where it begins. The bytes in
+/// front stay.
 #[tactic(auto, unfolding(crate::specs::Hexadecimal::address_text))]
 pub fn write_address(word: WordAddr, bytes: &mut [u8], end: usize) -> usize
     requires room { 18 ≤ end }
     requires within { end ≤ length bytes.old }
     ensures written { drop result bytes.new ≡ address_text word ++ drop end bytes.old }
+    ensures front { take result bytes.new ≡ take result bytes.old }
     ensures begins { end ≤ result + 18 }
     ensures ends { result ≤ end }
 {

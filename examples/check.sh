@@ -336,6 +336,12 @@ a_million_turns() {
     seq 0 1100000 | sed 's/.*/0 & R 0x0 0 0 &/' >"$work/wanted"
     told "1,100,001 operations by threads" 0 "$work/wanted" /dev/null trace --schedule threads --records \
         --limit 4294967295 "$work/steps"
+    seq 0 499999 | awk '{ printf "0 R 0x%x\n", 8 * $1 }' >"$work/steps"
+    { printf 'cores 1\nissued 500000\ncompleted 500000\nend all-done\nloads 500000\nstores 0\nswaps 0\nrenewals 0\n'
+      printf 'upgrades 0\nflushes 0\nwrite-backs 0\nstale-hits 0\norder legal\n'
+      seq 0 499999 | awk '{ printf "word 0x%x 0\n", 8 * $1 }'; } >"$work/wanted"
+    told "500,000 words by threads" 0 "$work/wanted" /dev/null trace --schedule threads --limit 4294967295 \
+        "$work/steps"
 }
 
 # is_at NUMBER: whether the file that is looked at is one of each NUMBER, counted by `at`.

@@ -22,7 +22,7 @@ TEXT = r"//.*|b?'(?:\\.|[^'\\])'|\"(?:\\[^']|[^\"\\])*\""
 QUIET = re.compile(TEXT + r"|#!?\[[^]]*\]|(?:Kind|Refusal|\w+Error)::\w+(?:\(_\))? => \d\d?,")
 IMPORT = re.compile(r"\buse [^;]*;")
 CLAUSE = re.compile(r"\b(?:ensures|requires)\b[^{]*\{|\bghost [^;{]*[;{]")
-NUMBER = re.compile(r"(?<!\w)(?<!(?<!\.)\.)(0[xbo][\da-f_]+|\d[\d_]*?)(?:_?[ui](?:8|16|32|64|128|size))?(?!\w)")
+NUMBER = re.compile(r"(?<!\w)(?<!(?<!\.)\.)(0[xbo][\da-fA-F_]+|\d[\d_]*?)(?:_?[ui](?:8|16|32|64|128|size))?(?!\w)")
 GREATEST = re.compile(r"\bu(8|16|32|64|128)::(?:MAX|BITS)\b")
 CONSTANT = re.compile(r"\bconst (\w+): (?:\w+ = \d|(\w+) = \2 \{)")
 SIGN = re.compile(r"\b(?:reserve_exact|shrink_to(?:_fit)?)\b|\bas [iu](?:8|16|32)\b|\btry_(?:from|into)\b|\b(?:i8|[iu]16)\b|"

@@ -40,13 +40,24 @@ def bytes_asked(words, shim):
     return int(said.splitlines()[-1])
 
 
+def filled(word, number, folder):
+    """The word for this number; {loads} is a file with so many loads of 64 words in turn, by one core."""
+    if word != "{loads}":
+        return word.replace("{}", str(number))
+    path = Path(folder, f"loads-{number}.trace")
+    path.write_text("".join(f"0 R 0x{8 * (at % 64):x}\n" for at in range(number)))
+    return str(path)
+
+
 def cost(row, shim):
     """What one more costs."""
     program, *words = row.command.split()
     program = str(TOP / "crates" / program / "out" / program)
     less, more = map(int, row.numbers.split())
     count = {"instructions": instructions, "bytes": bytes_asked}[row.kind]
-    low, high = (count([program, *(word.replace("{}", str(number)) for word in words)], shim) for number in (less, more))
+    with tempfile.TemporaryDirectory() as folder:
+        low, high = (count([program, *(filled(word, number, folder) for word in words)], shim)
+                     for number in (less, more))
     return (high - low) / (more - less)
 
 

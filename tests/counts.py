@@ -29,8 +29,8 @@ BY_HAND = {
     "a load": ("0 R 0x0\n", "", "all-done 6 14", f"loads 1 1; misses 1 1; ShReq 1 1 1; ShRep 1 1 1; {LOAD}"),
     "a load that hits": ("0 R 0x0\n0 R 0x0\n", "", "all-done 7 16",
                          f"loads 2 2; hits 1 1; misses 1 1; ShReq 1 1 1; ShRep 1 1 1; {LOAD}"),
-    "70,000 loads": ("0 R 0x0\n" * 70000, "--limit 4294967295", "all-done 70005 140012",
-                     f"loads 70000 70000; hits 69999 69999; misses 1 1; ShReq 1 1 1; ShRep 1 1 1; {LOAD}"),
+    "1,000,000 loads": ("0 R 0x0\n" * 1000000, "--limit 4294967295", "all-done 1000005 2000012",
+                        f"loads 1000000 1000000; hits 999999 999999; misses 1 1; ShReq 1 1 1; ShRep 1 1 1; {LOAD}"),
     "a swap, and a load of the owner": (
         "0 S 0x0 5\n0 R 0x0\n", "", "all-done 7 16",
         f"loads 1 1; swaps 1 1; hits 1 1; misses 1 1; last-time 1 1; ExReq 1 1 1; ExRep 1 1 1; {LOAD}"),

@@ -8,6 +8,7 @@ line is `N tried, M wrong`.
 import os
 import sys
 import tempfile
+import time
 from pathlib import Path
 
 from texts import TOP, Tester, of_printf, rows, unescaped
@@ -168,6 +169,9 @@ def others(tester):
     records = [f"0 {k} R 0x0 {int(k == 20)} 0 {k}" for k in range(40)]
     out = tester.tells(["wrong value 20"], b"0 R 0x0\n" * 40, "\n".join(records).encode())
     tester.expect([out.count(f"line {k}:") for k in (17, 18, 24, 25)] == [0, 2, 2, 0], f"three around it: {out}")
+    many, start = [f"0 {k} R 0x0 0 0 {k + (k == 29999)}" for k in range(30000)], time.monotonic()
+    tester.tells(["bad number 29999", "No number stands twice"], b"0 R 0x0\n" * 30000, "\n".join(many).encode())
+    tester.expect(time.monotonic() - start < 20, "30,000 records take too long")
     status, out, error = tester.run("--help")
     tester.expect((status, error) == (0, "") and "TRACE RECORDS" in out, f"--help: {status} {error}")
 

@@ -17,7 +17,8 @@ from reference.traces import Fault, Trace  # noqa: E402
 
 RECORD = TOP / "examples/traces/record"
 # A program of which one part is in C++ and one in C, the number coming from the compiler's options; one of more lines
-# than the program reads at once; and one that loads from more pages than 16 bits count.
+# than the program reads at once; one that loads from more pages than 16 bits count; one of more threads than the first
+# form of traces has cores; and one whose last access is one too many for a trace.
 MIXED = {"main.cc": 'extern "C" { extern long kept; void keep(long); }\n'
                     "#include <cstdio>\nint main() { keep(NUMBER); std::printf(\"%ld\\n\", kept); }\n",
          "keep.c": "long kept;\nvoid keep(long number) { kept = number + 1; }\n",
@@ -25,6 +26,12 @@ MIXED = {"main.cc": 'extern "C" { extern long kept; void keep(long); }\n'
                      "int main(void) { for (long at = 0; at < 1100000; at++) word = at; }\n",
          "pages.c": "static volatile char area[70000L * 4096];\n"
                     "int main(void) { for (long at = 0; at < 70000; at++) (void)area[at * 4096]; }\n"}
+SEVENTEEN = ("#include <pthread.h>\nstatic volatile long words[17];\n"
+             "static void *store(void *at) { words[(long)at] = 7; return 0; }\n"
+             "int main(void) { for (long at = 1; at < 17; at++) { pthread_t one;\n"
+             "pthread_create(&one, 0, store, (void *)at); pthread_join(one, 0); }\n")
+MIXED |= {"many.c": SEVENTEEN + "words[0] = 7; }\n",
+          "full.c": SEVENTEEN + "for (long at = 0; at < 16777216; at++) words[0] = at; }\n"}
 
 
 def recorded(tester, folder, *words):
@@ -66,6 +73,11 @@ def tries(tester, program, folder):
     error, trace = recorded(tester, folder, f"{folder}/pages.c")
     words = {step[:2] for step in trace.steps[0]} if trace else set()
     tester.expect(len(words) == 70000, f"loads on 70,000 pages: {len(words)} of other words")
+    error, trace = recorded(tester, folder, f"{folder}/many.c")
+    tester.expect(trace is not None and trace.cores == 17 and {core for _, core in stored(trace, 7)} == set(range(17)),
+                  "17 threads, each with its store")
+    got = tester.run(f"{folder}/full.trace", f"{folder}/full.c")
+    tester.expect(got == (1, "", "recorder: more accesses than a trace has lines\n"), f"16,777,232 stores: {got}")
 
 
 def main(program):

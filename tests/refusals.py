@@ -48,12 +48,13 @@ word 0x0 0
 class Refused:
     """The result of a run: what the shim reports, its status, and what it wrote.
 
-    The shim says whether anything was refused, and if so, whether threads were at work; and how many were started.
+    The shim says whether anything was refused, and if so, whether threads were at work; how many were started; and how
+    often one let another one run, if it is asked that.
     """
 
     def __init__(self, told, status, out, error):
         self.told, self.status, self.out, self.error = told, status, out, error
-        self.is_at_work, self.started = "w" in told, told.count("t")
+        self.is_at_work, self.started, self.yields = "w" in told, told.count("t"), told.count("y")
         self.refused = self.is_at_work or "!" in told
 
     def answer(self):

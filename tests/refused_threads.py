@@ -10,8 +10,8 @@ is done. If one growth was refused, the answer is one of these, and the shim say
   it, and all is done.
 
 How many turns a seat may have must not matter: if the threads of a run were all started and it ends at its limit, the
-script makes it again with a higher one. Where nothing is refused, it also tries how many threads are started, and that
-two to four workers on one processor need few turns.
+script makes it again with a higher one. Where nothing is refused, it also tries how many threads are started, how often
+a waiting worker lets another one run, and that two to four workers on one processor need few turns.
 """
 import os
 import tempfile
@@ -245,12 +245,24 @@ def lets_others_run(tester):
     os.sched_setaffinity(0, processors)
 
 
+def yields_where_due(tester, folder):
+    """Core 0 advances in each of its 1,024 turns. The worker of the bank alone, and the one without seats, make 1,024
+    passes that come to nothing: another thread is due after each 256th."""
+    steps = Path(folder, "advances.trace")
+    steps.write_text("trace 2\n" + "0 A\n" * 2000)
+    for workers, yields in ((1, 0), (2, 4), (3, 8)):
+        ran = tester.run(["trace", "--schedule", "threads", "--workers", workers, "--limit", 1024, steps], yields=1)
+        tester.expect((ran.status, ran.yields) == (1, yields), f"{workers} workers: {ran.yields} yields")
+
+
 def refused_threads(tester):
     lets_others_run(tester)
     are_started(tester, "litmus", "--schedule", "threads", LITMUS)
     are_started(tester, "litmus", "--schedule", "threads", "--time", LAST_TIME, LITMUS)
     are_started(tester, "trace", "--schedule", "threads", TRACE)
+    are_started(tester, "trace", "--schedule", "threads", "--time", LAST_TIME, TRACE)
     with tempfile.TemporaryDirectory() as folder:
+        yields_where_due(tester, folder)
         cores = Path(folder, "64-cores.trace")
         cores.write_text("trace 2\n63 R 0x0\n")
         are_started(tester, "trace", "--schedule", "threads", cores)

@@ -229,6 +229,15 @@ def large(tester):
     tester.expect(list(sweep.ticks(10 ** 19)) == [k * 2 * 10 ** 18 for k in range(6)], "ticks of 64 bits")
 
 
+def appended(tester):
+    """What a new row writes doesn't grow with the table."""
+    table, written = sweep.Table("appended.csv", ["trace", "name", *sweep.OPTIONS]), []
+    table.write = lambda text, how: written.append((how, text.count("\n")))
+    for seed in range(100):
+        table.add(dict.fromkeys(table.columns, "1") | {"seed": str(seed)})
+    tester.expect(written == [("a", 1)] * 100, f"rows aren't appended: {written[:3]}")
+
+
 def main(program, player):
     os.environ["TARDIS"] = os.path.abspath(program)
     tester = Sweeper(os.path.abspath(player))
@@ -238,7 +247,7 @@ def main(program, player):
         for name, text in (("renewed", RENEWED), ("alone", ALONE), ("loads", LOADS), ("bad", "x\n")):
             Path(f"{name}.trace").write_text(text)
         for part in (by_hand, advances, names, goes_on, plot, passed_on, compared, traces_apart, by_the_second, refusals,
-                     large):
+                     large, appended):
             part(tester)
         os.chdir(TOP)
     print(f"{tester.tried} tried, {tester.wrong} wrong")

@@ -264,6 +264,15 @@ static void many(void) {
     MUST(answers(far_issued, 2, far_done, 2, TARDIS_DONE, TARDIS_LEGAL, 0));
 }
 
+/* The records are one list, and their numbers another: as number 0 isn't there, no other is made. */
+static void one_list(void) {
+    size_t at;
+    for (at = 0; at < MANY; at++) loaded[at].number = MANY;
+    growths = 0;
+    MUST(tardis_check_records(NULL, 0, loaded, MANY, &told) == TARDIS_NOT_DONE && growths == 2);
+    MUST(told.kind == TARDIS_BAD_NUMBER && told.number == 0);
+}
+
 /* Each growth of memory is refused in turn, until a call asks for no more. */
 static void refusals(void) {
     struct tardis_options options;
@@ -300,6 +309,7 @@ int main(void) {
     nulls();
     arrays();
     many();
+    one_list();
     refusals();
     return 0;
 }

@@ -142,7 +142,7 @@ pub(crate) fn fallen(alloc: Global, [records, cores, _, _]: [u32; 4]) -> Option<
     let mut history = made(alloc, records, cores).ok()?;
     let lists = issued(alloc, &history, cores).ok()?;
     for at in 0..history.len() {
-        history[at].ts = u64::from(records.saturating_sub(at as u32));
+        history[at].ts = u64::MAX.wrapping_sub(history[at].number);
     }
     match check(alloc, &Memory::new(alloc), &lists, &history).ok()? {
         Verdict::Legal => None,

@@ -2,14 +2,15 @@
 //! completed their operations. docs/BENCHMARKS.md has the table.
 //!
 //! The word `seats` is followed by four numbers: cores, banks, operations of a core, and threads. The word `rounds`
-//! and the first three make the same operations by rounds, on a machine that isn't shared. Several may stand one after
-//! the other. Each prints how many operations were completed; after the word `time`, each prints its nanoseconds, too.
+//! and the first three make the same operations by rounds, on a machine that isn't shared. The word `opened` is followed
+//! by cores, banks, words of opening memory, and threads, and makes no operation. Several may stand one after the other.
+//! Each prints how many operations were completed; after the word `time`, each prints its nanoseconds, too.
 #![tactic(auto)]
 
 mod loads;
 mod runs;
 
-use runs::{rounds, seats};
+use runs::{opened, rounds, seats};
 use std::io;
 use std::rt::{Clock, Env};
 use std::thread::Threads;
@@ -43,6 +44,7 @@ fn run<R: AllocGlobal + Print + Env + Threads + Sync + Clock>(rt: &R) -> io::Res
             let told = match word {
                 "rounds" => rounds(rt, rt.alloc(), numbers),
                 "seats" => seats(rt, rt.alloc(), numbers),
+                "opened" => opened(rt, rt.alloc(), numbers),
                 _ => None,
             };
             let Some(told) = told else {

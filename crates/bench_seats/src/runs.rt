@@ -4,7 +4,7 @@
 
 use crate::loads::{config_of, programs_of};
 use interleaving_core::System;
-use physiological_order::Memory;
+use physiological_order::{Memory, WordAddr};
 use programs::{End, OpProgram};
 use schedules::{Policy, run_to_end};
 use shared_jobs::Free;
@@ -58,11 +58,33 @@ pub(crate) fn rounds<R: Clock>(
 pub(crate) fn seats<R: Threads + Sync + Clock>(
     rt: &R,
     alloc: Global,
+    numbers: [u32; 4],
+) -> Option<Told> {
+    run_on(rt, alloc, numbers, Memory::new(alloc))
+}
+
+/// The same without operations, on as many words of opening memory as the third number says.
+pub(crate) fn opened<R: Threads + Sync + Clock>(
+    rt: &R,
+    alloc: Global,
+    [cores, banks, words, threads]: [u32; 4],
+) -> Option<Told> {
+    let mut memory = Memory::new(alloc);
+    for word in 0..u64::from(words) {
+        memory.set(WordAddr::at(word), word).ok()?;
+    }
+    run_on(rt, alloc, [cores, banks, 0, threads], memory)
+}
+
+/// A run by seats on this opening memory.
+fn run_on<R: Threads + Sync + Clock>(
+    rt: &R,
+    alloc: Global,
     [cores, banks, operations, threads]: [u32; 4],
+    memory: Memory,
 ) -> Option<Told> {
     let config = config_of(cores, banks);
     let programs = programs_of(alloc, cores, operations)?;
-    let memory = Memory::new(alloc);
     if !config.is_good()
         || programs.len() as u64 != u64::from(config.cores)
         || threads == 0

@@ -11,7 +11,6 @@ use private_cache::LineCopy;
 
 impl Core {
     // A reply brings this copy of the open operation's line.
-    #[inline(always)]
     fn arrive(&mut self, line: LineNo, copy: LineCopy)
         requires pinned { IsTrue (is_pinned (pinned_line self.old) line) }
         requires place { IsTrue (place_for self.old.cache line) }
@@ -30,7 +29,6 @@ impl Core {
     }
 
     // A reply changes the copy of a line into this one.
-    #[inline(always)]
     fn grant(&mut self, line: LineNo, copy: LineCopy)
         requires { IsSome (copy_of self.old.cache line) }
         ensures { self.new ≡ record self.old {
@@ -43,7 +41,6 @@ impl Core {
     }
 
     // This copy stays of a line that goes back, if any. It isn't the open operation's line.
-    #[inline(always)]
     fn keep(&mut self, line: LineNo, kept: Option<LineCopy>)
         requires there { IsSome (copy_of self.old.cache line) }
         requires free { is_pinned (pinned_line self.old) line ≡ false }

@@ -139,7 +139,6 @@ impl Bank {
     }
 
     // Sets the entry of a line that is there, or has room, and makes it the most recently used of its set.
-    #[inline(always)]
     fn use_entry(&mut self, set: usize, line: LineNo, entry: Entry)
         requires set { set ≡ set_of self.old line }
         requires below { set < length self.old.table.sets }
@@ -150,7 +149,6 @@ impl Bank {
     }
 
     // Gives a line an entry that has none, but room in its set, and makes it the most recently used of its set.
-    #[inline(always)]
     fn add_entry(&mut self, set: usize, line: LineNo, entry: Entry)
         requires set { set ≡ set_of self.old line }
         requires below { set < length self.old.table.sets }
@@ -162,7 +160,6 @@ impl Bank {
     }
 
     // Changes the entry of a line that is there, and keeps the order of use.
-    #[inline(always)]
     fn change_entry(&mut self, set: usize, line: LineNo, entry: Entry)
         requires set { set ≡ set_of self.old line }
         requires below { set < length self.old.table.sets }
@@ -173,7 +170,6 @@ impl Bank {
     }
 
     // Takes out the entry of a line.
-    #[inline(always)]
     fn drop_entry(&mut self, set: usize, line: LineNo)
         requires set { set ≡ set_of self.old line }
         requires below { set < length self.old.table.sets }
@@ -378,7 +374,6 @@ impl Part for Bank {
         }
     }
 
-    #[inline(always)]
     #[inline(always)]
     fn deliver(&mut self, message: &Message) -> Result<Reaction, PartError>
         requires { IsTrue (bank_has_case self.old message.now) }

@@ -1,9 +1,13 @@
 -- Jobs that a worker claimed: their numbers rise, so there are no more of them than jobs.
 use Rattle.std.proofs.Common.{◌≡◌, ℕ, suc, ◌+◌, ◌≤◌, List, [], ◌∷◌, ◌++◌, length, map, sym, ap, ◌∙◌, subst, arith}
-use Rattle.std.proofs.Common.{append-nil}
+use Rattle.std.proofs.Common.{append-nil, Option}
 use Rattle.std.proofs.lemmas.List.{length-map, map-append}
 use Rattle.drawn_numbers.specs.Drawn.{AllBelow, RisesFrom}
+use Rattle.shared_jobs.specs.declared.workers.Stop.{Stop}
+use Rattle.shared_jobs.specs.declared.workers.Stop.TheVariants as stop
+use Rattle.shared_jobs.specs.declared.workers.Worker.{Worker}
 use Rattle.shared_jobs.specs.Results.{AreOfJobsBelow}
+use Rattle.shared_jobs.specs.Teams.{HasStopped}
 
 pub rises_on : (least : ℕ) (xs : List ℕ) (n : ℕ) → least ≤ n → RisesFrom least xs → AllBelow n xs →
     RisesFrom least (xs ++ n ∷ [])
@@ -44,3 +48,10 @@ module _ {X : Type 0} (drawn drawn' : List ℕ) (ps : List (ℕ × X)) (done : d
   one_done ps' p is more =
       one_claimed p.0 is ∙ sym (map-append (λ (q : ℕ × X). q.0) ps (p ∷ []))
       ∙ ap (map (λ (q : ℕ × X). q.0)) (sym more) ∙ sym (append-nil (map (λ (q : ℕ × X). q.0) ps'))
+
+-- where a worker stopped doesn't depend on what it says of that
+pub same_end : {X : Type 0} (count : ℕ) (s : Stop) (w : Worker X) (said : Option Stop) → HasStopped count s w →
+    HasStopped count s (record w { stop = said })
+same_end count stop.NoMoreJobs w said so = so
+same_end count stop.NoPlace w said so = so
+same_end count stop.Refused w said so = so

@@ -27,10 +27,11 @@ HasShare count workers w = (deque_capacity w.results ≡ div_ceil count workers)
 abbrev pub HasDone : {X : Type 0} → Worker X → List ℕ → Type 0
 HasDone w more = w.drawer.drawn.items ≡ map (λ p. p.0) w.results.items ++ more
 
--- Where the worker stopped: it has done all jobs that it claimed, and drew a number that is no job's; or it was refused
--- something, and left the last job that it claimed undone, or none.
+-- Where the worker stopped. It has done all jobs that it claimed, and drew a number that is no job's, or had no place
+-- for one more result. Or it was refused something else, and left the last job that it claimed undone, or none.
 abbrev pub HasStopped : {X : Type 0} → ℕ → Stop → Worker X → Type 0
 HasStopped count stop.NoMoreJobs w = (number : ℕ) × (count ≤ number) × HasDone w (number ∷ [])
+HasStopped count stop.NoPlace w = HasDone w []
 HasStopped count stop.Refused w = HasDone w [] ⊎ ((number : ℕ) × (number < count) × HasDone w (number ∷ []))
 
 -- the worker has stopped, and says why

@@ -27,7 +27,9 @@ pub struct Worker<X: Drop> {
 pub enum Stop {
     /// It drew a number that is no job's: all jobs are claimed.
     NoMoreJobs,
-    /// An allocation failed, or the worker has drawn as many numbers as a drawer may.
+    /// There was no place for one more result: it claimed no further job.
+    NoPlace,
+    /// Another allocation failed, or the worker has drawn as many numbers as a drawer may.
     Refused,
 }
 
@@ -84,7 +86,7 @@ fn do_one<X: Drop, S: Drop, J: Jobs<X, S>, G: Gate>(
     ensures stop { (stop : Stop) → result ≡ Err stop → HasStopped count stop worker.new }
 {
     if worker.results.reserve(1).is_err() {
-        return Err(Stop::Refused);
+        return Err(Stop::NoPlace);
     }
     let Ok(number) = worker.drawer.draw(numbers) else {
         return Err(Stop::Refused);

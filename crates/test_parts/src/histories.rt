@@ -66,7 +66,7 @@ fn counted(alloc: Global) -> Result<(u128, u128), AllocError> {
     let issued = [vec![in alloc; store(0, 1), swap, load(0)]?];
     let records = [
         record(0, 0, store(0, 1), None, 1, 0),
-        record(0, 1, swap, Some(1), 2, 1),
+        record(0, 1, swap, Some(1), 1, 1),
         record(0, 2, load(0), Some(2), 2, 2),
     ];
     let mut steps = Steps::new();
@@ -78,7 +78,8 @@ fn counted(alloc: Global) -> Result<(u128, u128), AllocError> {
     Ok((of_check, steps.made()))
 }
 
-// As docs/ORDER.md counts them: two records are compared with the one before; store and swap look twice, the load once.
+// As docs/ORDER.md counts them: two records are compared with the one before, the first of them at the same time; store
+// and swap look twice, the load once.
 #[test]
 fn steps_are_those_of_the_page(rt: HostRuntime) {
     assert!(rt; counted(rt.alloc()) == Ok((2, 7)));

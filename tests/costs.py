@@ -41,7 +41,7 @@ def bytes_asked(words, shim):
 
 
 def filled(word, number, folder):
-    """The word for this number; {loads} is a file with so many loads of 64 words in turn, by one core."""
+    """The word for this number; {loads} is a file with that many loads of 64 words in turn, by one core."""
     if word != "{loads}":
         return word.replace("{}", str(number))
     path = Path(folder, f"loads-{number}.trace")

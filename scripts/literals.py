@@ -1,7 +1,8 @@
 #!/usr/bin/env python3
 """Counts the numbers from 2 on that the code of the production crates has, and what stands for one: uses of constants
-that are numbers or structures, casts to fewer bits, `try_from` and `try_into`, the types i8, i16 and u16, shifts, the
-ends of signed types and of usize, and room that doesn't double (`reserve_exact`, `shrink_to`).
+that are numbers or structures (with what is added to one), casts to fewer bits, `try_from` and `try_into`, the types
+i8, i16 and u16, shifts, the ends of signed types and of usize, and room that doesn't double (`reserve_exact`,
+`shrink_to`). It also counts steps on shared words (`load`, `swap`, `fetch_add`) and yields.
 
     scripts/literals.py            lists them: crate, number or other sign, how often
     scripts/literals.py --check    compares them with tests/literals.table, and fails if they differ
@@ -26,8 +27,9 @@ NUMBER = re.compile(r"(?<!\w)(?<!(?<!\.)\.)(0[xbo][\da-fA-F_]+|\d[\d_]*?)(?:_?[u
 GREATEST = re.compile(r"\bu(8|16|32|64|128)::(?:MAX|BITS)\b")
 CONSTANT = re.compile(r"\bconst (\w+): (?:\w+ = \d|(\w+) = \2 \{)")
 SIGN = re.compile(r"\b(?:reserve_exact|shrink_to(?:_fit)?)\b|\bas [iu](?:8|16|32)\b|\btry_(?:from|into)\b|\b(?:i8|[iu]16)\b|"
-                  r"\b(?:i\w+|usize)::(?:MAX|MIN|BITS)\b|(?<=\s)(?:<<|>>)(?==?\s)")
-ROW = re.compile(r"(\w+) \| ([\w <>:]+) \| (\d+) \| \S")
+                  r"\b(?:i\w+|usize)::(?:MAX|MIN|BITS)\b|(?<=\s)(?:<<|>>)(?==?\s)|\b(?:load|swap|fetch_\w+)(?=::<)|"
+                  r"\byield_now\b")
+ROW = re.compile(r"(\w+) \| ([\w <>:+-]+) \| (\d+) \| \S")
 
 
 def past_brace(text, at):
@@ -63,12 +65,22 @@ def numbers():
     for crate, code in files:
         written = [int(each.replace("_", ""), 0) for each in NUMBER.findall(code)]
         written += [2 ** int(bits) - 1 for bits in GREATEST.findall(code)]
-        signs = SIGN.findall(code) + re.findall(rf"(?<!const )\b(?:{names})\b", code)
+        signs = SIGN.findall(code) + re.findall(rf"(?<!const )\b(?:{names})\b(?: [-+] \d+)?", code)
         found.update((crate, str(each)) for each in [*filter(lambda each: each > 1, written), *signs])
     return found
 
 
+def narrowed():
+    """The files of measurements and players that have a cast to fewer bits: there should be none."""
+    for crate in ("bench", "play_", "event_text"):
+        for file in sorted((TOP / "crates").glob(f"{crate}*/src/**/*.rt")):
+            if re.search(r"\bas [iu](?:8|16|32)\b", QUIET.sub(" ", file.read_text(encoding="utf-8"))):
+                yield file
+
+
 def main():
+    for file in narrowed():
+        raise SystemExit(f"literals.py: {file}: a cast to fewer bits")
     found = numbers()
     if sys.argv[1:] != ["--check"]:
         for (crate, what), count in sorted(found.items()):

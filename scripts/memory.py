@@ -9,7 +9,7 @@ on (`let Ok(..) =`, `Err(_)`, `.is_err()`, `.unwrap_or(..)`) is listed, too, and
 
 No contract can say that an allocation, a read or a write really failed. So a place that answers so by itself needs a
 reason, which the table has. A place that isn't there might be one that gives up past some size. So might one that asks
-for too much, or for nothing: each amount is listed, with what its function binds to the names in it, unless it is a
+for too much, or for nothing: each amount is listed, also one that is handed to a part's `new`, with what its function binds to the names in it, unless it is a
 number or the length of a list.
 """
 import re
@@ -26,7 +26,8 @@ PASSED_ON = re.compile(r"\s*(?:Err\()?(?:AllocError|(?:\w+::)+(?:NoMemory|Memory
 GOES_ON = re.compile(r"\s*Err\(AllocError\) => (?!(?:return )?Err\(|\w+\(Err\(|.*NoMemory)|.*(?:\bErr\(_\w*\)|"
                      r"\.(?:ok|is_err|is_ok|unwrap_or\w*)\(|\blet Ok\()")
 SKIPPED = re.compile(r"\s*(ghost |ensures\b|requires\b|impl\b|\) ->|[^=]*[≡≢])")
-CALL = re.compile(r"(?<!fn )\b(?:reserve|with_capacity|from_elem)\w*(?:::<.*?>)?(?=\()|\bvec!(?=\[in )")
+CALL = re.compile(r"(?<!fn )\b(?:reserve|with_capacity|from_elem|new_results)\w*(?:::<.*?>)?(?=\()|\bvec!(?=\[in )|"
+                  r"\b(?:(?:RankedLines|Blocks)::of|(?:Arena|Chains|Cells|Rows|LineSets)::new)(?=\()")
 BOUND = re.compile(r"\s*(?:let (?P<pattern>.*?)(?:: .*?)?|(?P<name>\w+)) [-+*/%&|^<>]*=(?!=)")
 PLAIN = re.compile(r"(?:[\d_]+|(?:\w+\.)+len\(\))(?: as usize)?")
 IMPORT = re.compile(r"\s*(pub )?use ")

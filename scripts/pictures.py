@@ -26,6 +26,9 @@ from reference.reports import drive  # noqa: E402
 from reference.schedules import Run  # noqa: E402
 from reference.traces import read_records  # noqa: E402
 
+# Times of 64 bits have their marks: 2^64 - 1 is five times this.
+assert timeline.Scale([0, 2 ** 64 - 1], 0, 1).marks() == [3689348814741910323 * k for k in range(6)]
+
 BOX, HIGH = 120, 34
 # Where the entries of a line stand in the picture: the middle of each box.
 PLACES = {"Absent": (90, 70), "Loading": (340, 70), "Shared": (590, 70), "Exclusive": (840, 70), "Storing": (340, 250),

@@ -41,11 +41,13 @@ def bytes_asked(words, shim):
 
 
 def filled(word, number, folder):
-    """The word for this number; {loads} is a file with that many loads of 64 words in turn, by one core."""
-    if word != "{loads}":
+    """The word for this number; {loads} is a file with that many loads of 64 words in turn, by one core, and {words} one
+    with loads of that many words, by 64 cores in turn."""
+    if word not in ("{loads}", "{words}"):
         return word.replace("{}", str(number))
-    path = Path(folder, f"loads-{number}.trace")
-    path.write_text("".join(f"0 R 0x{8 * (at % 64):x}\n" for at in range(number)))
+    lines = [f"0 R 0x{8 * (at % 64):x}" if word == "{loads}" else f"{at % 64} R 0x{8 * at:x}" for at in range(number)]
+    path = Path(folder, f"{number}.trace")
+    path.write_text("\n".join(["trace 2", *lines, ""]))
     return str(path)
 
 

@@ -246,13 +246,16 @@ def lets_others_run(tester):
 
 
 def yields_where_due(tester, folder):
-    """Core 0 advances in each of its 1,024 turns. The worker of the bank alone, and the one without seats, make 1,024
-    passes that come to nothing: another thread is due after each 256th."""
+    """A core advances in each of its 1,024 turns. Of several workers, those that don't have it make 1,024 passes that
+    come to nothing, with the bank, with another core, with both, or without seats: another thread is due after each
+    256th of them."""
     steps = Path(folder, "advances.trace")
-    steps.write_text("trace 2\n" + "0 A\n" * 2000)
-    for workers, yields in ((1, 0), (2, 4), (3, 8)):
-        ran = tester.run(["trace", "--schedule", "threads", "--workers", workers, "--limit", 1024, steps], yields=1)
-        tester.expect((ran.status, ran.yields) == (1, yields), f"{workers} workers: {ran.yields} yields")
+    for core in (0, 1):
+        steps.write_text("trace 2\n" + f"{core} A\n" * 2000)
+        for workers, yields in ((1, 0), (2, 4), (3, 8)):
+            ran = tester.run(["trace", *SCHEDULE[:2], "--workers", workers, "--limit", 1024, steps], yields=1)
+            good = (ran.status, ran.yields) == (1, yields)
+            tester.expect(good, f"core {core}, {workers} workers: {ran.yields} yields")
 
 
 def refused_threads(tester):

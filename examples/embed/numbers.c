@@ -176,6 +176,8 @@ static void nulls(void) {
     MUST(tardis_defaults(NULL) == TARDIS_NULL);
     MUST(tardis_check(NULL, 1, RECORDS, 1, buffer, 1000, &length) == TARDIS_NULL);
     MUST(tardis_check(TRACE, 1, NULL, 1, buffer, 1000, &length) == TARDIS_NULL);
+    MUST(tardis_check(NULL, (size_t)1 << 32, RECORDS, 1, buffer, 1000, &length) == TARDIS_NULL);
+    MUST(tardis_check(TRACE, 1, NULL, (size_t)1 << 32, buffer, 1000, &length) == TARDIS_NULL);
     MUST(tardis_check(TRACE, 1, RECORDS, 1, NULL, 1, &length) == TARDIS_NULL);
     MUST(tardis_check(TRACE, 1, RECORDS, 1, buffer, 1000, NULL) == TARDIS_NULL);
     MUST(tardis_run_litmus(NULL, 1, &options, buffer, 1000, &length) == TARDIS_NULL);
@@ -270,7 +272,7 @@ static void one_list(void) {
     for (at = 0; at < MANY; at++) loaded[at].number = MANY;
     growths = 0;
     MUST(tardis_check_records(NULL, 0, loaded, MANY, &told) == TARDIS_NOT_DONE && growths == 2);
-    MUST(told.kind == TARDIS_BAD_NUMBER && told.number == 0);
+    MUST(told.kind == TARDIS_MISSING_NUMBER && told.number == 0);
 }
 
 /* Each growth of memory is refused in turn, until a call asks for no more. */

@@ -116,8 +116,9 @@ pub(crate) fn measure(alloc: Global, [events, cores, words, machines]: [u32; 4])
     Some(u64::from(events))
 }
 
-/// Checks no records on an opening memory of `words` words, and opens a machine with it; the value of its last word.
-pub(crate) fn opened(alloc: Global, [words, _, _, _]: [u32; 4]) -> Option<u64> {
+/// Checks no records on an opening memory of `words` words, and opens a machine of `banks` banks with it (one, if that is
+/// 0); the value of its last word.
+pub(crate) fn opened(alloc: Global, [words, banks, _, _]: [u32; 4]) -> Option<u64> {
     let mut memory = Memory::new(alloc);
     for word in 0..u64::from(words) {
         memory.set(WordAddr::at(word), word).ok()?;
@@ -125,6 +126,10 @@ pub(crate) fn opened(alloc: Global, [words, _, _, _]: [u32; 4]) -> Option<u64> {
     if check(alloc, &memory, &[], &[]).ok()? != Verdict::Legal {
         return None;
     }
-    let system = System::new(alloc, ONE_CORE, memory).ok()?;
+    let config = Config {
+        banks: banks.max(1),
+        ..ONE_CORE
+    };
+    let system = System::new(alloc, config, memory).ok()?;
     Some(system.coherent(WordAddr::at(u64::from(words).saturating_sub(1))))
 }

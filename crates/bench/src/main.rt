@@ -9,7 +9,7 @@
 //! | `history` | records, cores | its stale hits, and the verdicts as it lies and backwards |
 //! | `made`, `check`, `stale_hits`, `records_text` | records, cores | nothing, comparisons, looks, bytes |
 //! | `fallen` | records, cores | the records, whose times fall |
-//! | `opened` | words of an opening memory | the value of the last word |
+//! | `opened` | words of an opening memory, banks | the value of the last word |
 //! | `machine` | events, cores, words, machines that are opened | the first number |
 #![tactic(auto)]
 

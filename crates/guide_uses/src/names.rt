@@ -1,6 +1,6 @@
 //! The public names of readers, drivers, reports and seats, each taken from the crate that gives it out, in calls as a
 //! caller writes them. They are proved, and not run.
-ghost use Rattle.std.specs.Prelude.{◌≡◌, ◌≤◌, length, true};
+ghost use Rattle.std.specs.Prelude.{◌≡◌, ◌≤◌, ◌×◌, length, true};
 ghost use Rattle.drawn_numbers.specs.Drawers.{IsDrawerOf};
 ghost use Rattle.litmus_reader.specs.TestViews.{test_of};
 ghost use Rattle.machine_table.specs.SetUp.{is_good};
@@ -34,6 +34,7 @@ pub fn next_step<P: Program>(program: &mut P) -> Option<Step> {
 /// How many steps are left of two lists that are programs.
 pub fn steps_left(ops: Vec<Op>, steps: &[Step]) -> (u32, usize)
     requires { length ops.items ≤ 4294967295 }
+    ensures { (result.0 ≡ length ops.items) × (result.1 ≡ length steps.now) }
 {
     (OpProgram::new(ops).left(), StepProgram::new(steps).left())
 }

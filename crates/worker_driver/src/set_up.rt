@@ -1,5 +1,5 @@
 //! The machine that options ask for, and how far a run of it goes.
-ghost use Rattle.std.specs.Prelude.{◌≡◌, ◌<◌, ◌≤◌, ◌^◌, false, true, IfSome, None};
+ghost use Rattle.std.specs.Prelude.{◌≡◌, ◌≢◌, ◌<◌, ◌≤◌, ◌^◌, false, true, IfSome, None};
 ghost use Rattle.machine_table.specs.SetUp.{is_good};
 ghost use Rattle.run_options.specs.declared.options.Schedule.TheVariants.{Round};
 ghost use Rattle.worker_driver.specs.SetUp.{config_of, has_small_parts, limit_of, policy_of, workers_by};
@@ -71,6 +71,10 @@ pub fn policy_of(options: &RunOptions) -> Option<Policy>
 pub fn workers_of(options: &RunOptions) -> u32
     ensures number { result ≡ workers_by options.now.schedule options.now.workers }
     ensures few { (0 < result) × (result ≤ 16) }
+    ensures whole { options.now.schedule ≢ Round → 1 ≤ options.now.workers →
+        options.now.workers ≤ 16 → result ≡ options.now.workers }
+    ensures most { options.now.schedule ≢ Round → 16 ≤ options.now.workers → result ≡ 16 }
+    ensures none { options.now.workers ≡ 0 → result ≡ 1 }
     ensures rounds { options.now.schedule ≡ Round → result ≡ 1 }
 {
     match options.schedule {

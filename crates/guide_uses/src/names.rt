@@ -1,6 +1,6 @@
 //! The public names of readers, drivers, reports and seats, each taken from the crate that gives it out, in calls as a
 //! caller writes them. They are proved, and not run.
-ghost use Rattle.std.specs.Prelude.{◌≡◌, ◌≤◌, ◌×◌, length, true};
+ghost use Rattle.std.specs.Prelude.{◌≡◌, ◌≤◌, length, true};
 ghost use Rattle.drawn_numbers.specs.Drawers.{IsDrawerOf};
 ghost use Rattle.litmus_reader.specs.TestViews.{test_of};
 ghost use Rattle.machine_table.specs.SetUp.{is_good};

@@ -94,8 +94,9 @@ def page(now, before):
     sums = {kind: sum(cost[kind] for cost in costs.values()) for kind in KINDS}
     seconds, chain = longest_chain(costs)
     yield "# What the gate costs\n"
-    yield (f"Measured by `scripts/cost.py` on {now['day']}, from nothing, with {now['processors']} processors. It took"
-           f" {minutes(now['wall'])} minutes\nand {minutes(now['sum'])} processor minutes.")
+    yield (f"The gate of commit {now['commit']}, measured by `scripts/cost.py` on {now['day']}, from nothing, with"
+           f" {now['processors']} processors,\ntook {minutes(now['wall'])} minutes and {minutes(now['sum'])} processor"
+           " minutes. It says nothing of the program's speed.")
     if now.get("note"):
         yield now["note"]
     if before:

@@ -4,9 +4,11 @@
 A yardstick is bench/plain, which makes the same events in tuned plain Rust and is built here by rustc, or another run
 of the program itself. Instructions and mispredicted branches are cachegrind's: those of a greater load, less those of
 a smaller one, divided by the units between. The speed is the yardstick's time divided by the program's, each the least
-of five runs in turn: processor time, but the clock's for several threads. Both must make the same number of events. The
-script prints the table; with --write it puts the table and the date into the page. Standard error has the load of the
-machine before and after: on a busy one, only the instructions can be relied on, and several threads aren't timed.
+of five runs in turn: user time, but the clock's for several threads. Programs that are driven must make the same number
+of events. The script prints the table; with --write it puts the table, the date and the commit into the page. It takes
+ten minutes, and needs rustc and valgrind. A program that isn't built, or is older than a source, is proved and built
+first. Standard error has the load of the machine before and after: on a busy one, only the instructions can be relied
+on, and several threads aren't timed.
 """
 import argparse
 import os
@@ -175,6 +177,13 @@ def measured(folder, is_busy):
         yield f"| {each.load} | {each.unit} | {told(own or None)} | {each.by} | {told(other or None)} | {ratio} |"
 
 
+def is_stale(name):
+    """Whether a program isn't built, or is older than a source of some crate."""
+    sources = (path for part in ("src", "specs", "proofs") for path in TOP.glob(f"crates/*/{part}/**/*.*"))
+    return not os.access(built(name), os.X_OK) or any(
+        path.stat().st_mtime > os.stat(built(name)).st_mtime for path in sources)
+
+
 def write(lines):
     """Puts the table under its heading of the page, in place of the one that is there."""
     text = PAGE.read_text()
@@ -182,15 +191,17 @@ def write(lines):
     begin = text.index("\n| Load", start) + 1
     end = text.index("\n\n", begin) + 1
     text = text[:begin] + "\n".join(lines) + "\n" + text[end:]
-    PAGE.write_text(re.sub(rf"({HEADING}\n`scripts/speed.py`), [\d-]+", rf"\1, {time.strftime('%Y-%m-%d')}", text))
+    commit = subprocess.run(["git", "rev-parse", "--short", "HEAD"], cwd=TOP, capture_output=True, text=True).stdout
+    made = f"{time.strftime('%Y-%m-%d')}, commit {commit.strip()}"
+    PAGE.write_text(re.sub(rf"({HEADING}\n`scripts/speed.py`), [\d-]+, commit \w+", rf"\1, {made}", text))
 
 
 def main():
     options = argparse.ArgumentParser(description=__doc__, formatter_class=argparse.RawDescriptionHelpFormatter)
     options.add_argument("--write", action="store_true")
     given = options.parse_args()
-    missing = [name for name in CRATES if not os.access(built(name), os.X_OK)]
-    if missing and subprocess.run([f"{TOP}/scripts/build.py", *missing]).returncode:
+    stale = [name for name in CRATES if is_stale(name)]
+    if stale and subprocess.run([f"{TOP}/scripts/build.py", *stale]).returncode:
         sys.exit("speed.py: not all that is measured could be built")
     load = os.getloadavg()[0]
     print(f"load before: {load:.1f}", file=sys.stderr)

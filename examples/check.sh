@@ -336,6 +336,11 @@ a_million_turns() {
     seq 0 1100000 | sed 's/.*/0 & R 0x0 0 0 &/' >"$work/wanted"
     told "1,100,001 operations by threads" 0 "$work/wanted" /dev/null trace --schedule threads --records \
         --limit 4294967295 "$work/steps"
+    seq 300000 | sed 's/.*/0 W 0x0 &/' >"$work/steps"
+    { printf 'cores 1\nissued 300000\ncompleted 300000\nend all-done\nloads 0\nstores 300000\nswaps 0\nrenewals 0\n'
+      printf 'upgrades 0\nflushes 0\nwrite-backs 0\nstale-hits 0\norder legal\nword 0x0 300000\n'; } >"$work/wanted"
+    told "300,000 stores by threads" 0 "$work/wanted" /dev/null trace --schedule threads --limit 4294967295 \
+        "$work/steps"
     seq 0 499999 | awk '{ printf "0 R 0x%x\n", 8 * $1 }' >"$work/steps"
     { printf 'cores 1\nissued 500000\ncompleted 500000\nend all-done\nloads 500000\nstores 0\nswaps 0\nrenewals 0\n'
       printf 'upgrades 0\nflushes 0\nwrite-backs 0\nstale-hits 0\norder legal\n'

@@ -45,8 +45,8 @@ strict="-O1 -Wall -Wextra -Werror -I$crate"
     g++ -std=c++17 -pedantic $strict -o "$work/tardis" "$embed/tardis.cpp" $library
 } || exit 1
 
-"$work/numbers_c" || exit 1
-"$work/numbers_cpp" || exit 1
+timeout 120 "$work/numbers_c" || exit 1
+timeout 120 "$work/numbers_cpp" || exit 1
 
 # checks TRACE RECORDS STATUS LINE: what the check of two files prints, on either stream, and its status.
 checks() {

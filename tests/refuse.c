@@ -78,6 +78,13 @@ __attribute__((destructor)) static void tell_bytes(void) {
     if (text) dprintf(atoi(text), "%lu\n", asked);
 }
 
+/* A program of the kit ends so, without destructors. */
+void _exit(int status) {
+    tell_bytes();
+    syscall(SYS_exit_group, status);
+    abort();
+}
+
 static int is_first_thread(void) {
     return gettid() == getpid();
 }

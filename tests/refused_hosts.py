@@ -46,6 +46,7 @@ def refused_hosts(tester, folder, commands):
     before = tester.tried
     without_threads(tester, folder)
     print(f"host: {tester.tried - before} times without threads")
+    runs_leave_no_machine(tester)
 
 
 def ran(program, words, **how):
@@ -186,6 +187,16 @@ def with_little_memory(tester, words, usual):
             tester.expect(got in (whole, NO_MEMORY) or is_cut, f"{words} with {size} bytes: {got}")
         if got == whole:
             return
+
+
+def runs_leave_no_machine(tester):
+    """A run gives its machine up before the next one opens: 2,000 runs take the memory of a few."""
+    text = TOP / "examples" / "litmus" / "SB.litmus"
+    for schedule in ("round", "seed", "threads"):
+        words = ["litmus", "--schedule", schedule, "--runs", 2000, text]
+        got = ran(tester.program, words, preexec_fn=lambda: limit_data(ENDLESS))
+        good = got[0] == 0 and b"\nall-done 2000\n" in got[1] and got[2] == b""
+        tester.expect(good, f"2,000 runs by {schedule} in {ENDLESS} bytes: {got[0]}, {got[2]}")
 
 
 def without_threads(tester, folder):

@@ -249,7 +249,7 @@ static void arrays(void) {
 }
 
 /* More operations than 16 bits count, and two words that are alike in their low 32 bits. */
-enum { MANY = 70000 };
+enum { MANY = 1000000 };
 static struct tardis_operation loads[MANY];
 static struct tardis_record loaded[MANY];
 static struct tardis_operation far_issued[2] = {{0, TARDIS_STORE, 0x100000000, 1}, {0, TARDIS_LOAD, 0, 0}};

@@ -73,6 +73,28 @@ write-backs 340282366920938463463374607431768211455
 stale-hits 55340232221128654845
 ";
 
+// Of two runs with one state, in which the expression holds, one is all done: that one has its state told, and is held.
+const STATE_REPORT: &[u8] = b"test L
+threads 2
+runs 2
+all-done 1
+stalled 0
+limit 1
+exhausted 0
+memory 0
+states 1
+1 flag_1=0 data=1 1:x7=0
+condition forall
+held 1
+verdict yes
+completed 0
+renewals 0
+upgrades 0
+flushes 0
+write-backs 0
+stale-hits 0
+";
+
 fn runs(alloc: Global, counts: Counts) -> Result<Vec<RunEnd>, AllocError> {
     let mut runs = Vec::new(alloc);
     for _ in 0..3 {
@@ -100,4 +122,27 @@ fn great_sums(rt: HostRuntime) {
     for (counts, report) in [(COUNTS, REPORT), (GREATEST_COUNTS, GREATEST_REPORT)] {
         assert_eq!(rt; is_reported(rt.alloc(), counts, report), Ok(true));
     }
+}
+
+fn is_state_reported(alloc: Global) -> Result<bool, AllocError> {
+    let Ok(test) = read(alloc, TEXT) else {
+        return Ok(false);
+    };
+    let mut runs = Vec::new(alloc);
+    for end in [End::AllDone, End::TurnsUsed] {
+        let state = test.end(&[test.start(0), test.start(1)], &[1, 0])?;
+        runs.push(RunEnd {
+            end,
+            state: Some(state),
+            completed: 0,
+            stale: 0,
+            counts: Counts::zeros(),
+        })?;
+    }
+    Ok(litmus_text(alloc, &test, &runs)?.as_slice() == STATE_REPORT)
+}
+
+#[test]
+fn states_are_those_of_runs_that_are_all_done(rt: HostRuntime) {
+    assert_eq!(rt; is_state_reported(rt.alloc()), Ok(true));
 }

@@ -5,8 +5,7 @@ use network::Counts;
 use physiological_order::{Op, WordAddr};
 use programs::End;
 use report::{TraceEnd, trace_text};
-use std::alloc::Global;
-use std::test::Fail;
+use std::alloc::{AllocError, Global};
 use trace_reader::{Kind, Step, TraceError, read, read_records};
 
 // What is read of a trace: how many cores it has, and how many steps and operations its last core. Of records it is how
@@ -113,21 +112,22 @@ fn faults_before_a_failure(rt: HostRuntime) {
     assert!(rt; brought == Err(bad) && cut == Err((0, Kind::Read)) && record == Err(bad));
 }
 
-// The last lines of the report on a load that received 7, where nobody wrote, and on a word that is left as 9.
-const REPORT: &[u8] = b"stale-hits 0\norder wrong value 0\nword 0x0 9\n";
+// A record of a load that received 7, where nobody wrote; its core has none before it; and its number isn't 0. Behind
+// each are the last lines of the report on it and on a word that is left as 9.
+const REPORTS: [(&[u8], &[u8]); 3] = [
+    (b"0 0 R 0x0 7 0 0\n", b"stale-hits 0\norder wrong value 0\nword 0x0 9\n"),
+    (b"0 1 R 0x0 7 0 0\n", b"stale-hits 0\norder out of program order 0\nword 0x0 9\n"),
+    (b"0 0 R 0x0 7 0 1\n", b"stale-hits 0\norder bad number 0\nword 0x0 9\n"),
+];
 
-// A caller gives records of its own, and the report has a check's verdict on them.
-#[test]
-fn a_report_checks_its_records(rt: HostRuntime) -> Result<(), Fail> {
+fn ends_with(alloc: Global, record: &[u8], end: &[u8]) -> Result<bool, AllocError> {
     let _inside: Option<Op> = None;
-    let alloc = rt.alloc();
-    let trace = read(alloc, &mut source(b"0 R 0x0\n", 8, 8))
-        .map_err(told)
-        .expect(&rt, "a trace");
-    let mut text = source(b"0 0 R 0x0 7 0 0\n", 8, 8);
-    let records = read_records(alloc, &mut text)
-        .map_err(told)
-        .expect(&rt, "a record");
+    let Ok(trace) = read(alloc, &mut source(b"0 R 0x0\n", 8, 8)) else {
+        return Ok(false);
+    };
+    let Ok(records) = read_records(alloc, &mut source(record, 8, 8)) else {
+        return Ok(false);
+    };
     let run = TraceEnd {
         issued: 1,
         end: End::AllDone,
@@ -135,6 +135,13 @@ fn a_report_checks_its_records(rt: HostRuntime) -> Result<(), Fail> {
         stale: 0,
     };
     let report = trace_text(alloc, trace, &run, &records, &[(WordAddr::at(0), 9)])?;
-    assert!(rt; report.as_slice().ends_with(REPORT));
-    Ok(())
+    Ok(report.as_slice().ends_with(end))
+}
+
+// A caller gives records of its own, and the report has a check's verdict on them.
+#[test]
+fn a_report_checks_its_records(rt: HostRuntime) {
+    for (record, end) in REPORTS {
+        assert_eq!(rt; ends_with(rt.alloc(), record, end), Ok(true));
+    }
 }

@@ -78,9 +78,10 @@ def main():
         came = list(pool.map(lambda row: cost(row, shim), wanted))
     wrong, costs = 0, {}
     for row, one in zip(wanted, came):
-        costs[row.name] = one
-        figure = costs[row.figure] if row.figure in costs else float(row.figure.removesuffix("!"))
-        parts = 100 if row.figure in costs or row.figure.endswith("!") else 10
+        costs[row.name, row.kind] = one
+        is_named = (row.figure, row.kind) in costs
+        figure = costs[row.figure, row.kind] if is_named else float(row.figure.removesuffix("!"))
+        parts = 100 if is_named or row.figure.endswith("!") else 10
         is_wrong = abs(one - figure) > figure / parts
         wrong += is_wrong
         if given.prints or is_wrong:

@@ -2,11 +2,11 @@
 """Counts what no contract sees: instructions and bytes: tests/costs.py [--print] [ROW..]
 
 Each row of tests/costs.table is a program of the gate with two numbers. The cost with the greater one, less the cost
-with the smaller one, is divided by their difference. It must be within a tenth of the row's figure, or within a
-hundredth if the figure ends with an exclamation mark. That was measured; the reason next to it says why it should be no
-more. A figure may also be an earlier row's name: then the two costs must be within a hundredth of each other.
-valgrind's callgrind counts instructions, tests/refuse.c bytes. With --print the script prints the figures that came. It
-tries all rows, or those whose names begin with a ROW.
+with the smaller one, is divided by their difference. It must be within a hundredth of the row's figure, or within a
+tenth if that ends with ~. The figure was measured; the reason next to it says why it should be no more. A figure may
+also be an earlier row's name: then the two costs must be within a hundredth of each other. valgrind's callgrind counts
+instructions, tests/refuse.c bytes. With --print the script prints the figures that came. It tries all rows, or those
+whose names begin with a ROW.
 """
 import argparse
 import re
@@ -80,8 +80,8 @@ def main():
     for row, one in zip(wanted, came):
         costs[row.name, row.kind] = one
         is_named = (row.figure, row.kind) in costs
-        figure = costs[row.figure, row.kind] if is_named else float(row.figure.removesuffix("!"))
-        parts = 100 if is_named or row.figure.endswith("!") else 10
+        figure = costs[row.figure, row.kind] if is_named else float(row.figure.removesuffix("~"))
+        parts = 10 if row.figure.endswith("~") else 100
         is_wrong = abs(one - figure) > figure / parts
         wrong += is_wrong
         if given.prints or is_wrong:

@@ -30,7 +30,10 @@ class Turned:
         self.rest = text[at:]
 
     def text(self, turn):
-        return "".join([f"{front}{base + by * turn:{form}}" for front, base, by, form in self.pieces]) + self.rest
+        moved = [(front, base + by * turn, form) for front, base, by, form in self.pieces]
+        if any(number > LAST for _, number, _ in moved):
+            raise Unreadable("a number is too large")
+        return "".join([f"{front}{number:{form}}" for front, number, form in moved]) + self.rest
 
 
 class Line:

@@ -17,6 +17,8 @@ def faults():
                 yield f"{edit.relative_to(CRATES)}: its old text stands {text.count(old)} times in {file}"
 
 
+if sys.argv[1:2] in (["-h"], ["--help"]):
+    sys.exit(print(__doc__))
 found = list(faults())
 for fault in found:
     print(fault)

@@ -115,9 +115,18 @@ fn faults_before_a_failure(rt: HostRuntime) {
 // A record of a load that received 7, where nobody wrote; its core has none before it; and its number isn't 0. Behind
 // each are the last lines of the report on it and on a word that is left as 9.
 const REPORTS: [(&[u8], &[u8]); 3] = [
-    (b"0 0 R 0x0 7 0 0\n", b"stale-hits 0\norder wrong value 0\nword 0x0 9\n"),
-    (b"0 1 R 0x0 7 0 0\n", b"stale-hits 0\norder out of program order 0\nword 0x0 9\n"),
-    (b"0 0 R 0x0 7 0 1\n", b"stale-hits 0\norder bad number 0\nword 0x0 9\n"),
+    (
+        b"0 0 R 0x0 7 0 0\n",
+        b"stale-hits 0\norder wrong value 0\nword 0x0 9\n",
+    ),
+    (
+        b"0 1 R 0x0 7 0 0\n",
+        b"stale-hits 0\norder out of program order 0\nword 0x0 9\n",
+    ),
+    (
+        b"0 0 R 0x0 7 0 1\n",
+        b"stale-hits 0\norder bad number 0\nword 0x0 9\n",
+    ),
 ];
 
 fn ends_with(alloc: Global, record: &[u8], end: &[u8]) -> Result<bool, AllocError> {

@@ -6,7 +6,7 @@ of the program itself. Instructions and mispredicted branches are cachegrind's: 
 a smaller one, divided by the units between. The speed is the yardstick's time divided by the program's, each the least
 of five runs in turn: user time, but the clock's for several threads. Programs that are driven must make the same number
 of events. The script prints the table; with --write it puts the table, the date and the commit into the page. It takes
-ten minutes, and needs rustc and valgrind. A program that isn't built, or is older than a source, is proved and built
+some minutes, and needs rustc and valgrind. A program that isn't built, or is older than a source, is proved and built
 first. Standard error has the load of the machine before and after: on a busy one, only the instructions can be relied
 on, and several threads aren't timed.
 """

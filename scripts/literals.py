@@ -2,8 +2,8 @@
 """Counts the numbers from 2 on that the code of the production crates has, and what stands for one: uses of constants
 that are numbers or structures (with what is added to one), casts to fewer bits, `try_from` and `try_into`, the types
 i8, i16 and u16, shifts, the ends of signed types and of usize, and room that doesn't double (`reserve_exact`,
-`shrink_to`). It also counts steps on shared words (`load`, `swap`, `fetch_add`), whether a
-seat changes (`if changes`), and yields.
+`shrink_to`). It also counts steps on shared words (`load`, `swap`, `fetch_add`), such words of the host (`AtomicU64`),
+whether a seat changes (`if changes`), and what makes a thread wait (`yield_now`, `spin_loop`, `sleep`, `park`).
 
     scripts/literals.py            lists them: crate, number or other sign, how often
     scripts/literals.py --check    compares them with tests/literals.table, and fails if they differ
@@ -29,7 +29,7 @@ GREATEST = re.compile(r"\bu(8|16|32|64|128)::(?:MAX|BITS)\b")
 CONSTANT = re.compile(r"\bconst (\w+): (?:\w+ = \d|(\w+) = \2 \{)")
 SIGN = re.compile(r"\b(?:reserve_exact|shrink_to(?:_fit)?)\b|\bas [iu](?:8|16|32)\b|\btry_(?:from|into)\b|\b(?:i8|[iu]16)\b|"
                   r"\b(?:i\w+|usize)::(?:MAX|MIN|BITS)\b|(?<=\s)(?:<<|>>)(?==?\s)|\b(?:load|swap|fetch_\w+)(?=::<)|"
-                  r"\byield_now\b|\bif changes\b|\bchange_\w+_if(?=\()")
+                  r"\b(?:yield_now|spin_loop|sleep|park\w*|wake_\w+|Atomic\w+|if changes)\b|\bchange_\w+_if(?=\()")
 ROW = re.compile(r"(\w+) \| ([\w <>:+-]+) \| (\d+) \| \S")
 
 

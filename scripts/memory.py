@@ -1,16 +1,16 @@
 #!/usr/bin/env python3
 """Lists each place of the production crates that answers a failed allocation by itself, and doesn't pass on what an
 allocation answered by `?` or by an arm such as `Err(AllocError) => Err(..)`. Each place that drops an error and goes
-on (`let Ok(..) =`, `Err(_)`, `.is_err()`, `.unwrap_or(..)`) is listed, too, and each that counts a failed read or write
-(`.rise()`).
+on (`let Ok(..) =`, `Err(_)`, `.is_err()`, `.unwrap_or(..)`) is listed, too, each that counts a failed read or write
+(`.rise()`), and each that lets another thread run.
 
     scripts/memory.py            lists them: file, function, and the blocks around the answer
     scripts/memory.py --check    compares them with tests/memory.table, and fails if they differ
 
 No contract can say that an allocation, a read or a write really failed. So a place that answers so by itself needs a
 reason, which the table has. A place that isn't there might be one that gives up past some size. So might one that asks
-for too much, or for nothing: each amount is listed, also one that is handed to a part's `new`, with what its function binds to the names in it, unless it is a
-number or the length of a list.
+for too much, or for nothing: each amount is listed, also one that is handed to a part's `new`, with what its function
+binds to the names in it, unless it is a number or the length of a list.
 """
 import re
 import sys
@@ -20,11 +20,11 @@ from pathlib import Path
 TOP = Path(__file__).resolve().parent.parent
 TABLE = TOP / "tests/memory.table"
 NOT_PRODUCTION = ("test_", "bench", "play_", "event_text", "guide_uses")
-WANT = (r"(?:\bAllocError\b|\bAllocFailed\b(?!<)|\b(?:ReadError::Memory|Stop::Refused|[A-Z]\w*::NoMemory)\b|"
-        r"\bErr\(NoMemory\)|= NoMemory;|\.rise\(\))")
+WANT = (r"(?:\bAllocError\b|\bAllocFailed\b(?!<)|\b(?:ReadError::Memory|Stop::(?:NoPlace|Refused)|"
+        r"[A-Z]\w*::NoMemory)\b|\bErr\(NoMemory\)|= NoMemory;|\.rise\(\))")
 PASSED_ON = re.compile(r"\s*(?:Err\()?(?:AllocError|(?:\w+::)+(?:NoMemory|Memory))\)?\s*")
 GOES_ON = re.compile(r"\s*Err\(AllocError\) => (?!(?:return )?Err\(|\w+\(Err\(|.*NoMemory)|.*(?:\bErr\(_\w*\)|"
-                     r"\.(?:ok|is_err|is_ok|unwrap_or\w*)\(|\blet Ok\()")
+                     r"\.(?:ok|is_err|is_ok|unwrap_or\w*)\(|\blet Ok\(|\byield_now\()")
 SKIPPED = re.compile(r"\s*(ghost |ensures\b|requires\b|impl\b|\) ->|[^=]*[≡≢])")
 CALL = re.compile(r"(?<!fn )\b(?:reserve|with_capacity|from_elem|new_results)\w*(?:::<.*?>)?(?=\()|\bvec!(?=\[in )|"
                   r"\b(?:(?:RankedLines|Blocks)::of|(?:Arena|Chains|Cells|Rows|LineSets)::new)(?=\()")

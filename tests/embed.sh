@@ -1,8 +1,9 @@
 #!/bin/sh
 # Builds callers of the static library of crates/tardis_c in C, C++ and Rust (examples/embed), and tries them:
 # tests/embed.sh [--build | --kept]. Each number that a call answers is met once, by hand; the examples are run, and
-# records checked, through the library, with the reports that the program must give. It needs gcc, g++ and the Rattle
-# kit, whose C file for memory is linked; without rustc it says so and leaves out the caller in Rust.
+# records checked, through the library, with the reports that the program must give, and at a cost that hardly grows
+# with the cores. It needs gcc, g++, valgrind and the Rattle kit, whose C file for memory is linked; without rustc it
+# says so and leaves out the caller in Rust.
 #
 # With --build the library is proved and built first, with all below it: on a new machine that takes half an hour. With
 # --kept it is built over what rt ci kept of the crates below, in a minute or two, as the gate does. Where the kit kept
@@ -65,6 +66,17 @@ checks "$work/trace" "$work/long" 1 'wrong value 0'
 checks "$work/legal" "$work/legal" 2 'tardis: line 1: 5 BadOperation'
 checks "$work/trace" "$work/none" 2 'check: give a trace and its records: two files that can be read'
 checks "$work/trace" "$work" 2 'check: give a trace and its records: two files that can be read'
+
+# spent CORES RECORDS: the instructions of the call that checks so many records, as arrays.
+spent() {
+    awk -v n="$1" -v all="$2" 'BEGIN { while (i < all) print i++ % n, "R 0x0" }' >"$work/trace"
+    awk -v n="$1" -v all="$2" 'BEGIN { while (i < all) print i % n, int(i / n), "R 0x0 0 0", i++ }' >"$work/legal"
+    EMBED_ARRAYS=1 valgrind --tool=callgrind --callgrind-out-file=/dev/null --toggle-collect=tardis_c_check_arrays \
+        "$work/tardis" check "$work/trace" "$work/legal" 2>&1 | sed -n 's/.*Collected : //p'
+}
+# Lanes are merged by halves: a record of 64 cores is compared six times more often than one of one core, and no more.
+more=$((($(spent 64 3072) - $(spent 64 1024) - $(spent 1 3072) + $(spent 1 1024)) / 2048))
+[ "$more" -lt 400 ] || { echo "embed.sh: a record of 64 cores takes $more instructions more than one of one"; exit 1; }
 
 if command -v rustc >/dev/null; then
     rustc --edition 2024 -O -o "$work/history" "$embed/history.rs" -C link-arg="$crate/out/libtardis_c.a" \

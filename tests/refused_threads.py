@@ -248,14 +248,14 @@ def lets_others_run(tester):
 def yields_where_due(tester, folder):
     """A core advances in each of its 1,024 turns. Of several workers, those that don't have it make 1,024 passes that
     come to nothing, with the bank, with another core, with both, or without seats: another thread is due after each
-    256th of them."""
+    256th of them. In the third trace core 0 advances 300 times first, so its worker makes 724 such passes."""
     steps = Path(folder, "advances.trace")
-    for core in (0, 1):
-        steps.write_text("trace 2\n" + f"{core} A\n" * 2000)
-        for workers, yields in ((1, 0), (2, 4), (3, 8)):
+    for zeros, ones, two, three in ((2000, 0, 4, 8), (0, 2000, 4, 8), (300, 2000, 2, 6)):
+        steps.write_text("trace 2\n" + zeros * "0 A\n" + ones * "1 A\n")
+        for workers, yields in ((1, 0), (2, two), (3, three)):
             ran = tester.run(["trace", *SCHEDULE[:2], "--workers", workers, "--limit", 1024, steps], yields=1)
             good = (ran.status, ran.yields) == (1, yields)
-            tester.expect(good, f"core {core}, {workers} workers: {ran.yields} yields")
+            tester.expect(good, f"{zeros} and {ones} advances, {workers} workers: {ran.yields} yields")
 
 
 def refused_threads(tester):

@@ -305,17 +305,19 @@ def past_limits():
     yield "line 1028: 2 TooLarge", FRONT + " li x5,1 ;\n" * 1025 + "exists (x=0)\n"
     yield "line 1028: 2 TooLarge", FRONT + " ;\n" * 1025
     yield "line 1028: 2 TooLarge", FRONT + " ;\n" * 1024 + "x"
-    yield "line 3: 7 BadTable", "RISCV A\n{ }\n" + THREADS.replace(";", "|P17;") + "exists (x=0)\n"
+    for heading in ("P3", "P17"):
+        yield "line 3: 7 BadTable", "RISCV A\n{ }\n" + THREADS.replace(";", f"|{heading};") + "exists (x=0)\n"
     items = "".join(f"v{number}=0;\n" for number in range(64))
-    yield "line 67: 2 TooLarge", "RISCV A\n{\n" + items + "w=0;\n}\n P0 ;\nexists (w=0)\n"
-    yield "line 69: 2 TooLarge", "RISCV A\n{\n" + items + "}\n P0 ;\nexists (w=0)"
+    for word, in_block, in_condition in (("w", 2, 2), ("9w", BAD_INITIAL, BAD_CONDITION)):
+        yield told(67, in_block), "RISCV A\n{\n" + items + f"{word}=0;\n}}\n P0 ;\nexists ({word}=0)\n"
+        yield told(69, in_condition), "RISCV A\n{\n" + items + f"}}\n P0 ;\nexists ({word}=0)"
     addresses = " ".join(f"{number // 31}:x{number % 31 + 1}=l{number};" for number in range(65))
     yield "line 2: 2 TooLarge", "RISCV A\n{ " + addresses + " }\n P0 | P1 | P2 ;\nexists (0:x7=0)\n"
     yield "line 69: 2 TooLarge", FRONT + "forall\n" + "\n/\\ ".join(f"l{number}=0" for number in range(65)) + "\n"
     yield "line 260: 2 TooLarge", FRONT + "exists " + " /\\\n".join(["x=0"] * 258) + "\n"
     yield "line 260: 2 TooLarge", FRONT + "exists " + " /\\\n".join(["x=0"] * 257)
     yield "line 4: 2 TooLarge", FRONT + "exists " + " \\/ ".join(["x=0"] * 257) + "\n"
-    for behind in ("/\\ ", "1a=0", "x", "7:x5=0"):
+    for behind in ("/\\ ", "1a=0", "x", "7:x5=0", "()"):
         kind = "2 TooLarge" if behind == "x" else "13 BadCondition"
         yield f"line 260: {kind}", FRONT + "exists " + " /\\\n".join(["x=0"] * 256 + [behind]) + "\n"
     yield "line 69: 2 TooLarge", FRONT + "exists\n" + "(\n" * 65 + "x=0" + ")" * 65 + "\n"

@@ -76,7 +76,6 @@ impl Part for Core {
 
     /// Delivers a message to the core. The call never answers NoMemory.
     #[inline(always)]
-    #[inline(always)]
     fn deliver(&mut self, message: &Message) -> Result<Reaction, PartError>
         requires { IsTrue (core_has_case self.old message.now) }
         ensures done { IfOk result (λ reaction. core_table self.old message.now ≡ Some

@@ -1,13 +1,15 @@
 -- A part that has changed, put back among the others.
 use Rattle.std.proofs.Common.{◌≡◌, ℕ, zero, suc, ◌<◌, ◌||◌, Bool, true, false, cond, List, [], ◌∷◌, length, set}
-use Rattle.std.proofs.Common.{Option, Some, None, IsSome, OnErr, Result, Ok, Err, refl, sym, ap, ◌∙◌, inr}
+use Rattle.std.proofs.Common.{Option, Some, None, IfOk, IfSome, IsSome, OnErr, Result, Ok, Err, refl, sym, ap, ◌∙◌, inr}
 use Rattle.std.proofs.Common.{subst}
 use Rattle.std.specs.List.{slice_get}
 use Rattle.std.specs.Ordering.{nat_cmp}
 use Rattle.std.specs.FinMap.{FinMap}
 use Rattle.physiological_order.specs.declared.operation.Record.{Record}
 use Rattle.network.specs.declared.part.Reaction.{Reaction}
+use Rattle.network.specs.declared.message.Message.{Message}
 use Rattle.network.specs.Mail.{Mail}
+use Rattle.network.specs.NumberedMessages.{at_number}
 use Rattle.core_pts.specs.CoreTable.{CoreState}
 use Rattle.llc_bank.specs.BankTable.{BankState}
 use Rattle.machine_table.specs.declared.event.Answer.{Answer}
@@ -21,7 +23,8 @@ use Rattle.machine_table.specs.Step.{Step, Tried}
 use Rattle.machine_table.proofs.Lemmas.{Fits, FitsTried, reaction_fits}
 use Rattle.machine_table.specs.declared.event.Event.TheVariants.{Deliver}
 use Rattle.machine_table.specs.Transition.{changed, on_event, refused, tried}
-use Rattle.interleaving_core.specs.PartChanges.{applied, applied_attempt, concluded, responded, stops, with_record}
+use Rattle.interleaving_core.specs.declared.plain_answer.PlainAnswer.{PlainAnswer}
+use Rattle.interleaving_core.specs.PartChanges.{answer_of, applied, applied_attempt, stops, with_record}
 use Rattle.interleaving_core.specs.StepAnswers.{TakesMemory}
 use Rattle.interleaving_core.proofs.Only.{IsPlain, kept_plain, made_plain}
 
@@ -143,34 +146,41 @@ module _ {S : Type 0} (m : Machine) (cores : S → List CoreState) (banks : S �
         (is ∙ ap (λ (k : ℕ). applied k part m.mail n s) same_capacity) stop
         ∙ changes ∙ ap event is_view
 
-  -- so of a message that is delivered to the part, whose reaction this is
-  module _ (n : ℕ) (reaction : Option (Reaction × S)) (capacity : ℕ) (same_capacity : capacity ≡ m.config.messages)
-      (seen : Machine) (is_view : m ≡ seen) (delivers : changed m put (Some n) (step.reacted reaction) ≡
+  -- so of a message that is delivered to the part, which makes this of it
+  module _ (n : ℕ) (message : Message) (there : Some message ≡ at_number n m.mail.messages)
+      (table : Message → Option (Reaction × S)) (capacity : ℕ) (same_capacity : capacity ≡ m.config.messages)
+      (seen : Machine) (is_view : m ≡ seen) (delivers : changed m put (Some n) (step.reacted (table message)) ≡
       on_event m (Deliver n)) where
-    pub delivered : (answer : Answer) (response : Result Reaction Refusal) (new : S) (mail : Mail) (stopped : Bool) →
-        (answer, mail) ≡ concluded m.mail n response →
-        responded m.mail n response new ≡ applied capacity part m.mail (Some n) (step.reacted reaction) →
-        stopped ≡ (stops answer || m.is_stopped) →
-        (answer, record (put new) { mail = mail; is_stopped = stopped }) ≡
-        on_event seen (Deliver n)
-    delivered answer response new mail stopped concludes responds stop =
-        event_done (Some n) (step.reacted reaction) (reaction_fits reaction) capacity same_capacity seen is_view
-        (λ x. on_event x (Deliver n)) delivers answer new mail
-        stopped (ap (λ (x : Answer × Mail). (x.0, new, x.1)) concludes ∙ responds) stop
+    pub delivered : {E : Type 0} (result : Result PlainAnswer E) (new : S) (mail : Mail) (stopped : Bool) →
+        IfOk result (λ plain. IfSome (at_number n m.mail.messages) (λ x. ◌≡◌ {A = Answer × S × Mail}
+        (answer_of plain, new, mail) (applied capacity part m.mail (Some n) (step.reacted (table x))))) →
+        IfOk result (λ plain. stopped ≡ (stops (answer_of plain) || m.is_stopped)) →
+        IfOk result (λ plain. ◌≡◌ {A = Answer × Machine}
+        (answer_of plain, record (put new) { mail = mail; is_stopped = stopped }) (on_event seen (Deliver n)))
+    delivered (Ok plain) new mail stopped done stop =
+        event_done (Some n) (step.reacted (table message)) (reaction_fits (table message)) capacity same_capacity seen
+        is_view (λ x. on_event x (Deliver n)) delivers (answer_of plain) new mail stopped
+        (subst (λ o. IfSome o (λ (x : Message). ◌≡◌ {A = Answer × S × Mail}
+        (answer_of plain, new, mail) (applied capacity part m.mail (Some n) (step.reacted (table x))))) (sym there) done)
+        stop
+    delivered (Err e) new mail stopped done stop = tt
 
     -- it takes memory if a message is sent
     pub delivery_wanted : {X E : Type 0} (result : Result X E) →
-        m.mail.next < (applied capacity part m.mail (Some n) (step.reacted reaction)).2.next →
+        OnErr result (IfSome (at_number n m.mail.messages) (λ x.
+        m.mail.next < (applied capacity part m.mail (Some n) (step.reacted (table x))).2.next)) →
         OnErr result (TakesMemory seen (on_event seen (Deliver n)))
     delivery_wanted (Ok x) sends = tt
     delivery_wanted (Err e) sends =
-        let more : m.mail.next < (applied m.config.messages part m.mail (Some n) (step.reacted reaction)).2.next =
-        subst (λ (k : ℕ). m.mail.next < (applied k part m.mail (Some n) (step.reacted reaction)).2.next) same_capacity
-        sends in
+        let more : m.mail.next < (applied m.config.messages part m.mail (Some n) (step.reacted (table message))).2.next =
+        subst (λ (k : ℕ). m.mail.next < (applied k part m.mail (Some n) (step.reacted (table message))).2.next)
+        same_capacity
+        (subst (λ o. IfSome o (λ (x : Message).
+        m.mail.next < (applied capacity part m.mail (Some n) (step.reacted (table x))).2.next)) (sym there) sends) in
         subst (λ (x : Machine). TakesMemory x (on_event x (Deliver n))) is_view
         (subst (λ (x : Answer × Machine). TakesMemory m x) delivers
         (inr (subst (λ (x : Answer × Machine). m.mail.next < x.1.mail.next)
-        (is_changed (Some n) (step.reacted reaction) (reaction_fits reaction)) more)))
+        (is_changed (Some n) (step.reacted (table message)) (reaction_fits (table message))) more)))
 
 -- an attempt of a core of the machine, which is put into its place
 module _ (m : Machine) (c : ℕ) (core : CoreState) (same : set m.cores c core ≡ m.cores) where

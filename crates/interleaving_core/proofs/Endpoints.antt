@@ -1,6 +1,6 @@
 -- What parts send goes between nodes of its kind, and messages in flight find their part.
 use Rattle.std.proofs.Common.{◌≡◌, ℕ, ◌+◌, ◌<◌, ◌≤◌, ◌%◌, ◌++◌, Bool, true, false, cond, List, [], ◌∷◌, length, get_or}
-use Rattle.std.proofs.Common.{Option, Some, None, Result, Ok, Err, OnErr, IsTrue, refl, sym, ap, ◌∙◌, subst, arith}
+use Rattle.std.proofs.Common.{Option, Some, None, Result, Ok, Err, IfSome, OnErr, IsTrue, refl, sym, ap, ◌∙◌, subst, arith}
 use Rattle.std.specs.List.{slice_get, AllByRecursion as Each}
 use Rattle.std.specs.Option.{option_map, unwrap_or}
 use Rattle.std.specs.Ordering.{nat_cmp}
@@ -189,10 +189,12 @@ module _ (m seen : Machine) (is_view : m ≡ seen) (holds : Invariant seen) (n :
         dram_here dram_has_case dram_table dram_has refl)
 
     -- a store of a line that the DRAM doesn't have yet asks for memory
-    pub dram_asks : {X E : Type 0} (result : Result X E) → needs_memory lines message ≡ true →
+    pub dram_asks : {X E : Type 0} (result : Result X E) →
+        OnErr result (IfSome (at_number n m.mail.messages) (λ x. IsTrue (needs_memory lines x))) →
         OnErr result (IsTrue (asks_memory seen (Deliver n)))
     dram_asks (Ok x) takes = tt
-    dram_asks (Err e) takes =
+    dram_asks (Err e) asks =
+        let takes = subst (λ o. IfSome o (λ (x : Message). IsTrue (needs_memory lines x))) (sym there) asks in
         subst (λ o. unwrap_or (option_map (λ x. is_first_store seen x x.to) o) false ≡ true)
         (there ∙ ap (λ (k : Machine). at_number n k.mail.messages) is_view)
         (subst (λ k. is_first_store seen message k ≡ true) (sym to)

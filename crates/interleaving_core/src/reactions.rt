@@ -1,5 +1,5 @@
 //! A message in flight is delivered to its part.
-ghost use Rattle.std.specs.Prelude.{◌≡◌, ◌<◌, ◌||◌, ℕ, false, IfOk, IsSome, IsTrue, OnErr, Some};
+ghost use Rattle.std.specs.Prelude.{◌≡◌, ◌<◌, ◌||◌, ℕ, false, IfOk, IfSome, IsSome, IsTrue, OnErr, Some};
 ghost use Rattle.network.specs.Flight.{IsWithMail, SameNetwork};
 ghost use Rattle.network.specs.Mail.{Mail, answered, has_capacity, has_number, sent, taken};
 ghost use Rattle.network.specs.NumberedMessages.{at_number};
@@ -20,7 +20,7 @@ use std::alloc::AllocError;
 /// What a part makes of a message: its reaction, or why there is none. NetworkFull, if what the part would send can't
 /// be sent, and Exhausted leave the part unchanged; an error does so too, and comes only if a message would be sent.
 #[inline(always)]
-pub(crate) fn respond<P: Part>(
+fn respond<P: Part>(
     part: &mut P,
     flight: &InFlight,
     message: &Message,
@@ -50,10 +50,49 @@ pub(crate) fn respond<P: Part>(
     }
 }
 
+/// A message in flight is delivered to its part: the answer, and the part and the messages in flight afterwards.
+/// Exhausted times stop the machine. An error leaves all as it was. What a function keeps on its stack is set to zeros
+/// where it begins, so each large part has a call of its own: the compiler inlines only the small ones.
+#[inline(always)]
+pub(crate) fn deliver_to<P: Part>(
+    part: &mut P,
+    flight: &mut InFlight,
+    is_stopped: &mut bool,
+    number: MsgNo,
+) -> Result<PlainAnswer, AllocError>
+    requires there { IsSome (at_number number flight.old.mail.messages) }
+    requires case { IfSome (at_number number flight.old.mail.messages) (λ message.
+        IsTrue (P.has_case part.old message)) }
+    requires quiet { IfSome (at_number number flight.old.mail.messages) (λ message.
+        Stays part.old (P.table part.old message)) }
+    requires endpoints { IfSome (at_number number flight.old.mail.messages) (λ message.
+        IsTrue (can_send flight.old.capacity flight.old.mail (sent_by (P.table part.old message))) →
+        ReactionHasEndpoints flight.old.cores flight.old.banks (P.table part.old message)) }
+    ensures done { IfOk result (λ plain. IfSome (at_number number flight.old.mail.messages)
+        (λ message. (answer_of plain, part.new, flight.new.mail) ≡ applied flight.old.capacity
+        part.old flight.old.mail (Some number) (reacted (P.table part.old message)))) }
+    ensures stop { IfOk result (λ plain.
+        is_stopped.new ≡ (stops (answer_of plain) || is_stopped.old)) }
+    ensures set_up { SameNetwork flight.old flight.new }
+    ensures memory { OnErr result (IfSome (at_number number flight.old.mail.messages)
+        (λ message. flight.old.mail.next < (applied flight.old.capacity part.old flight.old.mail
+        (Some number) (reacted (P.table part.old message))).2.next)) }
+    ensures sure { OnErr result (IfSome (at_number number flight.old.mail.messages) (λ message.
+        IsTrue (P.takes_memory part.old message))) }
+    ensures refused { OnErr result ((part.new ≡ part.old) × (flight.new ≡ flight.old)
+        × (is_stopped.new ≡ is_stopped.old)) }
+{
+    let Some(message) = flight.look(number) else {
+        unreachable!()
+    };
+    let response = respond(part, flight, message)?;
+    Ok(conclude(flight, is_stopped, number, response))
+}
+
 /// The answer to a delivery by a part's response, and the messages in flight afterwards. Exhausted times stop the
 /// machine.
 #[inline(always)]
-pub(crate) fn conclude(
+fn conclude(
     flight: &mut InFlight,
     is_stopped: &mut bool,
     number: MsgNo,

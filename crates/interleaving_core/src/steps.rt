@@ -9,7 +9,7 @@ use crate::core_masks::{note, note_attempt, note_delivery};
 use crate::machine_state::MachineState;
 use crate::operations;
 use crate::plain_answer::{PlainAnswer, plain_of, stop_after};
-use crate::reactions::{conclude, respond};
+use crate::reactions::deliver_to;
 use crate::records::{keep, reserve, stop};
 use machine_table::{Answer, Event, Refusal};
 use network::{LineNo, MsgNo, Node};
@@ -122,19 +122,19 @@ impl MachineState {
             return Ok(PlainAnswer::Refused(Refusal::NoSuch));
         };
         match message.to {
-            Node::Core(core) => {
-                let at = core as usize;
-                let response = respond(&mut self.cores[at], &self.flight, message);
-                note_delivery(&mut self.masks, core, &self.cores[at]);
-                Ok(conclude(&mut self.flight, &mut self.is_stopped, number, response?))
+            Node::Core(number_of_core) => {
+                let core = &mut self.cores[number_of_core as usize];
+                let plain = deliver_to(core, &mut self.flight, &mut self.is_stopped, number)?;
+                note_delivery(&mut self.masks, number_of_core, core);
+                Ok(plain)
             }
             Node::Bank(bank) => {
-                let response = respond(&mut self.banks[bank as usize], &self.flight, message);
-                Ok(conclude(&mut self.flight, &mut self.is_stopped, number, response?))
+                let bank = &mut self.banks[bank as usize];
+                deliver_to(bank, &mut self.flight, &mut self.is_stopped, number)
             }
             Node::Dram(bank) => {
-                let response = respond(&mut self.drams[bank as usize], &self.flight, message);
-                Ok(conclude(&mut self.flight, &mut self.is_stopped, number, response?))
+                let dram = &mut self.drams[bank as usize];
+                deliver_to(dram, &mut self.flight, &mut self.is_stopped, number)
             }
         }
     }

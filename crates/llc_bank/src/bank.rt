@@ -160,6 +160,7 @@ impl Bank {
     }
 
     // Changes the entry of a line that is there, and keeps the order of use.
+    #[inline(always)]
     fn change_entry(&mut self, set: usize, line: LineNo, entry: Entry)
         requires set { set ≡ set_of self.old line }
         requires below { set < length self.old.table.sets }
@@ -199,8 +200,8 @@ impl Bank {
         self.from_bank(line, Node::Dram(self.number), body)
     }
 
-    // What the bank does at a message, by its line's set. Each kind looks the entry up for itself, so the kind isn't
-    // tested again.
+    // What the bank does at a message, by its line's set. Each kind of request looks the entry up for itself, so its
+    // kind isn't tested again. The other kinds share a look-up, so that `deliver` stays small enough to be inlined.
     #[inline(always)]
     fn decided(&self, message: &Message, set: usize) -> Decision
         requires set { set ≡ set_of self.now message.now.line }
@@ -223,14 +224,15 @@ impl Bank {
                     self.entry_in(set, line),
                 )
             }
-            Body::FlushRep(timed) | Body::WbRep(timed) => {
-                given_back(timed, self.entry_in(set, line))
+            _ => {
+                let entry = self.entry_in(set, line);
+                match message.body {
+                    Body::FlushRep(timed) | Body::WbRep(timed) => given_back(timed, entry),
+                    Body::DramLdRep(words) => filled(self.memory_time(), words, entry),
+                    Body::DramStRep => stored(entry),
+                    _ => Decision::NoCase,
+                }
             }
-            Body::DramLdRep(words) => {
-                filled(self.memory_time(), words, self.entry_in(set, line))
-            }
-            Body::DramStRep => stored(self.entry_in(set, line)),
-            _ => Decision::NoCase,
         }
     }
 

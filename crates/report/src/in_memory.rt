@@ -1,6 +1,7 @@
 //! Reports on texts in memory, for a caller that has no threads: the calling thread makes all runs.
-ghost use Rattle.std.specs.Prelude.{◌≡◌, ◌≢◌, IfErr, IfOk, List, None, Some, length, true, ℕ};
+ghost use Rattle.std.specs.Prelude.{◌≡◌, ◌≢◌, IfErr, IfOk, List, None, Ok, Some, length, min, true, ℕ};
 ghost use Rattle.std.specs.List.{AllByRecursion};
+ghost use Rattle.byte_streams.specs.Device.{Counts, GivesBytes};
 ghost use Rattle.litmus_reader.specs.Grammar.{IsTest};
 ghost use Rattle.litmus_reader.specs.TestViews.{test_of};
 ghost use Rattle.machine_table.specs.SetUp.{is_good};
@@ -40,7 +41,12 @@ impl Source for InMemory<'_> {
 
     ghost failures = { λ source. 0 };
 
-    fn read(&mut self, buffer: &mut [u8]) -> Result<usize, DeviceError> {
+    // As many bytes as there are, or as the buffer holds.
+    fn read(&mut self, buffer: &mut [u8]) -> Result<usize, DeviceError>
+        ensures bytes { GivesBytes (Some self.old.rest.now) (Some self.new.rest.now) result buffer.new }
+        ensures count { Counts 0 0 result }
+        ensures most { result ≡ Ok (min (length self.old.rest.now) (length buffer.old)) }
+    {
         match self.rest.read(buffer) {
             Ok(count) => Ok(count),
             Err(_) => unreachable!(),

@@ -1,0 +1,150 @@
+#!/usr/bin/env python3
+"""Tries edits that the prover must refuse: tests/refused.py [--wait] [--anew] [CRATE..]
+
+An edit is a file crates/NAME/refused/*.edit with the lines `file:`, `old:` and `new:`, and `fn:`, the function whose
+proof must fail. Each old text stands once in the file. The edits of a crate that lie in different functions are tried
+in one check of these functions and of those that they call: since a proof takes nothing but contracts from other
+functions, each must fail for itself.
+The check begins with the libraries that scripts/build.py has built. With --wait, a crate waits until an `rt ci` that
+began at the same time has built those below it. What was refused is kept in ~/.cache/tardis-refused by the checksums of
+all that it depends on, and isn't tried again but with --anew.
+"""
+import contextlib
+import hashlib
+import os
+import re
+import sys
+import tempfile
+import threading
+import time
+from concurrent.futures import ThreadPoolExecutor
+from pathlib import Path
+
+TOP = Path(__file__).resolve().parent.parent
+sys.path.insert(0, f"{TOP}/scripts")
+import kit as own_kit  # noqa: E402
+
+KEPT = Path.home() / ".cache/tardis-refused"
+CALLS = (("cuts_libraries = False", "def stamp(self):", "def words(self, flags"),
+         ("KIT = ", "def handles_of(root):", "def checked(crate, texts, flags, kept):"))
+
+
+class Edit:
+    """An edit as its file has it."""
+
+    def __init__(self, path):
+        self.text, self.name = path.read_text(), path.relative_to(TOP / "crates")
+        self.file, self.function = (re.search(rf"^{word}: (.*)$", self.text, re.M)[1] for word in ("file", "fn"))
+        self.pairs = re.findall(r"^old: (.*)\nnew: (.*)$", self.text, re.M)
+
+    def applied(self, text):
+        """The text with this edit, None if an old text doesn't stand there once."""
+        for old, new in self.pairs:
+            if text.count(old) != 1:
+                return None
+            text = text.replace(old, new)
+        return text
+
+
+def groups(folder, edits):
+    """The edits by checks: those of a check lie in different functions. Each with the texts that they make."""
+    left = edits
+    while left:
+        texts, taken = {}, {}
+        for edit in left:
+            text = texts.get(edit.file) or (folder / edit.file).read_text()
+            made = None if edit.function in taken else edit.applied(text)
+            if made is not None:
+                texts[edit.file], taken[edit.function] = made, edit
+        if not taken:
+            raise ValueError(f"{left[0].name}: its old text doesn't stand once in {left[0].file}")
+        yield taken, texts
+        left = [edit for edit in left if edit not in taken.values()]
+
+
+def faults(kit, crate, taken, texts, room):
+    """What is wrong with a check of edits, which leaves in the room what it proved: nothing if all are refused."""
+    flags = ["--jobs", "1", *(word for function in taken for word in ("--only", function))]
+    ran = kit["checked"](crate, texts, flags, room)
+    if ran.returncode != 1 or not re.search(r"^only=\d+ proved=\d+$", ran.stdout, re.M):
+        yield f"{crate.name}: not tried, the check of edits ended with status {ran.returncode}:\n{ran.stdout[-2000:]}"
+        return
+    refused = re.findall(r"^fn (\S+): (?:not proved|no proof)", ran.stdout, re.M)
+    for function, edit in taken.items():
+        if f"{crate.name}::{function}" not in refused:
+            yield f"{edit.name}: not refused: {function} is proved with it"
+
+
+def tried(kit, crate, is_anew):
+    """Tries a crate's edits, and gives what is wrong with them."""
+    folder = Path(crate.folder)
+    edits = [Edit(path) for path in sorted(folder.glob("refused/*.edit"))]
+    kept = KEPT / hashlib.sha256(repr([crate.stamp(), *(edit.text for edit in edits)]).encode()).hexdigest()
+    if kept.exists() and not is_anew:
+        return []
+    try:
+        with tempfile.TemporaryDirectory() as room:
+            found = [fault for taken, texts in groups(folder, edits)
+                     for fault in faults(kit, crate, taken, texts, room)]
+    except ValueError as error:
+        return [str(error)]
+    if not found:
+        with contextlib.suppress(OSError):
+            KEPT.mkdir(parents=True, exist_ok=True)
+            kept.touch()
+    return found
+
+
+def is_there(low, begun):
+    """Whether a library is built: by scripts/build.py, or since `begun`, if that is given, by `rt ci`, which leaves no
+    stamp."""
+    if begun is None or not os.path.isfile(f"{low.rlib}/format"):
+        return low.is_built()
+    return begun < os.stat(low.rlib).st_ctime < time.time() - 5
+
+
+def all_tried(kit, crates, is_anew, begun):
+    """Tries the edits of crates, each once those below it are built, half as many at a time as there are processors."""
+    left, found, lock = list(crates), [], threading.Lock()
+
+    def work():
+        while True:
+            with lock:
+                ready = next((crate for crate in left if all(is_there(low, begun) for low in crate.below())), None)
+                if ready:
+                    left.remove(ready)
+                elif not left:
+                    return
+            if ready:
+                found.extend(tried(kit, ready, is_anew))
+            elif begun is not None:
+                time.sleep(5)
+            else:
+                sys.exit(f"refused.py: a crate below {left[0].name} isn't built")
+
+    count = max(1, len(os.sched_getaffinity(0)) // 2)
+    with ThreadPoolExecutor(count) as pool:
+        for each in [pool.submit(work) for _ in range(count)]:
+            each.result()
+    return found
+
+
+def main(words):
+    if words[:1] in (["-h"], ["--help"]):
+        sys.exit(print(__doc__))
+    kit = own_kit.loaded(CALLS) or sys.exit("refused.py: this kit lacks calls that the script takes")
+    kit["rtlib"].Crate = kit["Crate"]
+    kit["Crate"].cuts_libraries, kit["Crate"].allowed = True, kit["handles_of"](str(TOP))
+    kit["rtlib"].guarded()
+    names = [word for word in words if not word.startswith("--")]
+    names = names or sorted({path.parent.parent.name for path in TOP.glob("crates/*/refused/*.edit")})
+    seen = {}
+    crates = [kit["Crate"](f"{TOP}/crates/{name}", str(TOP), seen) for name in names]
+    found = all_tried(kit, crates, "--anew" in words, time.time() if "--wait" in words else None)
+    for fault in found:
+        print(fault)
+    sys.exit(len(found) > 0)
+
+
+if __name__ == "__main__":
+    main(sys.argv[1:])

@@ -66,7 +66,7 @@ def faults(kit, crate, taken, texts, room):
     """What is wrong with a check of edits, which leaves in the room what it proved: nothing if all are refused."""
     flags = ["--jobs", "1", *(word for function in taken for word in ("--only", function))]
     ran = kit["checked"](crate, texts, flags, room)
-    if ran.returncode != 1 or not re.search(r"^only=\d+ proved=\d+$", ran.stdout, re.M):
+    if ran.returncode not in (0, 1) or not re.search(r"^only=\d+ proved=\d+$", ran.stdout, re.M):
         yield f"{crate.name}: not tried, the check of edits ended with status {ran.returncode}:\n{ran.stdout[-2000:]}"
         return
     refused = re.findall(r"^fn (\S+): (?:not proved|no proof)", ran.stdout, re.M)

@@ -31,15 +31,13 @@ def work_of(process, session):
         words = (process / "cmdline").read_bytes().decode(errors="replace").split("\0")
         if Path(words[0]).name != "rattle" or "--crate-name" not in words:
             return None
-        folder = os.readlink(process / "cwd")
         fields = (process / "stat").read_text().rsplit(")", 1)[1].split()
     except OSError:
         return None
     if int(fields[3]) != session:
         return None
     crate = words[words.index("--crate-name") + 1]
-    is_copy = not Path(folder).is_relative_to(TOP / "crates")
-    kind = "edits" if is_copy else "tests" if "--test" in words else "proof"
+    kind = "edits" if "--only" in words else "tests" if "--test" in words else "proof"
     return crate, kind, (int(fields[11]) + int(fields[12])) / TICK, fields[19]
 
 

@@ -35,7 +35,9 @@ def show(kit, name, file):
     toolchain = f"{kit['KIT']}/toolchain"
     with tempfile.TemporaryDirectory() as room:
         Path(room, "bin").mkdir()
-        Path(room, "lib").symlink_to(f"{toolchain}/lib")
+        for path in [Path(toolchain, "lib"), *Path(toolchain, "bin").iterdir()]:
+            Path(room, path.relative_to(toolchain)).symlink_to(path)
+        Path(room, "bin/clang").unlink()
         Path(room, "bin/clang").write_text(WRAPPER.format(room, toolchain))
         Path(room, "bin/clang").chmod(0o755)
         words = crate.words(["--jobs", "2"], keeps=False)

@@ -24,7 +24,7 @@ TOP = Path(__file__).resolve().parent.parent
 sys.path.insert(0, f"{TOP}/scripts")
 import kit as own_kit  # noqa: E402
 
-KEPT = Path.home() / ".cache/tardis-refused"
+KEPT = Path(os.path.expanduser("~/.cache/tardis-refused"))
 CALLS = (("cuts_libraries = False", "def stamp(self):", "def words(self, flags"),
          ("KIT = ", "def handles_of(root):", "def checked(crate, texts, flags, kept):"))
 
@@ -80,7 +80,7 @@ def tried(kit, crate, is_anew):
     folder = Path(crate.folder)
     edits = [Edit(path) for path in sorted(folder.glob("refused/*.edit"))]
     kept = KEPT / hashlib.sha256(repr([crate.stamp(), *(edit.text for edit in edits)]).encode()).hexdigest()
-    if kept.exists() and not is_anew:
+    if os.path.exists(kept) and not is_anew:
         return []
     try:
         with tempfile.TemporaryDirectory() as room:

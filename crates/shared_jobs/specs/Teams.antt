@@ -1,5 +1,5 @@
 -- Workers of a batch.
-use Rattle.std.specs.Prelude.{◌≡◌, ◌⊎◌, ◌<◌, ◌≤◌, ◌++◌, ◌∷◌, ℕ, List, [], map, None, Some}
+use Rattle.std.specs.Prelude.{◌≡◌, ◌⊎◌, ◌<◌, ◌≤◌, ◌+◌, ◌++◌, ◌∷◌, ℕ, List, [], map, None, Some}
 use Rattle.std.specs.Int.{div_ceil}
 use Rattle.std.specs.VecDeque.{deque_capacity}
 use Rattle.drawn_numbers.specs.declared.numbers.Numbers.{Numbers}
@@ -19,9 +19,10 @@ abbrev pub IsNewWorker : {X : Type 0} → Numbers → Worker X → Type 0
 IsNewWorker numbers w =
     IsDrawerOf numbers w.drawer × (w.results.items ≡ []) × (w.drawer.drawn.items ≡ []) × (w.stop ≡ None)
 
--- the worker has room for an equal share of the jobs, or for no result if memory for these was refused
+-- The worker has room for one result more than an equal share of the jobs: it has a place before it learns that no job
+-- is left. It has room for none if that memory was refused.
 abbrev pub HasShare : {X : Type 0} → ℕ → ℕ → Worker X → Type 0
-HasShare count workers w = (deque_capacity w.results ≡ div_ceil count workers) ⊎ (deque_capacity w.results ≡ 0)
+HasShare count workers w = (deque_capacity w.results ≡ div_ceil count workers + 1) ⊎ (deque_capacity w.results ≡ 0)
 
 -- the numbers that the worker drew are those of its results, in order, and then these
 abbrev pub HasDone : {X : Type 0} → Worker X → List ℕ → Type 0

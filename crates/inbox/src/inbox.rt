@@ -1,8 +1,10 @@
 //! The messages that came in at a seat: one in the hand, and those that are held.
 ghost use Rattle.std.specs.Prelude.{◌≡◌, ◌-◌, ◌<◌, ◌≤◌, ◌++◌, ◌∷◌, [], length};
 ghost use Rattle.std.specs.Prelude.{IfOk, Some, None, option_copied, slice_get};
+ghost use Rattle.std.specs.List.{find};
 ghost use Rattle.inbox.specs.Inboxes.{inbox};
 
+use crate::message_test::MessageTest;
 use crate::queue::Queue;
 use std::alloc::{AllocError, Global};
 use std::marker::Model;
@@ -57,6 +59,24 @@ impl<T> Inbox<T> {
             return None;
         };
         Some(self.held.get(cell))
+    }
+
+    /// The oldest held message that passes a test, if one does. The call looks at each held message once, at most.
+    pub fn first_held<P: MessageTest<T>>(&self, test: &P) -> Option<&T>
+        ensures { option_copied result ≡ find (P.passes test.now) self.now.held }
+    {
+        let mut next = self.held.front();
+        for _ in 0..self.held.len() {
+            let Some(cell) = next else {
+                return None;
+            };
+            let message = self.held.get(cell);
+            if test.passes(message) {
+                return Some(message);
+            }
+            next = self.held.next(cell);
+        }
+        None
     }
 
     /// How many more messages the held list has places for, of 256.

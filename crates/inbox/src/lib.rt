@@ -5,11 +5,13 @@
 mod answer;
 mod inbox;
 pub mod laws;
+mod message_test;
 mod queue;
 mod receiver;
 mod serve;
 
 pub use self::inbox::Inbox;
 pub use answer::{Answer, Refusal, Served};
+pub use message_test::MessageTest;
 pub use queue::Queue;
 pub use receiver::Receiver;

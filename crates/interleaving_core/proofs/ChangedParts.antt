@@ -1,31 +1,29 @@
 -- A part that has changed, put back among the others.
-use Rattle.std.proofs.Common.{◌≡◌, ℕ, zero, suc, ◌<◌, ◌||◌, Bool, true, false, cond, List, [], ◌∷◌, length, set}
-use Rattle.std.proofs.Common.{Option, Some, None, IfOk, IfSome, IsSome, OnErr, Result, Ok, Err, refl, sym, ap, ◌∙◌, inr}
-use Rattle.std.proofs.Common.{subst}
+use Rattle.std.proofs.Common.{◌≡◌, ℕ, zero, suc, ◌||◌, Bool, true, false, cond, List, [], ◌∷◌, length, set}
+use Rattle.std.proofs.Common.{Option, Some, None, IsSome, refl, sym, ap, ◌∙◌}
 use Rattle.std.specs.List.{slice_get}
 use Rattle.std.specs.Ordering.{nat_cmp}
 use Rattle.std.specs.FinMap.{FinMap}
 use Rattle.physiological_order.specs.declared.operation.Record.{Record}
 use Rattle.network.specs.declared.part.Reaction.{Reaction}
 use Rattle.network.specs.declared.message.Message.{Message}
+use Rattle.network.specs.declared.message.Node.{Node}
+use Rattle.network.specs.declared.message.Node.TheVariants as node
 use Rattle.network.specs.Mail.{Mail}
-use Rattle.network.specs.NumberedMessages.{at_number}
-use Rattle.core_pts.specs.CoreTable.{CoreState}
-use Rattle.llc_bank.specs.BankTable.{BankState}
+use Rattle.core_pts.specs.CoreTable.{CoreState, core_has_case, core_table}
+use Rattle.llc_bank.specs.BankTable.{BankState, bank_has_case, bank_table}
+use Rattle.dram_mts.specs.Table.{dram_has_case, dram_table}
 use Rattle.machine_table.specs.declared.event.Answer.{Answer}
 use Rattle.machine_table.specs.declared.event.Answer.TheVariants as answer
-use Rattle.machine_table.specs.declared.event.Refusal.{Refusal}
 use Rattle.machine_table.specs.declared.event.Refusal.TheVariants as refusal
 use Rattle.machine_table.specs.Machine.{Machine}
 use Rattle.machine_table.specs.Posted.{can_post, left, posted}
 use Rattle.machine_table.specs.Step as step
 use Rattle.machine_table.specs.Step.{Step, Tried}
-use Rattle.machine_table.proofs.Lemmas.{Fits, FitsTried, reaction_fits}
-use Rattle.machine_table.specs.declared.event.Event.TheVariants.{Deliver}
-use Rattle.machine_table.specs.Transition.{changed, on_event, refused, tried}
-use Rattle.interleaving_core.specs.declared.plain_answer.PlainAnswer.{PlainAnswer}
-use Rattle.interleaving_core.specs.PartChanges.{answer_of, applied, applied_attempt, stops, with_record}
-use Rattle.interleaving_core.specs.StepAnswers.{TakesMemory}
+use Rattle.machine_table.proofs.Lemmas.{Fits, FitsTried}
+use Rattle.machine_table.specs.Transition.{changed, deliver_to, gets, if_there, refused, tried}
+use Rattle.machine_theorem.specs.Cases.{has_case_at, takes}
+use Rattle.interleaving_core.specs.PartChanges.{applied, applied_attempt, stops, with_record}
 use Rattle.interleaving_core.proofs.Only.{IsPlain, kept_plain, made_plain}
 
 -- a list in which what is there is put where it is
@@ -34,18 +32,37 @@ set_same [] i x here = refl
 set_same (y ∷ ys) zero x here = ap (λ z. z ∷ ys) (let e : Some y ≡ Some x = here in cc)
 set_same (y ∷ ys) (suc i) x here = ap (λ zs. y ∷ zs) (set_same ys i x here)
 
+-- the machine m with other parts
+abbrev pub with_parts : Machine → List CoreState × List BankState × List (FinMap nat_cmp (List ℕ)) → Machine
+with_parts m x = record m { cores = x.0; banks = x.1; drams = x.2 }
+
+-- the part number k of its kind in the machine m: what messages to this node go to
+pub record Place {S : Type 0} (m : Machine) (to : Node) (parts : List S) (k : ℕ) (has_case : S → Message → Bool)
+    (table : S → Message → Option (Reaction × S)) : Type 0 where
+  pub among : List S → List CoreState × List BankState × List (FinMap nat_cmp (List ℕ))
+  pub same : with_parts m (among parts) ≡ m
+  pub finds : (message : Message) → has_case_at m message to ≡ takes has_case (slice_get parts k) message
+  pub delivers : (n : ℕ) (message : Message) → deliver_to m n message to ≡ if_there m (slice_get parts k)
+      (λ x. gets m (λ y. with_parts m (among (set parts k y))) n (has_case x message) (table x message))
+
+abbrev pub core_place : (m : Machine) (c : ℕ) → Place m (node.Core c) m.cores c core_has_case core_table
+core_place m c = record { among = λ x. (x, m.banks, m.drams); same = refl; finds = λ x. refl; delivers = λ n x. refl }
+
+abbrev pub bank_place : (m : Machine) (b : ℕ) → Place m (node.Bank b) m.banks b bank_has_case bank_table
+bank_place m b = record { among = λ x. (m.cores, x, m.drams); same = refl; finds = λ x. refl; delivers = λ n x. refl }
+
+abbrev pub dram_place : (m : Machine) (b : ℕ) → Place m (node.Dram b) m.drams b dram_has_case dram_table
+dram_place m b = record { among = λ x. (m.cores, m.banks, x); same = refl; finds = λ x. refl; delivers = λ n x. refl }
+
 -- a part of the machine m, and the machine with another one in its place
-module _ {S : Type 0} (m : Machine) (cores : S → List CoreState) (banks : S → List BankState) (drams : S →
-    List (FinMap nat_cmp (List ℕ))) (part : S)
-    (same_cores : cores part ≡ m.cores) (same_banks : banks part ≡ m.banks) (same_drams : drams part ≡ m.drams) where
-  abbrev put : S → Machine
-  put x = record m { cores = cores x; banks = banks x; drams = drams x }
+module _ {S : Type 0} {m : Machine} {to : Node} {parts : List S} {k : ℕ} {has_case : S → Message → Bool}
+    {table : S → Message → Option (Reaction × S)} (place : Place m to parts k has_case table) (part : S)
+    (here : slice_get parts k ≡ Some part) where
+  abbrev pub put : S → Machine
+  put x = with_parts m (place.among (set parts k x))
 
   put_same : put part ≡ m
-  put_same =
-      ap (λ (cs : List CoreState). record m { cores = cs; banks = banks part; drams = drams part }) same_cores
-      ∙ ap (λ (bs : List BankState). record m { banks = bs; drams = drams part }) same_banks
-      ∙ ap (λ (ds : List (FinMap nat_cmp (List ℕ))). record m { drams = ds }) same_drams
+  put_same = ap (λ ps. with_parts m (place.among ps)) (set_same parts k part here) ∙ place.same
 
   -- the machine with the part, the messages in flight, the record and the stop of an answer
   abbrev after : Answer × S × Mail → Answer × Machine
@@ -146,49 +163,12 @@ module _ {S : Type 0} (m : Machine) (cores : S → List CoreState) (banks : S �
         (is ∙ ap (λ (k : ℕ). applied k part m.mail n s) same_capacity) stop
         ∙ changes ∙ ap event is_view
 
-  -- so of a message that is delivered to the part, which makes this of it
-  module _ (n : ℕ) (message : Message) (there : Some message ≡ at_number n m.mail.messages)
-      (table : Message → Option (Reaction × S)) (capacity : ℕ) (same_capacity : capacity ≡ m.config.messages)
-      (seen : Machine) (is_view : m ≡ seen) (delivers : changed m put (Some n) (step.reacted (table message)) ≡
-      on_event m (Deliver n)) where
-    pub delivered : {E : Type 0} (result : Result PlainAnswer E) (new : S) (mail : Mail) (stopped : Bool) →
-        IfOk result (λ plain. IfSome (at_number n m.mail.messages) (λ x. ◌≡◌ {A = Answer × S × Mail}
-        (answer_of plain, new, mail) (applied capacity part m.mail (Some n) (step.reacted (table x))))) →
-        IfOk result (λ plain. stopped ≡ (stops (answer_of plain) || m.is_stopped)) →
-        IfOk result (λ plain. ◌≡◌ {A = Answer × Machine}
-        (answer_of plain, record (put new) { mail = mail; is_stopped = stopped }) (on_event seen (Deliver n)))
-    delivered (Ok plain) new mail stopped done stop =
-        event_done (Some n) (step.reacted (table message)) (reaction_fits (table message)) capacity same_capacity seen
-        is_view (λ x. on_event x (Deliver n)) delivers (answer_of plain) new mail stopped
-        (subst (λ o. IfSome o (λ (x : Message). ◌≡◌ {A = Answer × S × Mail}
-        (answer_of plain, new, mail) (applied capacity part m.mail (Some n) (step.reacted (table x))))) (sym there) done)
-        stop
-    delivered (Err e) new mail stopped done stop = tt
-
-    -- it takes memory if a message is sent
-    pub delivery_wanted : {X E : Type 0} (result : Result X E) →
-        OnErr result (IfSome (at_number n m.mail.messages) (λ x.
-        m.mail.next < (applied capacity part m.mail (Some n) (step.reacted (table x))).2.next)) →
-        OnErr result (TakesMemory seen (on_event seen (Deliver n)))
-    delivery_wanted (Ok x) sends = tt
-    delivery_wanted (Err e) sends =
-        let more : m.mail.next < (applied m.config.messages part m.mail (Some n) (step.reacted (table message))).2.next =
-        subst (λ (k : ℕ). m.mail.next < (applied k part m.mail (Some n) (step.reacted (table message))).2.next)
-        same_capacity
-        (subst (λ o. IfSome o (λ (x : Message).
-        m.mail.next < (applied capacity part m.mail (Some n) (step.reacted (table x))).2.next)) (sym there) sends) in
-        subst (λ (x : Machine). TakesMemory x (on_event x (Deliver n))) is_view
-        (subst (λ (x : Answer × Machine). TakesMemory m x) delivers
-        (inr (subst (λ (x : Answer × Machine). m.mail.next < x.1.mail.next)
-        (is_changed (Some n) (step.reacted (table message)) (reaction_fits (table message))) more)))
-
 -- an attempt of a core of the machine, which is put into its place
-module _ (m : Machine) (c : ℕ) (core : CoreState) (same : set m.cores c core ≡ m.cores) where
-  pub is_tried : (t : Tried) → FitsTried t → after m (λ x. set m.cores c x) (λ x. m.banks) (λ x. m.drams) core same refl refl
+module _ (m : Machine) (c : ℕ) (core : CoreState) (here : slice_get m.cores c ≡ Some core) where
+  pub is_tried : (t : Tried) → FitsTried t → after (core_place m c) core here
       (applied_attempt c (length m.records) m.config.messages m.mail core t) ≡ tried m c core t
   is_tried (step.Completes op received ts new) fits = refl
-  is_tried (step.Does s) fits =
-      is_changed m (λ x. set m.cores c x) (λ x. m.banks) (λ x. m.drams) core same refl refl None s fits
+  is_tried (step.Does s) fits = is_changed (core_place m c) core here None s fits
 
 -- what an option has that isn't empty
 pub had : {X : Type 0} (o : Option X) → IsSome o → (x : X) × (o ≡ Some x)

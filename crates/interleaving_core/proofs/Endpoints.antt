@@ -1,6 +1,7 @@
--- What parts send goes between nodes of its kind, and messages in flight find their part.
+-- What parts send goes between nodes of its kind, and messages in flight find their part, which does as the table says.
 use Rattle.std.proofs.Common.{◌≡◌, ℕ, ◌+◌, ◌<◌, ◌≤◌, ◌%◌, ◌++◌, Bool, true, false, cond, List, [], ◌∷◌, length, get_or}
-use Rattle.std.proofs.Common.{Option, Some, None, Result, Ok, Err, IfSome, OnErr, IsTrue, refl, sym, ap, ◌∙◌, subst, arith}
+use Rattle.std.proofs.Common.{Option, Some, None, Result, Ok, Err, IfOk, IfSome, OnErr, IsTrue, ◌||◌, inr, refl, sym}
+use Rattle.std.proofs.Common.{ap, ◌∙◌, subst, arith}
 use Rattle.std.specs.List.{slice_get, AllByRecursion as Each}
 use Rattle.std.specs.Option.{option_map, unwrap_or}
 use Rattle.std.specs.Ordering.{nat_cmp}
@@ -30,14 +31,15 @@ use Rattle.llc_bank.specs.declared.entry.Entry.TheVariants as entry
 use Rattle.llc_bank.specs.OnEntry.{evicted}
 use Rattle.llc_bank.specs.BankTable as bank_table
 use Rattle.llc_bank.specs.BankTable.{BankState}
-use Rattle.dram_mts.specs.Table.{dram_has_case, dram_table, needs_memory}
+use Rattle.dram_mts.specs.Table.{needs_memory}
 use Rattle.network.specs.Mail.{Mail, sent, taken, answered}
 use Rattle.machine_table.specs.declared.config.Config.{Config}
-use Rattle.machine_table.specs.Machine.{Machine, with_core, with_bank, with_dram}
+use Rattle.machine_table.specs.Machine.{Machine}
 use Rattle.machine_table.specs.Posted.{can_send}
 use Rattle.machine_table.specs.Step.{reacted}
 use Rattle.machine_table.specs.Transition.{changed, on_event, refused}
-use Rattle.machine_table.proofs.Lemmas.{delivers}
+use Rattle.machine_table.proofs.Lemmas.{delivers, reaction_fits}
+use Rattle.machine_table.specs.declared.event.Answer.{Answer}
 use Rattle.machine_table.specs.declared.event.Answer.TheVariants.{Delivered, Started}
 use Rattle.machine_table.specs.declared.event.Refusal.TheVariants.{NetworkFull}
 use Rattle.machine_theorem.specs.Cases.{takes, has_case_at, has_case}
@@ -50,7 +52,10 @@ use Rattle.machine_table.specs.declared.event.Event.TheVariants.{Deliver}
 use Rattle.interleaving_core.specs.declared.core_masks.CoreMasks.{CoreMasks}
 use Rattle.interleaving_core.specs.CoreMasks.{AreMasks}
 use Rattle.interleaving_core.specs.Reservation.{IsFitted, owed}
-use Rattle.interleaving_core.specs.StepAnswers.{asks_memory, is_first_store}
+use Rattle.interleaving_core.specs.declared.plain_answer.PlainAnswer.{PlainAnswer}
+use Rattle.interleaving_core.specs.PartChanges.{answer_of, applied, stops}
+use Rattle.interleaving_core.specs.StepAnswers.{TakesMemory, asks_memory, is_first_store}
+use Rattle.interleaving_core.proofs.ChangedParts.{Place, event_done, is_changed, put}
 use Rattle.interleaving_core.specs.Endpoints.{BackHasEndpoints, EvictedHasEndpoints, ReactionHasEndpoints}
 
 each_last : (P : Message → Type 0) (xs : List (ℕ × Message)) (x : ℕ × Message) → Each P (bag_of (xs ++ x ∷ [])) →
@@ -74,15 +79,6 @@ module _ {masks : CoreMasks} (config : Config) (flight : Flight) (cores : List C
   pub fitted_ends : (Ends : ℕ → ℕ → Type 0) → Ends config.cores config.banks → Ends flight.cores flight.banks
   fitted_ends Ends ends = subst (λ k. Ends k flight.banks) (sym fits.cores_are) (subst (λ k. Ends config.cores k)
       (sym fits.banks_are) ends)
-
-  pub fitted_reaction : {S : Type 0} (reaction : Option (Reaction × S)) →
-      (can_send config.messages flight.mail (sent_by reaction) ≡ true → ReactionHasEndpoints config.cores
-      config.banks reaction) →
-      IsTrue (can_send flight.capacity flight.mail (sent_by reaction)) → ReactionHasEndpoints flight.cores
-      flight.banks reaction
-  fitted_reaction reaction ends can =
-      fitted_ends (λ a b. ReactionHasEndpoints a b reaction)
-      (ends (subst (λ k. can_send k flight.mail (sent_by reaction) ≡ true) fits.capacity_is can))
 
   -- they stay so while the machine's set-up does
   pub still_fitted : (new : Flight) (after : List CoreState) (more : List Record) (room : ℕ) (others : CoreMasks) →
@@ -119,87 +115,97 @@ module _ {S : Type 0} (m : Machine) (n : ℕ) (put : S → Machine) (config : (x
       (refused m NetworkFull)).1) can invariant)
   reaction_endpoints _ invariant can = tt
 
--- messages in flight in a machine, which is seen as a model
-module _ (m seen : Machine) (is_view : m ≡ seen) (holds : Invariant seen) (n : ℕ) (message : Message)
-    (there : Some message ≡ at_number n m.mail.messages) where
+-- what holds of the thing that is there, as a clause says it
+pub of_there : {X : Type 0} (P : X → Type 0) {o : Option X} {x : X} → Some x ≡ o → IfSome o P → P x
+of_there P there holds = subst (λ o. IfSome o P) (sym there) holds
+
+pub holds_there : {X : Type 0} (P : X → Type 0) {o : Option X} {x : X} → Some x ≡ o → P x → IfSome o P
+holds_there P there holds = subst (λ o. IfSome o P) there holds
+
+-- a message in flight in a machine, which is seen as a model, and the part that it goes to, read where it is
+module _ {m seen : Machine} (is_view : m ≡ seen) (holds : Invariant seen) (n : ℕ) {message : Message}
+    (there : Some message ≡ at_number n m.mail.messages) {S : Type 0} {to : Node} {parts : List S} {k : ℕ}
+    {has : S → Message → Bool} {table : S → Message → Option (Reaction × S)} (place : Place m to parts k has table)
+    (goes : message.to ≡ to) {part : S} (read : part ≡ get_or parts k part) where
   invariant : Invariant m
   invariant = subst Invariant (sym is_view) holds
 
-  number : at_number n m.mail.messages ≡ Some message
-  number = sym there
+  found_case : takes has (slice_get parts k) message ≡ true
+  found_case =
+      sym (place.finds message) ∙ subst (λ x. has_case_at m message x ≡ true) goes
+      (each_at_number (λ x. has_case m x.1 ≡ true) n m.mail.messages message (sym there)
+      (messages_find_cases m invariant) (λ k p. p))
 
-  found_case : has_case m message ≡ true
-  found_case = each_at_number (λ x. has_case m x.1 ≡ true) n m.mail.messages message number
-      (messages_find_cases m invariant) (λ k p. p)
+  pub part_here : slice_get parts k ≡ Some part
+  part_here = found_here parts k (λ o. takes has o message) refl found_case part read
 
-  -- the part that it goes to has a case for it
-  case_at : (k : Node) → message.to ≡ k → has_case_at m message k ≡ true
-  case_at k to = subst (λ x. has_case_at m message x ≡ true) to found_case
+  has_case_here : has part message ≡ true
+  has_case_here = subst (λ o. takes has o message ≡ true) part_here found_case
 
-  -- a message that goes to a core, which was read where it is
-  module _ (c : ℕ) (to : message.to ≡ node.Core c) (core : CoreState) (read : core ≡ get_or m.cores c core) where
-    pub core_here : slice_get m.cores c ≡ Some core
-    core_here = found_here m.cores c (λ o. takes core_table.core_has_case o message) refl
-        (case_at (node.Core c) to) core read
+  -- it has a case for the message
+  pub gets_case : IfSome (at_number n m.mail.messages) (λ x. IsTrue (has part x))
+  gets_case = holds_there _ there has_case_here
 
-    pub core_has : core_table.core_has_case core message ≡ true
-    core_has = subst (λ o. takes core_table.core_has_case o message ≡ true) core_here (case_at (node.Core c) to)
+  delivers_here : changed m (put place part part_here) (Some n) (reacted (table part message)) ≡ on_event m (Deliver n)
+  delivers_here = sym (delivers m n message to (sym there) goes (put place part part_here) (slice_get parts k) part
+      part_here has table has_case_here (place.delivers n message))
 
-    pub core_delivers : changed m (with_core m c) (Some n) (reacted (core_table.core_table core message)) ≡
-        on_event m (Deliver n)
-    core_delivers = sym (delivers m n message (node.Core c) number to (with_core m c) (slice_get m.cores c) core
-        core_here core_table.core_has_case core_table.core_table core_has refl)
+  -- what it sends has the endpoints of its kind
+  pub with_endpoints : {masks : CoreMasks} {flight : Flight} {records : List Record} {room : ℕ} →
+      IsFitted m.config flight m.cores records room masks → IfSome (at_number n m.mail.messages)
+      (λ x. IsTrue (can_send flight.capacity m.mail (sent_by (table part x))) → ReactionHasEndpoints flight.cores
+      flight.banks (table part x))
+  with_endpoints {flight = flight} {records = records} {room = room} fits = holds_there _ there (λ can.
+      fitted_ends m.config flight m.cores records room fits (λ a b. ReactionHasEndpoints a b (table part message))
+      (reaction_endpoints m n (put place part part_here) (λ x. refl) (table part message)
+      (subst (λ o. Invariant o.1) (sym delivers_here) (any_event m invariant (Deliver n)))
+      (subst (λ k. can_send k m.mail (sent_by (table part message)) ≡ true) fits.capacity_is can)))
 
-    pub core_endpoints : can_send m.config.messages m.mail (sent_by (core_table.core_table core message)) ≡ true →
-        ReactionHasEndpoints m.config.cores m.config.banks (core_table.core_table core message)
-    core_endpoints = reaction_endpoints m n (with_core m c) (λ x. refl) (core_table.core_table core message)
-        (subst (λ o. Invariant o.1) (sym core_delivers) (any_event m invariant (Deliver n)))
+  -- what is made of the part and the messages in flight, at this capacity, the table makes of the machine
+  module _ {capacity : ℕ} (same_capacity : capacity ≡ m.config.messages) where
+    pub delivered : {E : Type 0} (result : Result PlainAnswer E) (new : S) (mail : Mail) (stopped : Bool) →
+        IfOk result (λ plain. IfSome (at_number n m.mail.messages) (λ x. ◌≡◌ {A = Answer × S × Mail}
+        (answer_of plain, new, mail) (applied capacity part m.mail (Some n) (reacted (table part x))))) →
+        IfOk result (λ plain. stopped ≡ (stops (answer_of plain) || m.is_stopped)) →
+        IfOk result (λ plain. ◌≡◌ {A = Answer × Machine} (
+          answer_of plain,
+          record (put place part part_here new) {
+            mail = mail;
+            is_stopped = stopped;
+          },
+        ) (on_event seen (Deliver n)))
+    delivered (Ok plain) new mail stopped done stop =
+        event_done place part part_here (Some n) (reacted (table part message)) (reaction_fits (table part message))
+        capacity same_capacity seen is_view (λ x. on_event x (Deliver n)) delivers_here (answer_of plain) new mail
+        stopped (of_there _ there done) stop
+    delivered (Err e) new mail stopped done stop = tt
 
-  -- so a bank
-  module _ (b : ℕ) (to : message.to ≡ node.Bank b) (bank : BankState) (read : bank ≡ get_or m.banks b bank) where
-    pub bank_here : slice_get m.banks b ≡ Some bank
-    bank_here = found_here m.banks b (λ o. takes bank_table.bank_has_case o message) refl
-        (case_at (node.Bank b) to) bank read
+    -- it takes memory if a message is sent
+    pub delivery_wanted : {X E : Type 0} (result : Result X E) →
+        OnErr result (IfSome (at_number n m.mail.messages) (λ x.
+        m.mail.next < (applied capacity part m.mail (Some n) (reacted (table part x))).2.next)) →
+        OnErr result (TakesMemory seen (on_event seen (Deliver n)))
+    delivery_wanted (Ok x) sends = tt
+    delivery_wanted (Err e) sends =
+        subst (λ (x : Machine). TakesMemory x (on_event x (Deliver n))) is_view
+        (subst (λ (x : Answer × Machine). TakesMemory m x) delivers_here
+        (inr (subst (λ (x : Answer × Machine). m.mail.next < x.1.mail.next)
+        (is_changed place part part_here (Some n) (reacted (table part message)) (reaction_fits (table part message)))
+        (subst (λ k. m.mail.next < (applied k part m.mail (Some n) (reacted (table part message))).2.next)
+        same_capacity (of_there _ there sends)))))
 
-    pub bank_has : bank_table.bank_has_case bank message ≡ true
-    bank_has = subst (λ o. takes bank_table.bank_has_case o message ≡ true) bank_here (case_at (node.Bank b) to)
-
-    pub bank_delivers : changed m (with_bank m b) (Some n) (reacted (bank_table.bank_table bank message)) ≡
-        on_event m (Deliver n)
-    bank_delivers = sym (delivers m n message (node.Bank b) number to (with_bank m b) (slice_get m.banks b) bank
-        bank_here bank_table.bank_has_case bank_table.bank_table bank_has refl)
-
-    pub bank_endpoints : can_send m.config.messages m.mail (sent_by (bank_table.bank_table bank message)) ≡ true →
-        ReactionHasEndpoints m.config.cores m.config.banks (bank_table.bank_table bank message)
-    bank_endpoints = reaction_endpoints m n (with_bank m b) (λ x. refl) (bank_table.bank_table bank message)
-        (subst (λ o. Invariant o.1) (sym bank_delivers) (any_event m invariant (Deliver n)))
-
-  -- so a DRAM
-  module _ (b : ℕ) (to : message.to ≡ node.Dram b) (lines : FinMap nat_cmp (List ℕ))
-      (read : lines ≡ get_or m.drams b lines) where
-    pub dram_here : slice_get m.drams b ≡ Some lines
-    dram_here = found_here m.drams b (λ o. takes dram_has_case o message) refl (case_at (node.Dram b) to) lines read
-
-    dram_has : dram_has_case lines message ≡ true
-    dram_has = subst (λ o. takes dram_has_case o message ≡ true) dram_here (case_at (node.Dram b) to)
-
-    pub dram_delivers : changed m (with_dram m b) (Some n) (reacted (dram_table lines message)) ≡
-        on_event m (Deliver n)
-    dram_delivers = sym (delivers m n message (node.Dram b) number to (with_dram m b) (slice_get m.drams b) lines
-        dram_here dram_has_case dram_table dram_has refl)
-
-    -- a store of a line that the DRAM doesn't have yet asks for memory
-    pub dram_asks : {X E : Type 0} (result : Result X E) →
-        OnErr result (IfSome (at_number n m.mail.messages) (λ x. IsTrue (needs_memory lines x))) →
-        OnErr result (IsTrue (asks_memory seen (Deliver n)))
-    dram_asks (Ok x) takes = tt
-    dram_asks (Err e) asks =
-        let takes = subst (λ o. IfSome o (λ (x : Message). IsTrue (needs_memory lines x))) (sym there) asks in
-        subst (λ o. unwrap_or (option_map (λ x. is_first_store seen x x.to) o) false ≡ true)
-        (there ∙ ap (λ (k : Machine). at_number n k.mail.messages) is_view)
-        (subst (λ k. is_first_store seen message k ≡ true) (sym to)
-        (subst (λ (k : Machine). is_first_store k message (node.Dram b) ≡ true) is_view
-        (ap (λ o. unwrap_or (option_map (λ dram. needs_memory dram message) o) false) dram_here ∙ takes)))
+-- a store of a line that a DRAM doesn't have yet asks for memory
+pub dram_asks : {m seen : Machine} → m ≡ seen → (n : ℕ) {message : Message} → Some message ≡
+    at_number n m.mail.messages → (b : ℕ) → message.to ≡ node.Dram b → {lines : FinMap nat_cmp (List ℕ)} →
+    slice_get m.drams b ≡ Some lines → {X E : Type 0} (result : Result X E) →
+    OnErr result (IfSome (at_number n m.mail.messages) (λ x. IsTrue (needs_memory lines x))) →
+    OnErr result (IsTrue (asks_memory seen (Deliver n)))
+dram_asks is_view n there b to here (Ok x) asks = tt
+dram_asks {m} {seen} is_view n {message} there b to here (Err e) asks =
+    subst (λ (k : Machine). asks_memory k (Deliver n) ≡ true) is_view
+    (subst (λ o. unwrap_or (option_map (λ x. is_first_store m x x.to) o) false ≡ true) there
+    (subst (λ k. is_first_store m message k ≡ true) (sym to)
+    (ap (λ o. unwrap_or (option_map (λ dram. needs_memory dram message) o) false) here ∙ of_there _ there asks)))
 
 -- what a core sends back goes to a bank
 module _ (m : Machine) (s : Invariant m) (c : ℕ) (core : CoreState) (here : slice_get m.cores c ≡ Some core) where

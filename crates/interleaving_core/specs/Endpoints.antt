@@ -1,16 +1,12 @@
 -- What an event of a part sends has the endpoints of its kind.
-use Rattle.std.specs.Prelude.{ℕ, Bool, true, false, IsTrue, Option, Some, None, Result, Ok, Err}
+use Rattle.std.specs.Prelude.{ℕ, Bool, true, false, IsTrue, Option, Some, None, Result, Ok}
 use Rattle.network.specs.declared.message.Message.{Message}
 use Rattle.network.specs.declared.part.Reaction.{Reaction}
-use Rattle.network.specs.Flight.{Flight}
 use Rattle.network.specs.Routes.{has_endpoints}
-use Rattle.network.specs.Sends.{sent_in}
 use Rattle.private_cache.specs.declared.cache.CacheError.{CacheError}
 use Rattle.llc_bank.specs.declared.entry.Evict.{Evict}
 use Rattle.llc_bank.specs.declared.entry.Evict.TheVariants as evict
 use Rattle.llc_bank.specs.declared.entry.EvictError.{EvictError}
-use Rattle.machine_table.specs.declared.event.Refusal.{Refusal}
-use Rattle.machine_table.specs.Posted.{can_send}
 use Rattle.machine_table.specs.Step.{Step, Makes, reacted}
 
 -- by a step of a part
@@ -25,13 +21,6 @@ SendsWithEndpoints cores banks reaction = StepHasEndpoints cores banks (reacted 
 abbrev pub ReactionHasEndpoints : {S : Type 0} → ℕ → ℕ → Option (Reaction × S) → Type 0
 ReactionHasEndpoints cores banks None = Unit {0}
 ReactionHasEndpoints cores banks (Some reaction) = SendsWithEndpoints cores banks reaction.0
-
--- by a part's response: it can be sent, too
-abbrev pub CanConclude : Flight → Result Reaction Refusal → Type 0
-CanConclude flight (Ok reaction) =
-    SendsWithEndpoints flight.cores flight.banks reaction
-    × IsTrue (can_send flight.capacity flight.mail (sent_in reaction))
-CanConclude flight (Err why) = Unit {0}
 
 -- by the eviction of a copy, and whether there is such a message
 abbrev pub BackHasEndpoints : ℕ → ℕ → Result (Option Message) CacheError → Type 0

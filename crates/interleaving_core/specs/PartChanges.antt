@@ -1,12 +1,11 @@
 -- What a step of one part makes of the part and the messages in flight, and what its answer makes of the machine.
 use Rattle.std.specs.Prelude.{◌≡◌, ℕ, Bool, true, false, List, [], ◌∷◌, ◌++◌, Option, Some, None}
-use Rattle.std.specs.Prelude.{◌-◌, Result, Ok, Err, if◌then◌else◌, length, slice_get}
+use Rattle.std.specs.Prelude.{◌-◌, if◌then◌else◌, length, slice_get}
 use Rattle.physiological_order.specs.declared.operation.Record.{Record}
 use Rattle.network.specs.declared.part.Reaction.{Reaction}
 use Rattle.network.specs.Mail.{Mail}
 use Rattle.machine_table.specs.declared.event.Answer.{Answer}
 use Rattle.machine_table.specs.declared.event.Answer.TheVariants as answer
-use Rattle.machine_table.specs.declared.event.Refusal.{Refusal}
 use Rattle.machine_table.specs.declared.event.Refusal.TheVariants.{Exhausted, NetworkFull}
 use Rattle.core_pts.specs.CoreTable.{CoreState}
 use Rattle.interleaving_core.specs.declared.plain_answer.PlainAnswer.{PlainAnswer}
@@ -103,12 +102,3 @@ settled mail n (Makes why consumes sends after) = (why, posted mail (Some n) con
 -- so by the part's reaction: the same at every part
 abbrev pub settled_answer : Mail → ℕ → Reaction → Answer × Mail
 settled_answer mail n reaction = settled mail n (reacted (Some (reaction, tt {0})))
-
--- the answer to the delivery of a message, by the part's response, and the messages in flight afterwards
-abbrev pub concluded : Mail → ℕ → Result Reaction Refusal → Answer × Mail
-concluded mail n (Ok reaction) = settled_answer mail n reaction
-concluded mail n (Err why) = (answer.Refused why, mail)
-
--- so with the part
-abbrev pub responded : {S : Type 0} → Mail → ℕ → Result Reaction Refusal → S → Answer × S × Mail
-responded mail n response part = let x = concluded mail n response in (x.0, part, x.1)

@@ -7,52 +7,18 @@ ghost use Rattle.network.specs.Routes.{has_endpoints};
 ghost use Rattle.network.specs.Sends.{sent_by, sent_in};
 ghost use Rattle.machine_table.specs.Posted.{can_send};
 ghost use Rattle.machine_table.specs.Step.{Stays, reacted};
-ghost use Rattle.interleaving_core.specs.PartChanges.{answer_of, applied, concluded, responded};
-ghost use Rattle.interleaving_core.specs.PartChanges.{settled_answer};
-ghost use Rattle.interleaving_core.specs.PartChanges.{stops};
-ghost use Rattle.interleaving_core.specs.Endpoints.{CanConclude, ReactionHasEndpoints, SendsWithEndpoints};
+ghost use Rattle.interleaving_core.specs.PartChanges.{answer_of, applied, settled_answer, stops};
+ghost use Rattle.interleaving_core.specs.Endpoints.{ReactionHasEndpoints, SendsWithEndpoints};
 
-use crate::plain_answer::{PlainAnswer, stop_after};
+use crate::plain_answer::PlainAnswer;
 use machine_table::Refusal;
 use network::{InFlight, Message, MsgNo, Node, Part, PartError, Reaction};
 use std::alloc::AllocError;
 
-/// What a part makes of a message: its reaction, or why there is none. NetworkFull, if what the part would send can't
-/// be sent, and Exhausted leave the part unchanged; an error does so too, and comes only if a message would be sent.
-#[inline(always)]
-fn respond<P: Part>(
-    part: &mut P,
-    flight: &InFlight,
-    message: &Message,
-) -> Result<Result<Reaction, Refusal>, AllocError>
-    requires case { IsTrue (P.has_case part.old message.now) }
-    requires quiet { Stays part.old (P.table part.old message.now) }
-    requires endpoints { IsTrue (can_send flight.now.capacity flight.now.mail
-        (sent_by (P.table part.old message.now))) → ReactionHasEndpoints flight.now.cores
-        flight.now.banks (P.table part.old message.now) }
-    ensures done { IfOk result (λ response. (number : ℕ) →
-        responded flight.now.mail number response part.new ≡ applied flight.now.capacity part.old
-        flight.now.mail (Some number) (reacted (P.table part.old message.now))) }
-    ensures sent { IfOk result (λ response. CanConclude flight.now response) }
-    ensures memory { OnErr result ((number : ℕ) →
-        flight.now.mail.next < (applied flight.now.capacity part.old flight.now.mail
-        (Some number) (reacted (P.table part.old message.now))).2.next) }
-    ensures sure { OnErr result (IsTrue (P.takes_memory part.old message.now)) }
-    ensures refused { OnErr result (part.new ≡ part.old) }
-{
-    if !can_answer(part, flight, message) {
-        return Ok(Err(Refusal::NetworkFull));
-    }
-    match part.deliver(message) {
-        Err(PartError::Exhausted) => Ok(Err(Refusal::Exhausted)),
-        Err(PartError::NoMemory) => Err(AllocError),
-        Ok(reaction) => Ok(Ok(reaction)),
-    }
-}
-
 /// A message in flight is delivered to its part: the answer, and the part and the messages in flight afterwards.
-/// Exhausted times stop the machine. An error leaves all as it was. What a function keeps on its stack is set to zeros
-/// where it begins, so each large part has a call of its own: the compiler inlines only the small ones.
+/// Exhausted times stop the machine. An error leaves all as it was. The compiler sets what a function keeps on its
+/// stack to zeros where that begins, also where it is inlined: so a delivery does so for the response of one part
+/// alone.
 #[inline(always)]
 pub(crate) fn deliver_to<P: Part>(
     part: &mut P,
@@ -85,35 +51,19 @@ pub(crate) fn deliver_to<P: Part>(
     let Some(message) = flight.look(number) else {
         unreachable!()
     };
-    let response = respond(part, flight, message)?;
-    Ok(conclude(flight, is_stopped, number, response))
-}
-
-/// The answer to a delivery by a part's response, and the messages in flight afterwards. Exhausted times stop the
-/// machine.
-#[inline(always)]
-fn conclude(
-    flight: &mut InFlight,
-    is_stopped: &mut bool,
-    number: MsgNo,
-    response: Result<Reaction, Refusal>,
-) -> PlainAnswer
-    requires there { IsSome (at_number number flight.old.mail.messages) }
-    requires sent { CanConclude flight.old response }
-    ensures done { (answer_of result, flight.new.mail) ≡ concluded flight.old.mail number
-        response }
-    ensures stop { is_stopped.new ≡ (stops (answer_of result) || is_stopped.old) }
-    ensures set_up { SameNetwork flight.old flight.new }
-{
-    match response {
-        Err(why) => {
-            stop_after(is_stopped, PlainAnswer::Refused(why));
-            PlainAnswer::Refused(why)
+    if !can_answer(part, flight, message) {
+        return Ok(PlainAnswer::Refused(Refusal::NetworkFull));
+    }
+    match part.deliver(message) {
+        Err(PartError::NoMemory) => Err(AllocError),
+        Err(PartError::Exhausted) => {
+            *is_stopped = true;
+            Ok(PlainAnswer::Refused(Refusal::Exhausted))
         }
         Ok(reaction) => {
             let delivery = delivery_of(&reaction);
             settle(flight, number, reaction);
-            delivery
+            Ok(delivery)
         }
     }
 }

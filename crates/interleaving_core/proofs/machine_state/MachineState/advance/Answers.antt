@@ -1,4 +1,4 @@
-use Rattle.std.proofs.Common.{None, ap, sym, subst, refl, ◌∙◌, arith, length, set}
+use Rattle.std.proofs.Common.{None, ap, sym, subst, refl, ◌∙◌, arith, length}
 use Rattle.std.proofs.lemmas.Option.{slice_get_read}
 use Rattle.network.specs.Mail.{Mail}
 use Rattle.core_pts.specs.CoreTable as core_table
@@ -11,7 +11,7 @@ use Rattle.machine_table.specs.Transition.{changed, on_event}
 use Rattle.machine_table.proofs.Lemmas.{advance_fits, finds}
 use Rattle.interleaving_core.specs.contracts.machine_state.MachineState.{the_view}
 use Rattle.interleaving_core.specs.PartChanges.{answer_of}
-use Rattle.interleaving_core.proofs.ChangedParts.{made_without, set_same}
+use Rattle.interleaving_core.proofs.ChangedParts.{core_place, made_without}
 use Rattle.interleaving_core.proofs.MaskedCores.{still_masked}
 use Rattle.interleaving_core.proofs.Only.{SameStatus, advance_only, kept}
 use Rattle.interleaving_core.proofs.OpenCounts.{owed_kept}
@@ -41,9 +41,8 @@ returns c =
     let core = c.index_mut.result.now in
     let here = slice_get_read c.self.inside.cores.items (length c.self.inside.cores.items) c.args.core
     c.index_mut.result.now refl (omega (arith, c.if-at-len.false, c.len.ensures)) c.index_mut.ensures.value in
-    made_without m (λ x. set m.cores c.args.core x) (λ x. m.banks) (λ x. m.drams) core
-    (set_same m.cores c.args.core core here) refl refl
-    None _ (advance_fits (core_table.advance core)) (answer_of c.advance-plain.result) c.advance-plain.new.core m.mail
-    c.stop_after.new.is_stopped (c.advance-plain.ensures m.config.messages m.mail) c.stop_after.ensures
+    made_without (core_place m c.args.core) core here None _ (advance_fits (core_table.advance core))
+    (answer_of c.advance-plain.result) c.advance-plain.new.core m.mail c.stop_after.new.is_stopped
+    (c.advance-plain.ensures m.config.messages m.mail) c.stop_after.ensures
     ∙ sym (finds m (λ x. changed m (with_core m c.args.core) None (advanced (core_table.advance x))) here)
     ∙ ap (λ (n : Machine). on_event n (Advance c.args.core)) c.self.view_is

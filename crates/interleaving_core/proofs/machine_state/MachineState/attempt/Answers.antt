@@ -1,4 +1,4 @@
-use Rattle.std.proofs.Common.{◌≡◌, ℕ, ◌+◌, ap, sym, subst, refl, ◌∙◌, arith, length, set}
+use Rattle.std.proofs.Common.{◌≡◌, ℕ, ◌+◌, ap, sym, subst, refl, ◌∙◌, arith, length}
 use Rattle.std.proofs.lemmas.Option.{slice_get_read}
 use Rattle.network.specs.Mail.{Mail}
 use Rattle.core_pts.specs.CoreTable.{CoreState}
@@ -12,7 +12,7 @@ use Rattle.machine_theorem.specs.Kept.{Invariant}
 use Rattle.interleaving_core.specs.contracts.machine_state.MachineState.{the_view}
 use Rattle.interleaving_core.specs.PartChanges.{StandsAfter, applied_attempt, with_record}
 use Rattle.interleaving_core.specs.Reservation.{owed_for}
-use Rattle.interleaving_core.proofs.ChangedParts.{is_tried, put_so, set_same}
+use Rattle.interleaving_core.proofs.ChangedParts.{core_place, is_tried, put_so}
 use Rattle.interleaving_core.proofs.LastRecord.{told_in}
 use Rattle.interleaving_core.proofs.Only.{attempt_only, attempt_stands, balanced}
 use Rattle.interleaving_core.proofs.OpenCounts.{owed_set}
@@ -85,11 +85,10 @@ returns-clause-tried c =
     ∙ ap (λ (n : ℕ). applied_attempt c.args.core (length m.records) n m.mail core tries)
     c.self.invariant.capacity_is in
     told_in _ m.records c.attempt-answer.result c.plain_of.result _ c.plain_of.ensures c.keep.ensures.records
-    (put_so m (λ x. set m.cores c.args.core x) (λ x. m.banks) (λ x. m.drams) core
-    (set_same m.cores c.args.core core here) refl refl
+    (put_so (core_place m c.args.core) core here
     (applied_attempt c.args.core (length m.records) m.config.messages m.mail core tries)
     (tried m c.args.core core tries)
-    (is_tried m c.args.core core (set_same m.cores c.args.core core here) tries (attempt_fits core core.open_op))
+    (is_tried m c.args.core core here tries (attempt_fits core core.open_op))
     c.attempt-answer.result c.attempt-answer.new.core c.attempt-answer.new.flight.mail
     c.keep.new.records.items c.stop.new.is_stopped
     done c.keep.ensures.records c.stop.ensures

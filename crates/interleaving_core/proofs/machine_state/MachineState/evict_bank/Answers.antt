@@ -1,4 +1,4 @@
-use Rattle.std.proofs.Common.{None, sym, subst, refl, arith, length, set}
+use Rattle.std.proofs.Common.{None, sym, subst, refl, arith, length}
 use Rattle.std.proofs.lemmas.Option.{slice_get_read}
 use Rattle.llc_bank.specs.BankTable as bank_table
 use Rattle.machine_table.specs.Machine.{Machine, with_bank}
@@ -10,7 +10,7 @@ use Rattle.machine_theorem.specs.Kept.{Invariant}
 use Rattle.interleaving_core.specs.contracts.machine_state.MachineState.{the_view}
 use Rattle.interleaving_core.specs.PartChanges.{answer_of}
 use Rattle.interleaving_core.specs.Endpoints.{EvictedHasEndpoints}
-use Rattle.interleaving_core.proofs.ChangedParts.{event_done, set_same}
+use Rattle.interleaving_core.proofs.ChangedParts.{bank_place, event_done}
 use Rattle.interleaving_core.proofs.Endpoints.{evicted_endpoints, fitted_ends}
 use Rattle.interleaving_core.proofs.machine_state.MachineState.evict_bank.Goals as goal
 
@@ -33,9 +33,8 @@ returns c =
     let part = c.index_mut.result.now in
     let here = slice_get_read c.self.inside.banks.items (length c.self.inside.banks.items) c.args.bank part refl
     (omega (arith, c.if-at-len.false, c.len.ensures)) c.index_mut.ensures.value in
-    event_done m (λ x. m.cores) (λ x. set m.banks c.args.bank x) (λ x. m.drams) part refl
-    (set_same m.banks c.args.bank part here) refl
-    None (entry_evicted (bank_table.evict part c.args.line)) (entry_fits (bank_table.evict part c.args.line))
+    event_done (bank_place m c.args.bank) part here None
+    (entry_evicted (bank_table.evict part c.args.line)) (entry_fits (bank_table.evict part c.args.line))
     c.self.inside.flight.capacity c.self.invariant.capacity_is _ c.self.view_is
     (λ n. on_event n (EvictBank c.args.bank c.args.line))
     (sym (finds m (λ x. changed m (with_bank m c.args.bank) None

@@ -1,4 +1,4 @@
-use Rattle.std.proofs.Common.{None, sym, subst, refl, arith, length, set}
+use Rattle.std.proofs.Common.{None, sym, subst, refl, arith, length}
 use Rattle.std.proofs.lemmas.Option.{slice_get_read}
 use Rattle.network.specs.Mail.{Mail}
 use Rattle.core_pts.specs.CoreTable as core_table
@@ -13,7 +13,7 @@ use Rattle.machine_theorem.specs.Kept.{Invariant}
 use Rattle.interleaving_core.specs.contracts.machine_state.MachineState.{the_view}
 use Rattle.interleaving_core.specs.PartChanges.{answer_of}
 use Rattle.interleaving_core.specs.Endpoints.{BackHasEndpoints}
-use Rattle.interleaving_core.proofs.ChangedParts.{event_done, set_same}
+use Rattle.interleaving_core.proofs.ChangedParts.{core_place, event_done}
 use Rattle.interleaving_core.proofs.Endpoints.{back_endpoints, fitted_ends, still_fitted}
 use Rattle.interleaving_core.proofs.MaskedCores.{still_masked}
 use Rattle.interleaving_core.proofs.Only.{SameStatus, evict_only, kept}
@@ -53,9 +53,8 @@ returns c =
     let part = c.index_mut.result.now in
     let here = slice_get_read c.self.inside.cores.items (length c.self.inside.cores.items) c.args.core part refl
     (omega (arith, c.if-at-len.false, c.len.ensures)) c.index_mut.ensures.value in
-    event_done m (λ x. set m.cores c.args.core x) (λ x. m.banks) (λ x. m.drams) part
-    (set_same m.cores c.args.core part here) refl refl
-    None (copy_evicted (core_table.evict part c.args.line)) (copy_fits (core_table.evict part c.args.line))
+    event_done (core_place m c.args.core) part here None
+    (copy_evicted (core_table.evict part c.args.line)) (copy_fits (core_table.evict part c.args.line))
     c.self.inside.flight.capacity c.self.invariant.capacity_is _ c.self.view_is
     (λ n. on_event n (EvictCache c.args.core c.args.line))
     (sym (finds m (λ x. changed m (with_core m c.args.core) None (copy_evicted (core_table.evict x c.args.line))) here))

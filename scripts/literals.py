@@ -1,16 +1,18 @@
 #!/usr/bin/env python3
 """Counts the numbers from 2 on that the code of the production crates has, and what stands for one: uses of constants
 that are numbers or structures (with what is added to one), casts to fewer bits, `try_from` and `try_into`, the types
-i8, i16 and u16, shifts, the ends of signed types and of usize, and room that doesn't double (`reserve_exact`,
-`shrink_to`). It also counts steps on shared words (`load`, `swap`, `fetch_add`), such words of the host (`AtomicU64`),
-whether a seat changes (`if changes`), and what makes a thread wait (`yield_now`, `spin_loop`, `sleep`, `park`).
+i8, i16 and u16, shifts, what tells a number by its bits (`is_power_of_two`, `trailing_zeros`), the ends of signed types
+and of usize, and room that doesn't double (`reserve_exact`, `shrink_to`). It also counts steps on shared words (`load`,
+`swap`, `fetch_add`), such words of the host (`AtomicU64`), whether a seat changes (`if changes`), and what makes a
+thread wait (`yield_now`, `spin_loop`, `sleep`, `park`).
 
     scripts/literals.py            lists them: crate, number or other sign, how often
     scripts/literals.py --check    compares them with tests/literals.table, and fails if they differ
 
 A body that does something else past some size may meet each clause, but needs one of these for it. So each has its
-reason in the table, and one more, or another one, fails. Clauses, imports, comments, texts and the numbers of errors
-(`Kind::BadTable => 7,`) don't count. `u8::MAX` counts as 255, and so does `u8::BITS`.
+reason in the table, and one more, or another one, fails. Clauses, imports, comments, texts, attributes but
+`#[error(..)]` and the numbers of errors (`Kind::BadTable => 7,`) don't count. `u8::MAX` counts as 255, and so does
+`u8::BITS`.
 """
 import re
 import sys
@@ -21,7 +23,7 @@ TOP = Path(__file__).resolve().parent.parent
 TABLE = TOP / "tests/literals.table"
 NOT_PRODUCTION = ("test_", "bench", "play_", "event_text", "guide_uses")
 TEXT = r"//.*|b?'(?:\\.|[^'\\])'|\"(?:\\[^']|[^\"\\])*\""
-QUIET = re.compile(TEXT + r"|#!?\[[^]]*\]|(?:Kind|Refusal|\w+Error)::\w+(?:\(_\))? => \d\d?,")
+QUIET = re.compile(TEXT + r"|#!?\[(?!error\b)[^]]*\]|(?:Kind|Refusal|\w+Error)::\w+(?:\(_\))? => \d\d?,")
 IMPORT = re.compile(r"\buse [^;]*;")
 CLAUSE = re.compile(r"\b(?:ensures|requires)\b[^{]*\{|\bghost [^;{]*[;{]")
 NUMBER = re.compile(r"(?<!\w)(?<!(?<!\.)\.)(0[xbo][\da-fA-F_]+|\d[\d_]*?)(?:_?[ui](?:8|16|32|64|128|size))?(?!\w)")
@@ -29,7 +31,8 @@ GREATEST = re.compile(r"\bu(8|16|32|64|128)::(?:MAX|BITS)\b")
 CONSTANT = re.compile(r"\bconst (\w+): (?:\w+ = \d|(\w+) = \2 \{)")
 SIGN = re.compile(r"\b(?:reserve_exact|shrink_to(?:_fit)?)\b|\bas [iu](?:8|16|32)\b|\btry_(?:from|into)\b|\b(?:i8|[iu]16)\b|"
                   r"\b(?:i\w+|usize)::(?:MAX|MIN|BITS)\b|(?<=\s)(?:<<|>>)(?==?\s)|\b(?:load|swap|fetch_\w+)(?=::<)|"
-                  r"\b(?:yield_now|spin_loop|sleep|park\w*|wake_\w+|Atomic\w+|if changes)\b|\bchange_\w+_if(?=\()")
+                  r"\b(?:yield_now|spin_loop|sleep|park\w*|wake_\w+|Atomic\w+|if changes)\b|\bchange_\w+_if(?=\()|"
+                  r"\b(?:is_(?:power|multiple)_of\w*|\w+_(?:zeros|ones)|ilog\w*)(?=\(\w*\))")
 ROW = re.compile(r"(\w+) \| ([\w <>:+-]+) \| (\d+) \| \S")
 
 

@@ -27,7 +27,7 @@ GOES_ON = re.compile(r"\s*Err\(AllocError\) => (?!(?:return )?Err\(|\w+\(Err\(|.
                      r"\.(?:ok|is_err|is_ok|unwrap_or\w*)\(|\blet Ok\(|\byield_now\()")
 SKIPPED = re.compile(r"\s*(ghost |ensures\b|requires\b|impl\b|\) ->|[^=]*[≡≢])")
 CALL = re.compile(r"(?<!fn )\b(?:reserve|with_capacity|from_elem|new_results)\w*(?:::<.*?>)?(?=\()|\bvec!(?=\[in )|"
-                  r"\b(?:(?:RankedLines|Blocks)::of|(?:Arena|Chains|Cells|Rows|LineSets)::new)(?=\()")
+                  r"\b(?:(?:RankedLines|Blocks)::of|(?:Arena|Chains|Cells|Rows|LineSets|LanePlaces)::new)(?=\()")
 BOUND = re.compile(r"\s*(?:let (?P<pattern>.*?)(?:: .*?)?|(?P<name>\w+)) [-+*/%&|^<>]*=(?!=)")
 PLAIN = re.compile(r"(?:[\d_]+|(?:\w+\.)+len\(\))(?: as usize)?")
 IMPORT = re.compile(r"\s*(pub )?use ")

@@ -271,7 +271,7 @@ def text_of(lines):
 PARTS = {"growths": growths, "threads": refused_threads, "batches": refused_batches, "devices": devices,
          "host": host}
 # A part that refuses less often has lost some.
-LEAST = {"growths": 6000, "threads": 1200, "batches": 900, "devices": 1300, "host": 220, "steps": 1200, "lists": 800,
+LEAST = {"growths": 6000, "threads": 1200, "batches": 1400, "devices": 1300, "host": 220, "steps": 1200, "lists": 800,
          "drives": 700, "seats": 500}
 PLAYER_PARTS = {"steps": refused_steps, "lists": refused_lists, "drives": refused_drives, "seats": refused_seats}
 

@@ -16,7 +16,6 @@ from refused_threads import are_started
 TOP = Path(__file__).resolve().parent.parent
 NO_MEMORY = (1, "", "tardis: no memory\n")
 WORKERS = 2
-RUNS = 5
 KINDS = ("no memory", "a run ended for want of memory", "done")
 
 
@@ -38,7 +37,7 @@ def kind_of(ran, whole, cut):
 def sweep(tester, words, how):
     """Refuses the 1st, 2nd, .. growth alone, or with each later one, until nothing is left to refuse."""
     (whole, cut), kinds, number = texts_of(words), Counter(), 0
-    name = f"{RUNS} seeds of {Path(words[-1]).name} by {WORKERS} workers"
+    name = f"--runs {words[-2]} of {words[-1].name} by {WORKERS} workers"
     unstarted = at_work = 0
     while True:
         number += 1
@@ -63,12 +62,11 @@ def sweep(tester, words, how):
 
 def refused_batches(tester):
     text = TOP / "examples" / "litmus" / "SB.litmus"
-    for runs in (3, 40):
+    for runs in (1, 3, 40):
         are_started(tester, "litmus", "--schedule", "seed", "--runs", runs, text)
     ran = tester.run(["litmus", "--schedule", "seed", "--runs", 100_000, "--workers", 16, text])
     tester.expect(ran.started == 15, f"100,000 runs by 16 workers: {ran.started} threads were started")
-    for test in ("SB", "SB+forall"):
-        text = TOP / "examples" / "litmus" / f"{test}.litmus"
-        words = ["litmus", "--schedule", "seed", "--seed", 7, "--runs", RUNS, text]
+    for runs, test in ((1, "SB"), (5, "SB"), (5, "SB+forall")):
+        words = ["litmus", "--schedule", "seed", "--seed", 7, "--runs", runs, text.with_stem(test)]
         for how in ("", "+"):
             sweep(tester, words, how)

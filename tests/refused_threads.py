@@ -260,8 +260,9 @@ def yields_where_due(tester, folder):
 
 def refused_threads(tester):
     lets_others_run(tester)
-    are_started(tester, "litmus", "--schedule", "threads", LITMUS)
-    are_started(tester, "litmus", "--schedule", "threads", "--time", LAST_TIME, LITMUS)
+    for end in ((), ("--time", LAST_TIME), ("--limit", 1)):
+        for runs in (1, 3):
+            are_started(tester, "litmus", "--schedule", "threads", *end, "--runs", runs, LITMUS, runs=runs)
     are_started(tester, "trace", "--schedule", "threads", TRACE)
     are_started(tester, "trace", "--schedule", "threads", "--time", LAST_TIME, TRACE)
     with tempfile.TemporaryDirectory() as folder:

@@ -275,6 +275,39 @@ static void one_list(void) {
     MUST(told.kind == TARDIS_MISSING_NUMBER && told.number == 0);
 }
 
+/* Numbers past 32 bits, or 16: a field of the library that is narrower than the header's would have their low bits. */
+static void wide(void) {
+    static struct tardis_operation wide_issued[2] = {{0, TARDIS_STORE, 0, 0x100000001}, {0, TARDIS_LOAD, 0, 0}};
+    static struct tardis_record wide_done[2] = {
+        {{0, TARDIS_STORE, 0, 0x100000001}, 0, 0, 1, 0}, {{0, TARDIS_LOAD, 0, 0}, 1, 0x100000001, 0x100000000, 1}};
+    struct tardis_options options;
+    uint64_t *const sizes[] = {&options.lease, &options.banks, &options.sets, &options.ways, &options.bank_sets,
+                               &options.bank_ways, &options.line_words, &options.messages};
+    size_t at;
+    MUST(answers(wide_issued, 2, wide_done, 2, TARDIS_DONE, TARDIS_LEGAL, 0));
+    wide_done[1].received = 1;
+    MUST(answers(wide_issued, 2, wide_done, 2, TARDIS_NOT_DONE, TARDIS_WRONG_VALUE, 1));
+    wide_done[1].number = 0x100000001;
+    MUST(answers(wide_issued, 2, wide_done, 2, TARDIS_NOT_DONE, TARDIS_MISSING_NUMBER, 1));
+    wide_issued[1].kind = 65536;
+    MUST(answers(wide_issued, 2, wide_done, 2, TARDIS_BAD_OPERATION, TARDIS_BAD_KIND, 1));
+    wide_issued[1].core = 65536;
+    MUST(answers(wide_issued, 2, wide_done, 2, TARDIS_BAD_OPERATION, TARDIS_BAD_CORE, 1));
+    for (at = 0; at < sizeof sizes / sizeof *sizes; at++) {
+        tardis_defaults(&options);
+        *sizes[at] += 0x100000000;
+        MUST(trace(TRACE, &options, 1000) == TARDIS_BAD_MACHINE && has("tardis: bad configuration\n"));
+    }
+    tardis_defaults(&options); /* what a report of no run doesn't grow by is refused to the first of 2^32 runs */
+    options.limit = options.runs = growths = 0;
+    MUST(litmus(TEST, &options, 0) == TARDIS_SHORT_BUFFER);
+    refused_at = growths + 1;
+    options.runs = 0x100000000;
+    growths = 0;
+    MUST(litmus(TEST, &options, 1000) == TARDIS_NO_MEMORY && has("tardis: no memory\n"));
+    refused_at = 0;
+}
+
 /* Each growth of memory is refused in turn, until a call asks for no more. */
 static void refusals(void) {
     struct tardis_options options;
@@ -311,6 +344,7 @@ int main(void) {
     nulls();
     arrays();
     many();
+    wide();
     one_list();
     refusals();
     return 0;

@@ -33,6 +33,8 @@ class Turned:
         moved = [(front, base + by * turn, form) for front, base, by, form in self.pieces]
         if any(number > LAST for _, number, _ in moved):
             raise Unreadable("a number is too large")
+        if any(number < 0 for _, number, _ in moved):
+            raise Unreadable("a number is below 0")
         return "".join([f"{front}{number:{form}}" for front, number, form in moved]) + self.rest
 
 

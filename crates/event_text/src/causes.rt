@@ -8,6 +8,8 @@ pub enum Cause {
     Number,
     /// A number past 64 bits, or past 32 where a call takes only those.
     TooLarge,
+    /// A number that falls below 0 in a turn.
+    BelowZero,
     Drawers,
     Address,
     Unaligned,
@@ -42,6 +44,7 @@ impl Cause {
         match self {
             Cause::Number => "a number is wanted",
             Cause::TooLarge => "a number is too large",
+            Cause::BelowZero => "a number is below 0",
             Cause::Drawers => "a number from 1 to 16 is wanted",
             Cause::Address => "an address is wanted",
             Cause::Unaligned => "an address is a multiple of 8",

@@ -93,7 +93,8 @@ pub(crate) fn in_turn(word: &str, turn: Option<u64>) -> Result<Option<(Kind, u64
     };
     match moved(kind, number, turn, step) {
         Some(number) => Ok(Some((kind, number))),
-        None => Err(Cause::TooLarge),
+        None if step.is_up => Err(Cause::TooLarge),
+        None => Err(Cause::BelowZero),
     }
 }
 

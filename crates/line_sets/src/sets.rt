@@ -113,13 +113,6 @@ impl<V: Copy + Listed> LineSets<V> {
         self.arena.lists() as usize
     }
 
-    /// The most lines that a set has.
-    pub fn ways(&self) -> usize
-        ensures { result ≡ self.now.ways }
-    {
-        self.ways
-    }
-
     /// What is kept of a line in a set.
     #[inline(always)]
     pub fn find(&self, set: usize, line: u64) -> Option<&V>

@@ -2,6 +2,8 @@
 //! and ends with the exit status that comes back.
 #![tactic(auto)]
 
+ghost use Rattle.std.specs.Prelude.{◌≡◌, length, IfOk};
+
 mod answers;
 mod files;
 mod host;
@@ -20,8 +22,10 @@ fn words_of(rt: &HostRuntime) -> io::Result<Vec<String>> {
     Ok(std::env::args(rt)?.collect(rt.alloc())?)
 }
 
-/// The words as they are borrowed.
-fn borrowed<'a>(rt: &HostRuntime, texts: &'a [String]) -> Result<Vec<&'a str>, AllocError> {
+/// The words as they are borrowed, one for one.
+fn borrowed<'a>(rt: &HostRuntime, texts: &'a [String]) -> Result<Vec<&'a str>, AllocError>
+    ensures { IfOk result (λ words. length words.items ≡ length texts.now) }
+{
     texts.iter().map(|text| text.as_str()).collect(rt.alloc())
 }
 

@@ -1,8 +1,8 @@
 //! What histories of any origin ask, and no machine's do: a replay, stale hits where times of writes fall, and a check
 //! whose steps are counted. The values were worked out by hand.
 use physiological_order::{
-    Memory, Op, Record, Steps, WordAddr, check_counted, replay, rises_by_number, stale_hits,
-    stale_hits_counted,
+    Memory, Op, Record, Steps, Verdict, WordAddr, check, check_counted, replay, rises_by_number,
+    stale_hits, stale_hits_counted,
 };
 use std::alloc::{AllocError, Global};
 use std::test::Fail;
@@ -60,6 +60,17 @@ fn the_greatest_time_of_a_write_is_kept(rt: HostRuntime) {
     assert!(rt; rises_by_number(&records) && stale_hits(rt.alloc(), &records) == Ok(1));
 }
 
+// What a check says of a record of the last core that a record can name, where no core was issued anything.
+fn verdict_of_the_last_core(alloc: Global) -> Result<Verdict, AllocError> {
+    let records = [record(u32::MAX, 0, load(0), Some(0), 1, 0)];
+    check(alloc, &Memory::new(alloc), &[], &records)
+}
+
+#[test]
+fn a_check_has_no_limit_on_cores(rt: HostRuntime) {
+    assert!(rt; verdict_of_the_last_core(rt.alloc()) == Ok(Verdict::OutOfProgramOrder(0)));
+}
+
 // How many steps a check of a store, a swap and a load takes, and how many there are with their stale hits.
 fn counted(alloc: Global) -> Result<(u128, u128), AllocError> {
     let swap = Op::Swap(WordAddr::at(0), 2);
@@ -83,4 +94,22 @@ fn counted(alloc: Global) -> Result<(u128, u128), AllocError> {
 #[test]
 fn steps_are_those_of_the_page(rt: HostRuntime) {
     assert!(rt; counted(rt.alloc()) == Ok((2, 7)));
+}
+
+// How many comparisons a check takes of two cores with a record each, which are merged.
+fn merged(alloc: Global) -> Result<u128, AllocError> {
+    let issued = [vec![in alloc; load(0)]?, vec![in alloc; load(0)]?];
+    let records = [
+        record(0, 0, load(0), Some(0), 1, 0),
+        record(1, 0, load(0), Some(0), 2, 1),
+    ];
+    let mut steps = Steps::new();
+    check_counted(alloc, &mut steps, &Memory::new(alloc), &issued, &records)?;
+    Ok(steps.made())
+}
+
+// Each is the first of its core, so dealing compares none; merging compares the two once.
+#[test]
+fn comparisons_of_a_merge_are_counted(rt: HostRuntime) {
+    assert_eq!(rt; merged(rt.alloc()), Ok(1));
 }

@@ -82,9 +82,9 @@ fn a_full_set_takes_no_line(rt: HostRuntime) {
     assert_eq!(rt; is_full(rt.alloc()), Ok(true));
 }
 
-/// Whether a copy that was written is leased up to 20, upgraded with 25 and, once it was written again, downgraded with
-/// 30, and keeps all else but that it was written; whether it stays the least recently used one; and whether each is
-/// refused for a line without a copy.
+/// Whether a copy that was written is leased up to 20, upgraded with 15, written again, leased up to 12 and downgraded
+/// with 10, each time with just that time, and keeps all else but that it was written; whether it stays the least
+/// recently used one; and whether each is refused for a line without a copy.
 fn is_changed(alloc: Global) -> Result<bool, AllocError> {
     let mut cache = Cache::new(alloc, Geometry { sets: 1, ways: 2 })?;
     let (line, other) = (LineNo(3), LineNo(8));
@@ -107,19 +107,20 @@ fn is_changed(alloc: Global) -> Result<bool, AllocError> {
     is_right &= cache.fill(LineNo(5), CopyState::Shared, timed) == Ok(());
     is_right &= cache.renew(line, 20) == Ok(());
     is_right &= cache.find(line).copied() == Some(LineCopy { rts: 20, ..written });
-    is_right &= cache.upgrade(line, 25) == Ok(());
-    let upgraded = LineCopy {
-        state: CopyState::Exclusive,
-        rts: 25,
-        ..arrived
+    is_right &= cache.upgrade(line, 15) == Ok(());
+    let owned = LineCopy::arrived(CopyState::Exclusive, TimedLine { rts: 15, ..timed });
+    is_right &= cache.find(line).copied() == Some(owned) && cache.victim(other) == Some(line);
+    let written = LineCopy {
+        written: true,
+        ..owned
     };
-    is_right &= cache.find(line).copied() == Some(upgraded);
-    is_right &= cache.victim(other) == Some(line);
     if cache.place(line) {
-        cache.put(line, LineCopy { rts: 25, ..written });
+        cache.put(line, written);
     }
-    is_right &= cache.downgrade(line, 30) == Ok(());
-    is_right &= cache.find(line).copied() == Some(LineCopy { rts: 30, ..arrived });
+    is_right &= cache.renew(line, 12) == Ok(());
+    is_right &= cache.find(line).copied() == Some(LineCopy { rts: 12, ..written });
+    is_right &= cache.downgrade(line, 10) == Ok(());
+    is_right &= cache.find(line).copied() == Some(LineCopy { rts: 10, ..arrived });
     Ok(is_right && cache.victim(other) == Some(LineNo(5)))
 }
 

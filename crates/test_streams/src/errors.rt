@@ -19,9 +19,12 @@ const KINDS: &[(Kind, &str)] = &[
 ];
 
 fn is_called(alloc: Global, kind: Kind, told: &str) -> Result<bool, Fail> {
-    let error = TraceError { line: 3, kind };
+    let error = TraceError {
+        line: 4_294_967_299,
+        kind,
+    };
     let text = format!(in alloc; "{error}")?;
-    let wanted = format!(in alloc; "line 3: {told}")?;
+    let wanted = format!(in alloc; "line 4294967299: {told}")?;
     Ok(text == wanted)
 }
 
@@ -61,9 +64,12 @@ const LITMUS_KINDS: &[(LitmusKind, &str)] = &[
 ];
 
 fn is_litmus_fault(alloc: Global, kind: LitmusKind, told: &str) -> Result<bool, Fail> {
-    let error = LitmusError { line: 3, kind };
+    let error = LitmusError {
+        line: 4_294_967_299,
+        kind,
+    };
     let text = format!(in alloc; "{error}")?;
-    let wanted = format!(in alloc; "line 3: {told}")?;
+    let wanted = format!(in alloc; "line 4294967299: {told}")?;
     Ok(text == wanted)
 }
 
@@ -83,17 +89,17 @@ const ERRORS: &[(RunError, &str)] = &[
     (RunError::BadConfig, "bad configuration"),
     (
         RunError::Litmus(LitmusError {
-            line: 3,
+            line: 4_294_967_299,
             kind: LitmusKind::BadHeader,
         }),
-        "line 3: BadHeader",
+        "line 4294967299: BadHeader",
     ),
     (
         RunError::Trace(TraceError {
-            line: 3,
+            line: 4_294_967_299,
             kind: Kind::BadCore,
         }),
-        "line 3: BadCore",
+        "line 4294967299: BadCore",
     ),
 ];
 

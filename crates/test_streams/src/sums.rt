@@ -146,3 +146,20 @@ fn is_state_reported(alloc: Global) -> Result<bool, AllocError> {
 fn states_are_those_of_runs_that_are_all_done(rt: HostRuntime) {
     assert_eq!(rt; is_state_reported(rt.alloc()), Ok(true));
 }
+
+const LOAD: &[u8] = b"RISCV K\n{ 0:x6=x; 0:x7=5; }\nP0 ;\nlw x7,0(x6) ;\nexists 0:x7=5\n";
+
+// What a register has once the load into it is done without a value.
+fn register_after_no_value(alloc: Global) -> Option<u64> {
+    let Ok(test) = read(alloc, LOAD) else {
+        return None;
+    };
+    let mut thread = test.start(0);
+    thread.done(None);
+    Some(thread.register(7))
+}
+
+#[test]
+fn what_is_not_received_is_not_written(rt: HostRuntime) {
+    assert_eq!(rt; register_after_no_value(rt.alloc()), Some(5));
+}

@@ -96,48 +96,52 @@ fn the_seed_behind_the_last_one_is_0(rt: HostRuntime) -> Result<(), Fail> {
     Ok(())
 }
 
-// Each run passes the gate once, whichever worker makes it.
+// Each run passes the gate once, whichever worker makes it. Two workers make runs at the same time. One ends run 0
+// before run 1 begins, so run 0 looks for the other in vain.
 #[test]
 fn all_runs_of_a_batch_pass_the_gate(rt: HostRuntime) -> Result<(), Fail> {
-    let gate = TurnCounts::new(rt.alloc(), 100, 0)?;
-    assert_eq!(rt; runs_by(&rt, rt.alloc(), 100, 3, &gate)?.len(), 100);
-    for run in 0..100 {
-        assert_eq!(rt; gate.of(run), Some(1), "run {run}");
+    for (count, workers, looks, met) in [
+        (1, 1, 0, 0),
+        (1, 3, 0, 0),
+        (2, 1, 100, 1),
+        (2, 2, 10_000_000, 2),
+        (2, 16, 0, 0),
+        (100, 1, 0, 0),
+        (100, 3, 0, 0),
+    ] {
+        let gate = TurnCounts::new(rt.alloc(), count, looks)?;
+        let runs = runs_by(&rt, rt.alloc(), count, workers, &gate)?;
+        assert!(rt;
+            runs.len() == count as usize && gate.are(&[1; 100], met),
+            "{count} runs by {workers} workers"
+        );
     }
     Ok(())
 }
 
-#[test]
-fn two_workers_make_runs_at_the_same_time(rt: HostRuntime) -> Result<(), Fail> {
-    let gate = TurnCounts::new(rt.alloc(), 2, 10_000_000)?;
-    assert_eq!(rt; runs_by(&rt, rt.alloc(), 2, 2, &gate)?.len(), 2);
-    assert!(rt; gate.are(&[1, 1], 2));
-    Ok(())
-}
-
-// Run 0 ends before run 1 begins, so it looks for the other in vain.
-#[test]
-fn one_worker_makes_one_run_after_the_other(rt: HostRuntime) -> Result<(), Fail> {
-    let gate = TurnCounts::new(rt.alloc(), 2, 100)?;
-    assert_eq!(rt; runs_by(&rt, rt.alloc(), 2, 1, &gate)?.len(), 2);
-    assert!(rt; gate.are(&[1, 1], 1));
-    Ok(())
-}
-
-// Runs by threads of a machine that options leave as it is, with one turn for each seat.
+// Runs by threads of a machine that opens at this time, with so many turns for each seat.
 fn runs_by_threads<R: Threads + Sync, G: Gate + Sync>(
     rt: &R,
     alloc: Global,
+    time: u64,
+    limit: u32,
     count: u64,
+    workers: u32,
     gate: &G,
-) -> Result<Vec<RunEnd>, &'static str> {
+) -> Result<Vec<RunEnd>, &'static str>
+    requires { (0 < workers) × (workers ≤ 16) }
+{
+    let options = MachineOptions {
+        time,
+        ..MachineOptions::DEFAULT
+    };
     let Ok(test) = read(alloc, STORE_BUFFERING) else {
         return Err("the text is no test");
     };
-    let Some(config) = config_of(&MachineOptions::DEFAULT, test.threads() as u32) else {
+    let Some(config) = config_of(&options, test.threads() as u32) else {
         return Err("there is no such machine");
     };
-    match threaded_runs(rt, alloc, &test, config, count, 1, 2, gate) {
+    match threaded_runs(rt, alloc, &test, config, count, limit, workers, gate) {
         Ok(runs) => Ok(runs),
         Err(_) => Err("memory is refused"),
     }
@@ -146,19 +150,36 @@ fn runs_by_threads<R: Threads + Sync, G: Gate + Sync>(
 // Two cores and a bank have one turn each, and the run isn't made again.
 #[test]
 fn a_run_by_threads_passes_the_gate(rt: HostRuntime) -> Result<(), Fail> {
-    let gate = TurnCounts::new(rt.alloc(), 3, 0)?;
-    let runs = runs_by_threads(&rt, rt.alloc(), 1, &gate)?;
-    assert_eq!(rt; runs.len(), 1);
-    assert_eq!(rt; runs[0].end, End::TurnsUsed);
-    assert!(rt; gate.are(&[1, 1, 1], 0));
+    for workers in [1, 2, 3] {
+        let gate = TurnCounts::new(rt.alloc(), 3, 0)?;
+        let runs = runs_by_threads(&rt, rt.alloc(), 0, 1, 1, workers, &gate)?;
+        assert!(rt;
+            runs.len() == 1 && runs[0].end == End::TurnsUsed && gate.are(&[1, 1, 1], 0),
+            "{workers} workers"
+        );
+    }
     Ok(())
 }
 
-// Each of three runs gives two cores and a bank one turn each.
+// Each run gives two cores and a bank one turn each. At the last time no store fits: core 0 stops in its seventh turn,
+// where it would be done, so core 1 and the bank have six.
 #[test]
 fn all_runs_by_threads_pass_the_gate(rt: HostRuntime) -> Result<(), Fail> {
-    let gate = Calls::new();
-    assert_eq!(rt; runs_by_threads(&rt, rt.alloc(), 3, &gate)?.len(), 3);
-    assert_eq!(rt; gate.count(), [9, 9]);
+    for (time, limit, workers, turns) in [
+        (0, 1, 1, 3),
+        (0, 1, 2, 3),
+        (0, 1, 3, 3),
+        (18_446_744_073_709_551_615, 1_000, 1, 19),
+    ] {
+        for count in [1u64, 2, 3] {
+            let gate = Calls::new();
+            let runs = runs_by_threads(&rt, rt.alloc(), time, limit, count, workers, &gate)?;
+            assert_eq!(rt;
+                (runs.len() as u64, gate.count()),
+                (count, [turns * count; 2]),
+                "{count} runs by {workers} workers"
+            );
+        }
+    }
     Ok(())
 }

@@ -85,20 +85,20 @@ fn one_worker_does_one_job_after_the_other(rt: HostRuntime) -> Result<(), Fail> 
     Ok(())
 }
 
-// Whether a list is 0, 1, 2, and so on, up to 69,999.
-fn counts_up(list: &[u64]) -> bool {
+// Whether a list is 0, 1, 2, and so on, so many numbers.
+fn counts_up(list: &[u64], count: u64) -> bool {
     for at in 0..list.len() {
         if list[at] != at as u64 {
             return false;
         }
     }
-    list.len() == 70_000
+    list.len() as u64 == count
 }
 
 #[test]
 fn a_worker_keeps_its_state_from_job_to_job(rt: HostRuntime) -> Result<(), Fail> {
     let results = results_of(&rt, rt.alloc(), 70_000, [1, 0, 0, 0])?;
-    assert!(rt; counts_up(results.as_slice()));
+    assert!(rt; counts_up(results.as_slice(), 70_000));
     Ok(())
 }
 
@@ -106,7 +106,7 @@ fn a_worker_keeps_its_state_from_job_to_job(rt: HostRuntime) -> Result<(), Fail>
 #[test]
 fn the_calling_thread_keeps_its_state_too(rt: HostRuntime) -> Result<(), Fail> {
     let results = results_of(&rt, rt.alloc(), 70_000, [1, 1, 0, 0])?;
-    assert!(rt; counts_up(results.as_slice()));
+    assert!(rt; counts_up(results.as_slice(), 70_000));
     Ok(())
 }
 
@@ -246,10 +246,11 @@ fn one_worker_does_all_jobs_by_one_state(rt: HostRuntime) -> Result<(), Fail> {
     Ok(())
 }
 
-// Job 1 is refused when it is run for the first time. Each job gives 1.
+// One job is refused so many times before it is done. Each job gives its number.
 #[derive(Drop)]
 struct OneRefused {
-    tries: AtomicU64,
+    number: u64,
+    refusals: AtomicU64,
 }
 
 impl Jobs<u64, u64> for OneRefused {
@@ -262,22 +263,33 @@ impl Jobs<u64, u64> for OneRefused {
     }
 
     fn run(&self, state: u64, number: u64) -> Result<(u64, u64), AllocError> {
-        if number == 1 && self.tries.fetch_add(1, Ordering::SeqCst) == 0 {
+        if number == self.number && self.refusals.load(Ordering::SeqCst) > 0 {
+            self.refusals.fetch_sub(1, Ordering::SeqCst);
             return Err(AllocError);
         }
-        Ok((1, state))
+        Ok((number, state))
     }
 }
 
-// The worker does job 0 and is refused job 1. The calling thread does jobs 1 and 2. So four runs begin and end.
+// Each job begins and ends once, and the one in the middle once more for each time that it is refused: a worker alone
+// stops there, and the calling thread does that job and all behind it.
 #[test]
-fn a_refused_job_ends_at_the_gate_too(rt: HostRuntime) -> Result<(), Fail> {
-    let jobs = OneRefused {
-        tries: AtomicU64::new(0),
-    };
-    let gate = Calls::new();
-    let results = run_jobs(&rt, rt.alloc(), &jobs, 3, 1, &gate)?;
-    assert_eq!(rt; results.as_slice(), [1, 1, 1].as_slice());
-    assert_eq!(rt; gate.count(), [4, 4]);
+fn all_tries_of_jobs_pass_the_gate(rt: HostRuntime) -> Result<(), Fail> {
+    for count in [1u64, 2, 100] {
+        for workers in [1, 2, 16] {
+            for refusals in [0u64, 1] {
+                let jobs = OneRefused {
+                    number: count / 2,
+                    refusals: AtomicU64::new(refusals),
+                };
+                let gate = Calls::new();
+                let results = run_jobs(&rt, rt.alloc(), &jobs, count, workers, &gate)?;
+                assert!(rt;
+                    counts_up(results.as_slice(), count) && gate.count() == [count + refusals; 2],
+                    "{count} jobs by {workers} workers, {refusals} refused"
+                );
+            }
+        }
+    }
     Ok(())
 }

@@ -83,6 +83,7 @@ const GIVEN: &[(Case, u32, u32, End, [u64; 3], u64)] = &[
     (NO_LEASE, 1, 0, End::Exhausted, [4, 4, 3], 0),
     (STORE_ONCE, 1, 100, End::TurnsUsed, [1, 1, 0], 1),
     (STORE_ONCE, 2, 10_000_000, End::TurnsUsed, [1, 1, 0], 2),
+    (STORE_ONCE, 16, 0, End::TurnsUsed, [1, 1, 0], 0),
 ];
 
 // Whether a case ends so that so many workers drive, and they give its first seats so many turns each.

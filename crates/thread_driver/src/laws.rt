@@ -1,13 +1,15 @@
 //! Laws for callers: of new seats, of turns and the end that they decide, and of a machine that was closed. The
 //! functions do nothing: their contracts are the laws.
-ghost use Rattle.std.specs.Prelude.{◌≡◌, ◌≢◌, ◌⊎◌, ◌+◌, ◌<◌, ◌≤◌, ℕ, Bool, true, false, List, []};
+ghost use Rattle.std.specs.Prelude.{◌≡◌, ◌≢◌, ◌⊎◌, ◌↔◌, ◌+◌, ◌<◌, ◌≤◌, ℕ, Bool, true, false, List, []};
 ghost use Rattle.std.specs.Prelude.{length, slice_index_or, Result, Ok, Err};
 ghost use Rattle.machine_theorem.specs.Consistency.{IsConsistent};
 ghost use Rattle.machine_table.specs.declared.event.Refusal.{Refusal};
 ghost use Rattle.machine_table.specs.declared.event.Refusal.TheVariants.{NoMemory, NoRoom};
+ghost use Rattle.inbox.specs.declared.answer.Served.TheVariants as served;
 ghost use Rattle.mailboxes.specs.declared.machine.Machine.{Machine};
 ghost use Rattle.mailboxes.specs.declared.core_seat.CoreSeat.{CoreSeat};
 ghost use Rattle.mailboxes.specs.declared.bank_seat.BankSeat.{BankSeat};
+ghost use Rattle.mailboxes.specs.declared.turning.Turn.{Turn};
 ghost use Rattle.programs.specs.declared.ends.End.{End};
 ghost use Rattle.programs.specs.declared.ends.End.TheVariants as end;
 ghost use Rattle.closed_machine.specs.declared.run.Run.{Run};
@@ -19,7 +21,7 @@ ghost use Rattle.thread_driver.specs.declared.told.Told.{Told};
 ghost use Rattle.thread_driver.specs.Calls.{RoomMade, VictimLeft, victim_of_seat};
 ghost use Rattle.thread_driver.specs.Given.{IsBankTurn, IsCoreTurn, TurnsGiven};
 ghost use Rattle.thread_driver.specs.Reports.{IsDecided, IsReport, Moved, SomeLacked, SomeStopped, Stopped, Went};
-ghost use Rattle.thread_driver.specs.Shifts.{AreBanksInOrder, AreCoresInOrder, NoneOpen, Ran};
+ghost use Rattle.thread_driver.specs.Shifts.{AreBanksInOrder, AreCoresInOrder, AreOver, NoneOpen, Ran};
 ghost use Rattle.thread_driver.specs.Teams.{rested};
 ghost use Rattle.thread_driver.specs.ThreadRuns.{machine_of};
 ghost use Rattle.thread_driver.specs.Turns.{AfterRefusal, BankHadTurn, CoreHadTurn};
@@ -58,12 +60,14 @@ pub fn turns_report_what_calls_answered<P: Program>()
     ensures banks { (m : Machine) (p q : BankSeat) (told : Told) (turn : BankHadTurn m p told q) →
         IsReport told (turn.moved ≡ Err NoMemory) (Stopped p.is_stopped q.is_stopped)
         (Moved turn.moved) }
+    ensures moved { (turn : Turn) → Moved (Ok turn) ↔ ((0 < turn.put)
+        ⊎ ((turn.served ≢ served.Held) × (turn.served ≢ served.Nothing))) }
 {}
 
 /// Which evictions the calls of a turn make, and when. An attempt that is refused for another reason than NoRoom is
-/// followed by no eviction, and the step comes to that refusal. One refused by NoRoom is followed by the eviction of the
-/// victim of the open operation's line, if there is one, and else by nothing. A bank's turn first evicts the line that
-/// makes room, if there is one. Then each seat has its own turn.
+/// followed by no eviction, and the step comes to that refusal. One refused by NoRoom is followed by the eviction of
+/// the victim of the open operation's line, if there is one, and else by nothing. A bank's turn first evicts the line
+/// that makes room, if there is one. Then each seat has its own turn.
 pub fn turns_make_these_calls<P: Program>()
     ensures refused { (r : Refusal) (p q : CoreSeat) (done : Result Bool Refusal) → r ≢ NoRoom →
         AfterRefusal r p done q → (done ≡ Err r) × (q ≡ p) }
@@ -83,10 +87,15 @@ pub fn waiting_workers_let_others_run()
     ensures due { rested 255 false ≡ (0, true) }
 {}
 
-/// Unless all is done, turns end NoMemory exactly if a call of some turn was refused memory, else Exhausted exactly if
-/// some seat stopped in a turn, else TurnsUsed.
+/// Turns end AllDone exactly if no core has an open operation and no program a next step. Else they end NoMemory
+/// exactly if a call of some turn was refused memory, else Exhausted exactly if some seat stopped in a turn, else
+/// TurnsUsed.
 pub fn turns_decide_the_end<P: Program>()
-    ensures { (m : Machine) (limit : ℕ) (cores cores' : List CoreSeat)
+    ensures over { (m : Machine) (limit : ℕ) (cores cores' : List CoreSeat)
+        (banks banks' : List BankSeat) (programs programs' : List P) (e : End)
+        (ran : Ran P.acts m limit cores banks programs cores' banks' programs' e) →
+        (e ≡ end.AllDone) ↔ AreOver P.acts cores' programs' }
+    ensures decided { (m : Machine) (limit : ℕ) (cores cores' : List CoreSeat)
         (banks banks' : List BankSeat) (programs programs' : List P) (e : End)
         (ran : Ran P.acts m limit cores banks programs cores' banks' programs' e) →
         e ≢ end.AllDone →

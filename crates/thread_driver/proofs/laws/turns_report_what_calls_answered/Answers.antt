@@ -11,3 +11,6 @@ returns-clause-steps g c m p q before after told turn =
 
 pub returns-clause-banks : goal.returns-clause-banks
 returns-clause-banks g c m p q told turn = bank_report m p q told turn
+
+pub returns-clause-moved : goal.returns-clause-moved
+returns-clause-moved g c turn = (λ x. x, λ x. x)

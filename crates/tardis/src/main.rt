@@ -22,7 +22,7 @@ fn words_of(rt: &HostRuntime) -> io::Result<Vec<String>> {
     Ok(std::env::args(rt)?.collect(rt.alloc())?)
 }
 
-/// The words as they are borrowed, one for one.
+/// The words as they are borrowed: as many as there are.
 fn borrowed<'a>(rt: &HostRuntime, texts: &'a [String]) -> Result<Vec<&'a str>, AllocError>
     ensures { IfOk result (λ words. length words.items ≡ length texts.now) }
 {

@@ -2,7 +2,7 @@
 ghost use Rattle.std.specs.Prelude.{ℕ, All, IfOk, IfSome};
 ghost use Rattle.shared_jobs.specs.Results.{HasOtherFront};
 
-use crate::gate::Gate;
+use crate::gate::{Begun, Gate, begin, end};
 use crate::workers::Worker;
 use std::alloc::AllocError;
 
@@ -19,10 +19,11 @@ pub trait Jobs<X, S> {
     fn open(&self) -> Result<S, AllocError>
         ensures { IfOk result (ready self.now) };
 
-    /// Runs the job of this number, and gives the state back for the next one. AllocError if an allocation fails.
-    fn run(&self, state: S, number: u64) -> Result<(X, S), AllocError>
+    /// Runs the job that has begun at a gate, and gives the state back for the next one. AllocError if an allocation
+    /// fails.
+    fn run(&self, begun: &Begun, state: S) -> Result<(X, S), AllocError>
         requires { ready self.now state }
-        ensures given { IfOk result (λ done. gives self.now number done.0) }
+        ensures given { IfOk result (λ done. gives self.now begun.now.seat done.0) }
         ensures ready { IfOk result (λ done. ready self.now done.1) };
 }
 
@@ -37,9 +38,9 @@ pub fn run_one<X: Drop, S: Drop, J: Jobs<X, S>, G: Gate>(
     ensures given { IfOk result (λ done. J.gives jobs.now number done.0) }
     ensures ready { IfOk result (λ done. J.ready jobs.now done.1) }
 {
-    gate.before(number, 0);
-    let done = jobs.run(state, number);
-    gate.after(number, 0);
+    let begun = begin(gate, number, 0);
+    let done = jobs.run(&begun, state);
+    end(gate, begun);
     done
 }
 

@@ -8,6 +8,6 @@ mod jobs;
 mod run;
 mod workers;
 
-pub use gate::{Free, Gate};
+pub use gate::{Begun, Free, Gate, begin, end};
 pub use jobs::Jobs;
 pub use run::run_jobs;

@@ -3,7 +3,7 @@
 ghost use Rattle.std.specs.Prelude.{ℕ, ◌<◌, ◌≤◌};
 
 use crate::turn_counts::{Calls, TurnCounts};
-use shared_jobs::{Free, Jobs, run_jobs};
+use shared_jobs::{Begun, Free, Jobs, run_jobs};
 use std::alloc::{AllocError, Global};
 use std::sync::atomic::{AtomicU64, Ordering};
 use std::test::Fail;
@@ -31,8 +31,8 @@ impl<'a> Jobs<u64, u64> for Counts<'a> {
         Ok(0)
     }
 
-    fn run(&self, state: u64, number: u64) -> Result<(u64, u64), AllocError> {
-        let before = if self.gate.is_under_way(number as usize) {
+    fn run(&self, begun: &Begun, state: u64) -> Result<(u64, u64), AllocError> {
+        let before = if self.gate.is_under_way(begun.seat() as usize) {
             state
         } else {
             u64::MAX
@@ -136,8 +136,8 @@ impl Jobs<u64, u64> for OneWaits {
         Ok(0)
     }
 
-    fn run(&self, state: u64, number: u64) -> Result<(u64, u64), AllocError> {
-        if number > 0 {
+    fn run(&self, begun: &Begun, state: u64) -> Result<(u64, u64), AllocError> {
+        if begun.seat() > 0 {
             self.done.fetch_add(1, Ordering::SeqCst);
             return Ok((1, state));
         }
@@ -183,7 +183,7 @@ impl Jobs<u64, u64> for AllMeet {
         Ok(0)
     }
 
-    fn run(&self, state: u64, _number: u64) -> Result<(u64, u64), AllocError> {
+    fn run(&self, _begun: &Begun, state: u64) -> Result<(u64, u64), AllocError> {
         self.begun.fetch_add(1, Ordering::SeqCst);
         for _ in 0..10_000_000u32 {
             if self.begun.load(Ordering::SeqCst) >= self.all {
@@ -230,7 +230,7 @@ impl Jobs<u64, u64> for OneState {
         Ok(0)
     }
 
-    fn run(&self, state: u64, _number: u64) -> Result<(u64, u64), AllocError> {
+    fn run(&self, _begun: &Begun, state: u64) -> Result<(u64, u64), AllocError> {
         Ok((1, state))
     }
 }
@@ -262,7 +262,8 @@ impl Jobs<u64, u64> for OneRefused {
         Ok(0)
     }
 
-    fn run(&self, state: u64, number: u64) -> Result<(u64, u64), AllocError> {
+    fn run(&self, begun: &Begun, state: u64) -> Result<(u64, u64), AllocError> {
+        let number = begun.seat();
         if number == self.number && self.refusals.load(Ordering::SeqCst) > 0 {
             self.refusals.fetch_sub(1, Ordering::SeqCst);
             return Err(AllocError);

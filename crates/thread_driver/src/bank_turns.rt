@@ -4,14 +4,15 @@ ghost use Rattle.mailboxes.specs.Seats.{IsBankSeat};
 ghost use Rattle.thread_driver.specs.Calls.{RoomMade};
 ghost use Rattle.thread_driver.specs.Turns.{BankHadTurn};
 
-use crate::begun::Begun;
 use crate::told::{Told, told_of_turn};
 use mailboxes::{BankSeat, Machine};
+use shared_jobs::Begun;
 
 /// A turn of a bank's seat, which has begun at a gate. If a held request waits for room, the turn evicts the line that
 /// makes room for it. Then the seat puts, serves and takes messages. docs/SCHEDULES.md has the order.
 pub fn bank_turn(machine: &Machine, _begun: &Begun, seat: &mut BankSeat) -> Told
-    requires { IsBankSeat machine.now seat.old }
+    requires begun { _begun.now.seat ≡ seat.old.mail.number }
+    requires seat { IsBankSeat machine.now seat.old }
     ensures seat { IsBankSeat machine.now seat.new ×
         (seat.new.mail.number ≡ seat.old.mail.number) }
     ensures turn { BankHadTurn machine.now seat.old result seat.new }

@@ -6,7 +6,6 @@ ghost use Rattle.thread_driver.specs.Playing.{IsAhead, Plays, SameWork};
 ghost use Rattle.thread_driver.specs.Turns.{AfterRefusal, CoreHadTurn, OpIssued, OpenTried, StepDone, TimeAdvanced};
 ghost use Rattle.thread_driver.specs.Turns.{told_of};
 
-use crate::begun::Begun;
 use crate::seat_calls::{advance, attempt, issue, make_place, turn};
 use crate::told::{Told, told_of_turn};
 use machine_table::Refusal;
@@ -14,6 +13,7 @@ use mailboxes::{CoreSeat, Machine, Turn};
 use physiological_order::Op;
 use programs::Step;
 use programs::program::Program;
+use shared_jobs::Begun;
 
 /// A turn of a core's seat, which has begun at a gate. It attempts the open operation. If none is open, it does the
 /// program's next step: it issues an operation and then attempts it, or advances the core. If there is no place for the
@@ -25,6 +25,7 @@ pub fn core_turn<P: Program>(
     seat: &mut CoreSeat,
     program: &mut P,
 ) -> Told
+    requires begun { _begun.now.seat ≡ seat.old.mail.number }
     requires seat { IsCoreSeat machine.now seat.old }
     requires ahead { IsAhead P.acts seat.old program.old }
     ensures seat { IsCoreSeat machine.now seat.new }

@@ -122,7 +122,7 @@ fn drive_shift<R: Threads + Sync, P: Program + Send + Drop, G: Gate + Sync>(
         programs: cores as u64,
         turns: turn_limit,
     };
-    drive_team(rt, machine, &signals, gate, rota, &mut team);
+    drive_team(rt, machine, &signals, gate, rota, workers, &mut team);
     let told = told_by_team(team.as_slice());
     disband(team, &mut hands, &mut signalers);
     signals.close(signalers);
@@ -130,22 +130,24 @@ fn drive_shift<R: Threads + Sync, P: Program + Send + Drop, G: Gate + Sync>(
     Ok(told)
 }
 
-// Each worker works in a thread of its own, one of them in the calling one.
+// Each of so many workers works in a thread of its own, one of them in the calling one.
 fn drive_team<R: Threads + Sync, P: Program + Send + Drop, G: Gate + Sync>(
     rt: &R,
     machine: &Machine,
     signals: &Signals,
     gate: &G,
     rota: Rota,
+    workers: u32,
     team: &mut Vec<Worker<P>>,
 )
+    requires many { (0 < workers) × (length team.old.items ≡ workers) }
     requires ready { AreReady P.acts machine.now signals.now team.old.items }
     ensures work { AllWork P.acts machine.now signals.now rota team.old.items team.new.items }
 {
     thread::for_each_mut(
         rt,
         team.as_mut_slice(),
-        16,
+        workers as usize,
         &|_, worker: &mut Worker<P>| -> ()
             requires { IsReady P.acts machine.now signals.now worker.now }
             ensures { IsSignalerOf signals.entry.now worker.exit.now.signaler ×

@@ -3,7 +3,6 @@
 #![tactic(auto)]
 
 mod bank_turns;
-mod begun;
 mod core_turns;
 mod counting;
 mod dealing;
@@ -18,7 +17,6 @@ mod work;
 mod worker;
 
 pub use bank_turns::bank_turn;
-pub use begun::{Begun, begin, end};
 pub use core_turns::{core_turn, is_over};
 pub use drive::drive_threads;
 pub use run::{ThreadRun, run_threads};

@@ -7,12 +7,11 @@ ghost use Rattle.thread_driver.specs.Teams.{IsWhole, PassGiven, ends_all};
 ghost use Rattle.thread_driver.specs.Playing.{AreAhead};
 
 use crate::bank_turns::bank_turn;
-use crate::begun::{begin, end};
 use crate::core_turns::core_turn;
 use crate::told::{QUIET, Told, both};
 use mailboxes::{BankSeat, CoreSeat, Machine};
 use programs::program::Program;
-use shared_jobs::Gate;
+use shared_jobs::{Gate, begin, end};
 
 /// Whether no worker goes on after this.
 pub(crate) fn ends_all(told: &Told) -> bool
@@ -44,7 +43,7 @@ pub(crate) fn core_pass<P: Program, G: Gate>(
         if ends_all(&all) {
             break;
         }
-        let begun = begin(gate, cores[i].number(), turn);
+        let begun = begin(gate, u64::from(cores[i].number()), u64::from(turn));
         let told = core_turn(machine, &begun, &mut cores[i], &mut programs[i]);
         end(gate, begun);
         all = both(all, told);
@@ -69,7 +68,7 @@ pub(crate) fn bank_pass<G: Gate>(
         if ends_all(&all) {
             break;
         }
-        let begun = begin(gate, banks[i].number(), turn);
+        let begun = begin(gate, u64::from(banks[i].number()), u64::from(turn));
         let told = bank_turn(machine, &begun, &mut banks[i]);
         end(gate, begun);
         all = both(all, told);

@@ -8,7 +8,7 @@ use interleaving_core::{Config, System};
 use litmus_reader::Test;
 use report_text::RunEnd;
 use schedules::Policy;
-use shared_jobs::Jobs;
+use shared_jobs::{Begun, Jobs};
 use std::alloc::{AllocError, Global};
 
 /// Runs of the test with at most `limit` turns each. The first follows the policy `first`; by seeds each further one
@@ -37,9 +37,9 @@ impl Jobs<RunEnd, System> for SharedRuns<'_> {
         open(self.alloc, self.test, self.config)
     }
 
-    fn run(&self, state: System, number: u64) -> Result<(RunEnd, System), AllocError> {
+    fn run(&self, begun: &Begun, state: System) -> Result<(RunEnd, System), AllocError> {
         let mut system = state.reopen(self.test.opening()?)?;
-        let policy = self.first.of_run(number);
+        let policy = self.first.of_run(begun.seat());
         let run = run_on(self.alloc, self.test, &mut system, policy, self.limit)?;
         Ok((run, system))
     }

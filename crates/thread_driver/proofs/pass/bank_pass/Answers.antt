@@ -8,8 +8,8 @@ use Rattle.thread_driver.proofs.pass.bank_pass.Goals as goal
 pub loop-i-init : goal.loop-i-init
 loop-i-init g c = (ends, refl)
 
-pub bank_turn-told-requires : goal.bank_turn-told-requires
-bank_turn-told-requires g c =
+pub bank_turn-told-requires-clause-seat : goal.bank_turn-told-requires-clause-seat
+bank_turn-told-requires-clause-seat g c =
     next_bank c.args.machine.now c.args.banks.now.items c.loop-i.banks.items c.loop-i.i c.loop-i.all c.requires.seats
     c.loop-i.invariant.0 (omega arith) c.index_mut.result.now c.index_mut.ensures.value
 

@@ -4,7 +4,7 @@ that are numbers or structures (with what is added to one), casts to fewer bits,
 i8, i16 and u16, shifts, what tells a number by its bits (`is_power_of_two`, `trailing_zeros`), the ends of signed types
 and of usize, and room that doesn't double (`reserve_exact`, `shrink_to`). It also counts steps on shared words (`load`,
 `swap`, `fetch_add`), such words of the host (`AtomicU64`), whether a seat changes (`if changes`), and what makes a
-thread wait (`yield_now`, `spin_loop`, `sleep`, `park`).
+thread wait (`yield_now`, `spin_loop`, `sleep`, `park`). And it counts impls by hand of std's traits that `derive` writes.
 
     scripts/literals.py            lists them: crate, number or other sign, how often
     scripts/literals.py --check    compares them with tests/literals.table, and fails if they differ
@@ -33,6 +33,7 @@ SIGN = re.compile(r"\b(?:reserve_exact|shrink_to(?:_fit)?)\b|\bas [iu](?:8|16|32
                   r"\b(?:i\w+|usize)::(?:MAX|MIN|BITS)\b|(?<=\s)(?:<<|>>)(?==?\s)|\b(?:load|swap|fetch_\w+)(?=::<)|"
                   r"\b(?:yield_now|spin_loop|sleep|park\w*|wake_\w+|Atomic\w+|if changes)\b|\bchange_\w+_if(?=\()|"
                   r"\b(?:is_(?:power|multiple)_of\w*|\w+_(?:zeros|ones)|ilog\w*)(?=\(\w*\))")
+BY_HAND = re.compile(r"\b(impl)\b[^{;]*?\b(Clone|Copy|Debug|Default|Eq|Hash|Ord|PartialEq|PartialOrd)(?:<[^{;]*>)? for")
 ROW = re.compile(r"(\w+) \| ([\w <>:+-]+) \| (\d+) \| \S")
 
 
@@ -70,6 +71,7 @@ def numbers():
         written = [int(each.replace("_", ""), 0) for each in NUMBER.findall(code)]
         written += [2 ** int(bits) - 1 for bits in GREATEST.findall(code)]
         signs = SIGN.findall(code) + re.findall(rf"(?<!const )\b(?:{names})\b(?: [-+] \d+)?", code)
+        signs += map(" ".join, BY_HAND.findall(code))
         found.update((crate, str(each)) for each in [*filter(lambda each: each > 1, written), *signs])
     return found
 

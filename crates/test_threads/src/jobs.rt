@@ -102,11 +102,13 @@ fn a_worker_keeps_its_state_from_job_to_job(rt: HostRuntime) -> Result<(), Fail>
     Ok(())
 }
 
-// The worker is refused a state, so the calling thread does what is left.
+// Each worker is refused a state, so the calling thread does what is left.
 #[test]
 fn the_calling_thread_keeps_its_state_too(rt: HostRuntime) -> Result<(), Fail> {
-    let results = results_of(&rt, rt.alloc(), 70_000, [1, 1, 0, 0])?;
-    assert!(rt; counts_up(results.as_slice(), 70_000));
+    for (count, workers) in [(70_000, 1), (100, 2), (100, 16)] {
+        let results = results_of(&rt, rt.alloc(), count, [workers, workers, 0, 0])?;
+        assert!(rt; counts_up(results.as_slice(), u64::from(count)), "{workers} workers");
+    }
     Ok(())
 }
 

@@ -172,11 +172,11 @@ fn all_runs_by_threads_pass_the_gate(rt: HostRuntime) -> Result<(), Fail> {
         (18_446_744_073_709_551_615, 1_000, 1, 19),
     ] {
         for count in [1u64, 2, 3] {
-            let gate = Calls::new();
+            let gate = Calls::new(workers);
             let runs = runs_by_threads(&rt, rt.alloc(), time, limit, count, workers, &gate)?;
             assert_eq!(rt;
                 (runs.len() as u64, gate.count()),
-                (count, [turns * count; 2]),
+                (count, Some([turns * count; 2])),
                 "{count} runs by {workers} workers"
             );
         }

@@ -285,10 +285,10 @@ fn all_tries_of_jobs_pass_the_gate(rt: HostRuntime) -> Result<(), Fail> {
                     number: count / 2,
                     refusals: AtomicU64::new(refusals),
                 };
-                let gate = Calls::new();
+                let gate = Calls::new(workers);
                 let results = run_jobs(&rt, rt.alloc(), &jobs, count, workers, &gate)?;
                 assert!(rt;
-                    counts_up(results.as_slice(), count) && gate.count() == [count + refusals; 2],
+                    counts_up(results.as_slice(), count) && gate.count() == Some([count + refusals; 2]),
                     "{count} jobs by {workers} workers, {refusals} refused"
                 );
             }

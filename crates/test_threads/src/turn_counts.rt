@@ -120,34 +120,45 @@ impl Gate for TurnCounts {
     }
 }
 
-/// How many calls of the gate came before a turn or a job, and how many after one.
+/// How many calls of the gate came before a turn or a job, and how many after one. More turns or jobs under way than
+/// there are workers are counted as wrong.
 #[derive(Drop)]
 pub(crate) struct Calls {
     before: AtomicU64,
     after: AtomicU64,
+    wrong: AtomicU64,
+    workers: u64,
 }
 
 impl Calls {
     /// A gate that nothing has passed yet.
-    pub(crate) fn new() -> Calls {
+    pub(crate) fn new(workers: u32) -> Calls {
         Calls {
             before: AtomicU64::new(0),
             after: AtomicU64::new(0),
+            wrong: AtomicU64::new(0),
+            workers: u64::from(workers),
         }
     }
 
-    /// How many calls there were of each kind.
-    pub(crate) fn count(&self) -> [u64; 2] {
-        [
+    /// How many calls there were of each kind, none being wrong.
+    pub(crate) fn count(&self) -> Option<[u64; 2]> {
+        if self.wrong.load(Ordering::SeqCst) > 0 {
+            return None;
+        }
+        Some([
             self.before.load(Ordering::SeqCst),
             self.after.load(Ordering::SeqCst),
-        ]
+        ])
     }
 }
 
 impl Gate for Calls {
     fn before(&self, _seat: u64, _turn: u64) {
-        self.before.fetch_add(1, Ordering::SeqCst);
+        let begun = self.before.fetch_add(1, Ordering::SeqCst);
+        if begun.saturating_sub(self.after.load(Ordering::SeqCst)) >= self.workers {
+            self.wrong.fetch_add(1, Ordering::SeqCst);
+        }
     }
 
     fn after(&self, _seat: u64, _turn: u64) {

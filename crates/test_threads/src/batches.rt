@@ -96,7 +96,7 @@ fn the_seed_behind_the_last_one_is_0(rt: HostRuntime) -> Result<(), Fail> {
     Ok(())
 }
 
-// Each run passes the gate once, whichever worker makes it. Two workers make runs at the same time. One ends run 0
+// Each run passes the gate once, by its number and not by its seed, whichever worker makes it. Two workers make runs at the same time. One ends run 0
 // before run 1 begins, so run 0 looks for the other in vain.
 #[test]
 fn all_runs_of_a_batch_pass_the_gate(rt: HostRuntime) -> Result<(), Fail> {
@@ -110,7 +110,7 @@ fn all_runs_of_a_batch_pass_the_gate(rt: HostRuntime) -> Result<(), Fail> {
         (100, 3, 0, 0),
     ] {
         let gate = TurnCounts::new(rt.alloc(), count, looks)?;
-        let runs = runs_by(&rt, rt.alloc(), count, workers, &gate)?;
+        let runs = runs_from(&rt, rt.alloc(), 7, count, workers, &gate)?;
         assert!(rt;
             runs.len() == count as usize && gate.are(&[1; 100], met),
             "{count} runs by {workers} workers"

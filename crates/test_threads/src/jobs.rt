@@ -107,7 +107,10 @@ fn a_worker_keeps_its_state_from_job_to_job(rt: HostRuntime) -> Result<(), Fail>
 fn the_calling_thread_keeps_its_state_too(rt: HostRuntime) -> Result<(), Fail> {
     for (count, workers) in [(70_000, 1), (100, 2), (100, 16)] {
         let results = results_of(&rt, rt.alloc(), count, [workers, workers, 0, 0])?;
-        assert!(rt; counts_up(results.as_slice(), u64::from(count)), "{workers} workers");
+        assert!(rt;
+            counts_up(results.as_slice(), u64::from(count)),
+            "{workers} workers"
+        );
     }
     Ok(())
 }
@@ -288,7 +291,8 @@ fn all_tries_of_jobs_pass_the_gate(rt: HostRuntime) -> Result<(), Fail> {
                 let gate = Calls::new(workers);
                 let results = run_jobs(&rt, rt.alloc(), &jobs, count, workers, &gate)?;
                 assert!(rt;
-                    counts_up(results.as_slice(), count) && gate.count() == Some([count + refusals; 2]),
+                    counts_up(results.as_slice(), count)
+                        && gate.count() == Some([count + refusals; 2]),
                     "{count} jobs by {workers} workers, {refusals} refused"
                 );
             }

@@ -123,13 +123,15 @@ one_seed_more() {
     told "65,537 seeds of SB" 0 "$work/wanted" /dev/null litmus --schedule seed --runs 65537 "$text"
 }
 
-# So many runs end in one state that 16 bits don't count them.
+# So many runs end in one state that 16 bits don't count them. As many are made by threads, one after the other.
 one_state() {
     printf 'RISCV ONE\n{ 0:x5=1; 0:x6=x; }\nP0 ;\nsw x5,0(x6) ;\nexists x=1\n' >"$work/one.litmus"
     printf '%s\n' 'test ONE' 'threads 1' 'runs 70000' 'all-done 70000' 'stalled 0' 'limit 0' 'exhausted 0' 'memory 0' \
         'states 1' '70000 x=1' 'condition exists' 'held 70000' 'verdict yes' 'completed 70000' 'renewals 0' \
         'upgrades 0' 'flushes 0' 'write-backs 0' 'stale-hits 0' >"$work/wanted"
     told "70,000 runs of one store" 0 "$work/wanted" /dev/null litmus --runs 70000 "$work/one.litmus"
+    told "70,000 runs of one store by threads" 0 "$work/wanted" /dev/null \
+        litmus --schedule threads --runs 70000 "$work/one.litmus"
 }
 
 # The number of workers shows in no report.

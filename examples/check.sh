@@ -603,7 +603,20 @@ verdicts() {
         if [ "$verdict" = legal ]; then status=0; fi
         told "$verdict: $steps and $records" "$status" "$work/wanted" /dev/null check "$work/steps" "$work/records"
     done <"$examples/verdicts.table"
+    one_after_the_other
     falling_times
+}
+
+# Two pipes: who writes the records opens theirs once the trace is written. So the trace must be opened first.
+one_after_the_other() {
+    mkfifo "$work/trace.pipe" "$work/records.pipe"
+    { echo '0 R 0x0' >"$work/trace.pipe"; echo '0 0 R 0x0 0 0 0' >"$work/records.pipe"; } &
+    writer=$!
+    echo legal >"$work/wanted"
+    told "pipes written one after the other" 0 "$work/wanted" /dev/null check "$work/trace.pipe" "$work/records.pipe"
+    kill "$writer" 2>/dev/null
+    wait "$writer" 2>/dev/null
+    rm -f "$work/trace.pipe" "$work/records.pipe"
 }
 
 # 140,000 stores of one core, whose times fall as their numbers rise, so that the records must be sorted.

@@ -1,6 +1,6 @@
 -- A pass over seats: one more turn in it, and what is at each place.
 use Rattle.std.proofs.Common.{◌≡◌, ◌⊎◌, inl, inr, ℕ, zero, suc, ◌||◌, true, false, List, [], ◌∷◌, Some}
-use Rattle.std.proofs.Common.{refl, sym, subst, ◌∙◌, true≢false}
+use Rattle.std.proofs.Common.{refl, sym, subst, ◌∙◌, true≢false, arith}
 use Rattle.std.specs.Prelude.{slice_get, slice_set}
 use Rattle.std.proofs.lemmas.Bool.{or_from, or_parts, or_right}
 use Rattle.thread_driver.specs.declared.told.Told.{Told}
@@ -44,6 +44,11 @@ module _ {X : Type 0} {Turn : X → Told → X → Type 0} where
   pub not_passed : {k : ℕ} {xs ys : List X} {all : Told} → PassGiven Turn k xs all ys → slice_get ys k ≡ slice_get xs k
   not_passed ends = refl
   not_passed (goes_on had last rest) = not_passed rest
+
+  -- a pass of no turns
+  pub none_given : {k : ℕ} {xs ys : List X} {all : Told} → PassGiven Turn k xs all ys → k ≡ zero → ys ≡ xs
+  none_given ends is = refl
+  none_given (goes_on had last rest) is = absurd (omega (arith, is))
 
   -- what is at a place was there before, or had a turn
   pub passed_at : {k : ℕ} {xs ys : List X} {all : Told} → PassGiven Turn k xs all ys → (i : ℕ) (y : X) →

@@ -22,7 +22,7 @@ ghost use Rattle.thread_driver.specs.Calls.{RoomMade, VictimLeft, victim_of_seat
 ghost use Rattle.thread_driver.specs.Given.{IsBankTurn, IsCoreTurn, TurnsGiven};
 ghost use Rattle.thread_driver.specs.Reports.{IsDecided, IsReport, Moved, SomeLacked, SomeStopped, Stopped, Went};
 ghost use Rattle.thread_driver.specs.Shifts.{AreBanksInOrder, AreCoresInOrder, AreOver, NoneOpen, Ran};
-ghost use Rattle.thread_driver.specs.Teams.{rested};
+ghost use Rattle.thread_driver.specs.Teams.{SeatsPassed, rested};
 ghost use Rattle.thread_driver.specs.ThreadRuns.{machine_of};
 ghost use Rattle.thread_driver.specs.Turns.{AfterRefusal, BankHadTurn, CoreHadTurn};
 
@@ -78,6 +78,15 @@ pub fn turns_make_these_calls<P: Program>()
         CoreTurns m turn.between turn.moved q }
     ensures room { (m : Machine) (p q : BankSeat) (told : Told) (turn : BankHadTurn m p told q) →
         RoomMade p turn.between × BankTurns m turn.between turn.moved q }
+{}
+
+/// After a core's turn that was refused memory, or in which its seat stopped, the worker's banks have no turn.
+pub fn no_bank_has_a_turn_after_one_that_ends_all<P: Program>()
+    ensures { (m : Machine) (cores cores' : List CoreSeat) (banks banks' : List BankSeat)
+        (programs programs' : List P) (told : Told)
+        (pass : SeatsPassed P.acts m cores banks programs told cores' banks' programs') →
+        (pass.core_told.no_memory ≡ true) ⊎ (pass.core_told.is_exhausted ≡ true) →
+        banks' ≡ banks }
 {}
 
 /// When a worker lets another thread run: after each 256th pass in a row in which no turn of its seats made progress.

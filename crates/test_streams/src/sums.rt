@@ -73,15 +73,15 @@ write-backs 340282366920938463463374607431768211455
 stale-hits 55340232221128654845
 ";
 
-// Of two runs with one state, in which the expression holds, one is all done: that one has its state told, and is held.
+// Of five runs with one state, in which the expression holds, one is all done: its state is told, and it is held.
 const STATE_REPORT: &[u8] = b"test L
 threads 2
-runs 2
+runs 5
 all-done 1
-stalled 0
+stalled 1
 limit 1
-exhausted 0
-memory 0
+exhausted 1
+memory 1
 states 1
 1 flag_1=0 data=1 1:x7=0
 condition forall
@@ -129,7 +129,13 @@ fn is_state_reported(alloc: Global) -> Result<bool, AllocError> {
         return Ok(false);
     };
     let mut runs = Vec::new(alloc);
-    for end in [End::AllDone, End::TurnsUsed] {
+    for end in [
+        End::AllDone,
+        End::TurnsUsed,
+        End::Stalled,
+        End::Exhausted,
+        End::NoMemory,
+    ] {
         let state = test.end(&[test.start(0), test.start(1)], &[1, 0])?;
         runs.push(RunEnd {
             end,

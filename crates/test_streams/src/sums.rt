@@ -153,6 +153,20 @@ fn states_are_those_of_runs_that_are_all_done(rt: HostRuntime) {
     assert_eq!(rt; is_state_reported(rt.alloc()), Ok(true));
 }
 
+// Whether an end state without thread 1 and without words has 0 for each name.
+fn has_zeros(alloc: Global) -> Result<bool, AllocError> {
+    let Ok(test) = read(alloc, TEXT) else {
+        return Ok(false);
+    };
+    let state = test.end(&[test.start(0)], &[])?;
+    Ok(state.values() == [0, 0, 0].as_slice())
+}
+
+#[test]
+fn what_is_not_there_is_0_at_the_end(rt: HostRuntime) {
+    assert_eq!(rt; has_zeros(rt.alloc()), Ok(true));
+}
+
 const LOAD: &[u8] = b"RISCV K\n{ 0:x6=x; 0:x7=5; }\nP0 ;\nlw x7,0(x6) ;\nexists 0:x7=5\n";
 
 // What a register has once the load into it is done without a value.

@@ -4,7 +4,9 @@ that are numbers or structures (with what is added to one), casts to fewer bits,
 i8, i16 and u16, shifts, what tells a number by its bits (`is_power_of_two`, `trailing_zeros`), the ends of signed types
 and of usize, and room that doesn't double (`reserve_exact`, `shrink_to`). It also counts steps on shared words (`load`,
 `swap`, `fetch_add`), such words of the host (`AtomicU64`), whether a seat changes (`if changes`), and what makes a
-thread wait (`yield_now`, `spin_loop`, `sleep`, `park`). And it counts impls by hand of std's traits that `derive` writes.
+thread wait (`yield_now`, `spin_loop`, `sleep`, `park`). And it counts what may make a size without a number:
+`checked_add` and its like, `collect`, `repeat`, `resize`, `truncate`, the bytes of a number, a byte character that is
+more than compared, the length of a text, `!0`, `1 + 1`, what may be refused and isn't used; and impls by hand of std's traits that `derive` writes.
 
     scripts/literals.py            lists them: crate, number or other sign, how often
     scripts/literals.py --check    compares them with tests/literals.table, and fails if they differ
@@ -32,7 +34,10 @@ CONSTANT = re.compile(r"\bconst (\w+): (?:\w+ = \d|(\w+) = \2 \{)")
 SIGN = re.compile(r"\b(?:reserve_exact|shrink_to(?:_fit)?)\b|\bas [iu](?:8|16|32)\b|\btry_(?:from|into)\b|\b(?:i8|[iu]16)\b|"
                   r"\b(?:i\w+|usize)::(?:MAX|MIN|BITS)\b|(?<=\s)(?:<<|>>)(?==?\s)|\b(?:load|swap|fetch_\w+)(?=::<)|"
                   r"\b(?:yield_now|spin_loop|sleep|park\w*|wake_\w+|Atomic\w+|if changes)\b|\bchange_\w+_if(?=\()|"
-                  r"\b(?:is_(?:power|multiple)_of\w*|\w+_(?:zeros|ones)|ilog\w*)(?=\(\w*\))")
+                  r"\b(?:is_(?:power|multiple)_of\w*|\w+_(?:zeros|ones)|ilog\w*)(?=\(\w*\))|!\d+|\b1 [+*] 1\b|"
+                  r"\b(?:(?:checked|overflowing|saturating|wrapping)_\w+|to_[bln]e_bytes|collect|repeat|resize|truncate|"
+                  r"forget|pow|skip|step_by)(?=[(:])|\blet _\w*(?=(?:: [^=;]*)? = [^;{]*\?;)")
+OF_TEXT = re.compile(r"b'(?:\\.|[^'\\])'(?= as )|(?:\bfrom\(|[-+*/%] )b'|\"\s*\.len\(\)")
 BY_HAND = re.compile(r"\b(impl)\b[^{;]*?\b(Clone|Copy|Debug|Default|Eq|Hash|Ord|PartialEq|PartialOrd)(?:<[^{;]*>)? for")
 ROW = re.compile(r"(\w+) \| ([\w <>:+-]+) \| (\d+) \| \S")
 
@@ -56,21 +61,24 @@ def without_clauses(text):
 
 
 def production():
-    """The code of the production crates, as (crate, code of a file)."""
+    """The code of the production crates, as (crate, code of a file, what its texts and byte characters stand for)."""
     for file in sorted((TOP / "crates").glob("*/src/**/*.rt")):
         crate = file.relative_to(TOP / "crates").parts[0]
         if not crate.startswith(NOT_PRODUCTION):
-            yield crate, IMPORT.sub("", without_clauses(QUIET.sub(" ", file.read_text(encoding="utf-8"))))
+            text = file.read_text(encoding="utf-8")
+            spoken = re.sub(TEXT, lambda part: "" if part[0].startswith("//") else part[0], text)
+            told = ["length of a text" if each.endswith(")") else "byte character" for each in OF_TEXT.findall(spoken)]
+            yield crate, IMPORT.sub("", without_clauses(QUIET.sub(" ", text))), told
 
 
 def numbers():
     """The numbers and other signs of all production crates, as (crate, what), each with how often it stands there."""
     files, found = list(production()), Counter()
-    names = "|".join({name for _, code in files for name, _ in CONSTANT.findall(code)})
-    for crate, code in files:
+    names = "|".join({name for _, code, _ in files for name, _ in CONSTANT.findall(code)})
+    for crate, code, told in files:
         written = [int(each.replace("_", ""), 0) for each in NUMBER.findall(code)]
         written += [2 ** int(bits) - 1 for bits in GREATEST.findall(code)]
-        signs = SIGN.findall(code) + re.findall(rf"(?<!const )\b(?:{names})\b(?: [-+] \d+)?", code)
+        signs = told + SIGN.findall(code) + re.findall(rf"(?<!const )\b(?:{names})\b(?: [-+] \d+)?", code)
         signs += map(" ".join, BY_HAND.findall(code))
         found.update((crate, str(each)) for each in [*filter(lambda each: each > 1, written), *signs])
     return found

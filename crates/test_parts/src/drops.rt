@@ -24,7 +24,7 @@ fn taken(arena: &mut Arena<Rc<i32>>, list: u32) -> Option<Rc<i32>> {
     Some(arena.unlink(first))
 }
 
-/// How many owners a value has: with two on lists, and once these are cleared; with three, one of which is taken off;
+/// How many owners a value has: with two on lists, and once these are cleared; with four, one of which is taken off;
 /// once the arena is dropped; and once the one that was taken off is.
 fn owners(alloc: Global) -> Result<[usize; 5], AllocError> {
     let value = Rc::new(alloc, 0)?;
@@ -39,6 +39,7 @@ fn owners(alloc: Global) -> Result<[usize; 5], AllocError> {
     put(&mut arena, 0, &value);
     put(&mut arena, 1, &value);
     put(&mut arena, 1, &value);
+    put(&mut arena, 0, &value);
     let one = taken(&mut arena, 1);
     let apart = Rc::strong_count(&value);
     drop(arena);
@@ -49,5 +50,5 @@ fn owners(alloc: Global) -> Result<[usize; 5], AllocError> {
 
 #[test]
 fn each_value_is_dropped_once(rt: HostRuntime) {
-    assert_eq!(rt; owners(rt.alloc()), Ok([3, 1, 4, 2, 1]));
+    assert_eq!(rt; owners(rt.alloc()), Ok([3, 1, 5, 2, 1]));
 }

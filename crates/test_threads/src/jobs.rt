@@ -125,9 +125,11 @@ fn no_job_of_many_workers_is_done_twice(rt: HostRuntime) -> Result<(), Fail> {
     Ok(())
 }
 
-// Job 0 waits for all others, and gives whether they were done meanwhile. Each of them gives 1.
+// Job 0 waits for all others, and gives whether they were done meanwhile. Each of them gives 1. One worker does more
+// than its share, by the state that it opened.
 #[derive(Drop)]
 struct OneWaits {
+    opened: AtomicU64,
     done: AtomicU64,
     others: u64,
 }
@@ -138,6 +140,7 @@ impl Jobs<u64, u64> for OneWaits {
     ghost ready = { λ jobs state. Unit {0} };
 
     fn open(&self) -> Result<u64, AllocError> {
+        self.opened.fetch_add(1, Ordering::SeqCst);
         Ok(0)
     }
 
@@ -160,10 +163,12 @@ impl Jobs<u64, u64> for OneWaits {
 fn a_worker_does_all_jobs_that_are_left_while_another_waits(rt: HostRuntime) -> Result<(), Fail> {
     for count in [10u64, 200_000] {
         let jobs = OneWaits {
+            opened: AtomicU64::new(0),
             done: AtomicU64::new(0),
             others: count - 1,
         };
         let results = run_jobs(&rt, rt.alloc(), &jobs, count, 2, &Free)?;
+        assert_eq!(rt; jobs.opened.load(Ordering::SeqCst), 2, "states for {count} jobs");
         assert_eq!(rt; results.len() as u64, count);
         for at in 0..results.len() {
             assert_eq!(rt; results[at], 1, "job {at} of {count}");

@@ -18,20 +18,19 @@ const KINDS: &[(Kind, &str)] = &[
     (Kind::BadForm, "a bad form"),
 ];
 
-fn is_called(alloc: Global, kind: Kind, told: &str) -> Result<bool, Fail> {
-    let error = TraceError {
-        line: 4_294_967_299,
-        kind,
-    };
+fn is_called(alloc: Global, line: usize, kind: Kind, told: &str) -> Result<bool, Fail> {
+    let error = TraceError { line, kind };
     let text = format!(in alloc; "{error}")?;
-    let wanted = format!(in alloc; "line 4294967299: {told}")?;
+    let wanted = format!(in alloc; "line {line}: {told}")?;
     Ok(text == wanted)
 }
 
 #[test]
 fn kinds_of_faults(rt: HostRuntime) -> Result<(), Fail> {
     for (kind, told) in KINDS {
-        assert!(rt; is_called(rt.alloc(), *kind, told)?, "{told}");
+        for line in [0, 4_294_967_299] {
+            assert!(rt; is_called(rt.alloc(), line, *kind, told)?, "{line}: {told}");
+        }
     }
     Ok(())
 }

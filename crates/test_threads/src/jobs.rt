@@ -168,7 +168,11 @@ fn a_worker_does_all_jobs_that_are_left_while_another_waits(rt: HostRuntime) -> 
             others: count - 1,
         };
         let results = run_jobs(&rt, rt.alloc(), &jobs, count, 2, &Free)?;
-        assert_eq!(rt; jobs.opened.load(Ordering::SeqCst), 2, "states for {count} jobs");
+        assert_eq!(rt;
+            jobs.opened.load(Ordering::SeqCst),
+            2,
+            "states for {count} jobs"
+        );
         assert_eq!(rt; results.len() as u64, count);
         for at in 0..results.len() {
             assert_eq!(rt; results[at], 1, "job {at} of {count}");

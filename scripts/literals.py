@@ -6,7 +6,8 @@ and of usize, and room that doesn't double (`reserve_exact`, `shrink_to`). It al
 `swap`, `fetch_add`), such words of the host (`AtomicU64`), whether a seat changes (`if changes`), and what makes a
 thread wait (`yield_now`, `spin_loop`, `sleep`, `park`). And it counts what may make a size without a number:
 `checked_add` and its like, `collect`, `repeat`, `resize`, `truncate`, the bytes of a number, a byte character that is
-more than compared, the length of a text, `!0`, `1 + 1`, what may be refused and isn't used; and impls by hand of std's traits that `derive` writes.
+more than compared, the length of a text, `!0`, `1 + 1`, what may be refused and isn't used. It also counts impls by
+hand of std's traits that `derive` writes.
 
     scripts/literals.py            lists them: crate, number or other sign, how often
     scripts/literals.py --check    compares them with tests/literals.table, and fails if they differ
@@ -35,8 +36,8 @@ SIGN = re.compile(r"\b(?:reserve_exact|shrink_to(?:_fit)?)\b|\bas [iu](?:8|16|32
                   r"\b(?:i\w+|usize)::(?:MAX|MIN|BITS)\b|(?<=\s)(?:<<|>>)(?==?\s)|\b(?:load|swap|fetch_\w+)(?=::<)|"
                   r"\b(?:yield_now|spin_loop|sleep|park\w*|wake_\w+|Atomic\w+|if changes)\b|\bchange_\w+_if(?=\()|"
                   r"\b(?:is_(?:power|multiple)_of\w*|\w+_(?:zeros|ones)|ilog\w*)(?=\(\w*\))|!\d+|\b1 [+*] 1\b|"
-                  r"\b(?:(?:checked|overflowing|saturating|wrapping)_\w+|to_[bln]e_bytes|collect|repeat|resize|truncate|"
-                  r"forget|pow|skip|step_by)(?=[(:])|\blet _\w*(?=(?:: [^=;]*)? = [^;{]*\?;)")
+                  r"\b(?:(?:checked|overflowing|saturating|wrapping)_\w+|to_[bln]e_bytes|collect|repeat|resize|"
+                  r"truncate|forget|pow|skip|step_by)(?=[(:])|\blet _\w*(?=(?:: [^=;]*)? = [^;{]*\?;)")
 OF_TEXT = re.compile(r"b'(?:\\.|[^'\\])'(?= as )|(?:\bfrom\(|[-+*/%] )b'|\"\s*\.len\(\)")
 BY_HAND = re.compile(r"\b(impl)\b[^{;]*?\b(Clone|Copy|Debug|Default|Eq|Hash|Ord|PartialEq|PartialOrd)(?:<[^{;]*>)? for")
 ROW = re.compile(r"(\w+) \| ([\w <>:+-]+) \| (\d+) \| \S")

@@ -27,9 +27,9 @@ CALL = re.compile(r"\b(call|jmp) +[\da-f]+ <(?!.*\+0x[\da-f]+>$)(.+)>$")
 
 def calls_of(program):
     """The names that each function of a program calls, or jumps to."""
-    listed = subprocess.run(["objdump", "-d", "--no-show-raw-insn", program], check=True, capture_output=True, text=True)
+    words = ["objdump", "-d", "--no-show-raw-insn", program]
     calls, name = defaultdict(set), None
-    for line in listed.stdout.splitlines():
+    for line in subprocess.run(words, check=True, capture_output=True, text=True).stdout.splitlines():
         if begun := re.match(r"[\da-f]+ <(.+)>:$", line):
             name = begun[1]
         elif (call := CALL.search(line)) and (call[1] == "call" or call[2] != name):

@@ -96,8 +96,8 @@ fn the_seed_behind_the_last_one_is_0(rt: HostRuntime) -> Result<(), Fail> {
     Ok(())
 }
 
-// Each run passes the gate once, by its number and not by its seed, whichever worker makes it. Two workers make runs at the same time. One ends run 0
-// before run 1 begins, so run 0 looks for the other in vain.
+// Each run passes the gate once, by its number and not by its seed, whichever worker makes it. Two workers make runs at
+// the same time. One ends run 0 before run 1 begins, so run 0 looks for the other in vain.
 #[test]
 fn all_runs_of_a_batch_pass_the_gate(rt: HostRuntime) -> Result<(), Fail> {
     for (count, workers, looks, met) in [
@@ -161,8 +161,8 @@ fn a_run_by_threads_passes_the_gate(rt: HostRuntime) -> Result<(), Fail> {
     Ok(())
 }
 
-// Each run gives two cores and a bank one turn each, or two, and isn't made again. At the last time no store fits: core 0
-// stops in its seventh turn, where it would be done, so core 1 and the bank have six.
+// Each run gives two cores and a bank one turn each, or two, and isn't made again. At the last time no store fits: core
+// 0 stops in its seventh turn, where it would be done, so core 1 and the bank have six.
 #[test]
 fn all_runs_by_threads_pass_the_gate(rt: HostRuntime) -> Result<(), Fail> {
     for (time, limit, workers, turns) in [

@@ -1,8 +1,8 @@
 //! What histories of any origin ask, and no machine's do: a replay, stale hits where times of writes fall, and a check
 //! whose steps are counted. The values were worked out by hand.
 use physiological_order::{
-    Memory, Op, Record, Steps, Verdict, WordAddr, check, check_counted, replay, rises_by_number,
-    stale_hits, stale_hits_counted,
+    Memory, Op, Record, Steps, Verdict, WordAddr, arrange, check, check_counted, replay,
+    rises_by_number, stale_hits, stale_hits_counted,
 };
 use std::alloc::{AllocError, Global};
 use std::test::Fail;
@@ -43,6 +43,18 @@ fn a_replay_receives_old_values(rt: HostRuntime) -> Result<(), Fail> {
     opening.set(WordAddr::at(0), 9)?;
     assert!(rt; receives_old_values(rt.alloc(), &opening)?);
     Ok(())
+}
+
+// Whether records of one time and of the greatest numbers are arranged by number.
+fn are_arranged_by_number(alloc: Global) -> Result<bool, AllocError> {
+    let first = record(0, 0, load(0), Some(0), 5, u64::MAX - 1);
+    let last = record(1, 0, load(0), Some(0), 5, u64::MAX);
+    Ok(arrange(alloc, &[last, first])?.as_slice() == [first, last].as_slice())
+}
+
+#[test]
+fn the_greatest_numbers_are_arranged(rt: HostRuntime) {
+    assert_eq!(rt; are_arranged_by_number(rt.alloc()), Ok(true));
 }
 
 // The times of the second store and of the swap are smaller, so 9 stays the greatest: only the load at 6 is before it.

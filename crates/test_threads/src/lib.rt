@@ -7,6 +7,8 @@ mod batches;
 #[cfg(test)]
 mod driver;
 #[cfg(test)]
+mod held_banks;
+#[cfg(test)]
 mod jobs;
 #[cfg(test)]
 mod numbers;

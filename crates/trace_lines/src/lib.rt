@@ -3,6 +3,7 @@
 
 mod errors;
 mod forms;
+pub mod laws;
 mod lines;
 mod reads;
 mod records;

@@ -1,7 +1,9 @@
-//! What is written is read back.
+//! What is written is read back, and the counts of a report add up.
 
-ghost use Rattle.std.specs.Prelude.{◌≡◌, ◌≤◌, Some, length};
+ghost use Rattle.std.specs.Prelude.{◌≡◌, ◌≤◌, ◌+◌, List, Some, length};
+ghost use Rattle.physiological_order.specs.declared.operation.Record.{Record};
 ghost use Rattle.trace_texts.specs.Records.{AreWritable, records_text};
+ghost use Rattle.trace_texts.specs.Reports.{loads_among, stores_among, swaps_among};
 ghost use Rattle.trace_reader.specs.Outcomes.{GivesList};
 ghost use Rattle.trace_reader.specs.declared.limits.TheConstants.{MOST_LINES};
 
@@ -24,3 +26,10 @@ pub fn written_records_are_read_back<S: Source>(
 {
     read_records(alloc, source)
 }
+
+/// The loads, stores and swaps that a report counts are as many as its records. The function does nothing: its contract
+/// is the law.
+pub fn counts_add_up()
+    ensures { (rs : List Record) →
+        loads_among rs + stores_among rs + swaps_among rs ≡ length rs }
+{}

@@ -603,30 +603,7 @@ verdicts() {
         if [ "$verdict" = legal ]; then status=0; fi
         told "$verdict: $steps and $records" "$status" "$work/wanted" /dev/null check "$work/steps" "$work/records"
     done <"$examples/verdicts.table"
-    pipes
     falling_times
-}
-
-# Pipes. Who writes the records opens theirs once the trace is written, so the trace must be opened first. A fault is
-# told while its pipe stays open: nothing is read behind it.
-pipes() {
-    mkfifo "$work/trace.pipe" "$work/records.pipe"
-    { echo '0 R 0x0' >"$work/trace.pipe"; echo '0 0 R 0x0 0 0 0' >"$work/records.pipe"; } &
-    writer=$!
-    echo legal >"$work/wanted"
-    told "pipes written one after the other" 0 "$work/wanted" /dev/null check "$work/trace.pipe" "$work/records.pipe"
-    kill "$writer" 2>/dev/null
-    stays_open '0 X' trace "$work/trace.pipe"
-    stays_open '0 0 X' check "$examples/traces/EMPTY.trace" "$work/trace.pipe"
-    rm -f "$work/trace.pipe" "$work/records.pipe"
-}
-
-stays_open() {
-    { echo "$1"; exec sleep 300; } >"$work/trace.pipe" &
-    writer=$!
-    shift
-    refused "$1 of a pipe that stays open" 2 'tardis: line 1: 5 BadOperation' "$@"
-    kill "$writer" 2>/dev/null
 }
 
 # 140,000 stores of one core, whose times fall as their numbers rise, so that the records must be sorted.
@@ -678,6 +655,28 @@ trace_faults() {
     faults "$bad/records.table" check "$examples/traces/EMPTY.trace"
 }
 
+# Pipes. Who writes the records opens theirs once the trace is written, so the trace must be opened first. A fault is
+# told while its pipe stays open: nothing is read behind it.
+pipes() {
+    mkfifo "$work/trace.pipe" "$work/records.pipe"
+    { echo '0 R 0x0' >"$work/trace.pipe"; echo '0 0 R 0x0 0 0 0' >"$work/records.pipe"; } &
+    writer=$!
+    echo legal >"$work/wanted"
+    told "pipes written one after the other" 0 "$work/wanted" /dev/null check "$work/trace.pipe" "$work/records.pipe"
+    kill "$writer" 2>/dev/null
+    stays_open '0 X' trace "$work/trace.pipe"
+    stays_open '0 0 X' check "$examples/traces/EMPTY.trace" "$work/trace.pipe"
+    rm -f "$work/trace.pipe" "$work/records.pipe"
+}
+
+stays_open() {
+    { echo "$1"; exec sleep 300; } >"$work/trace.pipe" &
+    writer=$!
+    shift
+    refused "$1 of a pipe that stays open" 2 'tardis: line 1: 5 BadOperation' "$@"
+    kill "$writer" 2>/dev/null
+}
+
 trace_refusals() {
     some=$examples/traces/EMPTY.trace
     long_lines '0 R 0x0' trace
@@ -696,6 +695,7 @@ trace_refusals() {
     refused "no trace to check" 4 'tardis: read failed' check "$bad/none.trace" "$some"
     refused "no records, and a bad trace" 4 'tardis: read failed' check "$work/text" "$bad/none.records"
     refused "a folder as records" 4 'tardis: read failed' check "$some" "$examples"
+    pipes
     full "a trace's report to a full device" trace "$some"
     full "a verdict to a full device" check "$some" "$some"
 }

@@ -656,7 +656,7 @@ trace_faults() {
 }
 
 # Pipes. Who writes the records opens theirs once the trace is written, so the trace must be opened first. A fault is
-# told while its pipe stays open: nothing is read behind it.
+# told while its pipe stays open: no read follows the one that shows it.
 pipes() {
     mkfifo "$work/trace.pipe" "$work/records.pipe"
     { echo '0 R 0x0' >"$work/trace.pipe"; echo '0 0 R 0x0 0 0 0' >"$work/records.pipe"; } &

@@ -5,9 +5,9 @@ i8, i16 and u16, shifts, what tells a number by its bits (`is_power_of_two`, `tr
 and of usize, and room that doesn't double (`reserve_exact`, `shrink_to`). It also counts steps on shared words (`load`,
 `swap`, `fetch_add`), such words of the host (`AtomicU64`), whether a seat changes (`if changes`), and what makes a
 thread wait (`yield_now`, `spin_loop`, `sleep`, `park`). And it counts what may make a size without a number:
-`checked_add` and its like, `collect`, `repeat`, `resize`, `truncate`, the bytes of a number, a byte character that is
-more than compared, the length of a text, `!0`, `1 + 1`, what may be refused and isn't used. It also counts impls by
-hand of std's traits that `derive` writes.
+`checked_add` and its like, `collect`, `repeat`, `resize`, `truncate`, `forget`, `pow`, `skip`, `step_by`, the bytes of
+a number, a byte character that is cast, converted or behind an operator, the length of a text, `!0`, `1 + 1`, and
+`let _` of what may be refused. It also counts impls by hand of std's traits that `derive` writes, but for `Drop`.
 
     scripts/literals.py            lists them: crate, number or other sign, how often
     scripts/literals.py --check    compares them with tests/literals.table, and fails if they differ

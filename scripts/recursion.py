@@ -4,8 +4,8 @@
     scripts/recursion.py PROGRAM ..    fails if there is another than those below, or if one of those is gone
 
 A proof knows no stack: a function that calls itself once for each run, line or word meets its contract, and overflows
-the stack past some number. So each that is there has its bound here. Calls through pointers aren't seen. What the
-compiler has made a loop needs no stack, and isn't counted.
+the stack past some number. So each that is there has its bound here. Not seen are calls through pointers, destructors,
+and functions of std and other crates, also for the project's types. What the compiler has made a loop isn't counted.
 """
 import re
 import subprocess

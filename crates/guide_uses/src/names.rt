@@ -27,7 +27,7 @@ use worker_driver::{
 };
 
 /// The next step of a program.
-pub fn next_step<P: Program>(program: &mut P) -> Option<Step> {
+pub fn next_step<P: Program>(program: &P) -> Option<Step> {
     program.next()
 }
 

@@ -32,7 +32,7 @@ impl Program for Thread {
 
     ghost acts = { record { next = thread_next; done = thread_done } };
 
-    fn next(&mut self) -> Option<Step> {
+    fn next(&self) -> Option<Step> {
         match self {
             Thread::StoreMessage => Some(Step::Op(Op::Store(WordAddr::at(0), 42))),
             Thread::StoreFlag => Some(Step::Op(Op::Store(WordAddr::at(1), 1))),

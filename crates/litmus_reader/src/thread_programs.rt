@@ -10,7 +10,7 @@ impl<'a> Program for ThreadState<'a> {
 
     ghost acts = { record { next = λ thread. as_step (next_operation thread); done = done_with } };
 
-    fn next(&mut self) -> Option<Step> {
+    fn next(&self) -> Option<Step> {
         match ThreadState::next(self) {
             Some(op) => Some(Step::Op(op)),
             None => None,

@@ -46,7 +46,7 @@ impl Program for OpProgram {
 
     ghost acts = { record { next = first_op; done = behind_first } };
 
-    fn next(&mut self) -> Option<Step> {
+    fn next(&self) -> Option<Step> {
         match self.ops.get(self.at) {
             Some(op) => Some(Step::Op(*op)),
             None => None,
@@ -96,7 +96,7 @@ impl<'a> Program for StepProgram<'a> {
 
     ghost acts = { record { next = first_step; done = behind_first } };
 
-    fn next(&mut self) -> Option<Step> {
+    fn next(&self) -> Option<Step> {
         self.left.first().copied()
     }
 

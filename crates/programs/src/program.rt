@@ -11,9 +11,8 @@ pub trait Program {
     ghost acts: { Acts Self };
 
     /// The next step, the same until `done`; `None` if the program has ended.
-    fn next(&mut self) -> Option<Step>
-        ensures next { result ≡ acts.next self.old }
-        ensures same { self.new ≡ self.old };
+    fn next(&self) -> Option<Step>
+        ensures { result ≡ acts.next self.now };
 
     /// The next step is done, with the value that it received: `None` for a store and for an advance.
     fn done(&mut self, received: Option<u64>)

@@ -49,11 +49,10 @@ module _ {P S : Type 0} (plan : Plan P S) (start : Position P S) (m : Machine) (
       (ap (begin plan (position (at m programs log own Before) made)) over ∙ rw more refl)
 
   -- the same, of what the code's turn begins with
-  pub turn_begun : (programs_now : List P) (log_now : Log) → AtStart → programs_now ≡ programs →
-      log_now ≡ record log { has_progressed = false } → are_over plan.acts m programs m.config.cores ≡ false →
-      made < plan.limit →
-      Arrives plan start log_now.events (position (at m programs_now log_now (plan.schedule.first own) Within) made)
-  turn_begun programs_now log_now before same noted over below = rw (same, noted) (begun before over below)
+  pub turn_begun : (log_now : Log) → AtStart → log_now ≡ record log { has_progressed = false } →
+      are_over plan.acts m programs m.config.cores ≡ false → made < plan.limit →
+      Arrives plan start log_now.events (position (at m programs log_now (plan.schedule.first own) Within) made)
+  turn_begun log_now before noted over below = rw noted (begun before over below)
 
   abbrev AtEnd : Type 0
   AtEnd = Arrives plan start log.events (position (at m programs log own Within) made)

@@ -12,9 +12,8 @@ use programs::Step;
 use programs::program::Program;
 
 // The next step of a core's program.
-pub(crate) fn next_in<P: Program>(programs: &mut [P], core: u32) -> Option<Step>
-    ensures next { result ≡ next_in P.acts programs.old core }
-    ensures same { programs.new ≡ programs.old }
+pub(crate) fn next_in<P: Program>(programs: &[P], core: u32) -> Option<Step>
+    ensures { result ≡ next_in P.acts programs.now core }
 {
     let at = core as usize;
     if at >= programs.len() {
@@ -57,9 +56,8 @@ pub(crate) fn tell_advance<P: Program>(programs: &mut [P], core: u32, plain: &Op
 }
 
 // Whether a core has no open operation and its program no next step.
-fn is_over<P: Program>(system: &System, programs: &mut [P], core: u32) -> bool
-    ensures over { result ≡ is_over P.acts system.now programs.old core }
-    ensures same { programs.new ≡ programs.old }
+fn is_over<P: Program>(system: &System, programs: &[P], core: u32) -> bool
+    ensures { result ≡ is_over P.acts system.now programs.now core }
 {
     if system.open_op(core).is_some() {
         return false;
@@ -68,9 +66,8 @@ fn is_over<P: Program>(system: &System, programs: &mut [P], core: u32) -> bool
 }
 
 // Whether that is so of all cores below a number.
-pub(crate) fn are_over<P: Program>(system: &System, programs: &mut [P], cores: u32) -> bool
-    ensures over { result ≡ are_over P.acts system.now programs.old cores }
-    ensures same { programs.new ≡ programs.old }
+pub(crate) fn are_over<P: Program>(system: &System, programs: &[P], cores: u32) -> bool
+    ensures { result ≡ are_over P.acts system.now programs.now cores }
 {
     for core in 0..cores {
         if !is_over(system, programs, core) {

@@ -259,10 +259,9 @@ fn evict<P: Program, H: Holder>(
 }
 
 // The cores that have no open operation and whose programs have a step: core c is one exactly if bit c is set.
-fn issuing<P: Program>(system: &System, programs: &mut [P]) -> u64
-    ensures mask { IsMask result (λ core. is_idle system.now core
-        && is_some (next_in P.acts programs.old core)) }
-    ensures same { programs.new ≡ programs.old }
+fn issuing<P: Program>(system: &System, programs: &[P]) -> u64
+    ensures { IsMask result (λ core. is_idle system.now core
+        && is_some (next_in P.acts programs.now core)) }
 {
     let mut ready = 0;
     let mut left = system.idle_cores();
@@ -276,12 +275,11 @@ fn issuing<P: Program>(system: &System, programs: &mut [P]) -> u64
 
 // The cores that do something next, in the same way.
 #[inline(always)]
-fn ready_cores<P: Program>(system: &System, programs: &mut [P]) -> u64
+fn ready_cores<P: Program>(system: &System, programs: &[P]) -> u64
     ensures each { (core : ℕ) → core < system.now.config.cores → bit_at result core ≡ length
-        (core_step core (open_op system.now core) (next_in P.acts programs.old core)) }
-    ensures count { count_ones result ≡ length (core_steps P.acts system.now programs.old
+        (core_step core (open_op system.now core) (next_in P.acts programs.now core)) }
+    ensures count { count_ones result ≡ length (core_steps P.acts system.now programs.now
         system.now.config.cores) }
-    ensures same { programs.new ≡ programs.old }
 {
     let _cores = system.cores();
     system.trying_cores() | issuing(system, programs)

@@ -52,7 +52,7 @@ impl Program for Watched<'_> {
       done = λ w received. record w { script = script_done w.script received };
     } };
 
-    fn next(&mut self) -> Option<Step> {
+    fn next(&self) -> Option<Step> {
         self.script.next()
     }
 

@@ -16,7 +16,7 @@ impl Program for Script {
 
     ghost acts = { record { next = script_next; done = script_done } };
 
-    fn next(&mut self) -> Option<Step> {
+    fn next(&self) -> Option<Step> {
         if self.at >= self.end {
             return None;
         }

@@ -1,6 +1,6 @@
--- Lists by index: what is there, and what a list has after one of its values was changed.
-use Rattle.std.proofs.Common.{◌≡◌, ℕ, zero, suc, ◌<◌, List, [], ◌∷◌, length, Option, Some, None, sym, refl, ap, arith}
-use Rattle.std.specs.Prelude.{slice_get, slice_set, slice_index_or, is_none, ◌&&◌, true}
+-- Lists by index: what is there.
+use Rattle.std.proofs.Common.{◌≡◌, ℕ, zero, suc, ◌<◌, List, [], ◌∷◌, length, Option, Some, None, sym, refl, arith}
+use Rattle.std.specs.Prelude.{slice_get, slice_index_or, is_none, ◌&&◌, true}
 use Rattle.std.proofs.lemmas.Bool.{true≢false}
 use Rattle.std.proofs.lemmas.Option.{slice_get_read}
 
@@ -27,9 +27,3 @@ module _ {A : Type 0} where
   -- a value that was read at an index is there
   pub here : (xs : List A) (i : ℕ) (x : A) → i < length xs → x ≡ slice_index_or xs i x → slice_get xs i ≡ Some x
   here xs i x lt e = slice_get_read xs (length xs) i x refl lt e
-
-  -- a value that is put back where it was
-  pub set_back : (xs : List A) (i : ℕ) (a : A) → slice_get xs i ≡ Some a → slice_set xs i a ≡ xs
-  set_back [] i a e = refl
-  set_back (x ∷ xs) zero a e = ap (λ y. y ∷ xs) (sym (some_is e))
-  set_back (x ∷ xs) (suc i) a e = ap (λ ys. x ∷ ys) (set_back xs i a e)

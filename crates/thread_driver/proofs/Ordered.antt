@@ -120,9 +120,3 @@ comes_of acts m Many cores cores' banks banks' programs programs' told law order
       are_served = all_served m acts Many cores cores' programs programs' given.core_told order none given.of_cores
           given.cores_long law given.programs_long;
     }
-
--- what is so of three things is so of the same three
-pub same_three : {A B C : Type 0} (K : A → B → C → Type 0) (a a' : A) (b b' : B) (c c' : C) →
-    (a' ≡ a) × (b' ≡ b) × (c' ≡ c) → K a b c → K a' b' c'
-same_three K a a' b b' c c' same k =
-    subst (λ x. K x b' c') (sym same.0) (subst (λ y. K a y c') (sym same.1) (subst (K a b) (sym same.2) k))

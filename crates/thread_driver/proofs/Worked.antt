@@ -5,8 +5,6 @@ use Rattle.std.proofs.Common.{ap, ap₂, subst, ◌∙◌}
 use Rattle.std.proofs.Common.{arith}
 use Rattle.std.specs.Prelude.{slice_get, slice_index_or, slice_set}
 use Rattle.std.specs.List.{zip}
-use Rattle.std.specs.declared.alloc.Global.{Global}
-use Rattle.std.specs.declared.vec.Vec.{Vec}
 use Rattle.std.proofs.lemmas.Option.{slice_get_within}
 use Rattle.mailboxes.specs.declared.machine.Machine.{Machine}
 use Rattle.mailboxes.specs.declared.core_seat.CoreSeat.{CoreSeat}
@@ -15,7 +13,7 @@ use Rattle.mailboxes.specs.Seats.{AllBankSeats, AllCoreSeats, IsBankSeat, IsCore
 use Rattle.programs.specs.Acts.{Acts}
 use Rattle.thread_driver.specs.declared.told.Told.{Told}
 use Rattle.thread_driver.specs.declared.worker.Worker.{Worker}
-use Rattle.thread_driver.specs.Given.{AllGiven, AtMost, Exactly, IsBankTurn, IsCoreTurn, SeatsGiven}
+use Rattle.thread_driver.specs.Given.{AtMost, Exactly, IsBankTurn, IsCoreTurn, SeatsGiven}
 use Rattle.thread_driver.specs.Given.{TurnsGiven, more, quiet, rests, told_by_both}
 use Rattle.thread_driver.specs.Teams.{PassGiven, SeatsPassed, ends_all}
 use Rattle.thread_driver.specs.Playing.{AreAhead, IsAhead, Plays}
@@ -129,49 +127,25 @@ module _ {P : Type 0} (acts : Acts P) (m : Machine) where
           told_is = both_told;
         }
 
--- the seats and programs are as before, and so is what was told
-abbrev pub SameLists : {P : Type 0} → Worker P → Worker P → Type 0
-SameLists l t =
-    (t.cores ≡ l.cores) × (t.banks ≡ l.banks) × (t.programs.items ≡ l.programs.items) × (t.told ≡ l.told)
-
 -- the worker gave its seats turns, so many each, and keeps what these told
 abbrev pub Gave : {P : Type 0} → Acts P → Machine → (ℕ → Type 0) → Worker P → Worker P → Type 0
 Gave acts m Many w v =
     SeatsGiven acts m Many w.cores.items w.banks.items w.programs.items v.told v.cores.items v.banks.items
     v.programs.items
 
-module _ {P : Type 0} (acts : Acts P) (m : Machine) where
-  -- a worker that told what is finished, with as many turns, said otherwise
-  pub works_told : (Many Most : ℕ → Type 0) (w l t : Worker P) → ((n : ℕ) → Many n → Most n) →
-      Gave acts m Many w l → SameLists l t → Gave acts m Most w t
-  works_told Many Most w l t le gave same =
-      let pairs = zip w.cores.items w.programs.items in
-      record {
-        cores_long = ap (λ (v : Vec CoreSeat Global). length v.items) same.0 ∙ gave.cores_long;
-        programs_long = ap length same.2 ∙ gave.programs_long;
-        core_told = gave.core_told;
-        bank_told = gave.bank_told;
-        of_cores = subst (λ xs. AllGiven (IsCoreTurn acts m) Most pairs gave.core_told (zip t.cores.items xs))
-            (sym same.2)
-            (subst (λ (v : Vec CoreSeat Global). AllGiven (IsCoreTurn acts m) Most pairs gave.core_told
-            (zip v.items l.programs.items)) (sym same.0) (given_within le gave.of_cores));
-        of_banks = subst (λ (v : Vec BankSeat Global). AllGiven (IsBankTurn m) Most w.banks.items gave.bank_told
-            v.items) (sym same.1) (given_within le gave.of_banks);
-        told_is = same.3 ∙ gave.told_is;
-      }
-
-  pub ahead_told : (l t : Worker P) → AreAhead acts l.cores.items l.programs.items → SameLists l t →
-      AreAhead acts t.cores.items t.programs.items
-  ahead_told l t ahead same =
-      subst (AreAhead acts t.cores.items) (sym same.2)
-      (subst (λ (v : Vec CoreSeat Global). AreAhead acts v.items l.programs.items) (sym same.0) ahead)
-
-module _ {P : Type 0} (m : Machine) (l t : Worker P) (same : SameLists l t) where
-  pub cores_told : AllCoreSeats m l.cores.items → AllCoreSeats m t.cores.items
-  cores_told all = subst (λ (v : Vec CoreSeat Global). AllCoreSeats m v.items) (sym same.0) all
-
-  pub banks_told : AllBankSeats m l.banks.items → AllBankSeats m t.banks.items
-  banks_told all = subst (λ (v : Vec BankSeat Global). AllBankSeats m v.items) (sym same.1) all
+-- as many turns, said otherwise
+pub gave_within : {P : Type 0} (acts : Acts P) (m : Machine) (Many Most : ℕ → Type 0) (w v : Worker P) →
+    ((n : ℕ) → Many n → Most n) → Gave acts m Many w v → Gave acts m Most w v
+gave_within acts m Many Most w v le gave =
+    record {
+      cores_long = gave.cores_long;
+      programs_long = gave.programs_long;
+      core_told = gave.core_told;
+      bank_told = gave.bank_told;
+      of_cores = given_within le gave.of_cores;
+      of_banks = given_within le gave.of_banks;
+      told_is = gave.told_is;
+    }
 
 -- the next seat in a pass
 module _ (m : Machine) (banks banks' : List BankSeat) (k : ℕ) (told : Told) (all : AllBankSeats m banks)

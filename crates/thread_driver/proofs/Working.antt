@@ -3,8 +3,6 @@ use Rattle.std.proofs.Common.{◌≡◌, ℕ, ◌+◌, ◌%◌, ◌<◌, ◌≤�
 use Rattle.std.proofs.Common.{subst, arith, true≢false}
 use Rattle.std.proofs.lemmas.Bool.{or_parts}
 use Rattle.std.specs.List.{zip}
-use Rattle.std.specs.declared.alloc.Global.{Global}
-use Rattle.std.specs.declared.vec.Vec.{Vec}
 use Rattle.mailboxes.specs.declared.machine.Machine.{Machine}
 use Rattle.mailboxes.specs.declared.bank_seat.BankSeat.{BankSeat}
 use Rattle.mailboxes.specs.declared.core_seat.CoreSeat.{CoreSeat}
@@ -22,8 +20,7 @@ use Rattle.thread_driver.specs.Playing.{AreAhead}
 use Rattle.thread_driver.specs.Teams.{HasWorked, IsAtWork, IsReady, SeatsPassed, ends_all, over_in, rested}
 use Rattle.thread_driver.proofs.Counted.{over_rises}
 use Rattle.thread_driver.proofs.Passes.{none_ends, second_ends}
-use Rattle.thread_driver.proofs.Worked.{Gave, SameLists, ahead_told, banks_told, cores_told, given_all, given_more}
-use Rattle.thread_driver.proofs.Worked.{not_given, works_told}
+use Rattle.thread_driver.proofs.Worked.{Gave, gave_within, given_all, given_more, not_given}
 
 -- If no pass brought anything on so far, as many came to nothing as there were.
 pub idle_passes : (all told both : Told) (idle passes turn : ℕ) (is_due : Bool) → both ≡ told_by_both all told →
@@ -65,42 +62,18 @@ module _ {P : Type 0} (acts : Acts P) (m : Machine) (signals : Signals) where
         finished = let none = ap (λ (h : Said). h.finished) ready.2 in omega arith;
       }
 
-  -- what is finished stays so, if seats and programs do
-  pub told_of_same : (n : ℕ) (l t : Worker P) → SameLists l t → n ≡ over_in acts (zip l.cores.items l.programs.items) →
-      n ≡ over_in acts (zip t.cores.items t.programs.items)
-  told_of_same n l t same told =
-      told ∙ ap (λ (v : Vec CoreSeat Global). over_in acts (zip v.items l.programs.items)) (sym same.0)
-      ∙ ap (λ ps. over_in acts (zip t.cores.items ps)) (sym same.2)
-
-  -- a pass of seats and programs that stayed since
-  pub passed_same : (l t : Worker P) → SameLists l t → (told : Told) (cores : List CoreSeat) (banks : List BankSeat)
-      (programs : List P) →
-      SeatsPassed acts m t.cores.items t.banks.items t.programs.items told cores banks programs →
-      SeatsPassed acts m l.cores.items l.banks.items l.programs.items told cores banks programs
-  passed_same l t same told cores banks programs passed =
-      subst (λ (v : Vec CoreSeat Global). SeatsPassed acts m v.items l.banks.items l.programs.items told cores banks
-      programs) same.0
-      (subst (λ (v : Vec BankSeat Global). SeatsPassed acts m t.cores.items v.items l.programs.items told cores banks
-      programs) same.1
-      (subst (λ ps. SeatsPassed acts m t.cores.items t.banks.items ps told cores banks programs) same.2 passed))
-
   -- it told what is finished, and may have looked
-  pub after_telling : (turn : ℕ) (w l t : Worker P) → Working turn w l → SameLists l t →
-      IsSignalerOf signals t.signaler → number_of t.signaler ≡ number_of l.signaler →
-      t.signaler.said.stops ≡ l.signaler.said.stops →
-      t.signaler.said.finished ≡ over_in acts (zip t.cores.items t.programs.items) → Working turn w t
-  after_telling turn w l t was same signaler number stops told =
+  pub after_telling : (turn : ℕ) (w l : Worker P) (s : Signaler) → Working turn w l → IsSignalerOf signals s →
+      number_of s ≡ number_of l.signaler → s.said.stops ≡ l.signaler.said.stops →
+      s.said.finished ≡ over_in acts (zip l.cores.items l.programs.items) → Working turn w (record l { signaler = s })
+  after_telling turn w l s was signaler number stops told =
       record {
-        at_work = record {
-          signaler = signaler;
-          cores = cores_told m l t same was.at_work.cores;
-          banks = banks_told m l t same was.at_work.banks;
-        };
-        ahead = ahead_told acts m l t was.ahead same;
-        few = subst (λ (v : Vec CoreSeat Global). length v.items < 2 ^ 32) (sym same.0) was.few;
+        at_work = record { signaler = signaler; cores = was.at_work.cores; banks = was.at_work.banks };
+        ahead = was.ahead;
+        few = was.few;
         number = number ∙ was.number;
-        given = works_told acts m (Exactly turn) (Exactly turn) w l t (λ n is. is) was.given same;
-        goes = ap ends_all same.3 ∙ was.goes;
+        given = was.given;
+        goes = was.goes;
         silent = stops ∙ was.silent;
         finished = omega (arith, told);
       }
@@ -113,11 +86,9 @@ module _ {P : Type 0} (acts : Acts P) (m : Machine) (signals : Signals) where
   ends_before turn rota w t le was said whole =
       record {
         number = was.number;
-        given = works_told acts m (Exactly turn) (AtMost rota.turns) w t t (λ n is. omega (arith, is, le)) was.given
-            (refl, refl, refl, refl);
+        given = gave_within acts m (Exactly turn) (AtMost rota.turns) w t (λ n is. omega (arith, is, le)) was.given;
         all_given = λ goes on left.
-            works_told acts m (Exactly turn) (Exactly rota.turns) w t t (λ n is. is ∙ whole on left) was.given
-            (refl, refl, refl, refl);
+            gave_within acts m (Exactly turn) (Exactly rota.turns) w t (λ n is. is ∙ whole on left) was.given;
         stops = was.silent ∙ sym was.goes;
         finished = was.finished;
         all_finished = λ goes. said;

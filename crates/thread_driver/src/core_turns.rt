@@ -40,10 +40,8 @@ pub fn core_turn<P: Program>(
 }
 
 /// Whether a core's seat has no open operation and its program no next step.
-pub fn is_over<P: Program>(seat: &CoreSeat, program: &mut P) -> bool
-    ensures over { result ≡
-        (is_none seat.now.part.core.open_op && is_none (P.acts.next program.old)) }
-    ensures same { program.new ≡ program.old }
+pub fn is_over<P: Program>(seat: &CoreSeat, program: &P) -> bool
+    ensures { result ≡ (is_none seat.now.part.core.open_op && is_none (P.acts.next program.now)) }
 {
     seat.open_op().is_none() && program.next().is_none()
 }

@@ -9,14 +9,13 @@ use mailboxes::CoreSeat;
 use programs::program::Program;
 
 /// Whether no core has an open operation, and no program a next step.
-pub(crate) fn are_over<P: Program>(cores: &[CoreSeat], programs: &mut Vec<P>) -> bool
-    requires { length programs.old.items ≡ length cores.now }
-    ensures done { result ≡ true → AreOver P.acts cores.now programs.old.items }
-    ensures all_done { AreOver P.acts cores.now programs.old.items → result ≡ true }
-    ensures same { programs.new.items ≡ programs.old.items }
+pub(crate) fn are_over<P: Program>(cores: &[CoreSeat], programs: &[P]) -> bool
+    requires { length programs.now ≡ length cores.now }
+    ensures done { result ≡ true → AreOver P.acts cores.now programs.now }
+    ensures all_done { AreOver P.acts cores.now programs.now → result ≡ true }
 {
     for i in 0..cores.len() {
-        if !is_over(&cores[i], &mut programs[i]) {
+        if !is_over(&cores[i], &programs[i]) {
             return false;
         }
     }
@@ -24,14 +23,13 @@ pub(crate) fn are_over<P: Program>(cores: &[CoreSeat], programs: &mut Vec<P>) ->
 }
 
 /// How many cores have no open operation, and a program without a next step.
-pub(crate) fn over_count<P: Program>(cores: &[CoreSeat], programs: &mut Vec<P>) -> u64
-    requires { length programs.old.items ≡ length cores.now }
-    ensures over { result ≡ over_in P.acts (zip cores.now programs.old.items) }
-    ensures same { programs.new.items ≡ programs.old.items }
+pub(crate) fn over_count<P: Program>(cores: &[CoreSeat], programs: &[P]) -> u64
+    requires { length programs.now ≡ length cores.now }
+    ensures { result ≡ over_in P.acts (zip cores.now programs.now) }
 {
     let mut count = 0;
     for i in 0..cores.len() {
-        count += u64::from(is_over(&cores[i], &mut programs[i]));
+        count += u64::from(is_over(&cores[i], &programs[i]));
     }
     count
 }

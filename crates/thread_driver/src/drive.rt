@@ -79,7 +79,7 @@ pub fn drive_threads<R: Threads + Sync, P: Program + Send + Drop, G: Gate + Sync
             shift
         }
         Ok(told) => {
-            shift.end = end_of(&mut shift, told);
+            shift.end = end_of(&shift, told);
             shift
         }
     }
@@ -185,17 +185,15 @@ fn is_exhausted<P: Drop>(team: &[Worker<P>]) -> bool
 }
 
 // How a shift ends, by what is left to do and what the turns told.
-fn end_of<P: Program + Drop>(shift: &mut Shift<P>, told: Told) -> End
-    requires { length shift.old.programs.items ≡ length shift.old.cores.items }
-    ensures done { result ≡ end.AllDone → AreOver P.acts shift.old.cores.items
-        shift.old.programs.items }
-    ensures all_done { AreOver P.acts shift.old.cores.items shift.old.programs.items →
+fn end_of<P: Program + Drop>(shift: &Shift<P>, told: Told) -> End
+    requires { length shift.now.programs.items ≡ length shift.now.cores.items }
+    ensures done { result ≡ end.AllDone → AreOver P.acts shift.now.cores.items
+        shift.now.programs.items }
+    ensures all_done { AreOver P.acts shift.now.cores.items shift.now.programs.items →
         result ≡ end.AllDone }
     ensures otherwise { result ≢ end.AllDone → result ≡ end_told told }
-    ensures same { (shift.new.cores ≡ shift.old.cores) × (shift.new.banks ≡ shift.old.banks) ×
-        (shift.new.programs.items ≡ shift.old.programs.items) }
 {
-    if are_over(shift.cores.as_slice(), &mut shift.programs) {
+    if are_over(&shift.cores, &shift.programs) {
         return End::AllDone;
     }
     if told.no_memory {

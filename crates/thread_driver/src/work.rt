@@ -11,11 +11,11 @@ use crate::counting::over_count;
 use crate::pass::{bank_pass, core_pass, ends_all};
 use crate::told::{QUIET, Told, both};
 use crate::worker::{Rota, Worker};
-use mailboxes::Machine;
+use mailboxes::{CoreSeat, Machine};
 use programs::program::Program;
 use shared_jobs::Gate;
 use std::thread;
-use stop_flags::Signals;
+use stop_flags::{Signaler, Signals};
 
 /// Gives the worker's seats turns, one pass after the other, until all programs are done, its seats had their most
 /// turns, or some seat lacked memory or stopped. Then it has signaled a stop exactly if that was a seat of its own.
@@ -47,7 +47,7 @@ pub(crate) fn work<P: Program + Drop, G: Gate>(
             thread::yield_now();
         }
     }
-    tell(signals, worker);
+    tell(signals, &mut worker.signaler, &worker.cores, &worker.programs);
 }
 
 // What a worker keeps after a pass: what all its turns reported, and how many passes in a row came to nothing. And
@@ -90,14 +90,13 @@ fn pass<P: Program + Drop, G: Gate>(
         (worker.new.signaler.said.stops ≡ worker.old.signaler.said.stops) ×
         (worker.new.told ≡ worker.old.told) }
     ensures ended { result ≡ None → FoundEnd rota (last_look worker.new.signaler) ×
-        (worker.new.cores ≡ worker.old.cores) × (worker.new.banks ≡ worker.old.banks) ×
-        (worker.new.programs.items ≡ worker.old.programs.items) }
+        (worker.new ≡ record worker.old { signaler = worker.new.signaler }) }
     ensures goes { IfSome result (λ told. FoundNoEnd rota (last_look worker.new.signaler)) }
     ensures passed { IfSome result (λ told. SeatsPassed P.acts machine.now
         worker.old.cores.items worker.old.banks.items worker.old.programs.items told
         worker.new.cores.items worker.new.banks.items worker.new.programs.items) }
 {
-    tell(signals, worker);
+    tell(signals, &mut worker.signaler, &worker.cores, &worker.programs);
     let look = worker.signaler.look(signals);
     if look.is_stopped || look.finished >= rota.programs {
         return None;
@@ -110,24 +109,19 @@ fn pass<P: Program + Drop, G: Gate>(
 }
 
 // Tells of each program that was finished since: then so many are told as are over.
-fn tell<P: Program + Drop>(signals: &Signals, worker: &mut Worker<P>)
-    requires signaler { IsSignalerOf signals.now worker.old.signaler }
-    requires long { length worker.old.programs.items ≡ length worker.old.cores.items }
-    requires few { length worker.old.cores.items < 2 ^ 32 }
-    requires finished { worker.old.signaler.said.finished ≤
-        over_in P.acts (zip worker.old.cores.items worker.old.programs.items) }
-    ensures signaler { IsSignalerOf signals.now worker.new.signaler }
-    ensures told { worker.new.signaler.said.finished ≡
-        over_in P.acts (zip worker.new.cores.items worker.new.programs.items) }
-    ensures kept { (number_of worker.new.signaler ≡ number_of worker.old.signaler) ×
-        (last_look worker.new.signaler ≡ last_look worker.old.signaler) ×
-        (worker.new.signaler.said.stops ≡ worker.old.signaler.said.stops) }
-    ensures same { (worker.new.cores ≡ worker.old.cores) × (worker.new.banks ≡ worker.old.banks) ×
-        (worker.new.programs.items ≡ worker.old.programs.items) ×
-        (worker.new.told ≡ worker.old.told) }
+fn tell<P: Program>(signals: &Signals, signaler: &mut Signaler, cores: &[CoreSeat], programs: &[P])
+    requires signaler { IsSignalerOf signals.now signaler.old }
+    requires long { length programs.now ≡ length cores.now }
+    requires few { length cores.now < 2 ^ 32 }
+    requires finished { signaler.old.said.finished ≤ over_in P.acts (zip cores.now programs.now) }
+    ensures signaler { IsSignalerOf signals.now signaler.new }
+    ensures told { signaler.new.said.finished ≡ over_in P.acts (zip cores.now programs.now) }
+    ensures kept { (number_of signaler.new ≡ number_of signaler.old) ×
+        (last_look signaler.new ≡ last_look signaler.old) ×
+        (signaler.new.said.stops ≡ signaler.old.said.stops) }
 {
-    let over = over_count(worker.cores.as_slice(), &mut worker.programs);
-    for _ in worker.signaler.said.finished..over {
-        let _finished = worker.signaler.finish(signals);
+    let over = over_count(cores, programs);
+    for _ in signaler.said.finished..over {
+        let _finished = signaler.finish(signals);
     }
 }

@@ -3,7 +3,4 @@ use Rattle.schedules.specs.Runs.{are_over}
 use Rattle.schedules.proofs.look_ups.are_over.Given as goal
 
 abbrev pub invariant-loop-core : goal.invariant-loop-core
-invariant-loop-core g l = record {
-  over : are_over g.P.Program.acts l.system l.programs l.core ≡ true;
-  same : l.programs ≡ l.fn.programs;
-}
+invariant-loop-core g l = are_over g.P.Program.acts l.system l.programs l.core ≡ true

@@ -15,20 +15,19 @@ returns-then-is_some-clause-led g c cores below =
 pub returns-in_default-clause-led : goal.returns-in_default-clause-led
 returns-in_default-clause-led g c cores below =
     let a = c.args in
-    rw c.next_in.ensures.same (has_ended g.P.Program.acts a.system.now a.programs.now cores a.core a.log.now below
-    (search rules) (search rules))
+    has_ended g.P.Program.acts a.system.now a.programs.now cores a.core a.log.now below (search rules) (search rules)
 
 pub returns-in_err-do_step-clause-led : goal.returns-in_err-do_step-clause-led
 returns-in_err-do_step-clause-led g c cores below =
     let a = c.args in
     let e = err_from_is_err_and c.from_residual.result c.from_residual.ensures.1 in
-    rw (e.1, e.2, ← c.next_in.ensures.same) (c.in_err-do_step.ensures (rounds g.P.Program.acts)
-    (round_at cores (Stepping a.core)) (does_step g.P.Program.acts a.system.now c.next_in.new.programs cores a.core below
-    c.in-Some.next (search rules) (search rules)))
+    rw (e.1, e.2) (c.in_err-do_step.ensures (rounds g.P.Program.acts) (round_at cores (Stepping a.core))
+    (does_step g.P.Program.acts a.system.now a.programs.now cores a.core below c.in-Some.next (search rules)
+    (search rules)))
 
 pub returns-clause-led : goal.returns-clause-led
 returns-clause-led g c cores below =
     let a = c.args in
-    rw (← c.next_in.ensures.same) (c.in_ok-do_step.ensures (rounds g.P.Program.acts) (round_at cores (Stepping a.core))
-    (does_step g.P.Program.acts a.system.now c.next_in.new.programs cores a.core below c.in-Some.next (search rules)
-    (search rules)))
+    c.in_ok-do_step.ensures (rounds g.P.Program.acts) (round_at cores (Stepping a.core))
+    (does_step g.P.Program.acts a.system.now a.programs.now cores a.core below c.in-Some.next (search rules)
+    (search rules))

@@ -19,9 +19,9 @@ pub returns-then-are_over : goal.returns-then-are_over
 returns-then-are_over g c =
     let a = c.args in
     let l = c.loop-made in record {
-      ended = rw c.are_over.ensures.same (all_done (plan_of g.P.Program.acts g.S.Schedule.rule a.limit)
+      ended = all_done (plan_of g.P.Program.acts g.S.Schedule.rule a.limit)
           (initial_position a.system.now a.programs.now a.schedule.now) l.system l.programs l.log l.schedule l._made
-          l.invariant.arrived (rw c.cores.ensures.cores at (sym c.if-are_over.ensures.over)));
+          l.invariant.arrived (rw c.cores.ensures.cores at (sym c.if-are_over.ensures));
       kept = l.invariant.kept;
     }
 
@@ -31,8 +31,8 @@ returns-in-Err g c =
     let l = c.loop-made in
     let plan = plan_of g.P.Program.acts g.S.Schedule.rule a.limit in
     let start = initial_position a.system.now a.programs.now a.schedule.now in
-    let began = turn_begun plan start l.system l.programs l.log l.schedule l._made c.are_over.new.programs
-    c.begin_turn.new.self l.invariant.arrived c.are_over.ensures.same c.begin_turn.ensures (rw c.cores.ensures.cores at (sym c.if-are_over.ensures.over)) c.loop-made-test.true in record {
+    let began = turn_begun plan start l.system l.programs l.log l.schedule l._made
+    c.begin_turn.new.self l.invariant.arrived c.begin_turn.ensures (rw c.cores.ensures.cores at (sym c.if-are_over.ensures)) c.loop-made-test.true in record {
       ended = c.in-Err.ensures.led.finishes a.limit start l._made began;
       kept = c.in-Err.ensures.led.kept ∙ ap (λ (log : Log). is_some log.events) c.begin_turn.ensures ∙ l.invariant.kept;
     }
@@ -43,8 +43,8 @@ returns-then-is_last g c =
     let l = c.loop-made in
     let plan = plan_of g.P.Program.acts g.S.Schedule.rule a.limit in
     let start = initial_position a.system.now a.programs.now a.schedule.now in
-    let began = turn_begun plan start l.system l.programs l.log l.schedule l._made c.are_over.new.programs
-    c.begin_turn.new.self l.invariant.arrived c.are_over.ensures.same c.begin_turn.ensures (rw c.cores.ensures.cores at (sym c.if-are_over.ensures.over)) c.loop-made-test.true in
+    let began = turn_begun plan start l.system l.programs l.log l.schedule l._made
+    c.begin_turn.new.self l.invariant.arrived c.begin_turn.ensures (rw c.cores.ensures.cores at (sym c.if-are_over.ensures)) c.loop-made-test.true in
     let n = c.turn.new in record {
       ended = stalled plan start n.system n.programs n.log n.self l._made
           (c.in_default.ensures.led.arrives a.limit start l._made began) c.in_default.ensures.over
@@ -59,8 +59,8 @@ loop-made-preserved g c =
     let l = c.loop-made in
     let plan = plan_of g.P.Program.acts g.S.Schedule.rule a.limit in
     let start = initial_position a.system.now a.programs.now a.schedule.now in
-    let began = turn_begun plan start l.system l.programs l.log l.schedule l._made c.are_over.new.programs
-    c.begin_turn.new.self l.invariant.arrived c.are_over.ensures.same c.begin_turn.ensures (rw c.cores.ensures.cores at (sym c.if-are_over.ensures.over)) c.loop-made-test.true in
+    let began = turn_begun plan start l.system l.programs l.log l.schedule l._made
+    c.begin_turn.new.self l.invariant.arrived c.begin_turn.ensures (rw c.cores.ensures.cores at (sym c.if-are_over.ensures)) c.loop-made-test.true in
     let n = c.turn.new in record {
       arrived = turn_over plan start n.system n.programs n.log n.self l._made
           (c.in_default.ensures.led.arrives a.limit start l._made began) c.in_default.ensures.over
@@ -73,9 +73,9 @@ pub returns-then-are_over-2 : goal.returns-then-are_over-2
 returns-then-are_over-2 g c =
     let a = c.args in
     let l = c.loop-made in record {
-      ended = rw c.are_over-2.ensures.same (all_done (plan_of g.P.Program.acts g.S.Schedule.rule a.limit)
+      ended = all_done (plan_of g.P.Program.acts g.S.Schedule.rule a.limit)
           (initial_position a.system.now a.programs.now a.schedule.now) l.system l.programs l.log l.schedule l._made
-          l.invariant.arrived (rw c.cores-2.ensures.cores at (sym c.if-are_over-2.ensures.over)));
+          l.invariant.arrived (rw c.cores-2.ensures.cores at (sym c.if-are_over-2.ensures));
       kept = l.invariant.kept;
     }
 
@@ -83,9 +83,9 @@ pub returns-else-are_over-2 : goal.returns-else-are_over-2
 returns-else-are_over-2 g c =
     let a = c.args in
     let l = c.loop-made in record {
-      ended = rw c.are_over-2.ensures.same (turns_used (plan_of g.P.Program.acts g.S.Schedule.rule a.limit)
+      ended = turns_used (plan_of g.P.Program.acts g.S.Schedule.rule a.limit)
           (initial_position a.system.now a.programs.now a.schedule.now) l.system l.programs l.log l.schedule l._made
-          l.invariant.arrived (rw c.cores-2.ensures.cores at (sym c.if-are_over-2.ensures.over))
-          (omega (arith, c.loop-made-test.false, l.auto._made-end)));
+          l.invariant.arrived (rw c.cores-2.ensures.cores at (sym c.if-are_over-2.ensures))
+          (omega (arith, c.loop-made-test.false, l.auto._made-end));
       kept = l.invariant.kept;
     }

@@ -12,7 +12,6 @@ loop-left-init g c = record {
   asked = none_asked (is_idle c.args.system.now)
       (λ core. is_some (next_in g.P.Program.acts c.args.programs.now core)) c.idle_cores-left.result c.idle_cores-left.ensures;
   fits = omega arith;
-  same = refl;
 }
 
 pub with_bit-ready-requires : goal.with_bit-ready-requires
@@ -37,11 +36,9 @@ loop-left-preserved g c =
       asked = one_asked (is_idle c.args.system.now) (λ i. is_some (next_in acts c.args.programs.now i)) l.left l.ready
           c.with_bit-left.result c.with_bit-ready.result core l.invariant.asked lowest.1
           (c.with_bit-ready.ensures.here
-          ∙ ap (λ b. cond b 1 0) (c.is_some.ensures ∙ ap is_some c.next_in.ensures.next
-          ∙ ap (λ ps. is_some (next_in acts ps core)) l.invariant.same))
+          ∙ ap (λ b. cond b 1 0) (c.is_some.ensures ∙ ap is_some c.next_in.ensures))
           c.with_bit-ready.ensures.elsewhere c.with_bit-left.ensures.here c.with_bit-left.ensures.elsewhere;
       fits = let less = c.with_bit-left.ensures.less refl in omega (arith, less, l.invariant.fits);
-      same = c.next_in.ensures.same ∙ l.invariant.same;
     }
 
 pub loop-left-smaller : goal.loop-left-smaller
@@ -51,8 +48,8 @@ loop-left-smaller g c =
     less_by_bit c.with_bit-left.result l.left (trailing_zeros w64 l.left) (c.with_bit-left.ensures.less refl)
     c.with_bit-left.ensures.here lowest.1
 
-pub returns-clause-mask : goal.returns-clause-mask
-returns-clause-mask g c =
+pub returns : goal.returns
+returns g c =
     let l = c.loop-left in
     all_asked (is_idle c.args.system.now) (λ core. is_some (next_in g.P.Program.acts c.args.programs.now core)) l.left
     l.ready l.invariant.asked (omega (arith, c.loop-left-test.false))

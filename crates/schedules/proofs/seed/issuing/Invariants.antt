@@ -7,9 +7,8 @@ use Rattle.schedules.proofs.seed.issuing.Given as goal
 
 abbrev pub invariant-loop-left : goal.invariant-loop-left
 invariant-loop-left g l = record {
-  asked : Asked (is_idle l.system) (λ core. is_some (next_in g.P.Program.acts l.fn.programs core)) l.left l.ready;
+  asked : Asked (is_idle l.system) (λ core. is_some (next_in g.P.Program.acts l.programs core)) l.left l.ready;
   fits : l.left < 2 ^ 64;
-  same : l.programs ≡ l.fn.programs;
 }
 
 abbrev pub decreases-loop-left : goal.decreases-loop-left

@@ -15,7 +15,7 @@ returns-clause-each g c core below =
     let m = c.args.system.now in
     let next = next_in g.P.Program.acts c.args.programs.now core in
     bit_at_or c.trying_cores.result c.issuing.result core
-    ∙ ap₂ max (c.trying_cores.ensures core) (c.issuing.ensures.mask core)
+    ∙ ap₂ max (c.trying_cores.ensures core) (c.issuing.ensures core)
     ∙ ready_at core m.cores core next (omega (arith, below, c.cores-cores.ensures.count, c.cores-cores.ensures.cores))
 
 pub returns-clause-count : goal.returns-clause-count
@@ -26,7 +26,7 @@ returns-clause-count g c =
     let told : (core : ℕ) → bit_at all core ≡ max (cond (is_trying_of (slice_get m.cores core)) 1 0)
     (cond (is_idle_of (slice_get m.cores core) && is_some (next_in acts c.args.programs.now core)) 1 0) =
     λ core. bit_at_or c.trying_cores.result c.issuing.result core
-    ∙ ap₂ max (c.trying_cores.ensures core) (c.issuing.ensures.mask core) in
+    ∙ ap₂ max (c.trying_cores.ensures core) (c.issuing.ensures core) in
     ones_counted (λ core. core_step core (open_op m core) (next_in acts c.args.programs.now core)) m.config.cores all
     (λ core below. told core ∙ ready_at core m.cores core (next_in acts c.args.programs.now core)
     (omega (arith, below, c.cores-cores.ensures.count, c.cores-cores.ensures.cores)))

@@ -10,11 +10,10 @@ returns-then-at-count g c own is =
     let found = c.core_at-core.ensures in
     let all : c.from.result + c.from-2.result ≡ count_ones c.ready_cores-ready.result
     + length a.system.now.mail.messages = omega (arith, c.from.ensures, c.from-2.ensures, c.messages.ensures) in
-    rw (c.made.ensures, ← c.ready_cores-ready.ensures.same) (is_turn g.P.Program.acts _ _ c.step_core.result
-    (c.step_core.ensures found.0 found.1 own
-    (rw c.ready_cores-ready.ensures.same (is ∙ step_drawn g.P.Program.acts a.system.now a.programs.now a.b
+    rw c.made.ensures (is_turn g.P.Program.acts _ _ c.step_core.result (c.step_core.ensures found.0 found.1 own
+    (is ∙ step_drawn g.P.Program.acts a.system.now a.programs.now a.b
     c.place_in-at.result (count_ones c.ready_cores-ready.result) c.ready_cores-ready.ensures.count
-    (c.place_in-at.ensures ∙ ap (λ n. a.b % n) all) found.0 (rw c.ready_cores-ready.ensures.same at found.2)))))
+    (c.place_in-at.ensures ∙ ap (λ n. a.b % n) all) found.0 found.2)))
 
 pub unreachable-requires : goal.unreachable-requires
 unreachable-requires g c =
@@ -31,9 +30,9 @@ returns g c own is =
     let a = c.args in
     let all : c.from.result + c.from-2.result ≡ count_ones c.ready_cores-ready.result
     + length a.system.now.mail.messages = omega (arith, c.from.ensures, c.from-2.ensures, c.messages.ensures) in
-    rw (c.made-in-Some.ensures, ← c.ready_cores-ready.ensures.same, ← c.seek_message.ensures.same) (is_turn g.P.Program.acts _ _ c.deliver.result
-    (c.deliver.ensures c.ready_cores-ready.new.programs (seeded g.P.Program.acts) own
-    (rw (c.ready_cores-ready.ensures.same, c.seek_message.ensures.same) (is ∙ delivery_drawn g.P.Program.acts a.system.now a.programs.now a.b
+    rw (c.made-in-Some.ensures, ← c.seek_message.ensures.same) (is_turn g.P.Program.acts _ _ c.deliver.result
+    (c.deliver.ensures a.programs.now (seeded g.P.Program.acts) own
+    (rw c.seek_message.ensures.same (is ∙ delivery_drawn g.P.Program.acts a.system.now a.programs.now a.b
     c.place_in-at.result (count_ones c.ready_cores-ready.result) c.ready_cores-ready.ensures.count
     (c.place_in-at.ensures ∙ ap (λ n. a.b % n) all) c.in-Some.number c.if-at-count.false
     (sym c.seek_message.ensures.number ∙ c.in-Some.is)))))

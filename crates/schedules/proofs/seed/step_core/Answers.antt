@@ -24,5 +24,4 @@ returns-then-is_some g c next one own is =
 pub returns : goal.returns
 returns g c next one own is =
     let a = c.args in
-    rw (← c.next_in.ensures.same) (c.do_step.ensures (seeded g.P.Program.acts) own
-    (rw c.next_in.ensures.same (is ∙ core_does a.core c.in-Some.next next (search rules))))
+    c.do_step.ensures (seeded g.P.Program.acts) own (is ∙ core_does a.core c.in-Some.next next (search rules))

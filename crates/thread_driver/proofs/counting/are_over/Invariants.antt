@@ -5,7 +5,5 @@ use Rattle.thread_driver.proofs.counting.are_over.Given as goal
 
 abbrev pub invariant-loop-i : goal.invariant-loop-i
 invariant-loop-i g l =
-    (l.programs.items ≡ l.fn.programs.items)
-    × ((k : ℕ) (p : CoreSeat) (a : g.row.P.Denot) → k < l.i → slice_get l.cores k ≡ Some p →
-    slice_get l.fn.programs.items k ≡ Some a →
-    (p.part.core.open_op ≡ None) × (g.P.Program.acts.next a ≡ None))
+    (k : ℕ) (p : CoreSeat) (a : g.row.P.Denot) → k < l.i → slice_get l.cores k ≡ Some p →
+    slice_get l.programs k ≡ Some a → (p.part.core.open_op ≡ None) × (g.P.Program.acts.next a ≡ None)

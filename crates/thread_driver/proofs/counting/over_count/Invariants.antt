@@ -6,6 +6,5 @@ use Rattle.thread_driver.proofs.counting.over_count.Given as goal
 
 abbrev pub invariant-loop-i : goal.invariant-loop-i
 invariant-loop-i g l =
-    (l.programs.items ≡ l.fn.programs.items) × (l.count ≤ l.i)
-    × (l.count + over_from g.P.Program.acts l.i (zip l.cores l.fn.programs.items)
-    ≡ over_in g.P.Program.acts (zip l.cores l.fn.programs.items))
+    (l.count ≤ l.i)
+    × (l.count + over_from g.P.Program.acts l.i (zip l.cores l.programs) ≡ over_in g.P.Program.acts (zip l.cores l.programs))

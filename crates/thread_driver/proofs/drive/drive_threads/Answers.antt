@@ -1,14 +1,9 @@
 use Rattle.std.proofs.Common.{inl, inr, refl, sym, subst, arith}
-use Rattle.std.specs.Prelude.{List}
-use Rattle.std.specs.declared.vec.Vec.{Vec}
-use Rattle.std.specs.declared.alloc.Global.{Global}
 use Rattle.programs.specs.declared.ends.End.TheVariants as end
-use Rattle.mailboxes.specs.declared.core_seat.CoreSeat.{CoreSeat}
-use Rattle.mailboxes.specs.declared.bank_seat.BankSeat.{BankSeat}
 use Rattle.thread_driver.specs.declared.shift.Shift.{Shift}
 use Rattle.thread_driver.specs.Given.{AtMost, SeatsGiven, quiet}
-use Rattle.thread_driver.specs.Shifts.{AreOver, Ran, RefusedAtOnce}
-use Rattle.thread_driver.proofs.Ordered.{Comes, ahead_at_first, comes_of, same_three}
+use Rattle.thread_driver.specs.Shifts.{AreOver, RefusedAtOnce}
+use Rattle.thread_driver.proofs.Ordered.{Comes, ahead_at_first, comes_of}
 use Rattle.thread_driver.proofs.Stops.{given_report}
 use Rattle.thread_driver.proofs.Used.{given_by}
 use Rattle.thread_driver.proofs.Worked.{not_given}
@@ -56,34 +51,26 @@ returns-in-Ok g c =
     let banks = c.args.banks.items in
     let programs = c.args.programs.items in
     let s = c.drive_shift.new.shift in
-    let t = c.end_of-shift.new.shift in
     let e = c.end_of-shift.ensures in
     let given = c.in-Ok.ensures.worked in
-    let comes = same_three (λ (v : Vec CoreSeat Global) (w : Vec BankSeat Global) (ps : List g.row.P.Denot).
-    Comes acts m cores programs v.items w.items ps) s.cores t.cores s.banks t.banks s.programs.items t.programs.items
-    e.same
-    (comes_of acts m (AtMost limit) cores s.cores.items banks s.banks.items programs s.programs.items c.in-Ok.told
-    c.records_of_seats_are_counted.ensures.issued c.requires.cores.0 c.requires.cores.1 c.requires.banks
-    c.requires.programs given) in
-    let ran : Ran acts m limit cores banks programs s.cores.items s.banks.items s.programs.items c.end_of-shift.result =
-    record {
-      told = c.in-Ok.told;
-      given = given_by c.end_of-shift.result c.in-Ok.told limit
-          (λ Many. SeatsGiven acts m Many cores banks programs c.in-Ok.told s.cores.items s.banks.items
-          s.programs.items)
-          (AreOver acts s.cores.items s.programs.items) e.otherwise e.all_done given c.in-Ok.ensures.used;
-      done = e.done;
-      all_done = e.all_done;
-      otherwise = e.otherwise;
-      stopped = given_report acts m (AtMost limit) cores s.cores.items banks s.banks.items programs s.programs.items
-          c.in-Ok.told c.requires.programs given;
-    } in
+    let comes = comes_of acts m (AtMost limit) cores s.cores.items banks s.banks.items programs s.programs.items
+    c.in-Ok.told c.records_of_seats_are_counted.ensures.issued c.requires.cores.0 c.requires.cores.1 c.requires.banks
+    c.requires.programs given in
     record {
       cores = comes.in_order;
       banks = comes.behind;
       whole = comes.whole;
       served = comes.are_served;
-      ended = inr (same_three (λ (v : Vec CoreSeat Global) (w : Vec BankSeat Global) (ps : List g.row.P.Denot).
-          Ran acts m limit cores banks programs v.items w.items ps c.end_of-shift.result) s.cores t.cores s.banks
-          t.banks s.programs.items t.programs.items e.same ran);
+      ended = inr (record {
+        told = c.in-Ok.told;
+        given = given_by c.end_of-shift.result c.in-Ok.told limit
+            (λ Many. SeatsGiven acts m Many cores banks programs c.in-Ok.told s.cores.items s.banks.items
+            s.programs.items)
+            (AreOver acts s.cores.items s.programs.items) e.otherwise e.all_done given c.in-Ok.ensures.used;
+        done = e.done;
+        all_done = e.all_done;
+        otherwise = e.otherwise;
+        stopped = given_report acts m (AtMost limit) cores s.cores.items banks s.banks.items programs
+            s.programs.items c.in-Ok.told c.requires.programs given;
+      });
     }

@@ -1,11 +1,9 @@
-use Rattle.std.proofs.Common.{◌≤◌, ⊎_elim, refl, sym, ◌∙◌, ap, arith, true≢false}
+use Rattle.std.proofs.Common.{◌≤◌, ⊎_elim, refl, sym, subst, ◌∙◌, ap, arith, true≢false}
 use Rattle.stop_flags.specs.declared.words.Said.{Said}
 use Rattle.thread_driver.specs.declared.worker.Worker.{Worker}
 use Rattle.thread_driver.specs.Given.{told_by_both}
 use Rattle.thread_driver.specs.Teams.{Works}
-use Rattle.thread_driver.proofs.Worked.{SameLists}
 use Rattle.thread_driver.proofs.Working.{after_telling, at_first, ends_after, ends_before, goes_on_after, idle_passes}
-use Rattle.thread_driver.proofs.Working.{told_of_same}
 use Rattle.thread_driver.proofs.work.work.Goals as goal
 
 pub loop-turn-init : goal.loop-turn-init
@@ -21,18 +19,17 @@ returns-in_default-clause-works g c =
     let turn = c.loop-turn.turn in
     let w : Worker g.row.P.Denot = c.args.worker.now in
     let l : Worker g.row.P.Denot = c.loop-turn.worker in
-    let v : Worker g.row.P.Denot = c.pass.new.worker in
+    let s = c.pass.new.worker.signaler in
     let pass = c.pass.ensures in
     let ended = pass.ended c.in_default.is in
-    let same : SameLists l v = (ended.1, ended.2, ended.3, pass.kept.2) in
-    let said = told_of_same a m signals v.signaler.said.finished l v same pass.told in
-    let told = after_telling a m signals turn w l v c.loop-turn.invariant.0 same pass.signaler pass.kept.0 pass.kept.1
-    said in
-    ends_before a m signals turn c.args.rota w v (omega arith) told said
+    let told = after_telling a m signals turn w l s c.loop-turn.invariant.0 pass.signaler pass.kept.0 pass.kept.1
+    pass.told in
+    subst (λ v. Works a m c.args.rota w v) (sym ended.1)
+    (ends_before a m signals turn c.args.rota w (record l { signaler = s }) (omega arith) told pass.told
     (λ on left.
     ⊎_elim (λ e. absurd (true≢false (sym e ∙ on)))
     (λ e. let all : c.args.rota.programs ≤ _ = e in absurd (omega (arith, left)))
-    ended.0)
+    ended.0))
 
 pub returns-then-ends_all-clause-works : goal.returns-then-ends_all-clause-works
 unfolding Works
@@ -47,8 +44,8 @@ returns-then-ends_all-clause-works g c =
     let u = record l { signaler = v.signaler } in
     let pass = c.pass.ensures in
     let stop = c.stop.ensures in
-    let told = after_telling a m signals turn w l u c.loop-turn.invariant.0 (refl, refl, refl, refl) pass.signaler
-    pass.kept.0 pass.kept.1 pass.told in
+    let told = after_telling a m signals turn w l v.signaler c.loop-turn.invariant.0 pass.signaler pass.kept.0
+    pass.kept.1 pass.told in
     ends_after a m signals turn w u v c.in-Some.told c.after_pass-passes.result.0 told c.in-Some.ensures.passed
     (c.after_pass-passes.ensures.told ∙ ap (λ z. told_by_both z c.in-Some.told) pass.kept.2) c.args.rota c.stop.new.self
     (omega arith) (sym c.if-ends_all.ensures) stop.kept.0
@@ -66,8 +63,8 @@ loop-turn-preserved g c =
     let v : Worker g.row.P.Denot = c.pass.new.worker in
     let u = record l { signaler = v.signaler } in
     let pass = c.pass.ensures in
-    let told = after_telling a m signals turn w l u c.loop-turn.invariant.0 (refl, refl, refl, refl) pass.signaler
-    pass.kept.0 pass.kept.1 pass.told in
+    let told = after_telling a m signals turn w l v.signaler c.loop-turn.invariant.0 pass.signaler pass.kept.0
+    pass.kept.1 pass.told in
     let both = c.after_pass-passes.ensures.told ∙ ap (λ z. told_by_both z c.in-Some.told) pass.kept.2 in (
       goes_on_after a m signals turn w u v c.in-Some.told c.after_pass-passes.result.0 told c.in-Some.ensures.passed
           both pass.cores pass.banks pass.ahead refl (sym c.if-ends_all.ensures),
@@ -83,8 +80,11 @@ returns-clause-works g c =
     let signals = c.args.signals.now in
     let turn = c.loop-turn.turn in
     let w : Worker g.row.P.Denot = c.args.worker.now in
-    let t : Worker g.row.P.Denot = c.tell.new.worker in
+    let l : Worker g.row.P.Denot = c.loop-turn.worker in
+    let s = c.tell.new.signaler in
     let tell = c.tell.ensures in
-    let told = after_telling a m signals turn w c.loop-turn.worker t c.loop-turn.invariant.0 tell.same tell.signaler
-    tell.kept.0 tell.kept.2 tell.told in
-    ends_before a m signals turn c.args.rota w t (omega arith) told tell.told (λ on left. omega arith)
+    let said = rw (c.deref.ensures.value, c.deref-2.ensures.value) at tell.told in
+    let told = after_telling a m signals turn w l s c.loop-turn.invariant.0 tell.signaler tell.kept.0 tell.kept.2
+    said in
+    ends_before a m signals turn c.args.rota w (record l { signaler = s }) (omega arith) told said
+    (λ on left. omega arith)

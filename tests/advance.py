@@ -1,5 +1,5 @@
 #!/usr/bin/env python3
-"""Tries scripts/advance.py: tests/advance.py PROGRAM.
+"""Tries tools/advance.py: tests/advance.py PROGRAM.
 
 The traces that it must write, and what it must say of faulty ones, were worked out by hand, and so was what a spinning
 core must receive from the program. The last line is `N tried, M wrong`.
@@ -8,10 +8,10 @@ import sys
 import tempfile
 from pathlib import Path
 
-from texts import TOP, Tester
+sys.path.insert(0, str(Path(__file__).resolve().parent.parent))
+from tests.texts import TOP, Tester  # noqa: E402
+from tools import advance  # noqa: E402
 
-sys.path.insert(0, str(TOP / "scripts"))
-import advance  # noqa: E402
 
 FLAG = "0 R 0x0\n0 R 0x0\n"
 # The words, the trace, and the trace that must be written.
@@ -92,7 +92,7 @@ def long_traces(tester, path):
 
 
 def main(program):
-    tester = Tester(str(TOP / "scripts/advance.py"))
+    tester = Tester(str(TOP / "tools/advance.py"))
     for words, text, wanted in CASES:
         got = tester.run(*words.split(), "/dev/stdin", text=text.encode())
         tester.expect(got == (0, wanted, ""), f"{words} of {text!r}: {got}, wanted {wanted!r}")

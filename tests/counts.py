@@ -1,5 +1,5 @@
 #!/usr/bin/env python3
-"""Tries scripts/counts.py: tests/counts.py PLAYER, the built crate play_events.
+"""Tries tools/counts.py: tests/counts.py PLAYER, the built crate play_events.
 
 Eighteen runs were counted by hand from docs/COUNTS.md, PROTOCOL.md and SCHEDULES.md. Then the player and the second
 program's, which counts by the same pages, count random traces on random machines, and litmus tests by seeds. The last
@@ -11,14 +11,14 @@ import sys
 import tempfile
 from pathlib import Path
 
-from texts import TOP, Tester, of_printf, rows
-
-sys.path.insert(0, str(TOP / "scripts"))
-import counts  # noqa: E402  (it finds examples/)
+sys.path.insert(0, str(Path(__file__).resolve().parent.parent))
 from reference import told  # noqa: E402
 from reference.traces import Fault, Trace  # noqa: E402
+from tests.texts import TOP, Tester, of_printf, rows  # noqa: E402
+from tools import counts  # noqa: E402
 
-SECOND = str(TOP / "examples/play.py")
+
+SECOND = str(TOP / "reference/play.py")
 TRACES = 40  # that are drawn
 LONG = 500_000  # letters of a trace that the second program would take too long to count
 # A trace, or a test of the catalogue; options; how the run ends, its turns and events; and the rows that aren't 0: the
@@ -106,7 +106,7 @@ class Counter(Tester):
     """Counts by the script."""
 
     def __init__(self, player, folder):
-        super().__init__(str(TOP / "scripts/counts.py"))
+        super().__init__(str(TOP / "tools/counts.py"))
         self.player, self.folder = player, folder
 
     def count(self, file, options, player=None):

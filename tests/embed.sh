@@ -20,9 +20,9 @@ trap 'exit 1' HUP INT TERM
 
 case $build in
 --build)
-    "$top/scripts/build.py" tardis_c >"$work/built" 2>&1
+    "$top/maintain/build.py" tardis_c >"$work/built" 2>&1
     ;;
---kept) "$top/scripts/static_library.py" >"$work/built" 2>&1 ;;
+--kept) "$top/maintain/static_library.py" >"$work/built" 2>&1 ;;
 *) [ -e "$crate/out/libtardis_c.a" ] || echo "the library isn't built: --build does so" >"$work/built" ;;
 esac
 status=$?
@@ -85,6 +85,6 @@ if command -v rustc >/dev/null; then
 else
     echo "embed.sh: no rustc, so the caller in Rust isn't tried" >&2
 fi
-PARTS='litmus settings seeds traces seeded_traces verdicts trace_faults' "$top/examples/check.sh" "$work/tardis" \
+PARTS='litmus settings seeds traces seeded_traces verdicts trace_faults' "$top/tests/check.sh" "$work/tardis" \
     >"$work/said" || { cat "$work/said"; exit 1; }
-EMBED_ARRAYS=1 PARTS=verdicts "$top/examples/check.sh" "$work/tardis" >"$work/said" || { cat "$work/said"; exit 1; }
+EMBED_ARRAYS=1 PARTS=verdicts "$top/tests/check.sh" "$work/tardis" >"$work/said" || { cat "$work/said"; exit 1; }

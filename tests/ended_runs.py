@@ -1,4 +1,4 @@
-"""Runs that end with a failed allocation, by the second program (examples/reference): all that one may report.
+"""Runs that end with a failed allocation, by the second program (reference): all that one may report.
 
 A run ends so only before an event that allocates: one that opens an operation, or brings DRAM the first store of a
 line. Or it ends where the schedule lists something: the messages in flight, before a round's first delivery, and the
@@ -7,12 +7,12 @@ later eviction allocates. The run then reports the events before that.
 """
 from itertools import product
 
-import merge
-import oracle
+from reference import oracle
 from reference.machine import Machine
 from reference.reports import Batch, seed_of, trace_lines
 from reference.schedules import Run, by_rounds, by_seed
 from reference.traces import record_line
+from tools import merge
 
 
 class OutOfMemory(Exception):

@@ -12,13 +12,16 @@ import random
 import re
 import sys
 from collections import Counter
+from pathlib import Path
 from types import SimpleNamespace
 
-from games import Game, event_text, is_played, opening_text
-from reference import told
-from reference.calls import OPTIONS
-from reference.machine_texts import MachinePlayer
-from reference.schedules import ADVANCE
+sys.path.insert(0, str(Path(__file__).resolve().parent.parent))
+from reference import told  # noqa: E402
+from reference.calls import OPTIONS  # noqa: E402
+from reference.machine_texts import MachinePlayer  # noqa: E402
+from reference.schedules import ADVANCE  # noqa: E402
+from tests.games import Game, event_text, is_played, opening_text  # noqa: E402
+
 
 LAST = 2 ** 64 - 1
 NOBODY = 2 ** 32 - 1  # a core or a bank that isn't there

@@ -1,5 +1,5 @@
 #!/usr/bin/env python3
-"""Tries scripts/explain.py: tests/explain.py PROGRAM.
+"""Tries tools/explain.py: tests/explain.py PROGRAM.
 
 Verdicts and faults come from tables that were written by hand (examples/verdicts.table, examples/bad and
 tests/litmus_faults.table). What the script must say of them comes from the cases below, worked out by hand. The last
@@ -11,11 +11,10 @@ import tempfile
 import time
 from pathlib import Path
 
-from texts import TOP, Tester, of_printf, rows, unescaped
+sys.path.insert(0, str(Path(__file__).resolve().parent.parent))
+from tests.texts import TOP, Tester, of_printf, rows, unescaped  # noqa: E402
+from tools import explain, explained_texts  # noqa: E402
 
-sys.path.insert(0, str(TOP / "scripts"))
-import explain  # noqa: E402
-import explained_texts  # noqa: E402
 
 MP = "0 W 0x0 1\n0 W 0x8 1\n1 R 0x8\n1 R 0x0\n"
 GOOD = ["0 0 W 0x0 1 1 0", "0 1 W 0x8 1 1 1", "1 0 R 0x8 1 1 2", "1 1 R 0x0 1 1 3"]
@@ -98,7 +97,7 @@ class Explainer(Tester):
     """Asks the script about texts, in files of a folder."""
 
     def __init__(self, folder):
-        super().__init__(str(TOP / "scripts/explain.py"))
+        super().__init__(str(TOP / "tools/explain.py"))
         self.folder = folder
 
     def tells(self, wanted, *texts, names=("trace", "records"), is_good=False):

@@ -1,5 +1,5 @@
 #!/usr/bin/env python3
-"""Tries scripts/from_herd.py: tests/from_herd.py PROGRAM.
+"""Tries tools/from_herd.py: tests/from_herd.py PROGRAM.
 
 The tests of tests/herd were typed in as herd7's generator writes them. Each asks for the one end that the cycle of its
 name forbids, so under sequential consistency it has every other end: loads receive 0 or 1, and locations end as 1 or
@@ -12,11 +12,11 @@ import tempfile
 from itertools import product
 from pathlib import Path
 
-from texts import TOP, Tester
-
-sys.path.insert(0, str(TOP / "examples"))
-import sequential  # noqa: E402
+sys.path.insert(0, str(Path(__file__).resolve().parent.parent))
+from reference import sequential  # noqa: E402
 from reference.litmus import Test  # noqa: E402
+from tests.texts import TOP, Tester  # noqa: E402
+
 
 # Names of conditions that have one value in all ends: loads of what their own threads stored.
 FIXED = {"SB+rfi-addrs": ("0:x7", "1:x7")}
@@ -65,7 +65,7 @@ class Turner(Tester):
     """Runs the script on texts, in a file of a folder."""
 
     def __init__(self, folder):
-        super().__init__(str(TOP / "scripts/from_herd.py"))
+        super().__init__(str(TOP / "tools/from_herd.py"))
         self.file = Path(folder, "herd.litmus")
 
     def turned(self, text):

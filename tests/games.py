@@ -5,10 +5,8 @@ import subprocess
 import sys
 from pathlib import Path
 
-sys.path.insert(0, str(Path(__file__).resolve().parent.parent / "examples"))
-from reference import told  # noqa: E402
-from reference.texts import LAST, Turned  # noqa: E402
-
+from reference import told
+from reference.texts import LAST, Turned
 
 
 class Game:

@@ -1,9 +1,9 @@
 #!/usr/bin/env python3
-"""Asks the tools of examples/ and scripts/ for help, and gives them files that they can't read: tests/helps.py
+"""Asks the tools of reference/, tools/ and maintain/ for help, and gives them files that they can't read: tests/helps.py
 
 Help comes on standard output, with status 0, and no tool writes a file of the repository. For a missing file and one
-of another kind, each tool writes one line and ends with status 2; examples/oracle.py ends with status 4 for a missing
-one. The script also tries examples/page.py in copies of the repository: who plays, if the proved player isn't built,
+of another kind, each tool writes one line and ends with status 2; reference/oracle.py ends with status 4 for a missing
+one. The script also tries tools/page.py in copies of the repository: who plays, if the proved player isn't built,
 is built, or is older than a source. The last line is `N tried, M wrong`.
 """
 import os
@@ -14,17 +14,18 @@ import tempfile
 from pathlib import Path
 
 TOP = Path(__file__).resolve().parent.parent
+FOLDERS = ("reference", "tools", "maintain")
 # What the kit runs, and what is read by others: no tools.
-OTHERS = {"explained_texts.py", "kit.py", "program.py", "program.sh"}
-READERS = ["scripts/advance.py 1 {}", "env TARDIS=examples/oracle.py scripts/seeds.py 0 9 {}",
-           "examples/chart.py {}", "examples/merge.py {}", "examples/oracle.py litmus {}",
-           "examples/oracle.py trace {}", "examples/page.py {}", "examples/sequential.py {}",
-           "examples/steps.py 0x0 {}", "examples/timeline.py {}", "scripts/counts.py {}"]
+OTHERS = {"kit.py", "program.sh"}
+READERS = ["tools/advance.py 1 {}", "env TARDIS=reference/oracle.py tools/seeds.py 0 9 {}",
+           "tools/chart.py {}", "tools/merge.py {}", "reference/oracle.py litmus {}",
+           "reference/oracle.py trace {}", "tools/page.py {}", "reference/sequential.py {}",
+           "tools/steps.py 0x0 {}", "tools/timeline.py {}", "tools/counts.py {}"]
 
 
 def files():
     """What there is, with the time of its last change, but for what builds and imports write."""
-    return {path: path.stat().st_mtime_ns for folder in ("examples", "scripts", "docs", "crates/play_events/data")
+    return {path: path.stat().st_mtime_ns for folder in (*FOLDERS, "examples", "docs", "crates/play_events/data")
             for path in (TOP / folder).rglob("*") if path.is_file() and "__pycache__" not in path.parts}
 
 
@@ -38,8 +39,8 @@ def page_players():
     the second program play; a build would fail, as there is nothing to build."""
     with tempfile.TemporaryDirectory() as folder:
         top, program = Path(folder), Path(folder, "crates/play_events/out/play_events")
-        shutil.copytree(TOP / "examples", top / "examples", ignore=shutil.ignore_patterns("__pycache__"))
-        shutil.copytree(TOP / "scripts", top / "scripts", ignore=shutil.ignore_patterns("__pycache__"))
+        for each in (*FOLDERS, "examples"):
+            shutil.copytree(TOP / each, top / each, ignore=shutil.ignore_patterns("__pycache__"))
         shutil.copy(TOP / "play", top / "play")
         (top / "crates.txt").write_text("low:\nhigh: play_events\nplay_events: low core # high\n")
         sources = [top / f"crates/{name}/src/lib.rt" for name in ("low", "high", "play_events")]
@@ -49,7 +50,7 @@ def page_players():
             path.write_text("")
             os.utime(path, (1, 1))
         yield from page_player("not built", top, "the second program's machine", 1)
-        program.write_text(f"#!/bin/sh\nexec '{TOP / 'examples/play.py'}' \"$@\"\n")
+        program.write_text(f"#!/bin/sh\nexec '{TOP / 'reference/play.py'}' \"$@\"\n")
         program.chmod(0o755)
         yield from page_player("built", top, "the proved machine", 0)
         os.utime(sources[1])
@@ -69,16 +70,16 @@ def page_players():
 
 
 def page_player(what, top, wanted, lines):
-    got = ran([top / "examples/page.py", "examples/traces/PAST.trace"])
+    got = ran([top / "tools/page.py", "examples/traces/PAST.trace"])
     told = "./play crates/play_events/data/pages.events" in got.stderr
     if got.returncode or f'"made":"{wanted}"' not in got.stdout or (got.stderr.count("\n"), told) != (lines, lines > 0):
         yield f"page.py, {what}: status {got.returncode}, {got.stderr[-160:]!r}, wanted {wanted}"
 
 
 def main():
-    folders = TOP / "examples", TOP / "scripts", TOP / "examples/traces/record"
-    tools = sorted(path for folder in folders for path in folder.iterdir()
-                   if path.suffix in (".py", ".sh") and path.name not in OTHERS)
+    tools = sorted(path for folder in (*FOLDERS, "tools/record", "examples/traces/record")
+                   for path in (TOP / folder).iterdir()
+                   if path.suffix in (".py", ".sh") and path.name not in OTHERS and os.access(path, os.X_OK))
     before, wrong = files(), []
     for tool in tools:
         got = ran([tool, "--help"])
@@ -88,7 +89,7 @@ def main():
         wrong.append("a file is written for --help")
     for words, path in ((words, path) for words in READERS for path in ("no-such-file", "README.md")):
         got = ran([word.format(path) for word in words.split(" ")])
-        wanted = 4 if words.startswith("examples/oracle.py") and path == "no-such-file" else 2
+        wanted = 4 if words.startswith("reference/oracle.py") and path == "no-such-file" else 2
         if got.returncode != wanted or got.stdout or got.stderr.count("\n") != 1:
             wrong.append(f"{words.format(path)}: status {got.returncode}, {got.stderr[-160:]!r}")
     wrong += page_players()

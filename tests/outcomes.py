@@ -2,7 +2,7 @@
 """Runs small litmus tests under 512 settings each: tests/outcomes.py PROGRAM.
 
 Under any setting, a reported end state must be one that plain enumeration of the interleavings finds
-(examples/sequential.py). How many these are was counted by hand, and none of them meets the test's expression. The
+(reference/sequential.py). How many these are was counted by hand, and none of them meets the test's expression. The
 tests are those of examples/outcomes, whose header line `ends=..` has the number, and four of the catalogue. The last
 line is `N tried, M wrong`.
 """
@@ -14,11 +14,12 @@ from itertools import product
 from os import cpu_count
 from pathlib import Path
 
-EXAMPLES = Path(__file__).resolve().parent.parent / "examples"
-sys.path.insert(0, str(EXAMPLES))
-import by_threads  # noqa: E402
-import sequential  # noqa: E402
+sys.path.insert(0, str(Path(__file__).resolve().parent.parent))
+from reference import sequential  # noqa: E402
 from reference.litmus import Test  # noqa: E402
+from tests import by_threads  # noqa: E402
+
+EXAMPLES = Path(__file__).resolve().parent.parent / "examples"
 
 CATALOGUE = {"SB": 3, "MP": 3, "LB": 3, "WRC": 7}
 RUNS, LIMIT, LAST = 2, 100, 2 ** 64 - 1

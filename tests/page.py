@@ -1,5 +1,5 @@
 #!/usr/bin/env python3
-"""Opens pages of examples/page.py in a browser, and compares them with what the player says: tests/page.py PLAYER
+"""Opens pages of tools/page.py in a browser, and compares them with what the player says: tests/page.py PLAYER
 
 The script steps eight runs to their end and back by keys. At ten places of each and more, it compares the page with
 the records and look-ups that PLAYER, a built play_events, answers to texts that were written by hand here. What the
@@ -17,13 +17,15 @@ import sys
 import tempfile
 from pathlib import Path
 
-from browser import Browser, installed
-
 TOP = Path(__file__).resolve().parent.parent
+sys.path.insert(0, str(TOP))
+from tests.browser import Browser, installed  # noqa: E402
+
+
 TABLE = Path(__file__).with_suffix(".table")
 PLACES, MOST_BYTES = 10, 4_000_000
 
-# The words of examples/page.py; the same machine, programs and drive as lines for the player; names of words.
+# The words of tools/page.py; the same machine, programs and drive as lines for the player; names of words.
 CASES = {
     "a first store": (["examples/traces/FIRST-STORE.trace"], "machine cores 1", ["W 0x0 1"], "rounds 100", {}),
     "the past": (["--lease", "3", "examples/traces/PAST.trace"], "machine cores 2 lease 3",
@@ -286,9 +288,9 @@ class Compared:
 
 
 def written(player, words, path):
-    """Runs examples/page.py; its status, and what it says on standard error."""
+    """Runs tools/page.py; its status, and what it says on standard error."""
     with path.open("wb") as out:
-        ran = subprocess.run([TOP / "examples/page.py", "--player", shlex.quote(player), *words], cwd=TOP, check=False,
+        ran = subprocess.run([TOP / "tools/page.py", "--player", shlex.quote(player), *words], cwd=TOP, check=False,
                              stdout=out, stderr=subprocess.PIPE)
     return ran.returncode, ran.stderr.decode()
 

@@ -16,7 +16,7 @@ fail() {
 
 "$events" --three-ways crates/play_events/data/*.events >"$work/proved" || fail "an answer of events: $(cat "$work/proved")"
 "$seats" crates/play_seats/data/*.seats >>"$work/proved" || fail "an answer of seats: $(cat "$work/proved")"
-examples/play.py crates/play_events/data/*.events crates/play_seats/data/*.seats >"$work/second" || fail "$(cat "$work/second")"
+reference/play.py crates/play_events/data/*.events crates/play_seats/data/*.seats >"$work/second" || fail "$(cat "$work/second")"
 diff "$work/second" "$work/proved" || fail "the players count otherwise"
 
 # said NAME PLAYER WORDS..: what the player prints of these words, and its status, are those of tests/players/NAME.
@@ -30,16 +30,16 @@ said() {
 
 for text in tests/players/*.events; do
     said "$(basename "$text" .events).said" "$events" "$text"
-    said "$(basename "$text" .events).said" examples/play.py "$text"
+    said "$(basename "$text" .events).said" reference/play.py "$text"
 done
 for text in tests/players/*.seats; do
     said "$(basename "$text" .seats).said" "$seats" "$text"
-    said "$(basename "$text" .seats).said" examples/play.py "$text"
+    said "$(basename "$text" .seats).said" reference/play.py "$text"
 done
-for player in "$events" examples/play.py; do
+for player in "$events" reference/play.py; do
     said input.said "$player" - <tests/players/answers.events
 done
 said printed "$events" --print tests/players/answers.events
-said printed examples/play.py --print tests/players/answers.events
+said printed reference/play.py --print tests/players/answers.events
 said words "$events" --no-such-word
 echo "players.sh: $(wc -l <"$work/proved") texts as wanted"

@@ -10,12 +10,12 @@ import sys
 import tempfile
 from pathlib import Path
 
-from texts import TOP, Tester
-
-sys.path.insert(0, str(TOP / "examples"))
+sys.path.insert(0, str(Path(__file__).resolve().parent.parent))
 from reference.traces import Fault, Trace  # noqa: E402
+from tests.texts import TOP, Tester  # noqa: E402
 
-RECORD = TOP / "examples/traces/record"
+
+RECORD, PROGRAMS = TOP / "tools/record", TOP / "examples/traces/record"
 # A program of which one part is in C++ and one in C, the number coming from the compiler's options; one of more lines
 # than the program reads at once; one that loads from more pages than 16 bits count; one of more threads than the first
 # form of traces has cores; and one whose last access is one too many for a trace.
@@ -52,7 +52,7 @@ def stored(trace, value):
 
 
 def tries(tester, program, folder):
-    error, trace = recorded(tester, folder, str(RECORD / "flag.cpp"))
+    error, trace = recorded(tester, folder, str(PROGRAMS / "flag.cpp"))
     tester.expect(error == "message 128\n", f"flag.cpp: {error}")
     # The message is stored by one core, and loaded by the other one once.
     messages = stored(trace, 128) if trace else set()
@@ -63,7 +63,7 @@ def tries(tester, program, folder):
                                             f"{folder}/new.trace")
     tester.expect((status, said) == (0, "") and "\nend all-done\n" in out and "\norder legal\n" in out,
                   f"flag.cpp: {status} {out[:200]} {said}")
-    error, trace = recorded(tester, folder, str(RECORD / "sum.c"), "-DAPART")
+    error, trace = recorded(tester, folder, str(PROGRAMS / "sum.c"), "-DAPART")
     tester.expect(error == "total 32640\n" and trace.cores == 5, f"sum.c: {error}")
     error, trace = recorded(tester, folder, f"{folder}/main.cc", f"{folder}/keep.c", "-DNUMBER=41")
     tester.expect(error == "42\n" and len(stored(trace, 42)) == 1, f"C and C++: {error}")

@@ -14,13 +14,14 @@ import tempfile
 from pathlib import Path
 
 TOP = Path(__file__).resolve().parent.parent
-sys.path.insert(0, str(TOP / "examples"))
-import oracle  # noqa: E402
-from ended_runs import told_of  # noqa: E402
-from refused_batches import refused_batches  # noqa: E402
-from refused_hosts import refused_hosts  # noqa: E402
-from refused_players import refused_drives, refused_lists, refused_seats, refused_steps  # noqa: E402
-from refused_threads import refused_threads  # noqa: E402
+sys.path.insert(0, str(TOP))
+from reference import oracle  # noqa: E402
+from tests.ended_runs import told_of  # noqa: E402
+from tests.refused_batches import refused_batches  # noqa: E402
+from tests.refused_hosts import refused_hosts  # noqa: E402
+from tests.refused_players import refused_drives, refused_lists, refused_seats, refused_steps  # noqa: E402
+from tests.refused_threads import refused_threads  # noqa: E402
+
 
 LITMUS = TOP / "examples" / "litmus"
 TRACES = TOP / "examples" / "traces"

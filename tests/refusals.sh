@@ -22,5 +22,5 @@ python3 "$top/tests/refusals.py" "$program" "$work/refuse.so" "$@" || exit 1
 printf '#!/bin/sh\nexec env LD_PRELOAD="%s" REFUSE_READ=1:short "%s" "$@"\n' \
     "$work/refuse.so" "$(readlink -f -- "$program")" >"$work/by_bytes"
 chmod +x "$work/by_bytes"
-PARTS='litmus settings refusals traces lines verdicts trace_faults' "$top/examples/check.sh" "$work/by_bytes" || exit 1
+PARTS='litmus settings refusals traces lines verdicts trace_faults' "$top/tests/check.sh" "$work/by_bytes" || exit 1
 "$top/tests/texts.py" "$work/by_bytes" faults

@@ -5,7 +5,7 @@ An edit is a file crates/NAME/refused/*.edit with the lines `file:`, `old:` and 
 proof must fail. Each old text stands once in the file. The edits of a crate that lie in different functions are tried
 in one check of these functions and of those that they call: since a proof takes nothing but contracts from other
 functions, each must fail for itself.
-The check begins with the libraries that scripts/build.py has built. With --wait, a crate waits until an `rt ci` that
+The check begins with the libraries that maintain/build.py has built. With --wait, a crate waits until an `rt ci` that
 began at the same time has built those below it. What was refused is kept in ~/.cache/tardis-refused by the checksums of
 all that it depends on, and isn't tried again but with --anew.
 """
@@ -21,8 +21,9 @@ from concurrent.futures import ThreadPoolExecutor
 from pathlib import Path
 
 TOP = Path(__file__).resolve().parent.parent
-sys.path.insert(0, f"{TOP}/scripts")
-import kit as own_kit  # noqa: E402
+sys.path.insert(0, str(TOP))
+from maintain import kit as own_kit  # noqa: E402
+
 
 KEPT = Path(os.path.expanduser("~/.cache/tardis-refused"))
 CALLS = (("cuts_libraries = False", "def stamp(self):", "def words(self, flags"),
@@ -96,7 +97,7 @@ def tried(kit, crate, is_anew):
 
 
 def is_there(low, begun):
-    """Whether a library is built: by scripts/build.py, or since `begun`, if that is given, by `rt ci`, which leaves no
+    """Whether a library is built: by maintain/build.py, or since `begun`, if that is given, by `rt ci`, which leaves no
     stamp."""
     if begun is None or not os.path.isfile(f"{low.rlib}/format"):
         return low.is_built()

@@ -8,10 +8,11 @@ reports of a run that ended so (ended_runs.py).
 from collections import Counter
 from pathlib import Path
 
-import merge
-import oracle
-from ended_runs import cuts_of
-from refused_threads import are_started
+from reference import oracle
+from tests.ended_runs import cuts_of
+from tests.refused_threads import are_started
+from tools import merge
+
 
 TOP = Path(__file__).resolve().parent.parent
 NO_MEMORY = (1, "", "tardis: no memory\n")

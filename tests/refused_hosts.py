@@ -9,9 +9,10 @@ import signal
 import subprocess
 from pathlib import Path
 
-import oracle
-import refused_threads
-from ended_runs import told_of
+from reference import oracle
+from tests import refused_threads
+from tests.ended_runs import told_of
+
 
 TOP = Path(__file__).resolve().parent.parent
 READ_FAILED = (4, b"", b"tardis: read failed\n")

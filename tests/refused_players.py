@@ -11,13 +11,13 @@ import re
 from collections import Counter
 from copy import deepcopy
 
-import events
-import seats
-from ended_runs import OutOfMemory, Watched
-from games import Game, event_text, summary, text_of
 from reference.machine_texts import MachinePlayer
 from reference.schedules import by_rounds, by_seed
 from reference.seat_texts import NumbersPlayer, SeatPlayer
+from tests import events, seats
+from tests.ended_runs import OutOfMemory, Watched
+from tests.games import Game, event_text, summary, text_of
+
 
 NO_MEMORY = "refused NoMemory"
 NO_MEMORY_STATUS = 4

@@ -18,10 +18,11 @@ import tempfile
 from collections import Counter
 from pathlib import Path
 
-import oracle
+from reference import oracle
 from reference.reports import Batch, trace_lines
 from reference.traces import record_line
 from reference.workers import SharedMachine, WorkerRun
+
 
 TOP = Path(__file__).resolve().parent.parent
 LITMUS = TOP / "examples" / "litmus" / "SB.litmus"

@@ -1,5 +1,5 @@
 #!/usr/bin/env python3
-"""Tries examples/try_rule.py: tests/rules.py.
+"""Tries tools/try_rule.py: tests/rules.py.
 
 The test makes each wrong rule below in a copy of the second program, and the script must find it there. The checker of
 the tree, which isn't changed, judges what is wrong with its records. In rules that only differ the script must find
@@ -15,10 +15,11 @@ from os import cpu_count
 from pathlib import Path
 
 TOP = Path(__file__).resolve().parent.parent
-sys.path.insert(0, str(TOP / "examples"))
-import try_rule  # noqa: E402
+sys.path.insert(0, str(TOP))
 from reference.order import check  # noqa: E402
 from reference.traces import Trace, read_records  # noqa: E402
+from tools import try_rule  # noqa: E402
+
 
 VALUE, OWNERS, FAILS, STUCK = "wrong value", "two owners", "the machine fails", "a round without progress"
 # What is wrong, what it may lead to, and what stands in machine.py with what takes its place.
@@ -64,9 +65,8 @@ SOUND = [
 def changed(folder, changes):
     """A copy of the second program with these changes."""
     copy = Path(folder, "mine")
-    shutil.copytree(TOP / "examples/reference", copy / "reference", ignore=shutil.ignore_patterns("__pycache__"))
-    for name in ("oracle.py", "try_rule.py"):
-        shutil.copy(TOP / "examples" / name, copy / name)
+    shutil.copytree(TOP / "reference", copy / "reference", ignore=shutil.ignore_patterns("__pycache__"))
+    shutil.copytree(TOP / "tools", copy / "tools", ignore=shutil.ignore_patterns("__pycache__"))
     machine = copy / "reference/machine.py"
     text = machine.read_text(encoding="utf-8")
     for old, new in changes:
@@ -80,7 +80,7 @@ def ran(changes, *words):
     """The status of the script on a copy, what it prints, and what the last command that it prints does."""
     with tempfile.TemporaryDirectory() as folder:
         copy = changed(folder, changes)
-        done = subprocess.run([copy / "try_rule.py", *words], capture_output=True, text=True, timeout=120)
+        done = subprocess.run([copy / "tools/try_rule.py", *words], capture_output=True, text=True, timeout=120)
         again = None
         if done.returncode == 1:
             again = subprocess.run(done.stdout.splitlines()[-1], shell=True, capture_output=True, text=True, timeout=60)
@@ -108,7 +108,7 @@ def faults(may_be, most, status, out, again):
 
 def refusals():
     """Faults in how words and files are refused."""
-    script = str(TOP / "examples/try_rule.py")
+    script = str(TOP / "tools/try_rule.py")
     for words in (["none.trace"], ["--tries"], [str(TOP / "examples/bad/SB-cut.litmus")], [str(TOP)],
                   ["--tries", "0"], ["--tries", "-5"], ["--first", "-3"], ["--first", str(2 ** 64)], ["/dev/null"]):
         done = subprocess.run([script, *words], capture_output=True, text=True, timeout=60)

@@ -11,12 +11,15 @@ import argparse
 import random
 import sys
 from collections import Counter
+from pathlib import Path
 from types import SimpleNamespace
 
-from games import Game, is_played, line_text, opening_text
-from reference import told
-from reference.seat_texts import NumbersPlayer, SeatPlayer
-from reference.seats import PLACES, SLOTS
+sys.path.insert(0, str(Path(__file__).resolve().parent.parent))
+from reference import told  # noqa: E402
+from reference.seat_texts import NumbersPlayer, SeatPlayer  # noqa: E402
+from reference.seats import PLACES, SLOTS  # noqa: E402
+from tests.games import Game, is_played, line_text, opening_text  # noqa: E402
+
 
 LAST = 2 ** 64 - 1
 OF_CORES = ("issue", "attempt", "advance")

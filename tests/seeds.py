@@ -1,5 +1,5 @@
 #!/usr/bin/env python3
-"""Tries scripts/seeds.py, and examples/merge.py on reports that it mustn't join: tests/seeds.py PROGRAM.
+"""Tries tools/seeds.py, and tools/merge.py on reports that it mustn't join: tests/seeds.py PROGRAM.
 
 Joined reports must be those of one run of the whole range, by the program and by the second program. How each part was
 made is worked out here. The test spoils the file next to a report in each way that there is, and merge.py must say
@@ -15,11 +15,10 @@ import tempfile
 from pathlib import Path
 from types import SimpleNamespace
 
-from texts import TOP, Tester
+sys.path.insert(0, str(Path(__file__).resolve().parent.parent))
+from tests.texts import TOP, Tester  # noqa: E402
+from tools import merge, seeds  # noqa: E402
 
-sys.path[:0] = [str(TOP / "examples"), str(TOP / "scripts")]
-import merge  # noqa: E402
-import seeds  # noqa: E402
 
 LAST = 2 ** 64 - 1
 TEST = "examples/litmus/SB.litmus"
@@ -79,14 +78,14 @@ def made(tester, program, folder):
             f"part {part}: {said}")
     words = ["--schedule", "seed", "--seed", str(LAST - 30), "--runs", str(RUNS), "--limit", "90", TEST]
     status, whole, _ = Tester(program).run("litmus", *words)
-    got = Tester(str(TOP / "examples/merge.py")).run(*sorted(map(str, Path(folder).glob("*.report"))))
+    got = Tester(str(TOP / "tools/merge.py")).run(*sorted(map(str, Path(folder).glob("*.report"))))
     tester.expect(got == (0, whole, ""), f"parts past the last seed: {got}")
 
 
 def bad_reports(tester):
     """What is no report, or one of another test."""
     text = (TOP / "examples/litmus/SB.report").read_text()
-    merger = Tester(str(TOP / "examples/merge.py"))
+    merger = Tester(str(TOP / "tools/merge.py"))
     for new, said in ((text[:60], "is wanted"),
                       (text + "x 1\n", "a line too many"),
                       (text.replace("verdict no", "verdict yes"), "another verdict"),
@@ -122,7 +121,7 @@ class Folder:
             shutil.copytree(self.parts, folder, dirs_exist_ok=True)
             change(Path(folder))
             names = order or sorted(path.name for path in Path(folder).glob("*.report"))
-            got = Tester(str(TOP / "examples/merge.py")).run(*(f"{folder}/{name}" for name in names))
+            got = Tester(str(TOP / "tools/merge.py")).run(*(f"{folder}/{name}" for name in names))
         good = got[0] == status and got[2].count("\n") == (status > 0) and all(word in got[2] for word in said)
         self.tester.expect(good and bool(got[1]) == (status == 0), f"{change.__name__}: {got}, wanted {said}")
         return got[1]
@@ -242,7 +241,7 @@ def with_parallel(tester, folder, program):
         return
     subprocess.run(["parallel", "--will-cite", tester.program, "--part", "{}", "--parts", "10", "--folder", folder, "7",
                     "5000", TEST, ":::", *map(str, range(10))], check=True, stdin=subprocess.DEVNULL)
-    got = Tester(str(TOP / "examples/merge.py")).run(*sorted(map(str, Path(folder).glob("*.report"))))
+    got = Tester(str(TOP / "tools/merge.py")).run(*sorted(map(str, Path(folder).glob("*.report"))))
     whole = Tester(program).run("litmus", "--schedule", "seed", "--seed", "7", "--runs", "5000", TEST)
     tester.expect(got == whole, f"by GNU parallel: {got}")
 
@@ -291,7 +290,7 @@ def main(program):
     program = os.path.realpath(program)
     os.environ["TARDIS"] = program
     os.chdir(TOP)
-    tester = Tester(str(TOP / "scripts/seeds.py"))
+    tester = Tester(str(TOP / "tools/seeds.py"))
     wholes(tester, program)
     bad_reports(tester)
     parts_of_many(tester)

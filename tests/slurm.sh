@@ -1,6 +1,6 @@
 #!/bin/sh
-# Runs scripts/seeds.py as a job array on a real Slurm of one node, on this machine's loopback: tests/slurm.sh PROGRAM
-# 8 tasks run 80,000 seeds. One is cancelled: then examples/merge.py must say which seeds are missing. It is made again,
+# Runs tools/seeds.py as a job array on a real Slurm of one node, on this machine's loopback: tests/slurm.sh PROGRAM
+# 8 tasks run 80,000 seeds. One is cancelled: then tools/merge.py must say which seeds are missing. It is made again,
 # and the joined report must be that of one run. Slurm and munge (Debian: slurm-wlm, munge) run from a folder of their
 # own and with a key of their own. Where they aren't installed or can't start, standard error says so and the test passes.
 top=$(CDPATH='' cd -- "$(dirname -- "$0")/.." && pwd) || exit 1
@@ -99,7 +99,7 @@ submit() {
     array=$1
     shift
     sbatch --parsable --array="$array" "$@" --output="$work/%a.log" --wrap \
-        "scripts/seeds.py --part \$SLURM_ARRAY_TASK_ID --parts $tasks --folder '$work/reports' 0 $runs $test"
+        "tools/seeds.py --part \$SLURM_ARRAY_TASK_ID --parts $tasks --folder '$work/reports' 0 $runs $test"
 }
 
 # is_done JOB: no task of it waits or runs.
@@ -116,11 +116,11 @@ job=$(submit "0-$((tasks - 1))" --hold) || fail "the array isn't taken"
 { scancel "${job}_$cancelled" && scontrol release "$job"; } || fail "task $cancelled can't be cancelled"
 until_so 120 is_done "$job" || fail "the array doesn't end: $(logs)"
 [ "$(echo "$work"/reports/*.report | wc -w)" -eq $((tasks - 1)) ] || fail "not $((tasks - 1)) reports: $(logs)"
-said=$(examples/merge.py "$work"/reports/*.report 2>&1) && fail "7 of 8 reports are joined"
+said=$(tools/merge.py "$work"/reports/*.report 2>&1) && fail "7 of 8 reports are joined"
 case $said in *"seeds 20000 to 29999 are missing between"*) ;; *) fail "merge.py says: $said" ;; esac
 
 job=$(submit "$cancelled") || fail "the task isn't taken again"
 until_so 60 is_done "$job" || fail "the task doesn't end: $(logs)"
-examples/merge.py "$work"/reports/*.report >"$work/joined" || fail "8 reports aren't joined: $(logs)"
+tools/merge.py "$work"/reports/*.report >"$work/joined" || fail "8 reports aren't joined: $(logs)"
 "$TARDIS" litmus --schedule seed --runs "$runs" "$test" | cmp - "$work/joined" || fail "another report than of one run"
 echo "slurm.sh: $tasks tasks, one cancelled and made again: the report of one run"

@@ -1,5 +1,5 @@
 #!/usr/bin/env python3
-"""Tries scripts/sweep.py: tests/sweep.py PROGRAM PLAYER, the built crates tardis and play_events.
+"""Tries tools/sweep.py: tests/sweep.py PROGRAM PLAYER, the built crates tardis and play_events.
 
 The rows of a small sweep were worked out by hand. Runs that fail have rows that say so, a sweep that was stopped goes
 on, and the plot's points are where they belong. The last line is `N tried, M wrong`.
@@ -11,10 +11,10 @@ import tempfile
 import xml.etree.ElementTree as xml
 from pathlib import Path
 
-from texts import TOP, Tester, oracle
+sys.path.insert(0, str(Path(__file__).resolve().parent.parent))
+from tests.texts import TOP, Tester, oracle  # noqa: E402
+from tools import sweep  # noqa: E402
 
-sys.path.insert(0, str(TOP / "scripts"))
-import sweep  # noqa: E402
 
 # Two loads of a word, with three advances between them. The second load, at time 3, asks anew if the lease is below 3.
 RENEWED, ALONE = "trace 2\n0 R 0x0\n0 A\n0 A\n0 A\n0 R 0x0\n", "0 W 0x0 1\n"
@@ -40,7 +40,7 @@ class Sweeper(Tester):
     """Sweeps in a folder."""
 
     def __init__(self, player):
-        super().__init__(str(TOP / "scripts/sweep.py"))
+        super().__init__(str(TOP / "tools/sweep.py"))
         self.player = player
 
     def sweep(self, *words, status=0, made=None, rows=None, failed=0, table="sweep.csv"):
@@ -200,11 +200,11 @@ def by_the_second(tester):
     """What the program refuses, the second program refuses with the same words."""
     words = ["--lease", "0,1,4294967297", "--limit", "0,100", "--banks", "1,9", "renewed.trace", "bad.trace", "none"]
     rows = tester.sweep("--csv", "first.csv", *words, status=1, made=36, rows=36, failed=35, table="first.csv")
-    kept, os.environ["TARDIS"] = os.environ["TARDIS"], str(TOP / "examples/oracle.py")
+    kept, os.environ["TARDIS"] = os.environ["TARDIS"], str(TOP / "reference/oracle.py")
     second = tester.sweep("--csv", "second.csv", *words, status=1, made=36, rows=36, failed=35, table="second.csv")
     os.environ["TARDIS"] = kept
     for row, other in zip(rows, second):
-        tester.expect(row | {"program": "examples/oracle.py"} == other, f"{row}, by the second program {other}")
+        tester.expect(row | {"program": "reference/oracle.py"} == other, f"{row}, by the second program {other}")
 
 
 def refusals(tester):

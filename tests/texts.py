@@ -2,7 +2,7 @@
 """Gives the program cut, faulty, huge and changed texts: tests/texts.py PROGRAM [PART..].
 
 What it must say of each was worked out by hand from docs/TEXTS.md, or comes from the second program, which was written
-from the same page (examples/oracle.py). The last line is `N tried, M wrong`.
+from the same page (reference/oracle.py). The last line is `N tried, M wrong`.
 """
 import os
 import random
@@ -12,12 +12,13 @@ import tempfile
 from pathlib import Path
 
 TOP = Path(__file__).resolve().parent.parent
-sys.path.insert(0, str(TOP / "examples"))
-import oracle  # noqa: E402
+sys.path.insert(0, str(TOP))
+from reference import oracle  # noqa: E402
 from reference.litmus import Test  # noqa: E402
 from reference.order import check  # noqa: E402
 from reference.reports import litmus_report  # noqa: E402
 from reference.traces import Fault, Trace, read_records  # noqa: E402
+
 
 KINDS = ("NoMemory TooLarge BadByte BadHeader BadInitial DoubleInitial BadTable BadInstruction ValueRange MixedWidth "
          "AddressAsValue ValueAsAddress BadCondition CutShort").split()

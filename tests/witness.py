@@ -1,5 +1,5 @@
 #!/usr/bin/env python3
-"""Tries scripts/witness.py: tests/witness.py PROGRAM.
+"""Tries tools/witness.py: tests/witness.py PROGRAM.
 
 The second program makes the runs one by one: the script must print its first seed of each end, and how many runs have
 it. Each command that the script prints must have that end as its one state. The last line is `N tried, M wrong`.
@@ -10,11 +10,10 @@ import sys
 import tempfile
 from pathlib import Path
 
-from texts import TOP, Tester
+sys.path.insert(0, str(Path(__file__).resolve().parent.parent))
+from reference import oracle, order, reports  # noqa: E402
+from tests.texts import TOP, Tester  # noqa: E402
 
-sys.path.insert(0, str(TOP / "examples"))
-import oracle  # noqa: E402
-from reference import order, reports  # noqa: E402
 
 # A test of the catalogue, and options; how many seeds from which one on. In the last two some runs aren't all done.
 CASES = [("SB+yes", "", 60, 0), ("MP", "--lease 1", 50, 990), ("2+2W", "--line-words 8", 50, 7),
@@ -123,7 +122,7 @@ def beyond_a_million(tester):
 def main(program):
     os.environ["TARDIS"] = os.path.abspath(program)
     os.chdir(TOP)
-    tester = Tester(str(TOP / "scripts/witness.py"))
+    tester = Tester(str(TOP / "tools/witness.py"))
     for case in CASES:
         tries(tester, *case)
     refusals(tester)

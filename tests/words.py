@@ -8,8 +8,10 @@ import os
 import shlex
 import subprocess
 import sys
+from pathlib import Path
 
-from texts import MORE, TOP, oracle
+sys.path.insert(0, str(Path(__file__).resolve().parent.parent))
+from tests.texts import MORE, TOP, oracle  # noqa: E402
 
 
 def blocks():
@@ -45,7 +47,7 @@ def answers():
             error = answer + (MORE if answer.startswith("error: ") else "\n")
             yield from ((line, (status, "", error)) for line in words)
             if "bad configuration" in answer:
-                by_oracle = [subprocess.run(["examples/oracle.py", *line], capture_output=True) for line in words]
+                by_oracle = [subprocess.run(["reference/oracle.py", *line], capture_output=True) for line in words]
                 yield from ((line, (status, "", error), ran) for line, ran in zip(words, by_oracle))
 
 

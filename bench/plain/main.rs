@@ -1,5 +1,5 @@
 //! A simulator of the Tardis machine in plain Rust: a yardstick for the project's program, of which nothing is proved.
-//! It runs the tables of docs/PROTOCOL.md by the schedules of docs/SCHEDULES.md. scripts/speed.py builds and runs it.
+//! It runs the tables of docs/PROTOCOL.md by the schedules of docs/SCHEDULES.md. maintain/speed.py builds and runs it.
 //!
 //!     plain round|seed CORES WORDS OPERATIONS    runs the load of bench_schedules and tells the number of its events
 //!     plain trace [OPTION..] [--records] FILE    runs a trace and tells a report of it, or its records

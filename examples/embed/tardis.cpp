@@ -1,5 +1,5 @@
 // The program's commands over the library, for a caller in C++: litmus, trace and check with their options, but for
-// --schedule threads and --workers. What it prints and its status are the program's, so that examples/check.sh can try
+// --schedule threads and --workers. What it prints and its status are the program's, so that tests/check.sh can try
 // it. With EMBED_ARRAYS in the environment, `check` gives the library arrays in place of texts, where these are read
 // here.
 #include "tardis.h"

@@ -1,6 +1,6 @@
 #!/bin/sh
 # Records the four programs anew into examples/traces: examples.sh. A recording is one run, so the traces are others
-# each time; examples/expected.py and scripts/recorded.py then write what is wanted of them.
+# each time; tests/expected.py and maintain/recorded.py then write what is wanted of them.
 case ${1-} in -h | --help) exec sed -n '2,/^[^#]/s/^# \{0,1\}//p' "$0" ;; esac
 here=$(CDPATH='' cd -- "$(dirname -- "$0")" && pwd) || exit 1
 work=$(mktemp) || exit 1
@@ -11,7 +11,7 @@ trap 'exit 1' HUP INT TERM
 put() {
     name=$1 sentence=$2
     shift 2
-    "$here/record.sh" "$work" "$@" || exit
+    "$here/../../../tools/record/record.sh" "$work" "$@" || exit
     { printf '# %s\n# options= --line-words 8\n' "$sentence"; cat "$work"; } >"$here/../$name.trace"
     echo "$name: $(wc -l <"$work") lines"
 }

@@ -1,1 +1,0 @@
-"""The parts of examples/oracle.py: a second program, written from docs/ alone, that knows nothing of the first."""

@@ -1,1 +1,0 @@
-"""The parts of examples/page.py: how a run is played, what the page says of each event, and the page itself."""

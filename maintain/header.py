@@ -1,0 +1,48 @@
+#!/usr/bin/env python3
+"""Compares the structures of tardis.h with those of the static library and of examples/embed/history.rs:
+maintain/header.py --check
+
+No proof sees how a caller declares what it hands over. Each structure must have the same fields in the same order, each
+as wide: a field that is narrower on one side may lose its high bits, and a proof takes it for any other number.
+"""
+import re
+import sys
+from pathlib import Path
+
+TOP = Path(__file__).resolve().parent.parent
+NAMES = "options", "operation", "record", "told"
+
+
+def fields(found):
+    """The names and the widths of fields, or the structures that they are, from pairs of a type and a name."""
+    return [(name, re.sub(r"struct tardis_|Plain|^uint|_t$|^u(?=\d)", "", kind).lower()) for kind, name in found]
+
+
+def of_c(text):
+    """The structures that a C header declares, by their names."""
+    return {name: fields(re.findall(r"^\s+(\S+|struct \S+) (\w+);", body, re.M))
+            for name, body in re.findall(r"^struct tardis_(\w+) \{(.*?)^\};", text, re.M | re.S)}
+
+
+def of_rust(text):
+    """The structures that sources in Rattle or Rust lay out as C does, by their names."""
+    found = re.findall(r"#\[repr\(C\)\]\s+(?:#\[[^\n]*\]\s+)*pub struct (?:Plain)?(\w+) \{(.*?)\n\s*\}", text, re.S)
+    return {name.lower(): fields((kind, each) for each, kind in re.findall(r"pub (\w+): (\w+),", body))
+            for name, body in found}
+
+
+def main():
+    wanted = of_c((TOP / "crates/tardis_c/tardis.h").read_text(encoding="utf-8"))
+    library = "".join(file.read_text(encoding="utf-8") for file in sorted((TOP / "crates/tardis_c/src").glob("*.rt")))
+    example = (TOP / "examples/embed/history.rs").read_text(encoding="utf-8")
+    faults = [f"header.py: {side} has another tardis_{name} than tardis.h: {has.get(name)}"
+              for side, has in (("the library", of_rust(library)), ("history.rs", of_rust(example)))
+              for name in NAMES if not wanted.get(name) or has.get(name) != wanted[name]]
+    if sorted(wanted) != sorted(NAMES):
+        faults.append(f"header.py: tardis.h declares {sorted(wanted)}")
+    sys.exit("\n".join(faults) or None)
+
+
+if sys.argv[1:2] in (["-h"], ["--help"]):
+    sys.exit(print(__doc__))
+main()

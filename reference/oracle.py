@@ -1,0 +1,174 @@
+#!/usr/bin/env python3
+"""Prints what `tardis litmus|trace|check [options] FILE..` must print, without the program.
+
+Written from docs/ alone: PROTOCOL.md, SCHEDULES.md, SEATS.md, TEXTS.md, ORDER.md. Its parts are in reference/. A
+refusal has the program's status and its line on standard error. But a refused litmus test has neither its line nor its
+kind, and a wrong option has this script's own words, both with status 2.
+
+    reference/oracle.py litmus [--schedule seed --seed N] [--runs N] [--lease N] .. [--private-write] FILE
+    reference/oracle.py trace [--records] [--schedule seed --seed N] [--lease N] .. FILE
+    reference/oracle.py check TRACE RECORDS
+    reference/oracle.py --rows <ROWS
+    reference/oracle.py --self-test
+
+By --schedule threads it makes runs of one worker: with more, no two runs need be alike. Each row of --rows has the form
+FILE|WORD|WORD ..: what is printed with these words is written to FILE, and the status to FILE.status.
+
+--trace prints each event and its answer on standard error; of a run by threads, each call of a seat. --events prints
+the lists of events in place of the report, as docs/EVENTS.md has them. `litmus` may be left out.
+"""
+import argparse
+import re
+import sys
+from pathlib import Path
+
+sys.path.insert(0, str(Path(__file__).resolve().parent.parent))
+from reference.events import list_of_events  # noqa: E402
+from reference.given import NUMBERS, Bad, has_machine, litmus_test  # noqa: E402
+from reference.order import check  # noqa: E402
+from reference.reports import litmus_report, trace_report  # noqa: E402
+from reference.schedules import test_generator  # noqa: E402
+from reference.traces import Fault, Trace, read_records, record_line  # noqa: E402
+from reference.worked import test_machine  # noqa: E402
+
+
+MOST = 2 ** 64 - 1
+
+
+class Refused(Exception):
+    """What the program refuses but for texts: its status, and what it says on standard error."""
+
+    def __init__(self, status, said):
+        super().__init__(said)
+        self.status = status
+
+
+def number(name, least=0, most=MOST):
+    """What reads the value of an option, in decimal digits, perhaps behind a +."""
+    def read(text):
+        wrong = "invalid digit found in string" if not re.fullmatch("[+]?[0-9]+", text, re.ASCII) else \
+            "number too large to fit in target type" if int(text) > MOST else \
+            f"{text} is not in {least}..={most}" if not least <= int(text) <= most else None
+        if wrong:
+            raise Refused(3, f"error: invalid value '{text}' for '--{name} <{name}>': {wrong}\n\n"
+                             "For more information, try '--help'.")
+        return int(text)
+    return read
+
+
+def words():
+    parser = argparse.ArgumentParser(description=__doc__, allow_abbrev=False,
+                                     formatter_class=argparse.RawDescriptionHelpFormatter)
+    commands = parser.add_subparsers(dest="command", required=True)
+    for name in ("litmus", "trace"):
+        command = commands.add_parser(name, allow_abbrev=False)
+        command.add_argument("--schedule", choices=["round", "seed", "threads"], default="round")
+        for option, (usual, says) in NUMBERS.items():
+            read = number(option, 1, 2 ** 32 - 1) if option == "limit" else number(option)
+            command.add_argument("--" + option, type=read, default=usual, metavar="N", help=f"{says} ({usual})")
+        command.add_argument("--workers", type=number("workers", 1, 16), default=1, metavar="N",
+                             help="with --schedule threads, 1 alone")
+        command.add_argument("--private-write", action="store_true")
+        command.add_argument("--trace", action="store_true", dest="tell")
+        command.add_argument("--events", action="store_true")
+        command.add_argument("FILE")
+    commands.choices["litmus"].add_argument("--runs", type=number("runs", 1, 1_000_000), default=1)
+    commands.choices["trace"].add_argument("--records", action="store_true")
+    command = commands.add_parser("check", allow_abbrev=False)
+    command.add_argument("TRACE")
+    command.add_argument("RECORDS")
+    return parser
+
+
+def tell(turn, about, answer):
+    print(f"turn {turn}: {about}: {answer}", file=sys.stderr)
+
+
+def contents(path):
+    try:
+        return Path(path).read_bytes()
+    except OSError:
+        raise Refused(4, "tardis: read failed") from None
+
+
+def read_litmus(path):
+    """The test; a text that is none isn't judged here, but most of them can't be read."""
+    return litmus_test(path, contents(path))
+
+
+def read_trace(path):
+    return Trace(contents(path))
+
+
+def refuse_threads(options):
+    """Runs by several threads differ from one time to the next, and those by threads have no list of events."""
+    if options.workers > 1:
+        raise Bad("a run by several threads can't be worked out")
+    if options.events:
+        raise Bad("a run by threads has no list of events")
+
+
+def run(options):
+    """What is printed, and the status."""
+    if options.command == "check":
+        trace = read_trace(options.TRACE)
+        verdict = check({}, trace.issued(), read_records(contents(options.RECORDS)))
+        return verdict + "\n", int(verdict != "legal")
+    read = read_litmus(options.FILE) if options.command == "litmus" else read_trace(options.FILE)
+    if not has_machine(options, len(read.programs())):
+        raise Refused(3, "tardis: bad configuration")
+    if options.schedule == "threads":
+        refuse_threads(options)
+    events = []
+
+    def after(run, end, seed):
+        if options.tell:
+            print(f"{end} after {run.turns} turns", file=sys.stderr)
+            for record in run.machine.records:
+                print(record_line(record), file=sys.stderr)
+        if options.events:
+            events.append(list_of_events(run, end, seed))
+
+    if options.command == "litmus":
+        text, all_done = litmus_report(read, options, options.tell and tell, after)
+    else:
+        text, all_done = trace_report(read, options, options.tell and tell, after)
+    return "".join(events) if options.events else text, int(not all_done)
+
+
+def write_row(row):
+    """Writes what is printed with the words of a row, and the status."""
+    path, *given = row.split("|")
+    text, status = run(words().parse_args(given))
+    Path(path).write_text(text, encoding="ascii")
+    Path(path + ".status").write_text(f"{status}\n", encoding="ascii")
+
+
+def main(given):
+    test_generator()
+    if given == ["--self-test"]:
+        print(f"the generator is the published one, and {test_machine()} runs are as by hand")
+        return 0
+    if given == ["--rows"]:
+        for row in sys.stdin.read().splitlines():
+            write_row(row)
+        return 0
+    if given and given[0] not in ("litmus", "trace", "check", "-h", "--help"):
+        given = ["litmus", *given]
+    try:
+        text, status = run(words().parse_args(given))
+    except Fault as fault:
+        print(f"tardis: {fault}", file=sys.stderr)
+        return 2
+    except Refused as cause:
+        print(cause, file=sys.stderr)
+        return cause.status
+    except Bad as cause:
+        print(f"oracle.py: {cause}", file=sys.stderr)
+        return 2
+    sys.stdout.write(text)
+    return status
+
+
+if __name__ == "__main__":
+    sys.exit(main(sys.argv[1:]))

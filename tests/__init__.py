@@ -1,0 +1,1 @@
+"""What the gate runs on the built programs; .ci/run names each with its arguments."""

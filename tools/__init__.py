@@ -1,0 +1,1 @@
+"""What users run: pages, charts, counts, sweeps, batches of seeds, conversions. Each answers --help."""

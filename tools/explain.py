@@ -1,0 +1,220 @@
+#!/usr/bin/env python3
+"""Says why records aren't legal, or why a text is refused.
+
+    tools/explain.py TRACE RECORDS    the verdict of `check`, with the record, what was expected of it, and what lies
+                                        around it in the order by time and number
+    tools/explain.py TEST|TRACE       the fault of a text, with its cell, its cause and what is often meant
+
+A text is a litmus test if its name ends in .litmus, or if it has a brace and no name that ends in .trace. Verdicts and
+faults are the program's: what TARDIS names, else the one that ./tardis built, else, of traces and records,
+reference/oracle.py. `./tardis --unproved litmus TEST` prints the line and the kind of a test's fault, too.
+The status is 0 if nothing is wrong, 1 if something is explained, and 2 if a file can't be read; then standard error
+says so in one line.
+"""
+import re
+import sys
+from pathlib import Path
+
+sys.path.insert(0, str(Path(__file__).resolve().parent.parent))
+from tools import program  # noqa: E402
+from tools.explained_texts import explained_text  # noqa: E402
+from tools.program import BUILT, Refused, fail, text_of  # noqa: E402
+
+
+AROUND = 3  # records told before and behind the one that is wrong
+LETTERS = {b"R": "load", b"W": "store", b"S": "swap"}
+
+
+def lines_with_fields(text):
+    """The lines that say something, with their numbers, of a text that the program has read."""
+    for number, line in enumerate(text.split(b"\n"), 1):
+        fields = line.partition(b"#")[0].split()
+        if fields:
+            yield number, fields
+
+
+class Record:
+    """A record with its line. Sorting is by time and number."""
+
+    __slots__ = ("key", "line", "fields")
+
+    def __init__(self, line, fields):
+        self.key, self.line, self.fields = (int(fields[-2]), int(fields[-1])), line, fields
+
+    number = property(lambda self: self.key[1])
+    core = property(lambda self: int(self.fields[0]))
+    place = property(lambda self: int(self.fields[1]))
+    word = property(lambda self: int(self.fields[3], 16))
+    letter = property(lambda self: self.fields[2])
+    written = property(lambda self: None if self.letter == b"R" else int(self.fields[4]))
+    received = property(lambda self: None if self.letter == b"W" else int(self.fields[-3]))
+
+    def told(self):
+        return f"line {self.line}: {b' '.join(self.fields).decode()}"
+
+    def when(self):
+        return f"time {self.key[0]} and number {self.key[1]}"
+
+
+class History:
+    """Records in the order by time and number, and the trace that they are of."""
+
+    def __init__(self, trace, records):
+        self.trace = trace
+        self.records = [Record(*line) for line in lines_with_fields(records)]
+        self.records.sort(key=lambda record: record.key)
+
+    def at(self, number):
+        """The place in the order of the record of this number."""
+        return next(at for at, record in enumerate(self.records) if record.number == number)
+
+    def operations(self, core):
+        """The trace's operations of a core, each with its line."""
+        for line, fields in lines_with_fields(self.trace):
+            if fields[0] != b"trace" and int(fields[0]) == core and fields[1] != b"A":
+                yield line, fields[1:]
+
+
+def around(title, records, at):
+    """What comes before and after a place in a list of records, with a mark there."""
+    yield title
+    for place in range(max(0, at - AROUND), min(len(records), at + AROUND + 1)):
+        yield f"{'>' if place == at else ' '} {records[place].told()}"
+
+
+def wrong_value(history, at):
+    record = history.records[at]
+    of_word = [other for other in history.records if other.word == record.word]
+    place = of_word.index(record)
+    before = [other for other in of_word[:place] if other.written is not None]
+    wanted = before[-1].written if before else 0
+    what = f"{LETTERS[record.letter]} of {record.word:#x}"
+    yield f"Core {record.core}'s {what} received {record.received} instead of {wanted}:"
+    yield f"  {before[-1].told()} wrote that" if before else "  no record before it wrote the word, which opens as 0"
+    yield from source_of(record.received, of_word, place)
+    yield from around(f"The operations on {record.word:#x} around it, in order:", of_word, place)
+
+
+def source_of(value, of_word, place):
+    """Where a wrong value may come from."""
+    if value == 0:
+        yield "0 is the word's opening value."
+    found = [at for at, other in enumerate(of_word) if other.written == value and at != place]
+    for at in found[:AROUND]:
+        behind = next((other for other in of_word[at + 1:] if other.written is not None), None)
+        how = "comes later in the order" if at > place else f"is overwritten by line {behind.line}"
+        yield f"{value} is what {of_word[at].told()} wrote; it {how}."
+    if not found and value:
+        yield f"No record wrote {value} there."
+
+
+def operation_of(fields):
+    """An operation as a trace has it, in one form: leading zeros say nothing."""
+    return fields[0], int(fields[1], 16), *map(int, fields[2:])
+
+
+def out_of_order(history, at):
+    record = history.records[at]
+    core, place = record.core, record.place
+    mine = [other for other in history.records if other.core == core]
+    next_one, listed = mine.index(record), list(history.operations(core))
+    if not listed:
+        yield f"The trace has no operation of core {core}."
+    elif place != next_one and next_one < len(listed):
+        yield f"Core {core}'s operation {next_one} comes next (the first is 0), and this is its operation {place}:"
+        line, fields = listed[next_one]
+        yield f"  line {line} of the trace: {core} {b' '.join(fields).decode()}"
+        found = [other for other in mine if other.place == next_one]
+        yield f"  its record, {found[0].told()}, has {found[0].when()}" if found else "  no record has it"
+    elif place >= len(listed) or place != next_one:
+        yield f"Core {core} has {len(listed)} operations in the trace, numbered from 0, so none comes here."
+    else:
+        line, fields = listed[place]
+        yield f"Core {core}'s operation {place} (the first is 0) is another one in the trace:"
+        yield f"  line {line} of the trace: {core} {b' '.join(fields).decode()}"
+    yield from around(f"Core {core}'s operations around it, in order:", mine, next_one)
+
+
+def bad_number(history, number):
+    by_number = sorted(history.records, key=lambda record: (record.number, record.line))
+    count = len(by_number)
+    yield f"There are {count} records, so their numbers are 0 to {count - 1}, each once. None has {number}."
+    pairs = [(one, other) for one, other in zip(by_number, by_number[1:]) if one.number == other.number]
+    if pairs:
+        one, other = pairs[0]
+        yield f"Two have {one.number}: {one.told()}, and {other.told()}."
+    else:
+        yield f"No number stands twice: the record with {number} is missing, or one has a wrong number."
+    if by_number[-1].number >= count:
+        first = next(record for record in by_number if record.number >= count)
+        yield f"{first.number} is too great: {first.told()}."
+    yield from ("The numbers below and above:", *(f"  {record.told()}" for record in next_to(by_number, number)))
+
+
+def next_to(by_number, number):
+    above = next((at for at, record in enumerate(by_number) if record.number > number), len(by_number))
+    return by_number[max(0, above - AROUND):above + AROUND]
+
+
+def explained_records(paths, texts):
+    """The lines that explain the verdict."""
+    verdict = program.run("check", *paths).strip()
+    if verdict == "legal":
+        yield verdict
+        return
+    if not re.fullmatch(r"(bad number|wrong value|out of program order) \d+", verdict):
+        fail(f"{program.program()} answers no verdict")
+    what, _, number = verdict.rpartition(" ")
+    yield verdict
+    history, number = History(*texts), int(number)
+    if what == "bad number":
+        yield from bad_number(history, number)
+        return
+    at = history.at(number)
+    yield f"{paths[1]}, {history.records[at].told()}"
+    yield from {"wrong value": wrong_value, "out of program order": out_of_order}[what](history, at)
+    yield from around("The records around it, by time and number:", history.records, at)
+
+
+def fault_of(path, is_test):
+    """What the program says of a text: None, or the line and the kind, as `line 6: 8 BadInstruction`."""
+    if is_test and not BUILT.exists() and program.program().endswith("oracle.py"):
+        fail(f"{path}: only the program knows why a test is refused, and it isn't built: "
+             f"./tardis --unproved litmus {path} gives the line and the kind in one to four minutes, "
+             f"./tardis litmus {path} builds the program")
+    try:
+        program.run(*(["litmus", "--limit", "1", path] if is_test else ["check", path, "/dev/null"]))
+    except Refused as refused:
+        return str(refused)
+    return None
+
+
+def explained(paths):
+    """The lines that explain the files, and whether something is wrong."""
+    texts = [text_of(path) for path in paths]
+    is_test = len(paths) == 1 and (paths[0].endswith(".litmus") or b"{" in texts[0] and not paths[0].endswith(".trace"))
+    fault = fault_of(paths[0], is_test)
+    if fault:
+        return explained_text(paths[0], texts[0], fault, "test" if is_test else "trace"), True
+    if len(paths) == 1:
+        return [f"{paths[0]}: nothing is wrong with this text"], False
+    try:
+        lines = list(explained_records(paths, texts))
+    except Refused as refused:
+        return explained_text(paths[1], texts[1], str(refused), "records"), True
+    return lines, lines != ["legal"]
+
+
+def main(paths):
+    if paths in (["-h"], ["--help"]):
+        print(__doc__)
+        return 0
+    if len(paths) not in (1, 2) or any(path.startswith("-") for path in paths):
+        fail("one file is wanted, or a trace and records (--help tells all)")
+    lines, is_wrong = explained(paths)
+    print("\n".join(lines))
+    return int(is_wrong)
+
+
+if __name__ == "__main__":
+    sys.exit(main(sys.argv[1:]))

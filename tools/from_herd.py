@@ -1,0 +1,374 @@
+#!/usr/bin/env python3
+"""Turns a RISC-V litmus test of herd7 into the form of docs/TEXTS.md, and reports into herd7's Observation lines.
+
+    tools/from_herd.py TEST > NEW.litmus
+    tools/from_herd.py --observation REPORT ..
+
+The script turns only what means the same; docs/FROM-HERD7.md lists it. It refuses anything else with its line and
+status 2, and prints nothing. A report is what `tardis litmus` prints. The name of a test with a filter gets `+filter`:
+herd7 drops runs outside the filter, and a report counts them. So the script doesn't print that test's Observation, and
+the status is 1.
+"""
+import re
+import sys
+from pathlib import Path
+
+sys.path.insert(0, str(Path(__file__).resolve().parent.parent))
+from tools.program import fail, text_of  # noqa: E402
+
+
+ABI = {name: f"x{number}" for number, name in enumerate(
+    "zero ra sp gp tp t0 t1 t2 s0 s1 a0 a1 a2 a3 a4 a5 a6 a7 s2 s3 s4 s5 s6 s7 s8 s9 s10 s11 t3 t4 t5 t6".split())}
+REGISTERS = {**ABI, "fp": "x8", **{f"x{number}": f"x{number}" for number in range(32)}}
+MOST = 2 ** 31 - 1
+FILTER = "+filter"  # behind the name of a test with a filter
+TYPES = {"w": ("int", "int32_t", "uint32_t"), "d": ("long", "int64_t", "uint64_t")}
+ORDER = r"(?:\.aqrl|\.aq\.rl|\.aq|\.rl)?"
+KEYWORD = r"(?m)^[ \t]*(locations|filter|~[ \t]*exists|exists|forall)\b"
+TOKEN = re.compile(r"\s+|(\d+:\w+|\[\w+\]|\w+)\s*=\s*(0[xX][0-9a-fA-F]+|\d+)(?!\w)|/\\|\\/|[()]")
+COMPUTED = {"or": int.__or__, "and": int.__and__, "xor": int.__xor__, "add": int.__add__, "sub": int.__sub__}
+
+
+def number_of(text):
+    return int(text, 16 if text[1:2] in ("x", "X") else 10)
+
+
+class Source:
+    """A text whose comments are blanked, and which reports faults by its lines."""
+
+    def __init__(self, path):
+        self.path = path
+        raw = text_of(path).replace(b"\r", b"")
+        self.text = self.without_comments(raw.decode("latin-1"))
+        found = re.search(r"[^\t\n -~]", self.text)
+        if found:
+            self.refuse(found.start(), "a byte that isn't ASCII")
+
+    def refuse(self, at, what):
+        fail(f"{self.path}, line {self.text.count(chr(10), 0, at) + 1}: {what}")
+
+    def without_comments(self, text):
+        """Each sign of a comment becomes a blank. Comments nest."""
+        self.text, parts, depth, opened, last = text, [], 0, 0, 0
+        for mark in re.finditer(r"\(\*|\*\)", text):
+            if mark[0] == "(*" and depth == 0:
+                parts, opened = [*parts, text[last:mark.start()]], mark.start()
+            depth += 1 if mark[0] == "(*" else -1
+            if depth < 0:
+                self.refuse(mark.start(), "a comment ends that didn't begin")
+            if depth == 0:
+                last = mark.end()
+                parts.append(re.sub(r"[^\n]", " ", text[opened:last]))
+        if depth:
+            self.refuse(opened, "a comment has no end")
+        return "".join(parts) + text[last:]
+
+
+class Herd:
+    """A test of herd7, taken apart: name, header, openings by thread, memory, rows of cells, the condition's text."""
+
+    def __init__(self, source):
+        self.source, self.registers, self.memory, self.types = source, {}, {}, []
+        head = re.match(r"\s*(\S+)[ \t]+(\S+)[ \t]*\n", source.text)
+        if not head or head[1] != "RISCV" or not re.fullmatch(r"[\w+.\[\]-]{1,128}", head[2], re.A):
+            source.refuse(0, "the first line isn't `RISCV` and a name")
+        self.name = head[2]
+        block = re.compile(r"(?m)^[ \t]*\{([^}]*)\}").search(source.text, head.end() - 1)
+        if not block:
+            source.refuse(head.end(), "no initial block")
+        lines = source.text[head.end():block.start()].split("\n")
+        self.header = [line.strip() for line in lines if re.fullmatch(r'\s*("[^"]*"|[A-Za-z]\w*\s*=.*)', line.rstrip())]
+        for item in re.finditer(r"[^;]+", block[1]):
+            if item[0].strip():
+                self.read_item(item[0].strip(), block.start(1) + item.end() - len(item[0].lstrip()))
+        self.read_table(block.end())
+
+    def read_item(self, item, at):
+        found = re.fullmatch(r"(?:(\w+)\s+)?(?:(\d+)\s*:\s*(\w+)|\[\s*(\w+)\s*\]|(\w+))(?:\s*=\s*&?(-?\w+))?", item)
+        if not found or found[6] is None and (found[2] or not found[1]):
+            self.source.refuse(at, f"`{item}` of the initial block")
+        if found[1]:
+            self.types.append((found[1], item, at))
+        value = self.value(found[6] or "0", at)
+        if found[2]:
+            of = self.registers.setdefault(int(found[2]), {})
+            key = self.register(found[3], at)
+        else:
+            of, key = self.memory, self.location(found[4] or found[5], at)
+            if isinstance(value, str):
+                self.source.refuse(at, f"`{item}`: an address in memory")
+        if key in of or key == "x0":
+            self.source.refuse(at, f"`{item}`: a second value, or one of x0")
+        of[key] = value
+
+    def value(self, text, at):
+        """A number, or the name of a location."""
+        if re.fullmatch(r"0[xX][0-9a-fA-F]+|\d+", text):
+            if number_of(text) <= MOST:
+                return number_of(text)
+        elif not text.startswith("-"):
+            return self.location(text, at)
+        return self.source.refuse(at, f"`{text}`: values go from 0 to {MOST}")
+
+    def location(self, name, at):
+        if not re.fullmatch(r"(?!x\d+$)[A-Za-z_]\w{0,31}", name, re.A):
+            self.source.refuse(at, f"`{name}` as a location's name")
+        return name
+
+    def register(self, name, at):
+        return REGISTERS.get(name) or self.source.refuse(at, f"`{name}` as a register")
+
+    def read_table(self, start):
+        text = self.source.text
+        found = re.compile(KEYWORD).search(text, start)
+        if not found:
+            self.source.refuse(len(text) - 1, "no condition")
+        self.tail, self.rows, at = found.start(), [], start
+        for line in text[start:found.start()].split("\n"):
+            if line.strip():
+                if not line.rstrip().endswith(";"):
+                    self.source.refuse(at, f"`{line.strip()}`: a row without its `;`")
+                self.rows.append((at, [" ".join(cell.split()) for cell in line.rstrip()[:-1].split("|")]))
+            at += len(line) + 1
+        heads = self.rows.pop(0)[1] if self.rows else []
+        self.threads = len(heads)
+        if not heads or heads != [f"P{number}" for number in range(self.threads)]:
+            self.source.refuse(start, "the table doesn't begin with P0, P1, ..")
+        for at, cells in self.rows:
+            if len(cells) != self.threads:
+                self.source.refuse(at, f"{len(cells)} cells for {self.threads} threads")
+
+
+class Column:
+    """A thread: what each of its registers is known to have (a number, a location's name or None) after each
+    instruction."""
+
+    def __init__(self, herd, thread):
+        self.herd, self.thread = herd, thread
+        self.opening = herd.registers.get(thread, {})
+        self.known = {register: self.opening.get(register, 0) for register in REGISTERS.values()}
+        self.bases = {value: name for name, value in reversed(self.opening.items()) if isinstance(value, str)}
+        self.widths = []
+
+    def refuse(self, at, cell, why="is no instruction here"):
+        self.herd.source.refuse(at, f"P{self.thread}: `{cell}` {why}")
+
+    def turned(self, cells):
+        """The cells, each with its place, in the form of docs/TEXTS.md; a blank one where nothing is left to do."""
+        bare = [(at, cell, *self.label_of(cell)) for at, cell in cells]
+        for number, (at, cell, _, code) in enumerate(bare):
+            jump = re.fullmatch(r"(?:b(?:ne|eq)z? ?.*,|j )\s*([A-Za-z_]\w*)", code)
+            if jump and jump[1] in self.labels_behind(bare, number):
+                yield ""
+            else:
+                yield self.instruction(at, cell, re.sub(r"\s*([,()])\s*", r"\1", code)) if code else ""
+
+    @staticmethod
+    def label_of(cell):
+        """A cell's label or None, and its instruction."""
+        found = re.fullmatch(r"([A-Za-z_]\w*):\s*(.*)", cell)
+        return (found[1], found[2]) if found else (None, cell)
+
+    @staticmethod
+    def labels_behind(bare, number):
+        """The labels between an instruction and the next one."""
+        for _, _, label, code in bare[number + 1:]:
+            if label:
+                yield label
+            if code:
+                return
+
+    def instruction(self, at, cell, code):
+        name, _, rest = code.partition(" ")
+        if name == "nop" or name.startswith("fence"):
+            return self.fence(at, cell, code)
+        if "(" in rest:
+            return self.memory(at, cell, name, rest)
+        words = rest.split(",")
+        if not all(word in REGISTERS or re.fullmatch(r"0[xX][0-9a-fA-F]+|\d+", word) for word in words):
+            self.refuse(at, cell)
+        return self.computed(at, cell, name, words)
+
+    def fence(self, at, cell, code):
+        found = re.fullmatch(r"fence ([iorw]+),([iorw]+)", code)
+        if found:
+            sets = ["".join(letter for letter in "rw" if letter in part) for part in found.groups()]
+            return f"fence {sets[0]},{sets[1]}" if all(sets) else ""
+        if code not in ("fence", "fence.tso", "fence.i", "nop"):
+            self.refuse(at, cell)
+        return "" if code in ("fence.i", "nop") else "fence rw,rw"
+
+    def memory(self, at, cell, name, rest):
+        """A load, a store or a swap. Others that read and write leave the word as it is, if they add or set nothing."""
+        found = re.fullmatch(r"(?:(\w+),)?(\w+),(-?\w*)\((\w+)\)", rest)
+        plain = re.fullmatch(rf"(lw|lwu|ld|sw|sd|amo(?:swap|add|or|xor)\.[wd]){ORDER}", name)
+        if not plain or not found or (found[1] is not None) != plain[1].startswith("amo"):
+            self.refuse(at, cell)
+        target, source, base = (self.register(at, cell, word) for word in (found[1] or found[2], found[2], found[4]))
+        location = self.known[base]
+        if not isinstance(location, str) or found[3] not in ("", "0"):
+            self.refuse(at, cell, "has an address that isn't a location's")
+        base, width = self.bases[location], plain[1].rstrip("u")[-1]
+        self.widths.append((width, at, cell))
+        if isinstance(self.known[source], str) and plain[1][0] != "l":
+            self.refuse(at, cell, "stores an address")
+        if plain[1][0] == "s":
+            return f"s{width} {source},0({base})"
+        swaps = plain[1].startswith("amoswap")
+        if plain[1].startswith("amo") and not swaps and source != "x0":
+            self.refuse(at, cell)
+        self.set(at, cell, target, None)
+        order = re.search(r"\.(aq|rl)", name) if swaps else None
+        return f"amoswap.{width}{order[0] if order else ''} {target},{source},({base})" if swaps else \
+            f"l{width} {target},0({base})"
+
+    def register(self, at, cell, name):
+        return REGISTERS.get(name) or self.refuse(at, cell, f"has `{name}` for a register")
+
+    def set(self, at, cell, target, value):
+        if target in self.opening and isinstance(self.opening[target], str) and value != self.opening[target]:
+            self.refuse(at, cell, "overwrites a register that opens with an address")
+        if target != "x0":
+            self.known[target] = value
+
+    def computed(self, at, cell, name, words):
+        """An instruction whose result is known: it sets a number, or an address, which is only noted."""
+        target, *sources = words
+        target = self.register(at, cell, target)
+        values = [self.known[REGISTERS[word]] if word in REGISTERS else number_of(word) for word in sources]
+        value = self.result(name.removesuffix("i") if name != "li" else name, sources, values)
+        if value is None:
+            self.refuse(at, cell, "has a result that isn't known beforehand")
+        if isinstance(value, int) and not 0 <= value <= MOST:
+            self.refuse(at, cell, f"has the result {value}, and values go from 0 to {MOST}")
+        self.set(at, cell, target, value)
+        if isinstance(value, str) or target == "x0":
+            return ""
+        as_it_is = name == "ori" and sources[0] in ("x0", "zero") and value <= 2047
+        return f"ori {target},x0,{value}" if as_it_is else f"li {target},{value}"
+
+    @staticmethod
+    def result(name, sources, values):
+        if name in ("li", "mv"):
+            return values[0] if len(values) == 1 and (name == "mv") == (sources[0] in REGISTERS) else None
+        if name not in COMPUTED or len(values) != 2:
+            return None
+        if name in ("xor", "sub") and sources[0] == sources[1] or name == "and" and 0 in values:
+            return 0
+        if all(isinstance(value, int) for value in values):
+            return COMPUTED[name](*values)
+        if name in ("add", "or", "xor") and 0 in values:  # an address and 0; another register isn't copied
+            return next((value for value in values if isinstance(value, str)), None)
+        return None
+
+
+def condition(herd, columns):
+    """The kind, and the condition with the filter's."""
+    source, parts, at = herd.source, [], herd.tail
+    found = list(re.finditer(KEYWORD, source.text[at:]))
+    for here, behind in zip(found, [*found[1:], None]):
+        end = at + behind.start() if behind else len(source.text)
+        parts.append(("".join(here[1].split()), at + here.start(1), at + here.end(), end))
+    filters = [part for part in parts if part[0] == "filter"]
+    kind, place, start, end = parts[-1]
+    if kind in ("locations", "filter") or [part[0] for part in parts[:-1] if part[0] not in ("locations", "filter")]:
+        source.refuse(place, "one condition stands at the end")
+    texts = [expression(herd, columns, *part[2:]) for part in (*filters, parts[-1])]
+    if filters and kind == "forall":
+        source.refuse(filters[0][1], "`filter` before `forall`")
+    if filters and len(herd.name) > 128 - len(FILTER):
+        source.refuse(0, "a name that is too long for a test with a filter")
+    herd.name += FILTER if filters else ""
+    return kind + " " + (texts[0] if len(texts) == 1 else " /\\ ".join(f"({text})" for text in texts))
+
+
+def expression(herd, columns, start, end):
+    """An expression's atoms and signs."""
+    source, words, at = herd.source, [], start
+    while at < end:
+        token = TOKEN.match(source.text, at, end)
+        if not token:
+            source.refuse(at, f"`{source.text[at:end].split()[0]}` in the condition")
+        if token[1]:
+            words.append(atom(herd, columns, *token.groups(), at))
+        elif token[0].strip():
+            words.append(token[0])
+        at = token.end()
+    shape, before = "".join(word if word in ("/\\", "\\/", "(", ")") else "a" for word in words), None
+    while shape != before:
+        shape, before = re.sub(r"\(a\)|a(?:/\\|\\/)a", "a", shape), shape
+    if shape != "a":
+        source.refuse(len(source.text[:end].rstrip()), "the condition isn't whole, or its parentheses don't match")
+    return " ".join(words).replace("( ", "(").replace(" )", ")")
+
+
+def atom(herd, columns, name, value, at):
+    thread, is_register, register = name.partition(":")
+    if not is_register:
+        return f"{herd.location(name.strip('[]'), at)}={herd.value(value, at)}"
+    register = herd.register(register, at)
+    if register == "x0" or int(thread) >= herd.threads or isinstance(columns[int(thread)].known[register], str):
+        herd.source.refuse(at, f"`{name}` in the condition: an address, x0, or a thread that isn't there")
+    return f"{int(thread)}:{register}={herd.value(value, at)}"
+
+
+def check_widths(herd, columns):
+    """One width, and types of that width."""
+    used = [use for column in columns for use in column.widths]
+    for width, at, cell in used:
+        if width != used[0][0]:
+            herd.source.refuse(at, f"`{cell}`: a second width")
+    for name, item, at in herd.types:
+        if used and name not in TYPES[used[0][0]]:
+            herd.source.refuse(at, f"`{item}`: a type that isn't as wide as the instructions")
+
+
+def converted(path):
+    """The lines of the test in the form of docs/TEXTS.md."""
+    herd = Herd(Source(path))
+    if herd.registers and max(herd.registers) >= herd.threads:
+        herd.source.refuse(0, f"the initial block has a thread {max(herd.registers)}, and the table has none")
+    columns = [Column(herd, thread) for thread in range(herd.threads)]
+    cells = [list(column.turned([(at, row[column.thread]) for at, row in herd.rows])) for column in columns]
+    check_widths(herd, columns)
+    opening = [[f"{name}={value};" for name, value in herd.memory.items()]]
+    opening += [[f"{thread}:{name}={value};" for name, value in herd.registers.get(thread, {}).items()]
+                for thread in range(herd.threads)]
+    rows = [[f"P{thread}" for thread in range(herd.threads)], *(row for row in zip(*cells) if any(row))]
+    widths = [max(map(len, column)) for column in zip(*rows)]
+    end = condition(herd, columns)
+    # The name is as the condition left it.
+    yield from (f"RISCV {herd.name}", *herd.header, "{", *(" ".join(items) for items in opening if items), "}")
+    yield from (f" {' | '.join(cell.ljust(width) for cell, width in zip(row, widths))} ;" for row in rows)
+    yield end
+
+
+def observation(path):
+    """herd7's line for a report: in how many runs that are all done the expression holds, and in how many not. None of
+    a test with a filter."""
+    told = dict(line.partition(" ")[::2] for line in text_of(path).decode("latin-1").splitlines())
+    try:
+        name, held, all_done = told["test"], int(told["held"]), int(told["all-done"])
+    except (KeyError, ValueError):
+        fail(f"{path} is no report of a litmus test")
+    if name.endswith(FILTER):
+        return print(f"from_herd.py: {path}: no Observation, as the test {name} had a filter", file=sys.stderr)
+    often = "Never" if held == 0 else "Always" if held == all_done else "Sometimes"
+    return f"Observation {name} {often} {held} {all_done - held}"
+
+
+def main(words):
+    if words in (["-h"], ["--help"]):
+        print(__doc__)
+    elif len(words) > 1 and words[0] == "--observation":
+        lines = [observation(path) for path in words[1:]]
+        print("".join(f"{line}\n" for line in lines if line), end="")
+        sys.exit(int(None in lines))
+    elif len(words) == 1 and not words[0].startswith("-"):
+        print("\n".join(list(converted(words[0]))))
+    else:
+        fail("one test is wanted, or --observation and reports (--help tells all)")
+
+
+if __name__ == "__main__":
+    main(sys.argv[1:])

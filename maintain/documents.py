@@ -75,10 +75,22 @@ def first_words(crate):
     return re.split(r"(?<=[^.][.])\s", " ".join(words))[0].rstrip(".")
 
 
+def layers():
+    """The layers of crates.txt, each with its heading and the names of its crates."""
+    for block in (TOP / "crates.txt").read_text(encoding="utf-8").split("\n\n"):
+        lines = block.strip().splitlines()
+        names = [line.split("#")[0].split(":")[0].split()[0] for line in lines if line.split("#")[0].strip()]
+        if names:
+            yield lines[0].removeprefix("# ").rstrip("."), names
+
+
 def architecture():
-    """Each crate with its first sentence."""
-    return ["| Crate | What it is |", "|---|---|"] + [
-        "| `%s` | %s |" % (name, first_words(CRATES / name)) for name in names_of_crates()]
+    """Each crate with its first sentence, under the heading of its layer."""
+    rows = ["| Crate | What it is |", "|---|---|"]
+    for heading, names in layers():
+        rows.append("| **%s** | |" % heading)
+        rows += ["| `%s` | %s |" % (name, first_words(CRATES / name)) for name in names]
+    return rows
 
 
 class Definitions:

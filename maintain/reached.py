@@ -5,7 +5,8 @@ A definition and its code may be changed alike, and every proof still pass. So t
 and crates/play_seats/data say what they refuse, in comments `# refuses: FILE.DEFINITION: WORDS`. FILE is a file of the
 tables' specs/. A comment counts if it is in an example that expects an answer. The script doesn't try whether that
 answer changes with the definition. A change of any other definition is refused by a law, or by nothing. With --check
-the status is 1 if a comment names a definition that doesn't exist, or is where no answer is expected.
+the status is 1 if a comment names a definition that doesn't exist, or is where no answer is expected, or if
+a file of the tables isn't there.
 """
 import re
 import sys
@@ -15,15 +16,21 @@ TOP = Path(__file__).resolve().parent.parent
 TABLES = {
     "core_pts": "CoreTable OnCopy", "private_cache": "CopyTable", "timestamp_manager": "Lease", "dram_mts": "Table",
     "llc_bank": "BankTable OnEntry", "network": "Mail", "machine_table": "Machine Opening Posted SetUp Step Transition",
-    "interleaving_core": "LookUps", "machine_theorem": "Coherence", "inbox": "Serving",
+    "interleaving_core": "LookUps", "machine_theorem": "Coherence Service", "inbox": "Serving",
     "mailboxes": "Attempts BankCalls BankServing BoxMoves CoreServing Evictions PartServing Places Turns",
     "closed_machine": "Sending",
-    "schedules": "Acts Policies RoundSchedule Runs SeedSchedule Service",
+    "programs": "Acts", "schedules": "Policies RoundSchedule Runs SeedSchedule",
 }
 NAMES = re.compile(r"^\s*(?:(?:pub|abbrev|unfoldable|opaque|data|record)\s+)*([^\s:(){},=]+)\s*(?:\{[^}]*\}\s*)*:(?=\s)", re.M)
 REFUSES = re.compile(r"# refuses: (\S+?):? ")
 EXAMPLE = re.compile(r"^(?=example )", re.M)
 WANTED = re.compile(r"^[^#\n]* : \S", re.M)
+
+
+def gone():
+    """The files that the tables name and that aren't there."""
+    return [f"{crate}/specs/{name}.antt" for crate, names in TABLES.items() for name in names.split()
+            if not (TOP / "crates" / crate / "specs" / f"{name}.antt").exists()]
 
 
 def defined(tables):
@@ -43,7 +50,8 @@ def comments():
 
 
 def main():
-    named, known, faults = set(), set(defined(None)), 0
+    named, known, faults = set(), set(defined(None)), len(gone())
+    print("".join(f"no such file: {file}\n" for file in gone()), end="")
     for text, name, is_example in comments():
         if name in known and is_example:
             named.add(name)

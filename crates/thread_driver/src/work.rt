@@ -47,7 +47,12 @@ pub(crate) fn work<P: Program + Drop, G: Gate>(
             thread::yield_now();
         }
     }
-    tell(signals, &mut worker.signaler, &worker.cores, &worker.programs);
+    tell(
+        signals,
+        &mut worker.signaler,
+        &worker.cores,
+        &worker.programs,
+    );
 }
 
 // What a worker keeps after a pass: what all its turns reported, and how many passes in a row came to nothing. And
@@ -96,7 +101,12 @@ fn pass<P: Program + Drop, G: Gate>(
         worker.old.cores.items worker.old.banks.items worker.old.programs.items told
         worker.new.cores.items worker.new.banks.items worker.new.programs.items) }
 {
-    tell(signals, &mut worker.signaler, &worker.cores, &worker.programs);
+    tell(
+        signals,
+        &mut worker.signaler,
+        &worker.cores,
+        &worker.programs,
+    );
     let look = worker.signaler.look(signals);
     if look.is_stopped || look.finished >= rota.programs {
         return None;

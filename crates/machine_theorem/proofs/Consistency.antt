@@ -11,7 +11,7 @@ use Rattle.machine_table.specs.Machine.{Machine, operation_of}
 use Rattle.machine_table.specs.Opening.{open_core}
 use Rattle.protocol.specs.Issued.{IsIssued}
 use Rattle.protocol.specs.Machine as by_line
-use Rattle.protocol.proofs.Lemmas.{legal, what_is_issued, reachable_ok, at_most_one, coherent_is}
+use Rattle.protocol.proofs.Lemmas.{legal, what_is_issued, reachable_ok, at_most_one, coherent_is, owners_answer}
 use Rattle.machine_theorem.specs.States.{State, seen}
 use Rattle.machine_theorem.specs.Ownership.{coherent}
 use Rattle.machine_theorem.specs.Coherence as machine
@@ -48,6 +48,7 @@ module _ (config : Config) (opening : FinMap nat_cmp ℕ) (a : State) (s : IsKep
     coherent = value_left;
     cases = λ message rest same. (bag_finds config opening (record a { bag = message ∷ rest })
         (kept_reordered config opening a (message ∷ rest) same s)).0.found;
+    recalls = owners_answer f s.shape.some_words (view config a) s.reached.reachable;
   }
 
 module _ (m : Machine) (s : Invariant m) where
@@ -73,4 +74,5 @@ module _ (m : Machine) (s : Invariant m) where
     coherent = λ arranged is word. values_of word ∙ state.coherent arranged is word;
     cases = messages_find_cases m s;
     zeros = s.kept.reached.zeros;
+    recalls = state.recalls;
   }

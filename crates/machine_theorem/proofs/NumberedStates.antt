@@ -2,7 +2,6 @@
 use Rattle.std.proofs.Common.{ℕ, [], refl, sym}
 use Rattle.std.specs.Ordering.{nat_cmp}
 use Rattle.std.specs.FinMap.{FinMap, entries}
-use Rattle.core_pts.specs.CoreTable.{opened}
 use Rattle.machine_table.specs.declared.config.Config.{Config}
 use Rattle.machine_table.specs.Machine.{Machine}
 use Rattle.machine_table.specs.Opening.{dram_of, open_bank, open_core}

@@ -1,7 +1,7 @@
 -- What a core's table does with one line: operations use copies as the protocol by lines says, and what is done at a
 -- message is a reply to the core or a move of the line.
 use Rattle.std.proofs.Common.{◌≡◌, ℕ, ◌+◌, ◌%◌, ◌<◌, max, Bool, true, false, ◌||◌, ◌&&◌, cond, leb, List, ◌∷◌, Option}
-use Rattle.std.proofs.Common.{Some, None, refl, sym, ◌∙◌, subst, arith}
+use Rattle.std.proofs.Common.{Some, None, refl, sym, ap, ◌∙◌, subst, arith}
 use Rattle.std.specs.List.Sorted.{IsPermutation}
 use Rattle.std.proofs.lemmas.Bool.{leb-true, leb-false}
 use Rattle.physiological_order.specs.declared.operation.Op.{Op}
@@ -19,7 +19,7 @@ use Rattle.core_pts.specs.declared.decision.CoreReaction.{CoreReaction}
 use Rattle.core_pts.specs.declared.decision.CoreReaction.TheVariants.{Arrives, Grants, Returns, Drops, Holds}
 use Rattle.core_pts.specs.declared.decision.CoreReaction.TheVariants.{NoCase}
 use Rattle.protocol.specs.Machine.{Config, Message, RenewRep, UpgradeRep, FlushReq, WbReq, Line, with_at, CannotUse}
-use Rattle.protocol.specs.Machine.{LineTransition, dropped, wb_dropped, flushed, written_back, Answers, shared}
+use Rattle.protocol.specs.Machine.{Copy, NotOwned, LineTransition, dropped, wb_dropped, flushed, written_back, Answers, shared}
 use Rattle.protocol.specs.Machine.{exclusive, renews, upgrades, Uses, load_hit, load_own, store_own, swap_own}
 use Rattle.protocol.proofs.Lemmas.{Some_injective}
 use Rattle.machine_theorem.proofs.Routes.{GoesUp, ownership_of}
@@ -110,20 +110,29 @@ module _ (lease : ℕ) (pinned : ℕ → Type 0) (t c : ℕ) (x : Line) (rest : 
   upgraded_fits rts None is sh p = absurd (cc)
   upgraded_fits rts (Some copy) is sh p = ((copy, refl), upgrades rts (copy_seen copy) rest p is)
 
+  -- a core without an Exclusive copy has no right to the line
+  without_copy : x.copies c ≡ None → NotOwned (x.copies c)
+  without_copy is copy e = let z : None ≡ Some copy = sym is ∙ e in absurd (cc)
+
+  with_shared : (held : LineCopy) → x.copies c ≡ Some (copy_seen held) → is_exclusive held.state ≡ false →
+      NotOwned (x.copies c)
+  with_shared held is sh copy e =
+      ap (λ (k : Copy). k.exclusive) (sym (Some_injective (copy_seen held) copy (sym is ∙ e))) ∙ sh
+
   flush_fits : (o : Option LineCopy) → x.copies c ≡ copy_or_none o → b ≡ false → (pinned c → ⊥) →
       IsPermutation x.messages (FlushReq c ∷ rest) → CoreFits lease pinned t c x rest b o (on_copy.flushed o)
-  flush_fits None is off un p = dropped c rest p
+  flush_fits None is off un p = dropped c rest p un (without_copy is)
   flush_fits (Some copy) is off un p = go (is_exclusive copy.state) refl
     where
       go : (e : Bool) → is_exclusive copy.state ≡ e → CoreFits lease pinned t c x rest b (Some copy)
           (cond e (Returns None (body.FlushRep (words_of_copy copy))) Drops)
       go true ex = ((copy, refl), off, (λ cores banks from to. refl), flushed c rest (copy_seen copy) p un is ex)
-      go false sh = dropped c rest p
+      go false sh = dropped c rest p un (with_shared copy is sh)
 
   back_fits : (until : ℕ) (o : Option LineCopy) → x.copies c ≡ copy_or_none o → b ≡ false → (pinned c → ⊥) →
       IsPermutation x.messages (WbReq c until ∷ rest) → CoreFits lease pinned t c x rest b o
       (on_copy.written_back lease until o)
-  back_fits until None is off un p = wb_dropped c until rest p
+  back_fits until None is off un p = wb_dropped c until rest p un (without_copy is)
   back_fits until (Some copy) is off un p = go (is_exclusive copy.state) refl
     where
       by_time : is_exclusive copy.state ≡ true → (fit : Bool) → CoreFits lease pinned t c x rest b (Some copy)
@@ -135,7 +144,7 @@ module _ (lease : ℕ) (pinned : ℕ → Type 0) (t c : ℕ) (x : Line) (rest : 
       go : (e : Bool) → is_exclusive copy.state ≡ e → CoreFits lease pinned t c x rest b (Some copy)
           (cond e (on_copy.returned copy (returned_lease copy.wts copy.rts until lease)) Drops)
       go true ex = by_time ex (fits (copy.wts + lease))
-      go false sh = wb_dropped c until rest p
+      go false sh = wb_dropped c until rest p un (with_shared copy is sh)
 
   unless_open : (q : Bool) (o : Option LineCopy) (r : CoreReaction) →
       (q ≡ false → CoreFits lease pinned t c x rest b o r) → CoreFits lease pinned t c x rest b o (cond q Holds r)

@@ -54,9 +54,9 @@ module _ (n : ℕ) where
       zeros_by (left x c k) k.entry k.messages k.dram
   moved lease pinned t u x y (evict_exclusive c copy un is ex) k =
       zeros_by (left x c k) k.entry (k.copies c copy is, k.messages) k.dram
-  moved lease pinned t u x y (dropped c rest p) k =
+  moved lease pinned t u x y (dropped c rest p un stale) k =
       zeros_by k.copies k.entry ((taken _ _ p k.messages).1) k.dram
-  moved lease pinned t u x y (wb_dropped c until rest p) k =
+  moved lease pinned t u x y (wb_dropped c until rest p un stale) k =
       zeros_by k.copies k.entry ((taken _ _ p k.messages).1) k.dram
   moved lease pinned t u x y (flushed c rest copy p un is ex) k =
       zeros_by (left x c k) k.entry (k.copies c copy is, (taken _ _ p k.messages).1) k.dram

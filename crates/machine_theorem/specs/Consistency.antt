@@ -4,6 +4,7 @@ use Rattle.std.specs.List.{AllByRecursion}
 use Rattle.physiological_order.specs.declared.operation.Record.{Record}
 use Rattle.physiological_order.specs.Order.{flat, Legal, Arrangement, replay_end, of_core}
 use Rattle.protocol.specs.Issued.{IsIssued}
+use Rattle.protocol.specs.Recalls.{OwnerAnswers}
 use Rattle.machine_table.specs.Machine.{Machine, operation_of}
 use Rattle.machine_theorem.specs.Cases.{has_case}
 use Rattle.machine_theorem.specs.Coherence.{owners, coherent}
@@ -27,3 +28,5 @@ pub record IsConsistent (m : Machine) : Type 0 where
   -- where lines have one word, the others are 0, in every copy and message, and in the entry and the DRAM of the
   -- line's bank
   pub zeros : (line : ℕ) → HasZeros m.config.line_words (line_in m line)
+  -- no recall is lost: while a bank's entry is Recalling, its owner's return is on the way, or a recall that finds it
+  pub recalls : (line : ℕ) → OwnerAnswers (line_in m line) (line_in m line).entry

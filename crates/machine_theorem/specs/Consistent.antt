@@ -15,6 +15,8 @@ use Rattle.machine_table.specs.declared.config.Config.{Config}
 use Rattle.machine_theorem.specs.Bags.{SameBag}
 use Rattle.machine_theorem.specs.Ownership.{owners, coherent}
 use Rattle.machine_theorem.specs.States.{State}
+use Rattle.machine_theorem.specs.View.{line_seen}
+use Rattle.protocol.specs.Recalls.{OwnerAnswers}
 
 -- the node is a part that there is, and this part of the state has a case for the message
 abbrev pub FindsCase : Config → State → Message → Node → Type 0
@@ -33,6 +35,8 @@ pub record Consistent (config : Config) (opening : FinMap nat_cmp ℕ) (a : Stat
   -- the part that a message in flight goes to has a case for it
   pub cases : (message : Message) (rest : List Message) → SameBag a.bag (message ∷ rest) →
       FindsCase config a message message.to
+  -- no recall is lost: while a bank's entry is Recalling, its owner's return is on the way, or a recall that finds it
+  pub recalls : (line : ℕ) → OwnerAnswers (line_seen config a line) (line_seen config a line).entry
 
 -- a message in flight goes between nodes of its kind, and the part that it goes to is there and has a case for it
 pub record FindsPart (config : Config) (a : State) (message : Message) : Type 0 where

@@ -5,11 +5,7 @@ use Rattle.std.specs.List.Sorted.{IsPermutation}
 use Rattle.std.proofs.lemmas.List.Sums.{sum_by-cons}
 use Rattle.std.proofs.lemmas.List.Sorted.{sum_by-IsPermutation, All-permutation}
 use Rattle.std.proofs.lemmas.List.Elements.{All-from_recursion, recursion_from_All}
-
--- what the members weigh together
-abbrev pub tally : {X : Type 0} → (X → ℕ) → List X → ℕ
-tally w [] = 0
-tally w (x ∷ xs) = w x + tally w xs
+use Rattle.protocol.specs.Machine.{tally}
 
 tally-sum : {X : Type 0} (w : X → ℕ) (xs : List X) → tally w xs ≡ sum_by w xs
 tally-sum w [] = refl

@@ -8,7 +8,7 @@ use Rattle.protocol.specs.Machine.{Config, Timed, Copy, Entry, Exclusive, Recall
 use Rattle.protocol.specs.Machine.{Message, ShRep, ExRep, RenewRep, UpgradeRep}
 use Rattle.protocol.specs.Machine.{FlushRep, WbRep, DramLdRep, DramStRep, Machine, Reachable, line_of}
 use Rattle.protocol.specs.Machine.{waits, WaitsFor, IsShared, IsGranted, HasCase}
-use Rattle.protocol.proofs.Bags.{tally}
+use Rattle.protocol.specs.Machine.{tally}
 use Rattle.protocol.proofs.Lines.{Holder, Bank, Flying, flying, right, load, store, about, about_itself, loading}
 use Rattle.protocol.proofs.Lines.{storing, HasShared, MessageOk, EntryOk, LineOk}
 use Rattle.protocol.proofs.LineChanges.{flying_one, at_most_one, loading_one, loads_at_most_one, storing_one}

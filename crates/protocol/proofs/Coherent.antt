@@ -9,7 +9,7 @@ use Rattle.protocol.specs.Machine.{Config, Timed, Copy, Entry, Absent, Loading, 
 use Rattle.protocol.specs.Machine.{Message, ExRep, UpgradeRep, FlushRep, WbRep, DramSt, DramStRep, Line, Machine}
 use Rattle.protocol.specs.Machine.{Reachable, line_of, word_at, or_else, owner_or, owner_words, words_of}
 use Rattle.protocol.specs.Machine.{granted_words, entry_words, stored_words, coherent_words, coherent}
-use Rattle.protocol.proofs.Bags.{tally}
+use Rattle.protocol.specs.Machine.{tally}
 use Rattle.protocol.proofs.Lines.{Holder, Bank, At, Flying, flying, right, store, storing, MessageOk, EntryOk, LineOk}
 use Rattle.protocol.proofs.Headline.{reachable_ok}
 use Rattle.physiological_order.specs.Completion.{arranged}

@@ -16,7 +16,7 @@ use Rattle.physiological_order.proofs.Lemmas.{memory_at-placed_writes, Keeps-loa
 use Rattle.physiological_order.proofs.Lemmas.{arranged-push, each_push, each_arranged}
 use Rattle.protocol.specs.Machine.{Config, Timed, Copy, Line, line_of, word_at, with_at, write_time, Uses, load_hit}
 use Rattle.protocol.specs.Machine.{load_own, store_own, swap_own}
-use Rattle.protocol.proofs.Bags.{tally}
+use Rattle.protocol.specs.Machine.{tally}
 use Rattle.protocol.proofs.Lease.{Current}
 use Rattle.protocol.proofs.Lines.{Holder, Bank, flying, right, CopyOk, LineOk, with_at_same, with_at_cases}
 use Rattle.protocol.proofs.Lines.{messages_keep, copy_keeps}

@@ -8,11 +8,11 @@ use Rattle.physiological_order.specs.declared.operation.Record.{Record}
 use Rattle.physiological_order.specs.Order.{Memory}
 use Rattle.protocol.specs.Machine.{Config, Timed, Copy, Message, ShReq, ExReq, ShRep, ExRep, RenewRep, UpgradeRep}
 use Rattle.protocol.specs.Machine.{Line, with_at, version_of, CannotUse, Answers, shared, exclusive, renews, upgrades}
-use Rattle.protocol.specs.Machine.{Asks, to_read, to_write}
-use Rattle.protocol.proofs.Bags.{tally}
+use Rattle.protocol.specs.Machine.{Asks, to_read, to_write, NotOwned}
+use Rattle.protocol.specs.Machine.{tally}
 use Rattle.protocol.proofs.Lease.{Leased}
 use Rattle.protocol.proofs.Lines.{Holder, Bank, At, Flying, right, load, store, about, one_if, about_itself}
-use Rattle.protocol.proofs.Lines.{HasShared, NotOwned, MessageOk, CopyOk, LineOk, with_at_same, with_at_other}
+use Rattle.protocol.proofs.Lines.{HasShared, MessageOk, CopyOk, LineOk, with_at_same, with_at_other}
 use Rattle.protocol.proofs.Lines.{with_at_cases, with_bag, copy_keeps, flying, loading, storing}
 use Rattle.protocol.proofs.LineChanges.{At≢Bank, At_injective, flying_one, at_most_one, owned, keep, lost, Goes}
 use Rattle.protocol.proofs.LineChanges.{ok_shuffled}

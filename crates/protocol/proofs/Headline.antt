@@ -72,7 +72,7 @@ waits_here f op = cond-true (eqb (line_of f (address op)) (line_of f (address op
 waits_there : (f : Config) (l : ℕ) (op : Op) → l ≢ line_of f (address op) → waits f l true (Some op) ≡ 0
 waits_there f l op ne = cond-false (eqb (line_of f (address op)) l) 1 0 (ne_eqb _ _ (λ e. ne (sym e)))
 
-waits_unpinned : (f : Config) (l : ℕ) (out : Bool) (p : Option Op) →
+pub waits_unpinned : (f : Config) (l : ℕ) (out : Bool) (p : Option Op) →
     ((op : Op) × (p ≡ Some op) × (line_of f (address op) ≡ l) → ⊥) → waits f l out p ≡ 0
 waits_unpinned f l true None h = refl
 waits_unpinned f l true (Some op) h =

@@ -9,6 +9,8 @@ pub use Rattle.protocol.proofs.InProgram.{what_is_issued}
 -- An operation whose request is out is not served by its core's copy; every message has a case in its part's table.
 pub use Rattle.protocol.proofs.BlockedRequests.{reachable_blocked}
 pub use Rattle.protocol.proofs.Cases.{messages_have_cases}
+-- While a line is being recalled, its owner's return or a recall that the owner answers is on the way.
+pub use Rattle.protocol.proofs.Recalls.{owners_answer}
 -- Functions that are changed at one number.
 pub use Rattle.protocol.proofs.Lines.{with_at_cases, with_at_other, with_at_same}
 pub use Rattle.protocol.proofs.Completions.{with_at_id}

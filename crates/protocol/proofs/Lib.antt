@@ -6,6 +6,7 @@ mod Cores
 mod Completions
 mod Headline
 mod Owners
+mod Recalls
 mod Coherent
 mod BlockedRequests
 mod Cases

@@ -12,7 +12,8 @@ use Rattle.protocol.specs.Machine.{LineTransition, evict_shared, evict_exclusive
 use Rattle.protocol.specs.Machine.{written_back, load_starts, renewed, leased, upgraded, granted, wb_starts}
 use Rattle.protocol.specs.Machine.{flush_starts, flush_returns, wb_returns, loaded, stored, evict_clean, evict_dirty}
 use Rattle.protocol.specs.Machine.{shuffled, dram_loads, dram_stores}
-use Rattle.protocol.proofs.Bags.{tally, tally-taken, each_taken}
+use Rattle.protocol.specs.Machine.{tally}
+use Rattle.protocol.proofs.Bags.{tally-taken, each_taken}
 use Rattle.protocol.proofs.Lease.{Current, Leased, Leased-from_Current, Current-raise, Current-fill, Leased-renew}
 use Rattle.protocol.proofs.Lease.{Current-upgrade}
 use Rattle.protocol.proofs.Lines.{Holder, Bank, At, Flying, flying, right, load, store, about, loading, storing}
@@ -446,9 +447,9 @@ module _ (f : Config) (h : ℕ → Memory) (l : ℕ) (records : List Record) (bu
           (k.0, k.1, ok_evict_shared t x k.0 k.1 c copy (free c un) is sh k.2)
       by_move u y (evict_exclusive c copy un is ex) =
           (k.0, Flying, ok_evict_exclusive t x k.0 k.1 c copy (free c un) is ex k.2)
-      by_move u y (dropped c rest p) =
+      by_move u y (dropped c rest p un stale) =
           (k.0, k.1, ok_without t x k.0 k.1 (FlushReq c) rest refl refl refl (λ d. refl) (has _ rest p))
-      by_move u y (wb_dropped c until rest p) =
+      by_move u y (wb_dropped c until rest p un stale) =
           (k.0, k.1, ok_without t x k.0 k.1 (WbReq c until) rest refl refl refl (λ d. refl) (has _ rest p))
       by_move u y (flushed c rest copy p un is ex) = (
         k.0,

@@ -6,8 +6,8 @@ use Rattle.physiological_order.specs.declared.operation.Record.{Record}
 use Rattle.physiological_order.specs.Order.{Memory}
 use Rattle.protocol.specs.Machine.{Config, Timed, Copy, Entry, Absent, Loading, Shared, Exclusive, Recalling, Storing}
 use Rattle.protocol.specs.Machine.{Message, ShReq, ExReq, ShRep, ExRep, RenewRep, UpgradeRep, FlushReq, WbReq}
-use Rattle.protocol.specs.Machine.{FlushRep, WbRep, DramLd, DramLdRep, DramSt, DramStRep, Line, line_of, with_at}
-use Rattle.protocol.proofs.Bags.{tally}
+use Rattle.protocol.specs.Machine.{FlushRep, WbRep, DramLd, DramLdRep, DramSt, DramStRep, Line, line_of, with_at, NotOwned}
+use Rattle.protocol.specs.Machine.{tally}
 use Rattle.protocol.proofs.Lease.{Current, Leased, Leased-keeps}
 
 -- where the right of a line is
@@ -63,10 +63,6 @@ storing _ = 0
 -- a core has a copy that is Shared, of this version
 abbrev pub HasShared : Option Copy → (Timed → Type 0) → Type 0
 HasShared copy P = (c : Copy) × (copy ≡ Some c) × (c.exclusive ≡ false) × P c.line
-
--- no copy that has the right
-abbrev pub NotOwned : Option Copy → Type 0
-NotOwned copy = (c : Copy) → copy ≡ Some c → c.exclusive ≡ false
 
 abbrev pub EntryOk : Timed → Holder → ℕ → List ℕ → Entry → Type 0
 EntryOk s holder t dram Absent = (holder ≡ Bank) × (s.rts ≤ t) × (dram ≡ s.words)

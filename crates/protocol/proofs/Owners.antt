@@ -5,7 +5,7 @@ use Rattle.physiological_order.specs.declared.operation.Record.{Record}
 use Rattle.physiological_order.specs.Order.{Memory}
 use Rattle.protocol.specs.Machine.{Config, Timed, Copy, Message, Line, Machine, Reachable, owns, owned_below}
 use Rattle.protocol.specs.Machine.{carries_ownership, owners_in, owners}
-use Rattle.protocol.proofs.Bags.{tally}
+use Rattle.protocol.specs.Machine.{tally}
 use Rattle.protocol.proofs.Lines.{Holder, Bank, At, Flying, right, LineOk}
 use Rattle.protocol.proofs.Headline.{reachable_ok}
 

@@ -1,2 +1,3 @@
 pub mod Issued
 pub mod Machine
+pub mod Recalls

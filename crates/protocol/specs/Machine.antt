@@ -72,6 +72,11 @@ pub record Machine : Type 0 where
   pub issued : ℕ → List Op
   pub records : List Record
 
+-- what the members of a bag weigh together
+abbrev pub tally : {X : Type 0} → (X → ℕ) → List X → ℕ
+tally weight [] = 0
+tally weight (x ∷ xs) = weight x + tally weight xs
+
 abbrev pub with_at : {X : Type 0} → (ℕ → X) → ℕ → X → ℕ → X
 with_at f i x = λ j. if j == i then x else f j
 
@@ -86,6 +91,10 @@ abbrev pub version_of : Option Copy → Option ℕ
 version_of None = None
 version_of (Some c) = Some c.line.wts
 
+-- no copy that has the right of a line
+abbrev pub NotOwned : Option Copy → Type 0
+NotOwned copy = (c : Copy) → copy ≡ Some c → c.exclusive ≡ false
+
 -- what a message or an eviction does to one line, if no core's own state takes part, except that some cores are pinned
 -- on the line. mts is the memory time of the line's bank before and after
 pub data LineTransition (lease : ℕ) (pinned : ℕ → Type 0) : ℕ → Line → ℕ → Line → Type 0 where
@@ -99,10 +108,11 @@ pub data LineTransition (lease : ℕ) (pinned : ℕ → Type 0) : ℕ → Line �
         messages =
             FlushRep c copy.line ∷ x.messages;
       })
+  -- a recall is dropped only where it is stale: its core has no right, and waits for none
   dropped : {t : ℕ} {x : Line} (c : ℕ) (rest : List Message) → IsPermutation x.messages (FlushReq c ∷ rest) →
-      LineTransition lease pinned t x t (record x { messages = rest })
+      (pinned c → Prim.⊥) → NotOwned (x.copies c) → LineTransition lease pinned t x t (record x { messages = rest })
   wb_dropped : {t : ℕ} {x : Line} (c until : ℕ) (rest : List Message) → IsPermutation x.messages
-      (WbReq c until ∷ rest) →
+      (WbReq c until ∷ rest) → (pinned c → Prim.⊥) → NotOwned (x.copies c) →
       LineTransition lease pinned t x t (record x { messages = rest })
   flushed : {t : ℕ} {x : Line} (c : ℕ) (rest : List Message) (copy : Copy) → IsPermutation x.messages
       (FlushReq c ∷ rest) → (pinned c → Prim.⊥) →

@@ -6,11 +6,13 @@ ghost use Rattle.physiological_order.specs.declared.operation.Op.{Op};
 ghost use Rattle.physiological_order.specs.Order.{Legal, Arrangement, replay_end, address, of_core};
 ghost use Rattle.protocol.specs.Issued.{IsIssued};
 ghost use Rattle.protocol.specs.Machine.{Config, Machine, Reachable, owners, coherent, CannotUse, line_of, HasCase};
+ghost use Rattle.protocol.specs.Recalls.{OwnerAnswers};
 
 /// The records are legal; a core was issued what it completed, in this order, and then its open operation; at most
 /// one cache owns a line, and grants and returns in flight count; a word's coherent value is what the replay of the
-/// records' arrangement leaves; an operation whose request is out is not served by the copy that its core has; and
-/// every message in flight has a case in the table of the part that it goes to.
+/// records' arrangement leaves; an operation whose request is out is not served by the copy that its core has; every
+/// message in flight has a case in the table of the part that it goes to; and no recall is lost: while an entry is
+/// Recalling, the owner's return is on the way, or a recall that the owner will answer.
 pub fn every_reached_machine_is_consistent()
     ensures legal { (config : Config) (m : Machine) → 0 < config.line_words → Reachable config m →
         Legal config.opening m.issued m.records }
@@ -31,4 +33,6 @@ pub fn every_reached_machine_is_consistent()
         CannotUse op (m.cores core).pts ((m.lines (line_of config (address op))).copies core) }
     ensures cases { (config : Config) (m : Machine) → 0 < config.line_words → Reachable config m →
         (line : ℕ) → AllByRecursion (HasCase config m line) (m.lines line).messages }
+    ensures recalls { (config : Config) (m : Machine) → 0 < config.line_words → Reachable config m →
+        (line : ℕ) → OwnerAnswers (m.lines line) (m.lines line).entry }
 {}

@@ -9,6 +9,7 @@ use Rattle.protocol.proofs.Owners.{at_most_one}
 use Rattle.protocol.proofs.Coherent.{coherent_is}
 use Rattle.protocol.proofs.BlockedRequests.{reachable_blocked}
 use Rattle.protocol.proofs.Cases.{messages_have_cases}
+use Rattle.protocol.proofs.Recalls.{owners_answer}
 
 pub returns-clause-legal : goal.returns-clause-legal
 returns-clause-legal c = λ f m good r. legal f good m r
@@ -30,3 +31,6 @@ returns-clause-blocked c = λ f m r core op. (reachable_blocked f m r).blocked c
 
 pub returns-clause-cases : goal.returns-clause-cases
 returns-clause-cases c = λ f m good r l. messages_have_cases f good m r l
+
+pub returns-clause-recalls : goal.returns-clause-recalls
+returns-clause-recalls c = λ f m good r l. owners_answer f good m r l

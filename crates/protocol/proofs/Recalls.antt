@@ -1,0 +1,385 @@
+use Rattle.std.proofs.Common.{◌≡◌, ◌≢◌, ℕ, ◌+◌, ◌<◌, ◌≤◌, Bool, true, false, cond, eqb, List, [], ◌∷◌, Option, Some, None}
+use Rattle.std.proofs.Common.{inl, inr, refl, sym, ap, ◌∙◌, subst, arith, le_trans, le_refl, ⊎_elim}
+use Rattle.std.specs.List.Sorted.{IsPermutation}
+use Rattle.std.proofs.lemmas.Bool.{cases_eq, cond-true, cond-false, eq-eqb, ne_eqb}
+use Rattle.physiological_order.specs.declared.operation.Op.{Op}
+use Rattle.physiological_order.specs.declared.operation.Record.{Record}
+use Rattle.physiological_order.specs.Order.{Memory, address}
+use Rattle.protocol.specs.Machine.{Config, Timed, Copy, Entry, Exclusive, Recalling}
+use Rattle.protocol.specs.Machine.{Message, ShRep, ExRep, RenewRep, UpgradeRep, FlushReq, WbReq}
+use Rattle.protocol.specs.Machine.{FlushRep, WbRep, DramLd, DramLdRep, DramSt, DramStRep, Line, with_at, tally, owns}
+use Rattle.protocol.specs.Machine.{LineTransition, evict_shared, evict_exclusive, dropped, wb_dropped, flushed}
+use Rattle.protocol.specs.Machine.{written_back, load_starts, renewed, leased, upgraded, granted, wb_starts}
+use Rattle.protocol.specs.Machine.{flush_starts, flush_returns, wb_returns, loaded, stored, evict_clean, evict_dirty}
+use Rattle.protocol.specs.Machine.{shuffled, dram_loads, dram_stores, NotOwned}
+use Rattle.protocol.specs.Machine.{Answers, shared, exclusive, renews, upgrades, Asks, to_read, to_write}
+use Rattle.protocol.specs.Machine.{Uses, load_hit, load_own, store_own, swap_own, Machine, Transition, issue, advance}
+use Rattle.protocol.specs.Machine.{ask, answer, complete, line_changes, Reachable, at_first, goes_on, line_of, IsPinned}
+use Rattle.protocol.specs.Recalls.{recall_to, grant_to, return_of, OwnsOrWill, OwnerAnswers}
+use Rattle.protocol.proofs.Bags.{tally-taken}
+use Rattle.protocol.proofs.Lines.{Holder, flying, right, about, one_if, LineOk}
+use Rattle.protocol.proofs.Lines.{with_at_same, with_at_other, with_at_cases}
+use Rattle.protocol.proofs.LineChanges.{At_injective, at_most_one, ok_shuffled, Goes}
+use Rattle.protocol.proofs.Cores.{Some_injective}
+use Rattle.protocol.proofs.Headline.{MachineOk, reachable_ok, waits_unpinned}
+
+-- a bag by what its members weigh at most
+tally_le : {X : Type 0} (u w : X → ℕ) → ((x : X) → u x ≤ w x) → (xs : List X) → tally u xs ≤ tally w xs
+tally_le u w le [] = omega arith
+tally_le u w le (x ∷ xs) = let a = le x in let b = tally_le u w le xs in omega arith
+
+tally_both : {X : Type 0} (u v w : X → ℕ) → ((x : X) → u x + v x ≤ w x) → (xs : List X) →
+    tally u xs + tally v xs ≤ tally w xs
+tally_both u v w le [] = omega arith
+tally_both u v w le (x ∷ xs) = let a = le x in let b = tally_both u v w le xs in omega arith
+
+at_most : (b : Bool) → cond b 1 0 ≤ 1
+at_most true = omega arith
+at_most false = omega arith
+
+-- grants and returns of one core have the right; a grant answers a request of its core
+rights : (c : ℕ) (m : Message) → grant_to c m + return_of c m ≤ right m
+rights c (ExRep d x) = let z = at_most (eqb d c) in omega arith
+rights c (UpgradeRep d r) = let z = at_most (eqb d c) in omega arith
+rights c (FlushRep d x) = let z = at_most (eqb d c) in omega arith
+rights c (WbRep d x) = let z = at_most (eqb d c) in omega arith
+rights c _ = omega arith
+
+one_if_cond : (b : Bool) → one_if b ≡ cond b 1 0
+one_if_cond true = refl
+one_if_cond false = refl
+
+granted_asks : (c : ℕ) (m : Message) → grant_to c m ≤ about c m
+granted_asks c (ExRep d x) = let z = one_if_cond (eqb d c) in omega arith
+granted_asks c (UpgradeRep d r) = let z = one_if_cond (eqb d c) in omega arith
+granted_asks c _ = omega arith
+
+own : (c : ℕ) → ◌≡◌ {A = ℕ} (cond (eqb c c) 1 0) 1
+own c = cond-true (eqb c c) 1 0 (eq-eqb c c refl)
+
+owns_some : (y : Option Copy) → owns y ≡ 1 → (copy : Copy) × (y ≡ Some copy) × (copy.exclusive ≡ true)
+owns_some None e = absurd (omega arith)
+owns_some (Some copy) e = go copy.exclusive refl
+  where
+    go : (b : Bool) → copy.exclusive ≡ b → (k : Copy) × (Some copy ≡ Some k) × (k.exclusive ≡ true)
+    go true is = (copy, refl, is)
+    go false is = absurd (let z : owns (Some copy) ≡ 0 = cond-false copy.exclusive 1 0 is in omega arith)
+
+owns_one : (y : Option Copy) (copy : Copy) → y ≡ Some copy → copy.exclusive ≡ true → owns y ≡ 1
+owns_one y copy is ex = ap owns is ∙ cond-true copy.exclusive 1 0 ex
+
+owns_not : (y : Option Copy) → NotOwned y → owns y ≡ 0
+owns_not None free = refl
+owns_not (Some copy) free = cond-false copy.exclusive 1 0 (free copy refl)
+
+-- a copy that takes another's place and has the right exactly if that one had
+owns_same : (copies : ℕ → Option Copy) (c : ℕ) (y : Option Copy) → owns y ≡ owns (copies c) → (d : ℕ) →
+    owns (with_at copies c y d) ≡ owns (copies d)
+owns_same copies c y e d =
+    ⊎_elim
+    (λ (q : d ≡ c). subst (λ (i : ℕ). owns (with_at copies c y i) ≡ owns (copies i)) (sym q)
+    (ap owns (with_at_same copies c y) ∙ e))
+    (λ (n : d ≡ c → ⊥). ap owns (with_at_other copies c y d n)) (cases_eq d c)
+
+-- nothing that an owner's answer rests on goes
+record Stays (x y : Line) : Type 0 where
+  owners : (c : ℕ) → owns (y.copies c) ≡ owns (x.copies c)
+  grants : (c : ℕ) → tally (grant_to c) x.messages ≤ tally (grant_to c) y.messages
+  returns : (c : ℕ) → tally (return_of c) x.messages ≤ tally (return_of c) y.messages
+  recalls : (c : ℕ) → tally (recall_to c) x.messages ≤ tally (recall_to c) y.messages
+
+owns_or_will : (x y : Line) → Stays x y → (c : ℕ) → OwnsOrWill c x → OwnsOrWill c y
+owns_or_will x y s c (inl o) = inl (s.owners c ∙ o)
+owns_or_will x y s c (inr g) = inr (le_trans g (s.grants c))
+
+answers_stay : (x y : Line) → Stays x y → (e : Entry) → OwnerAnswers x e → OwnerAnswers y e
+answers_stay x y s (Exclusive c) (inl r) = inl (le_trans r (s.returns c))
+answers_stay x y s (Exclusive c) (inr o) = inr (owns_or_will x y s c o)
+answers_stay x y s (Recalling c) (inl r) = inl (le_trans r (s.returns c))
+answers_stay x y s (Recalling c) (inr o) = inr (le_trans o.0 (s.recalls c), owns_or_will x y s c o.1)
+answers_stay x y s _ k = tt
+
+module _ (f : Config) (h : ℕ → Memory) (l : ℕ) (records : List Record) (busy : ℕ → ℕ) (t : ℕ) (x : Line) (s : Timed)
+    (b : Holder) (k : LineOk f h l records busy t x s b) where
+  all_rights : (c : ℕ) → tally (grant_to c) x.messages + tally (return_of c) x.messages ≤ flying b
+  all_rights c = let z = tally_both (grant_to c) (return_of c) right (rights c) x.messages in
+      let e = k.owner_count in omega arith
+
+  -- the owner is the one that the entry names
+  owner_at : (c o : ℕ) (copy : Copy) → x.copies c ≡ Some copy → copy.exclusive ≡ true → OwnsOrWill o x → o ≡ c
+  owner_at c o copy is ex (inl owns_it) =
+      let there = owns_some (x.copies o) owns_it in
+      At_injective o c (sym ((k.copies o there.0 there.1).0 there.2).0 ∙ ((k.copies c copy is).0 ex).0)
+  owner_at c o copy is ex (inr grants) =
+      absurd (let z = all_rights o in let e = ap flying ((k.copies c copy is).0 ex).0 in omega arith)
+
+  none_returns : (c o : ℕ) (copy : Copy) → x.copies c ≡ Some copy → copy.exclusive ≡ true →
+      tally (return_of o) x.messages ≡ 0
+  none_returns c o copy is ex = let z = all_rights o in let e = ap flying ((k.copies c copy is).0 ex).0 in omega arith
+
+  -- where an owner is, it is the core that the entry names
+  named : (c : ℕ) (copy : Copy) → x.copies c ≡ Some copy → copy.exclusive ≡ true → (e : Entry) → OwnerAnswers x e →
+      (y : Line) → 1 ≤ tally (return_of c) y.messages → OwnerAnswers y e
+  named c copy is ex (Exclusive o) (inl r) y back = absurd (let z = none_returns c o copy is ex in omega arith)
+  named c copy is ex (Exclusive o) (inr w) y back =
+      inl (subst (λ (i : ℕ). 1 ≤ tally (return_of i) y.messages) (sym (owner_at c o copy is ex w)) back)
+  named c copy is ex (Recalling o) (inl r) y back = absurd (let z = none_returns c o copy is ex in omega arith)
+  named c copy is ex (Recalling o) (inr w) y back =
+      inl (subst (λ (i : ℕ). 1 ≤ tally (return_of i) y.messages) (sym (owner_at c o copy is ex w.1)) back)
+  named c copy is ex _ q y back = tt
+
+  -- a core without a right, and without a reply to come, is no owner and won't be
+  no_owner : (c : ℕ) → busy c ≡ 0 → NotOwned (x.copies c) → OwnsOrWill c x → ⊥
+  no_owner c free not (inl o) = let z = owns_not (x.copies c) not in omega arith
+  no_owner c free not (inr g) =
+      let z = tally_le (grant_to c) (about c) (granted_asks c) x.messages in let e = k.asks c in omega arith
+
+  -- a bag with one message more, and with one exchanged for another
+  more : (m : Message) (e : Entry) → Stays x (record x { entry = e; messages = m ∷ x.messages })
+  more m e = record {
+    owners = λ c. refl;
+    grants = λ c. omega arith;
+    returns = λ c. omega arith;
+    recalls = λ c. omega arith;
+  }
+
+  exchanged : (m n : Message) (rest : List Message) (d : List ℕ) → IsPermutation x.messages (m ∷ rest) →
+      ((c : ℕ) → grant_to c m ≡ 0) → ((c : ℕ) → return_of c m ≡ 0) → ((c : ℕ) → recall_to c m ≡ 0) →
+      Stays x (record x { messages = n ∷ rest; dram = d })
+  exchanged m n rest d p g r a = record {
+    owners = λ c. refl;
+    grants = λ c. let e = tally-taken (grant_to c) x.messages (m ∷ rest) p in let z = g c in omega arith;
+    returns = λ c. let e = tally-taken (return_of c) x.messages (m ∷ rest) p in let z = r c in omega arith;
+    recalls = λ c. let e = tally-taken (recall_to c) x.messages (m ∷ rest) p in let z = a c in omega arith;
+  }
+
+  -- a stale recall may go
+  without : (c : ℕ) (m : Message) (rest : List Message) → IsPermutation x.messages (m ∷ rest) →
+      ((d : ℕ) → grant_to d m ≡ 0) → ((d : ℕ) → return_of d m ≡ 0) → ((d : ℕ) → d ≢ c → recall_to d m ≡ 0) →
+      (OwnsOrWill c x → ⊥) → (e : Entry) → OwnerAnswers x e → OwnerAnswers (record x { messages = rest }) e
+  without c m rest p g r a never e q = by_entry e q
+    where
+      back : (o : ℕ) → 1 ≤ tally (return_of o) x.messages → 1 ≤ tally (return_of o) rest
+      back o z = let i = tally-taken (return_of o) x.messages (m ∷ rest) p in let j = r o in omega arith
+
+      will : (o : ℕ) → OwnsOrWill o x → OwnsOrWill o (record x { messages = rest })
+      will o (inl owns_it) = inl owns_it
+      will o (inr z) = inr (let i = tally-taken (grant_to o) x.messages (m ∷ rest) p in let j = g o in omega arith)
+
+      by_entry : (e : Entry) → OwnerAnswers x e → OwnerAnswers (record x { messages = rest }) e
+      by_entry (Exclusive o) (inl z) = inl (back o z)
+      by_entry (Exclusive o) (inr z) = inr (will o z)
+      by_entry (Recalling o) (inl z) = inl (back o z)
+      by_entry (Recalling o) (inr z) =
+          ⊎_elim
+          (λ (i : o ≡ c). absurd (never (subst (λ (d : ℕ). OwnsOrWill d x) i z.1)))
+          (λ (n : o ≡ c → ⊥). inr (
+            let i = tally-taken (recall_to o) x.messages (m ∷ rest) p in let j = a o n in omega arith,
+            will o z.1,
+          ))
+          (cases_eq o c)
+      by_entry _ z = tt
+
+  -- a recall starts
+  recalled : (owner : ℕ) (m : Message) → x.entry ≡ Exclusive owner → recall_to owner m ≡ 1 → OwnerAnswers x x.entry →
+      OwnerAnswers (record x { entry = Recalling owner; messages = m ∷ x.messages }) (Recalling owner)
+  recalled owner m is one q = go (subst (OwnerAnswers x) is q)
+    where
+      go : OwnerAnswers x (Exclusive owner) →
+          OwnerAnswers (record x { entry = Recalling owner; messages = m ∷ x.messages }) (Recalling owner)
+      go (inl z) = inl (omega arith)
+      go (inr z) = inr (omega arith, owns_or_will x _ (more m (Recalling owner)) owner z)
+
+recall_other : (c d : ℕ) → d ≢ c → ◌≡◌ {A = ℕ} (cond (eqb c d) 1 0) 0
+recall_other c d n = cond-false (eqb c d) 1 0 (ne_eqb c d (λ e. n (sym e)))
+
+not_exclusive : (y : Option Copy) (copy : Copy) → y ≡ Some copy → copy.exclusive ≡ false → NotOwned y
+not_exclusive y copy is sh other e = ap (λ (k : Copy). k.exclusive) (Some_injective other copy (sym e ∙ is)) ∙ sh
+
+module _ (f : Config) (h : ℕ → Memory) (l : ℕ) (records : List Record) (busy : ℕ → ℕ) (t : ℕ) (x : Line)
+    (goes : Goes f h l records busy t x) (q : OwnerAnswers x x.entry) where
+  ok : LineOk f h l records busy t x goes.0 goes.1
+  ok = goes.2
+
+  -- every move of one line keeps what the entry says of the owner
+  pub moves_answer : (lease : ℕ) (pinned : ℕ → Type 0) → ((c : ℕ) → (pinned c → ⊥) → busy c ≡ 0) →
+      (u : ℕ) (y : Line) → LineTransition lease pinned t x u y → OwnerAnswers y y.entry
+  moves_answer lease pinned free u y (evict_shared c copy un is sh) =
+      answers_stay x y (record {
+        owners = owns_same x.copies c None (sym (owns_not (x.copies c) (not_exclusive (x.copies c) copy is sh)));
+        grants = λ d. le_refl _;
+        returns = λ d. le_refl _;
+        recalls = λ d. le_refl _;
+      }) x.entry q
+  moves_answer lease pinned free u y (evict_exclusive c copy un is ex) =
+      named f h l records busy t x goes.0 goes.1 ok c copy is ex x.entry q y (let i = own c in omega arith)
+  moves_answer lease pinned free u y (dropped c rest p un stale) =
+      without f h l records busy t x goes.0 goes.1 ok c (FlushReq c) rest p (λ d. refl) (λ d. refl) (recall_other c)
+      (no_owner f h l records busy t x goes.0 goes.1 ok c (free c un) stale) x.entry q
+  moves_answer lease pinned free u y (wb_dropped c until rest p un stale) =
+      without f h l records busy t x goes.0 goes.1 ok c (WbReq c until) rest p (λ d. refl) (λ d. refl)
+      (recall_other c) (no_owner f h l records busy t x goes.0 goes.1 ok c (free c un) stale) x.entry q
+  moves_answer lease pinned free u y (flushed c rest copy p un is ex) =
+      named f h l records busy t x goes.0 goes.1 ok c copy is ex x.entry q y (let i = own c in omega arith)
+  moves_answer lease pinned free u y (written_back c until rest copy p un is ex) =
+      named f h l records busy t x goes.0 goes.1 ok c copy is ex x.entry q y (let i = own c in omega arith)
+  moves_answer lease pinned free u y (upgraded c dirty line rest is p) = inr (inr (let i = own c in omega arith))
+  moves_answer lease pinned free u y (granted c version dirty line rest is p) =
+      inr (inr (let i = own c in omega arith))
+  moves_answer lease pinned free u y (wb_starts owner until is) =
+      recalled f h l records busy t x goes.0 goes.1 ok owner (WbReq owner until) is (own owner) q
+  moves_answer lease pinned free u y (flush_starts owner is) =
+      recalled f h l records busy t x goes.0 goes.1 ok owner (FlushReq owner) is (own owner) q
+  moves_answer lease pinned free u y (shuffled ms p) =
+      answers_stay x y (record {
+        owners = λ c. refl;
+        grants = λ c. let e = tally-taken (grant_to c) x.messages ms p in omega arith;
+        returns = λ c. let e = tally-taken (return_of c) x.messages ms p in omega arith;
+        recalls = λ c. let e = tally-taken (recall_to c) x.messages ms p in omega arith;
+      }) x.entry q
+  moves_answer lease pinned free u y (dram_loads rest p) =
+      answers_stay x y (exchanged f h l records busy t x goes.0 goes.1 ok DramLd (DramLdRep x.dram) rest x.dram p
+      (λ c. refl) (λ c. refl) (λ c. refl)) x.entry q
+  moves_answer lease pinned free u y (dram_stores words rest p) =
+      answers_stay x y (exchanged f h l records busy t x goes.0 goes.1 ok (DramSt words) DramStRep rest words p
+      (λ c. refl) (λ c. refl) (λ c. refl)) x.entry q
+  moves_answer lease pinned free u y (load_starts is) = tt
+  moves_answer lease pinned free u y (renewed c pts dirty line rest is p) = tt
+  moves_answer lease pinned free u y (leased c pts version dirty line rest is p) = tt
+  moves_answer lease pinned free u y (flush_returns c line rest p) = tt
+  moves_answer lease pinned free u y (wb_returns c line rest p) = tt
+  moves_answer lease pinned free u y (loaded words rest p) = tt
+  moves_answer lease pinned free u y (stored rest p) = tt
+  moves_answer lease pinned free u y (evict_clean line is) = tt
+  moves_answer lease pinned free u y (evict_dirty line is) = tt
+
+  -- a request is no recall, grant or return
+  pub asks_answer : (c pts : ℕ) (op : Op) (y : Line) → Asks c pts op x y → OwnerAnswers y y.entry
+  asks_answer c pts op y (to_read a w) = answers_stay x y
+      (more f h l records busy t x goes.0 goes.1 ok _ x.entry) x.entry q
+  asks_answer c pts op y (to_write w) = answers_stay x y
+      (more f h l records busy t x goes.0 goes.1 ok _ x.entry) x.entry q
+
+  -- a reply that gives no right
+  replied : (c : ℕ) (m : Message) (rest : List Message) (new : Copy) → IsPermutation x.messages (m ∷ rest) →
+      ((d : ℕ) → grant_to d m ≡ 0) → ((d : ℕ) → return_of d m ≡ 0) → ((d : ℕ) → recall_to d m ≡ 0) →
+      owns (Some new) ≡ owns (x.copies c) →
+      Stays x (record x { copies = with_at x.copies c (Some new); messages = rest })
+  replied c m rest new p g r a same = record {
+    owners = owns_same x.copies c (Some new) same;
+    grants = λ d. let e = tally-taken (grant_to d) x.messages (m ∷ rest) p in let z = g d in omega arith;
+    returns = λ d. let e = tally-taken (return_of d) x.messages (m ∷ rest) p in let z = r d in omega arith;
+    recalls = λ d. let e = tally-taken (recall_to d) x.messages (m ∷ rest) p in let z = a d in omega arith;
+  }
+
+  -- a grant that comes makes the core that the entry names the owner
+  became_owner : (c : ℕ) (m : Message) (rest : List Message) (new : Copy) → IsPermutation x.messages (m ∷ rest) →
+      right m ≡ 1 → ((d : ℕ) → d ≢ c → grant_to d m ≡ 0) → ((d : ℕ) → return_of d m ≡ 0) →
+      ((d : ℕ) → recall_to d m ≡ 0) → owns (Some new) ≡ 1 → (e : Entry) → OwnerAnswers x e →
+      OwnerAnswers (record x { copies = with_at x.copies c (Some new); messages = rest }) e
+  became_owner c m rest new p one others none calm has e z = by_entry e z
+    where
+      y : Line
+      y = record x { copies = with_at x.copies c (Some new); messages = rest }
+
+      alone : tally right rest ≡ 0
+      alone = let i = tally-taken right x.messages (m ∷ rest) p in let j = ok.owner_count in
+          let k = at_most_one goes.1 in omega arith
+
+      no_return : (o : ℕ) → 1 ≤ tally (return_of o) x.messages → ⊥
+      no_return o i = let j = tally-taken (return_of o) x.messages (m ∷ rest) p in let k = none o in
+          let n = tally_both (grant_to o) (return_of o) right (rights o) rest in let a = alone in omega arith
+
+      is_named : (o : ℕ) → OwnsOrWill o x → o ≡ c
+      is_named o (inl i) =
+          let there = owns_some (x.copies o) i in
+          absurd (let a = ap flying ((ok.copies o there.0 there.1).0 there.2).0 in
+          let j = tally-taken right x.messages (m ∷ rest) p in let k = ok.owner_count in omega arith)
+      is_named o (inr i) =
+          ⊎_elim (λ (e : o ≡ c). e)
+          (λ (n : o ≡ c → ⊥). absurd (let j = tally-taken (grant_to o) x.messages (m ∷ rest) p in
+          let k = others o n in
+          let b = tally_both (grant_to o) (return_of o) right (rights o) rest in let a = alone in omega arith))
+          (cases_eq o c)
+
+      owns_now : (o : ℕ) → o ≡ c → OwnsOrWill o y
+      owns_now o i = inl (subst (λ (d : ℕ). owns (with_at x.copies c (Some new) d) ≡ 1) (sym i)
+          (ap owns (with_at_same x.copies c (Some new)) ∙ has))
+
+      by_entry : (e : Entry) → OwnerAnswers x e → OwnerAnswers y e
+      by_entry (Exclusive o) (inl i) = absurd (no_return o i)
+      by_entry (Exclusive o) (inr i) = inr (owns_now o (is_named o i))
+      by_entry (Recalling o) (inl i) = absurd (no_return o i)
+      by_entry (Recalling o) (inr i) = inr (
+        let j = tally-taken (recall_to o) x.messages (m ∷ rest) p in let k = calm o in let a = i.0 in omega arith,
+        owns_now o (is_named o i.1),
+      )
+      by_entry _ i = tt
+
+  pub replies_answer : (c : ℕ) (y : Line) → Answers c x y → OwnerAnswers y y.entry
+  replies_answer c y (shared line rest p) =
+      let k = ok_shuffled f h l records busy t x goes.0 goes.1 (ShRep c line ∷ rest) p ok in
+      answers_stay x y (replied c (ShRep c line) rest (record { exclusive = false; written = false; line = line }) p
+      (λ d. refl) (λ d. refl) (λ d. refl) (sym (owns_not (x.copies c) (k.messages.0).0))) x.entry q
+  replies_answer c y (renews rts copy rest p is) =
+      answers_stay x y (replied c (RenewRep c rts) rest (record copy { line = record (copy.line) { rts = rts } }) p
+      (λ d. refl) (λ d. refl) (λ d. refl) (ap owns (sym is))) x.entry q
+  replies_answer c y (exclusive line rest p) =
+      became_owner c (ExRep c line) rest (record { exclusive = true; written = false; line = line }) p refl
+      (recall_other c) (λ d. refl) (λ d. refl) refl x.entry q
+  replies_answer c y (upgrades rts copy rest p is) =
+      became_owner c (UpgradeRep c rts) rest
+      (record { exclusive = true; written = false; line = record (copy.line) { rts = rts } }) p refl
+      (recall_other c) (λ d. refl) (λ d. refl) refl x.entry q
+
+  -- an operation leaves its core the owner, or not, as it was
+  uses_owns : {pts : ℕ} {copy : Copy} {op : Op} {received : Option ℕ} {ts : ℕ} {new : Copy} →
+      Uses f pts copy op received ts new → owns (Some new) ≡ owns (Some copy)
+  uses_owns (load_hit a sh le) = refl
+  uses_owns (load_own a ex) = refl
+  uses_owns (store_own a v ex) = refl
+  uses_owns (swap_own a v ex) = refl
+
+  pub uses_answer : (pts ts c : ℕ) (copy new : Copy) (op : Op) (received : Option ℕ) → x.copies c ≡ Some copy →
+      Uses f pts copy op received ts new →
+      OwnerAnswers (record x { copies = with_at x.copies c (Some new) }) x.entry
+  uses_answer pts ts c copy new op received is used =
+      answers_stay x (record x { copies = with_at x.copies c (Some new) }) (record {
+        owners = owns_same x.copies c (Some new) (uses_owns used ∙ ap owns (sym is));
+        grants = λ d. le_refl _;
+        returns = λ d. le_refl _;
+        recalls = λ d. le_refl _;
+      }) x.entry q
+
+-- a machine whose line answers
+abbrev Answer : Machine → Type 0
+Answer m = (l : ℕ) → OwnerAnswers (m.lines l) (m.lines l).entry
+
+change_answers : (f : Config) (m n : Machine) → MachineOk f m → Answer m → Transition f m n → Answer n
+change_answers f m n ok so_far change = by_change n change
+  where
+    at : (here : ℕ) (y : Line) → OwnerAnswers y y.entry → (i : ℕ) →
+        OwnerAnswers (with_at m.lines here y i) (with_at m.lines here y i).entry
+    at here y z = with_at_cases (λ i x. OwnerAnswers x x.entry) m.lines here y z (λ i ne. so_far i)
+
+    by_change : (n : Machine) → Transition f m n → Answer n
+    by_change n (issue c op none) = so_far
+    by_change n (advance c) = so_far
+    by_change n (ask c op y opens quiet a) =
+        let here = line_of f (address op) in
+        at here y (asks_answer f _ here m.records _ _ (m.lines here) (ok.lines here) (so_far here) c _ op y a)
+    by_change n (answer c here y a) =
+        at here y (replies_answer f _ here m.records _ _ (m.lines here) (ok.lines here) (so_far here) c y a)
+    by_change n (complete c op copy new received ts opens quiet is used) =
+        let here = line_of f (address op) in
+        at here _ (uses_answer f _ here m.records _ _ (m.lines here) (ok.lines here) (so_far here) _ ts c copy
+        new op received is used)
+    by_change n (line_changes here u y mv) =
+        at here y (moves_answer f _ here m.records _ _ (m.lines here) (ok.lines here) (so_far here) f.lease
+        (IsPinned f m.cores here) (λ c un. waits_unpinned f here (m.cores c).out (m.cores c).open_op un) u y mv)
+
+-- so in every reached machine
+pub owners_answer : (f : Config) → 0 < f.line_words → (m : Machine) → Reachable f m → Answer m
+owners_answer f good m (at_first pts mts drams at opens) = λ l. tt
+owners_answer f good m (goes_on {m = before} r change) =
+    change_answers f before m (reachable_ok f good before r) (owners_answer f good before r) change

@@ -1,11 +1,13 @@
 pub mod Lemmas
 mod Bags
+mod AnyHistory
 mod BankMoves
 mod Coherence
 mod Consistency
 mod ByParts
 mod CoreDeliveries
 mod CoreMoves
+mod Deliveries
 mod DramOpening
 mod DramWords
 mod EventMoves
@@ -31,10 +33,17 @@ mod PrivateRun
 mod ReachedParts
 mod ReachedStates
 mod Renumberings
+mod Recalled
 mod Reorderings
+mod Replies
 mod Rooms
 mod Routes
 mod SetUps
+mod ServiceEvents
+mod Ways
+mod Sizes
 mod StaleRun
 mod StayingParts
+mod Taken
 mod Turns
+mod Unstuck

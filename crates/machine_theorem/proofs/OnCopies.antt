@@ -19,7 +19,8 @@ use Rattle.core_pts.specs.declared.decision.CoreReaction.{CoreReaction}
 use Rattle.core_pts.specs.declared.decision.CoreReaction.TheVariants.{Arrives, Grants, Returns, Drops, Holds}
 use Rattle.core_pts.specs.declared.decision.CoreReaction.TheVariants.{NoCase}
 use Rattle.protocol.specs.Machine.{Config, Message, RenewRep, UpgradeRep, FlushReq, WbReq, Line, with_at, CannotUse}
-use Rattle.protocol.specs.Machine.{Copy, NotOwned, LineTransition, dropped, wb_dropped, flushed, written_back, Answers, shared}
+use Rattle.protocol.specs.Machine.{Copy, NotOwned, LineTransition, dropped, wb_dropped, flushed, written_back}
+use Rattle.protocol.specs.Machine.{Answers, shared}
 use Rattle.protocol.specs.Machine.{exclusive, renews, upgrades, Uses, load_hit, load_own, store_own, swap_own}
 use Rattle.protocol.proofs.Lemmas.{Some_injective}
 use Rattle.machine_theorem.proofs.Routes.{GoesUp, ownership_of}

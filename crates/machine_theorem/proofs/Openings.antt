@@ -33,7 +33,9 @@ use Rattle.machine_theorem.proofs.ByParts.{core_by, bank_by, shape_by}
 pub record Fair (c : Config) : Type 0 where
   pub some_banks : 0 < c.banks
   pub some_sets : 0 < c.sets
+  pub some_ways : 0 < c.ways
   pub some_bank_sets : 0 < c.bank_sets
+  pub some_bank_ways : 0 < c.bank_ways
   pub some_words : 0 < c.line_words
   pub most_words : c.line_words ≤ 8
 
@@ -60,7 +62,9 @@ fair c good =
       some_banks = some_of c.banks 8 (ownership_of (is_within c.cores 64) (is_within c.banks 8)
           (left_of (is_within c.cores 64 && is_within c.banks 8) (is_within c.messages 65536) parts.0));
       some_sets = some_of c.sets 1024 (left_of _ (is_within c.ways 16) parts.1);
+      some_ways = some_of c.ways 16 (ownership_of (is_within c.sets 1024) _ parts.1);
       some_bank_sets = some_of c.bank_sets 1024 (left_of _ (is_within c.bank_ways 16) parts.2);
+      some_bank_ways = some_of c.bank_ways 16 (ownership_of (is_within c.bank_sets 1024) _ parts.2);
       some_words = line.0;
       most_words = line.1;
     }

@@ -39,15 +39,18 @@ same_tree-refl (gnum n) = eq-eqb n n refl
 same_tree-refl (gcons a b) = ap (λ t. t && same_tree b b) (same_tree-refl a) ∙ same_tree-refl b
 
 -- whether two messages are the same
-abbrev is_same : Message → Message → Bool
+abbrev pub is_same : Message → Message → Bool
 is_same x y = same_tree (contracts.the_row.coded.code x) (contracts.the_row.coded.code y)
 
-is_same-true : (x y : Message) → is_same x y ≡ true → x ≡ y
+pub is_same-true : (x y : Message) → is_same x y ≡ true → x ≡ y
 is_same-true x y e = contracts.the_row.coded.inj x y (same_tree-true _ _ e)
 
 -- 1 if two messages are the same
-abbrev hit : Message → Message → ℕ
+abbrev pub hit : Message → Message → ℕ
 hit x y = cond (is_same x y) 1 0
+
+pub hit-itself : (x : Message) → hit x x ≡ 1
+hit-itself x = cond-true (is_same x x) 1 0 (same_tree-refl (contracts.the_row.coded.code x))
 
 -- lists of messages that differ only in their order
 pub data Reordered : List Message → List Message → Type 0 where
@@ -82,7 +85,7 @@ pub reordered : (xs ys : List Message) → SameBag xs ys → Reordered xs ys
 reordered [] [] same = none
 reordered [] (y ∷ ys) same = absurd (let e : 0 ≡ 1 + weigh (λ z. 1) ys = same (λ z. 1) in omega arith)
 reordered (x ∷ xs) ys same =
-    let here : hit x x ≡ 1 = cond-true (is_same x x) 1 0 (same_tree-refl (contracts.the_row.coded.code x)) in
+    let here = hit-itself x in
     let out = taken_out x ys
     (λ e. let w : hit x x + weigh (hit x) xs ≡ weigh (hit x) ys = same (hit x) in omega arith) in
     followed (behind x (reordered xs out.0

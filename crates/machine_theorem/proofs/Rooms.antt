@@ -21,7 +21,7 @@ or_keeps ways n k p q same le h =
     (cases_Bool p)
 
 -- a set is written with no more lines than it had
-set_le : (sets : List (List (ℕ × LineCopy))) (i j : ℕ) (ps : List (ℕ × LineCopy)) → i < length sets →
+pub set_le : {X : Type 0} (sets : List (List (ℕ × X))) (i j : ℕ) (ps : List (ℕ × X)) → i < length sets →
     length ps ≤ length (set_at sets i) → length (set_at (set sets i ps) j) ≤ length (set_at sets j)
 set_le sets i j ps within le =
     ⊎_elim

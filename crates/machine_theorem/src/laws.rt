@@ -1,5 +1,7 @@
 //! What every event and every list of events keeps.
-ghost use Rattle.std.specs.Prelude.{◌≡◌, ◌≢◌, ℕ, Bool, true, List, Some};
+ghost use Rattle.std.specs.Prelude.{◌≡◌, ◌≢◌, ℕ, ◌+◌, ◌-◌, ◌^◌, ◌<◌, ◌≤◌, Bool, true, false, List, length, Some};
+ghost use Rattle.std.specs.Prelude.{slice_get};
+ghost use Rattle.physiological_order.specs.declared.operation.Op.{Op};
 ghost use Rattle.std.specs.Ordering.{nat_cmp};
 ghost use Rattle.std.specs.FinMap.{FinMap};
 ghost use Rattle.physiological_order.specs.Order.{flat};
@@ -13,7 +15,7 @@ ghost use Rattle.network.specs.NumberedMessages.{at_number};
 ghost use Rattle.machine_table.specs.declared.event.Event.TheVariants.{Deliver};
 ghost use Rattle.machine_table.specs.declared.event.Answer.TheVariants.{Refused};
 ghost use Rattle.machine_table.specs.declared.event.Refusal.TheVariants.{NoSuch};
-ghost use Rattle.machine_table.specs.Machine.{Machine};
+ghost use Rattle.machine_table.specs.Machine.{Machine, operation_of};
 ghost use Rattle.machine_table.specs.Transition.{transition};
 ghost use Rattle.machine_table.specs.Runs.{after_all};
 ghost use Rattle.machine_theorem.specs.Bags.{SameBag, bag_of};
@@ -21,6 +23,7 @@ ghost use Rattle.machine_theorem.specs.PrivateWrites.{private_cores, private_wri
 ghost use Rattle.machine_theorem.specs.StaleHit.{two_cores, stale_hit, stale_records};
 ghost use Rattle.machine_theorem.specs.Consistency.{IsConsistent};
 ghost use Rattle.machine_theorem.specs.Kept.{Invariant};
+ghost use Rattle.machine_theorem.specs.Unstuck.{IsServed};
 
 /// A machine has the invariant if its parts have their shape and it is, seen line by line, one that the protocol
 /// reaches, with 0 for each word that lines don't have. What any event makes of such a machine has it as well, and no
@@ -71,6 +74,18 @@ pub fn every_history_is_legal()
         let m = after_all (at_start config opening) events in
         (number : ℕ) (message : Message) → at_number number m.mail.messages ≡ Some message →
         (transition m (Deliver number)).0 ≢ Refused NoSuch }
+{}
+
+/// Nothing is stuck where two more messages may be in flight, and there are numbers for 35 more. After any list of
+/// events, refused ones included, of a machine that opened with a good set-up and hasn't stopped: at most 35 events
+/// complete the open operation of any core, or a time doesn't fit. None of these events issues an operation or advances
+/// a core's own time. Others may be completed on the way; of this core that operation alone is.
+pub fn nothing_is_stuck()
+    ensures { (config : Config) (opening : FinMap nat_cmp ℕ) (events : List Event) → is_good config ≡ true →
+        let m = after_all (at_start config opening) events in
+        m.is_stopped ≡ false → length m.mail.messages + 2 ≤ config.messages →
+        m.mail.next + 35 < 2 ^ 64 - 1 → (core : ℕ) (op : Op) →
+        operation_of (slice_get m.cores core) ≡ Some op → IsServed 35 core op m }
 {}
 
 /// A run by the table, with any opening memory: a core reads a word, another writes it, and the first reads the

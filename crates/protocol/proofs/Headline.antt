@@ -66,10 +66,10 @@ waits_at_most f l true (Some op) = go (eqb (line_of f (address op)) l)
     go false = omega arith
 waits_at_most f l false op = omega arith
 
-waits_here : (f : Config) (op : Op) → waits f (line_of f (address op)) true (Some op) ≡ 1
+pub waits_here : (f : Config) (op : Op) → waits f (line_of f (address op)) true (Some op) ≡ 1
 waits_here f op = cond-true (eqb (line_of f (address op)) (line_of f (address op))) 1 0 (eq-eqb _ _ refl)
 
-waits_there : (f : Config) (l : ℕ) (op : Op) → l ≢ line_of f (address op) → waits f l true (Some op) ≡ 0
+pub waits_there : (f : Config) (l : ℕ) (op : Op) → l ≢ line_of f (address op) → waits f l true (Some op) ≡ 0
 waits_there f l op ne = cond-false (eqb (line_of f (address op)) l) 1 0 (ne_eqb _ _ (λ e. ne (sym e)))
 
 pub waits_unpinned : (f : Config) (l : ℕ) (out : Bool) (p : Option Op) →

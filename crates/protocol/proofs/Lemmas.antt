@@ -11,6 +11,9 @@ pub use Rattle.protocol.proofs.BlockedRequests.{reachable_blocked}
 pub use Rattle.protocol.proofs.Cases.{messages_have_cases}
 -- While a line is being recalled, its owner's return or a recall that the owner answers is on the way.
 pub use Rattle.protocol.proofs.Recalls.{owners_answer}
+-- What a line's invariant counts: its loads, its stores, and the messages about a core, which waits for one of them.
+pub use Rattle.protocol.proofs.Lines.{about, load, loading, one_if, store, storing}
+pub use Rattle.protocol.proofs.Headline.{waits_here, waits_there}
 -- Functions that are changed at one number.
 pub use Rattle.protocol.proofs.Lines.{with_at_cases, with_at_other, with_at_same}
 pub use Rattle.protocol.proofs.Completions.{with_at_id}

@@ -24,7 +24,7 @@ use Rattle.protocol.proofs.Cores.{Some_injective}
 use Rattle.protocol.proofs.Headline.{MachineOk, reachable_ok, waits_unpinned}
 
 -- a bag by what its members weigh at most
-tally_le : {X : Type 0} (u w : X → ℕ) → ((x : X) → u x ≤ w x) → (xs : List X) → tally u xs ≤ tally w xs
+pub tally_le : {X : Type 0} (u w : X → ℕ) → ((x : X) → u x ≤ w x) → (xs : List X) → tally u xs ≤ tally w xs
 tally_le u w le [] = omega arith
 tally_le u w le (x ∷ xs) = let a = le x in let b = tally_le u w le xs in omega arith
 
@@ -57,7 +57,7 @@ granted_asks c _ = omega arith
 own : (c : ℕ) → ◌≡◌ {A = ℕ} (cond (eqb c c) 1 0) 1
 own c = cond-true (eqb c c) 1 0 (eq-eqb c c refl)
 
-owns_some : (y : Option Copy) → owns y ≡ 1 → (copy : Copy) × (y ≡ Some copy) × (copy.exclusive ≡ true)
+pub owns_some : (y : Option Copy) → owns y ≡ 1 → (copy : Copy) × (y ≡ Some copy) × (copy.exclusive ≡ true)
 owns_some None e = absurd (omega arith)
 owns_some (Some copy) e = go copy.exclusive refl
   where

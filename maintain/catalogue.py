@@ -4,9 +4,9 @@
     maintain/catalogue.py            writes the tables
     maintain/catalogue.py --check    says what differs, and fails if something does
 
-What a test asks comes from its text. What sequential consistency says of it comes from reference/sequential.py, and
-what runs report from the .report, .seeds and .also next to it, which tests/expected.py wrote. Each test is in one
-table, and each end in a report must be one that some interleaving has.
+What a test asks comes from its text. What sequential consistency says of it comes from reference/sequential.py, its
+rings from tools/rings.py, and what runs report from the .report, .seeds and .also next to it, which tests/expected.py
+wrote. Each test is in one table, and each end in a report must be one that some interleaving has.
 """
 import re
 import sys
@@ -17,6 +17,7 @@ sys.path.insert(0, str(TOP))
 from reference import sequential  # noqa: E402
 from reference.litmus import Test  # noqa: E402
 from tests.expected import impossible_states  # noqa: E402
+from tools import rings  # noqa: E402
 
 PAGE = TOP / "docs/TESTS.md"
 TESTS = TOP / "examples/litmus"
@@ -31,6 +32,9 @@ TABLES = {
     "yes": "MP+yes SB+yes SWAP+yes SB+forall",
     "protocol": "STALE READERS RENEW LEASE PRIVATE FALSE",
 }
+# Those whose forbidden ends have one ring, or two that are mirror images.
+RINGS = ("two threads", "one location", "more threads", "swaps and fences", "locks")
+MOST_RINGS = 2
 HEAD = ["| Test | Question | One memory | Rounds | Held | Stale hits |",
         "|---|---|---|---|---|---|"]
 
@@ -52,6 +56,16 @@ def row(name):
              sequential.answer(test, sequential.ends_of(test)), rounds.said["verdict"], seeds.said["held"],
              seeds.said["stale-hits"]]
     return "| " + " | ".join(cells) + " |"
+
+
+def ring_rows(names):
+    """By test its cycle, as herd7's family names it, and its steps."""
+    yield from ("| Test | Cycle | What would be before what |", "|---|---|---|")
+    for name in names:
+        found = rings.rings_of(Test((TESTS / (name + ".litmus")).read_text(encoding="ascii"))) or []
+        if 1 <= len(found) <= MOST_RINGS:
+            told = sorted(f"{' '.join(rings.brief(ring))}" for ring in found)
+            yield f"| {name} | `{rings.cycle_of(found[0])}` | {' Or: '.join(told)} |"
 
 
 def other_options():
@@ -82,6 +96,8 @@ def main(check):
     old = new = PAGE.read_text(encoding="utf-8")
     for name, names in TABLES.items():
         new = with_table(new, name, HEAD + [row(test) for test in names.split()])
+    for name in RINGS:
+        new = with_table(new, f"rings: {name}", ring_rows(TABLES[name].split()))
     new = with_table(new, "other options", other_options())
     if check and old != new:
         return "catalogue.py: docs/TESTS.md has other tables than examples/litmus (maintain/catalogue.py writes them)"

@@ -20,7 +20,8 @@ OTHERS = {"kit.py", "program.sh"}
 READERS = ["tools/advance.py 1 {}", "env TARDIS=reference/oracle.py tools/seeds.py 0 9 {}",
            "tools/chart.py {}", "tools/merge.py {}", "reference/oracle.py litmus {}",
            "reference/oracle.py trace {}", "tools/page.py {}", "reference/sequential.py {}",
-           "tools/steps.py 0x0 {}", "tools/timeline.py {}", "tools/counts.py {}"]
+           "tools/steps.py 0x0 {}", "tools/timeline.py {}", "tools/counts.py {}",
+           "tools/cycles.py --why {}"]
 
 
 def files():

@@ -6,8 +6,10 @@ import argparse
 import sys
 from pathlib import Path
 
+from reference import litmus_faults
 from reference.calls import options_of
 from reference.litmus import Test
+from reference.litmus_faults import LitmusFault
 from reference.reports import drive
 from reference.schedules import Run
 from reference.traces import Fault, Trace, lines_with_fields, read_records
@@ -129,9 +131,10 @@ def read(reader, path, text):
 
 def litmus_test(path, text):
     try:
-        return Test(text.decode("ascii"))
-    except (AssertionError, AttributeError, IndexError, KeyError, SyntaxError, ValueError):
-        raise Bad(f"{path} can't be read as a litmus test: 'tools/explain.py {path}' says why") from None
+        litmus_faults.read(text)
+    except LitmusFault as fault:
+        raise Bad(f"{path}: {fault}: 'tools/explain.py {path}' says why") from None
+    return Test(text.decode("ascii"))
 
 
 def records_of(path):

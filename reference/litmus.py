@@ -1,4 +1,4 @@
-"""Litmus tests, as docs/TEXTS.md has them. Good texts only: what a bad text is answered is left to others."""
+"""Litmus tests, as docs/TEXTS.md has them. Good texts only: reference/litmus_faults.py finds the fault of a bad one."""
 import re
 
 NAME = r"\d+:x\d+|[A-Za-z_]\w*"  # a register of a thread, or a location

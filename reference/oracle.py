@@ -2,8 +2,8 @@
 """Prints what `tardis litmus|trace|check [options] FILE..` must print, without the program.
 
 Written from docs/ alone: PROTOCOL.md, SCHEDULES.md, SEATS.md, TEXTS.md, ORDER.md. Its parts are in reference/. A
-refusal has the program's status and its line on standard error. But a refused litmus test has neither its line nor its
-kind, and a wrong option has this script's own words, both with status 2.
+refusal has the program's status and its line on standard error. But a wrong option has this script's own words, with
+status 2.
 
     reference/oracle.py litmus [--schedule seed --seed N] [--runs N] [--lease N] .. [--private-write] FILE
     reference/oracle.py trace [--records] [--schedule seed --seed N] [--lease N] .. FILE
@@ -23,8 +23,11 @@ import sys
 from pathlib import Path
 
 sys.path.insert(0, str(Path(__file__).resolve().parent.parent))
+from reference import litmus_faults  # noqa: E402
 from reference.events import list_of_events  # noqa: E402
-from reference.given import NUMBERS, Bad, has_machine, litmus_test  # noqa: E402
+from reference.given import NUMBERS, Bad, has_machine  # noqa: E402
+from reference.litmus import Test  # noqa: E402
+from reference.litmus_faults import LitmusFault  # noqa: E402
 from reference.order import check  # noqa: E402
 from reference.reports import litmus_report, trace_report  # noqa: E402
 from reference.schedules import test_generator  # noqa: E402
@@ -92,8 +95,9 @@ def contents(path):
 
 
 def read_litmus(path):
-    """The test; a text that is none isn't judged here, but most of them can't be read."""
-    return litmus_test(path, contents(path))
+    text = contents(path)
+    litmus_faults.read(text)
+    return Test(text.decode("ascii"))
 
 
 def read_trace(path):
@@ -157,7 +161,7 @@ def main(given):
         given = ["litmus", *given]
     try:
         text, status = run(words().parse_args(given))
-    except Fault as fault:
+    except (Fault, LitmusFault) as fault:
         print(f"tardis: {fault}", file=sys.stderr)
         return 2
     except Refused as cause:

@@ -46,7 +46,7 @@ REFUSED = {"PodWR Fre PodWR": "PodWR leads to a load, and PodWR begins at a stor
            "Rfe Fre": "Rfe Fre says what Wse says", "PodWR Fre": "two Pod at least", "PodXR Fre": "PodXR is no edge",
            "": "edges are wanted", "--all 3": "4 to 8 edges", "--all 5 SB": "edges are wanted",
            "--all 4 --into nowhere": "nowhere is no folder", "--why none.litmus": "none.litmus: No such file",
-           "--why LICENSE": "can't be read as a litmus test", "--why examples/litmus/PRIVATE.litmus": "executions, and"}
+           "--why LICENSE": "LICENSE: line 1: 4 BadHeader", "--why examples/litmus/PRIVATE.litmus": "executions, and"}
 
 
 def is_turn(edges, others):

@@ -2,7 +2,8 @@
 """Gives the program cut, faulty, huge and changed texts: tests/texts.py PROGRAM [PART..].
 
 What it must say of each was worked out by hand from docs/TEXTS.md, or comes from the second program, which was written
-from the same page (reference/oracle.py). The last line is `N tried, M wrong`.
+from the same page (reference/oracle.py). The second program must find the same faults of litmus tests. The last line is
+`N tried, M wrong`.
 """
 import os
 import random
@@ -15,13 +16,12 @@ TOP = Path(__file__).resolve().parent.parent
 sys.path.insert(0, str(TOP))
 from reference import oracle  # noqa: E402
 from reference.litmus import Test  # noqa: E402
+from reference.litmus_faults import KINDS, fault_of  # noqa: E402
 from reference.order import check  # noqa: E402
 from reference.reports import litmus_report  # noqa: E402
 from reference.traces import Fault, Trace, read_records  # noqa: E402
 
 
-KINDS = ("NoMemory TooLarge BadByte BadHeader BadInitial DoubleInitial BadTable BadInstruction ValueRange MixedWidth "
-         "AddressAsValue ValueAsAddress BadCondition CutShort").split()
 MORE = "\n\nFor more information, try '--help'.\n"
 BAD_HEADER, BAD_INITIAL, BAD_TABLE, BAD_CONDITION, CUT_SHORT, ACCEPTED = 4, 5, 7, 13, 14, 0
 
@@ -60,6 +60,8 @@ class Tester:
         words = words or ("litmus", "/dev/stdin")
         status, out, error = self.run(*words, text=text)
         good = (status, out, error) == (2, "", f"tardis: {fault}\n") if fault else (status, error) == (0, "")
+        if words[0] == "litmus":
+            good &= fault_of(text) == fault
         self.expect(good and accepted in out,
                     f"{text[-80:]!r} of {len(text)} bytes: wanted {fault}, got {status} {error!r}")
 

@@ -6,8 +6,7 @@
     tools/explain.py TEST|TRACE       the fault of a text, with its cell, its cause and what is often meant
 
 A text is a litmus test if its name ends in .litmus, or if it has a brace and no name that ends in .trace. Verdicts and
-faults are the program's: what TARDIS names, else the one that ./tardis built, else, of traces and records,
-reference/oracle.py. `./tardis --unproved litmus TEST` prints the line and the kind of a test's fault, too.
+faults are the program's: what TARDIS names, else the one that ./tardis built, else reference/oracle.py.
 The status is 0 if nothing is wrong, 1 if something is explained, and 2 if a file can't be read; then standard error
 says so in one line.
 """
@@ -18,7 +17,7 @@ from pathlib import Path
 sys.path.insert(0, str(Path(__file__).resolve().parent.parent))
 from tools import program  # noqa: E402
 from tools.explained_texts import explained_text  # noqa: E402
-from tools.program import BUILT, Refused, fail, text_of  # noqa: E402
+from tools.program import Refused, fail, text_of  # noqa: E402
 
 
 AROUND = 3  # records told before and behind the one that is wrong
@@ -178,10 +177,6 @@ def explained_records(paths, texts):
 
 def fault_of(path, is_test):
     """What the program says of a text: None, or the line and the kind, as `line 6: 8 BadInstruction`."""
-    if is_test and not BUILT.exists() and program.program().endswith("oracle.py"):
-        fail(f"{path}: only the program knows why a test is refused, and it isn't built: "
-             f"./tardis --unproved litmus {path} gives the line and the kind in one to four minutes, "
-             f"./tardis litmus {path} builds the program")
     try:
         program.run(*(["litmus", "--limit", "1", path] if is_test else ["check", path, "/dev/null"]))
     except Refused as refused:

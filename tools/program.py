@@ -1,6 +1,6 @@
 """The program, as the scripts of this folder call it: what TARDIS names, or else the one that ./tardis built, or else
-the second program (reference/oracle.py), which answers the same in Python, if slower, but doesn't say where the fault
-of a litmus test is. Each failure is one line on standard error.
+the second program (reference/oracle.py), which answers the same in Python, if slower. Each failure is one line on
+standard error.
 """
 import argparse
 import os

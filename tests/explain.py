@@ -13,7 +13,8 @@ from pathlib import Path
 
 sys.path.insert(0, str(Path(__file__).resolve().parent.parent))
 from tests.texts import TOP, Tester, of_printf, rows, unescaped  # noqa: E402
-from tools import explain, explained_texts  # noqa: E402
+from reference.litmus_faults import fault_of  # noqa: E402
+from tools import explain, explained_texts, litmus_hints  # noqa: E402
 
 
 MP = "0 W 0x0 1\n0 W 0x8 1\n1 R 0x8\n1 R 0x0\n"
@@ -93,6 +94,20 @@ TEXTS = [
 ]
 
 
+# Tests of tests/herd_users that tools/from_herd.py converts: they have no loop, offset, array, pointer or sum.
+HERD_CONVERTED = {"AMO_X0", "CTRLFENCEI", "CoRR-locs", "IRIW+addrs", "LB+data+ctrl", "PPOCA", "SB64", "SB64b"}
+# Tests that are read, and what of them can't be meant.
+WARNED = [
+    ("RISCV T\n{ 0:x6=x; 0:x8=y; 0:x5=1; }\n P0 ;\n sw x5,0(x6) ;\nexists x=1\n", [
+        "0:x8=y: no instruction of P0 uses that address"]),
+    ("RISCV T\n{ 0:x6=x; }\n P0 ;\n sw x5,0(x6) ;\nexists (x=1)\n", ["P0 stores x5, which nothing has set: it is 0"]),
+    ("RISCV T\n{ 0:x6=x; x=3; }\n P0 ;\n lw x5,0(x6) ;\nexists (x=1 /\\ 0:x5=3)\n", [
+        "x in the condition: no instruction stores it, so it is always 3"]),
+    ("RISCV T\n{ 0:x6=x; 0:x7=2; }\n P0 ;\n amoswap.w x5,x7,(x6) ;\nexists (0:x7=1)\n", [
+        "0:x7 in the condition: no instruction of P0 writes x7, so it is always 2"]),
+    ("RISCV T\n{ 0:x6=x; }\n P0 ;\n sw x0,0(x6) ;\n lw x5,0(x6) ;\n sw x5,0(x6) ;\nexists (0:x5=1)\n", [])]
+
+
 class Explainer(Tester):
     """Asks the script about texts, in files of a folder."""
 
@@ -154,6 +169,29 @@ def causes(tester):
         tester.expect(kinds.keys() <= explained_texts.causes(title).keys(), f"docs/TEXTS.md, {title}: lacks a kind")
 
 
+def malformed(tester):
+    """Tests as newcomers mistyped them: the fault by both programs, and a hint that hits."""
+    listed = [line.split("|") for line in (TOP / "tests/malformed.table").read_text().splitlines() if line[0] != "#"]
+    names = sorted(path.stem for path in (TOP / "tests/malformed").glob("*.litmus"))
+    tester.expect(names == [name for name, *_ in listed] and len(names) == 20, f"tests/malformed: {names}")
+    for name, fault, words in listed:
+        text = (TOP / f"tests/malformed/{name}.litmus").read_bytes()
+        tester.expect((fault_of(text) or "") == fault, f"{name}: {fault_of(text)}, wanted {fault}")
+        tester.tells([*(told_fault(fault) if fault else ["nothing is wrong"]), words], text, names=["text.litmus"],
+                     is_good=not fault)
+    for path in sorted((TOP / "tests/herd_users").glob("*.litmus")):
+        out, _ = explain.explained([str(path)])
+        is_converted = path.stem in HERD_CONVERTED
+        is_read = fault_of(path.read_bytes()) is None
+        says = any("from_herd.py` converts" in line for line in out)
+        tester.expect(is_read or says == is_converted, f"{path.name}: {out}")
+    for text, wanted in WARNED:
+        out = tester.tells(["nothing is wrong"], text.encode(), names=["text.litmus"], is_good=True)
+        tester.expect(out.split("\n")[1:] == [f"  but {one}" for one in wanted], f"{text}: {out}, wanted {wanted}")
+    for path in (TOP / "examples/litmus").glob("*.litmus"):
+        tester.expect(litmus_hints.warnings(path.read_text()) == [], f"{path.name}: warnings")
+
+
 def others(tester):
     tester.tells(["nothing is wrong"], MP.encode(), names=["good.trace"], is_good=True)
     test = (TOP / "examples/litmus/SB.litmus").read_bytes()
@@ -179,7 +217,7 @@ def main(program):
     os.environ["TARDIS"] = os.path.abspath(program)
     with tempfile.TemporaryDirectory() as folder:
         tester = Explainer(folder)
-        for part in (verdicts, faults, causes, others):
+        for part in (verdicts, faults, causes, malformed, others):
             part(tester)
     print(f"{tester.tried} tried, {tester.wrong} wrong")
     return int(tester.wrong > 0)

@@ -3,8 +3,8 @@
 
 The tests of tests/herd were typed in as herd7's generator writes them. Each asks for the one end that the cycle of its
 name forbids, so under sequential consistency it has every other end: loads receive 0 or 1, and locations end as 1 or
-2. What the script turns single cells into, and which line it refuses, was worked out by hand. The last line is
-`N tried, M wrong`.
+2. What the script turns single cells and conditions into, and which lines it refuses, was worked out by hand; so were the
+obstacles of the tests of tests/herd_users, which are as users have them. The last line is `N tried, M wrong`.
 """
 import os
 import sys
@@ -35,9 +35,11 @@ CELLS = [("lwu x7,0(x6)", LOAD), ("lw.aq.rl t2 , ( x6 )", LOAD), ("sw.rl x5,0(t1
          ("addi x7,x5,5", "li x7,6"), ("xori x7,x5,3", "li x7,2"), ("andi x7,x5,3", "li x7,1"),
          ("li x9,3|sub x7,x9,x5", "li x7,2"), ("lwu x7,0(x6)|mv x9,x5", "li x9,1"), ("xor x7,x5,x5", "li x7,0"),
          ("andi x7,x5,0", "li x7,0"), ("add x7,x6,x0", None),
-         ("bne x5,x0,L0", None), ("L0: sw x5,0(x6)", STORE)]
+         ("bne x5,x0,L0", None), ("blt x0,x5,L0", None), ("bgez x5,L0", None), ("jal x0,L0", None), ("j L0", None), ("L0: sw x5,0(x6)", STORE)]
 # Cells that are refused, in line 4, or with another cell above them in line 5.
-NO_CELLS = ["lr.w x7,(x6)", "sc.w x7,x5,(x6)", "amoadd.w x7,x5,(x6)", "lw x7,4(x6)", "lw x7,0(x9)",
+NO_CELLS = ["beqq x5,x5,L9", "bne x5,frob,L9", "bne x5,,L9", "subi x7,x5,1", "addi x7,x5,x5", "add x7,x5,1",
+            "LI x7,1", "blt x0,x5,L8",
+            "lr.w x7,(x6)", "sc.w x7,x5,(x6)", "amoadd.w x7,x5,(x6)", "lw x7,4(x6)", "lw x7,0(x9)",
             "bne x5,x0,L9",
             "lb x7,0(x6)", "addi x7,x6,4", "li x5,-1", "li x5,2147483648", "sw x6,0(x8)", "li x6,1", "lw q7,0(x6)",
             "li x5,2; li x7,2",
@@ -53,8 +55,8 @@ NO_TEXTS = [("RISCV " + "T" * 122 + OPENING[7:] + ROW + "filter (x=1)\n" + END, 
             ("RISCV T\n{\n\nint x[2]; }\n P0 ;\n" + END, 4), ("RISCV T\n{ x=1; [x]=1; }\n P0 ;\n" + END, 2),
             ("RISCV T\n{ 0:q1=1; }\n P0 ;\n" + END, 2), ("RISCV T\n{ 0:x0=1; }\n P0 ;\n" + END, 2),
             (OPENING + " sw x5,0(x6) ;\n" + END, 4), (OPENING + " sw x5,0(x6) |\n" + END, 4), (OPENING + ROW, 4),
-            (OPENING + ROW + "exists (not (x=1))\n", 5), (OPENING + ROW + "exists (x=1 =>\n x=2)\n", 5),
-            (OPENING + ROW + "exists (x=1 /\\\n x<>2)\n", 6), (OPENING + ROW + "exists (true)\n", 5),
+            (OPENING + ROW + "exists (x=1 =>\n 0:x6=x)\n", 6), (OPENING + ROW + "exists (true)\n", 5),
+            (OPENING + ROW + "exists (x=1 => )\n", 5),
             (OPENING + ROW + "exists (x=1 /\\\n", 5), (OPENING + ROW + "exists\n(x=1 x=2)\n", 6),
             (OPENING + ROW + "exists (0:x6=x)\n", 5), (OPENING + ROW + "exists (0:x6=1)\n", 5),
             (OPENING + ROW + "exists (2:x5=1)\n", 5), (OPENING + ROW + "filter (x=1)\nforall (x=1)\n", 5),
@@ -74,13 +76,13 @@ class Turner(Tester):
 
     def is_refused(self, text, line):
         status, out, error = self.turned(text)
-        good = (status, out, error.count("\n")) == (2, "", 1) and f"{self.file}, line {line}: " in error
+        good = (status, out) == (2, "") and error.startswith(f"from_herd.py: {self.file}, line {line}: ")
         self.expect(good, f"{text!r}: {status} {out} {error}, wanted line {line}")
 
 
-def other_ends(test):
+def other_ends(test, fixed=()):
     """Every end but the one that the condition asks for."""
-    fixed = FIXED.get(test.name, ())
+    fixed = fixed or FIXED.get(test.name, ())
     values = [(1,) if name in fixed else (0, 1) if ":" in name else (1, 2) for name in test.seen]
     ends = {tuple(zip(test.seen, chosen)) for chosen in product(*values)}
     return {end for end in ends if not test.holds(end)}
@@ -118,6 +120,94 @@ def cells(tester):
         tester.is_refused(OPENING + rows + " L9: | ;\n" * ("|" in cell) + END, 4 + ("|" in cell and "beq" not in cell))
 
 
+# Conditions, and what they become. P0 stores 1 to x, P1 loads x: so x and 1:x7 have 0 or 1, and y has 0.
+CONDITIONS = {"exists (not (x=1))": "exists (x=0)", "exists (x=1 => 1:x7=1)": "exists (x=0 \\/ 1:x7=1)",
+              "forall (1:x7=1 => x=1)": "forall (1:x7=0 \\/ x=1)", "exists not (x=1 /\\ 1:x7=0)": "exists (x=0 \\/ 1:x7=1)",
+              "exists (x=1 /\\ 1:x7<>1)": "exists (x=1 /\\ 1:x7=0)", "exists (true /\\ x=1)": "exists (x=1)",
+              "~exists (x=0 /\\ not (1:x7=1 /\\ x=1))": "~exists (x=0 /\\ (1:x7=0 \\/ x=0))",
+              "exists (not (0:x5=2) /\\ x=1)": "exists (0:x5=1 /\\ x=1)", "exists ((x=1))": "exists ((x=1))",
+              "exists (x=1 \\/ not x=1)": "exists (x=1 \\/ x=0)"}
+# What the header says that a conversion dropped, by hand from the tests.
+DROPPED = {"IRIW+addrs": "2 address dependencies dropped", "CoRR-locs": None, "SB64": "fences, .aq and .rl order nothing here",
+           "LB+data+ctrl": "1 control dependency, 1 data dependency dropped",
+           "PPOCA": "1 address dependency, 1 control dependency dropped; fences, .aq and .rl order nothing here",
+           "AMO_X0": "fences, .aq and .rl order nothing here",
+           "CTRLFENCEI": "1 control dependency dropped; fences, .aq and .rl order nothing here"}
+# Each obstacle of tests that have no counterpart: the line, and words of the cause.
+OBSTACLES = {
+    "AMOADD": [(8, "P0: `amoadd.w"), (8, "P1: `amoadd.w")],
+    "CAS-lock": [(9, "P0: `lr.w.aq"), (9, "P1: `lr.w.aq"), (10, "may skip"), (10, "may skip"), (11, "sc.w"),
+                 (11, "sc.w"), (12, "may skip"), (12, "may skip"), (14, "isn't known"), (14, "isn't known")],
+    "LR-SC-diff-loc1": [(6, "lr.w"), (7, "sc.w")], "LRSCAMO": [(8, "lr.w.aq"), (9, "sc.w")],
+    "MP-spin": [(9, "`beq x5,x0,L0` is a branch that may skip or repeat")],
+    "MPoff": [(4, "an array"), (8, "isn't a location's"), (9, "isn't a location's")],
+    "NEG": [(6, "`bnez x7,L1` is a branch")],
+    "PTR": [(4, "an address in memory"), (10, "isn't a location's"), (11, "stores an address"), (11, "a second width"),
+            (12, "`1:x7=b` in the condition")],
+    "X86": [(1, "the first line isn't `RISCV` and a name")]}
+
+
+def users(tester):
+    """Tests as users have them: converted with every other end than that of their cycle, or all obstacles told."""
+    folder = TOP / "tests/herd_users"
+    for path in sorted(folder.glob("*.litmus")):
+        status, out, error = tester.run(str(path))
+        if path.stem in OBSTACLES:
+            told = [line.removeprefix(f"from_herd.py: {path}, line ").split(": ", 1) for line in error.splitlines()]
+            wanted = OBSTACLES[path.stem]
+            good = len(told) == len(wanted) and all(int(line) == number and words in what for (line, what), (number, words)
+                                                    in zip(told, wanted))
+            tester.expect((status, out) == (2, "") and good, f"{path.name}: {status} {out} {error}")
+            continue
+        test = Test(out)
+        fixed = {"PPOCA": ("1:x9",)}.get(test.name, ())
+        wanted = other_ends(test, fixed)
+        tester.expect((status, error) == (0, "") and sequential.ends_of(test) == wanted, f"{path.name}: {out} {error}")
+        says = [line.removeprefix("converted=") for line in out.splitlines() if line.startswith("converted=")]
+        dropped = DROPPED.get(path.stem, "fences, .aq and .rl order nothing here")
+        tester.expect(says == ([dropped] if dropped else []), f"{path.name}: {says}, wanted {dropped}")
+    with tempfile.TemporaryDirectory() as into:
+        tests = [str(folder / f"{name}.litmus") for name in ("SB64", "NEG", "IRIW+addrs")]
+        status, out, error = tester.run("--into", into, *tests)
+        names = sorted(path.name for path in Path(into).iterdir())
+        good = (status, out, names) == (2, "", ["IRIW+addrs.litmus", "SB+fence.rw.rws-ld.litmus"])
+        tester.expect(good and "NEG.litmus, line 6" in error, f"--into: {status} {out} {error} {names}")
+
+
+def conditions(tester):
+    opening = "RISCV T\n{ 0:x5=1; 0:x6=x; 1:x6=x; }\n P0 | P1 ;\n sw x5,0(x6) | lw x7,0(x6) ;\n"
+    for given, wanted in CONDITIONS.items():
+        status, out, error = tester.turned(f"{opening}{given}\n")
+        tester.expect((status, error) == (0, "") and out.endswith(f"\n{wanted}\n"), f"{given}: {status} {out} {error}")
+
+
+LOG = """Test SB Allowed
+Histogram (3 states)
+1     :>0:x7=0; 1:x7=1;
+2     :>0:x7=1; 1:x7=0;
+7     :>0:x7=1; 1:x7=1;
+No
+
+Witnesses
+Positive: 0, Negative: 10
+Condition exists (0:x7=0 /\\ 1:x7=0) is NOT validated
+Observation SB Never 0 10
+
+"""
+
+
+def logs(tester):
+    report = "test SB\nall-done 10\nstates 3\n1 0:x7=0 1:x7=1\n2 0:x7=1 1:x7=0\n7 0:x7=1 1:x7=1\n" \
+             "condition exists\nheld 0\nverdict no\n"
+    tester.file.write_text(report)
+    out = tester.run("--log", str(TOP / "examples/litmus/SB.litmus"), str(tester.file))
+    tester.expect(out == (0, LOG, ""), f"--log: {out}")
+    tester.file.write_text(report.replace("held 0", "held 10").replace("exists", "forall").replace("verdict no", "verdict yes"))
+    status, out, error = tester.run("--log", str(tester.file))
+    good = "Test SB Required\n" in out and "\nOk\n" in out and "Condition" not in out and "Always 10 0" in out
+    tester.expect(good and status == 0, f"--log: {out} {error}")
+
+
 def others(tester):
     for text, line in NO_TEXTS:
         tester.is_refused(text, line)
@@ -142,6 +232,9 @@ def main(program):
         tester = Turner(folder)
         generated(tester, os.path.abspath(program))
         cells(tester)
+        users(tester)
+        conditions(tester)
+        logs(tester)
         others(tester)
     print(f"{tester.tried} tried, {tester.wrong} wrong")
     return int(tester.wrong > 0)

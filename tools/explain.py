@@ -3,7 +3,9 @@
 
     tools/explain.py TRACE RECORDS    the verdict of `check`, with the record, what was expected of it, and what lies
                                         around it in the order by time and number
-    tools/explain.py TEST|TRACE       the fault of a text, with its cell, its cause and what is often meant
+    tools/explain.py TEST|TRACE       the fault of a text, with its cell, its cause and what is often meant; of a test
+                                        that has none, what can't be meant: names in the condition that no
+                                        instruction changes, addresses that none uses, values that nothing sets
 
 A text is a litmus test if its name ends in .litmus, or if it has a brace and no name that ends in .trace. Verdicts and
 faults are the program's: what TARDIS names, else the one that ./tardis built, else reference/oracle.py.
@@ -15,7 +17,7 @@ import sys
 from pathlib import Path
 
 sys.path.insert(0, str(Path(__file__).resolve().parent.parent))
-from tools import program  # noqa: E402
+from tools import litmus_hints, program  # noqa: E402
 from tools.explained_texts import explained_text  # noqa: E402
 from tools.program import Refused, fail, text_of  # noqa: E402
 
@@ -192,7 +194,8 @@ def explained(paths):
     if fault:
         return explained_text(paths[0], texts[0], fault, "test" if is_test else "trace"), True
     if len(paths) == 1:
-        return [f"{paths[0]}: nothing is wrong with this text"], False
+        warnings = litmus_hints.warnings(texts[0].decode("ascii")) if is_test else []
+        return [f"{paths[0]}: nothing is wrong with this text", *(f"  but {one}" for one in warnings)], False
     try:
         lines = list(explained_records(paths, texts))
     except Refused as refused:

@@ -5,6 +5,7 @@ it; tests/explain.py compares the two.
 """
 import re
 
+from tools import litmus_hints
 from tools.program import TOP, fail
 
 
@@ -76,6 +77,17 @@ def often(kinds, kind, *places):
         if pattern is None or any(re.search(pattern, place) for place in places):
             return words
     return None
+
+
+def meant_by_test(path, text, number, kind, cell, line):
+    """What is most likely meant by a litmus test: by a pattern, by the test's own words, or in general."""
+    place = cell if cell else line
+    special = [kind_of for kind_of in TEST.get(kind, []) if kind_of[0] is not None]
+    found = often({kind: special}, kind, place) or litmus_hints.hint(text, number, kind, cell) or \
+        often(TEST, kind, place)
+    if found == HERD:
+        return litmus_hints.of_herd(path)
+    return litmus_hints.with_herd(path, found) if kind in (4, 5, 7, 8, 13) else found
 
 
 def causes(title):
@@ -183,7 +195,7 @@ def explained_text(path, text, fault, what):
     if what == "test":
         cell = cell_at_fault(text, number, kind)
         place = f"P{cell[0]}: {shown(cell[1])}" if cell else shown(line.strip(" \t\r"))
-        meant = often(TEST, kind, cell[1] if cell else line)
+        meant = meant_by_test(path, text, number, kind, cell and cell[1], line)
     else:
         field = field_at_fault(line, kind, what == "records")
         place = shown(line.strip(" \t")) + (f", {field}" if field else "")

@@ -2,18 +2,24 @@
 """Turns a RISC-V litmus test of herd7 into the form of docs/TEXTS.md, and reports into herd7's Observation lines.
 
     tools/from_herd.py TEST > NEW.litmus
+    tools/from_herd.py --into FOLDER TEST ..    each test as a file of its own name
     tools/from_herd.py --observation REPORT ..
+    tools/from_herd.py --log FILE ..            reports as a log in litmus7's form, which mcompare7 reads
 
-The script turns only what means the same; docs/FROM-HERD7.md lists it. It refuses anything else with its line and
-status 2, and prints nothing. A report is what `tardis litmus` prints. The name of a test with a filter gets `+filter`:
-herd7 drops runs outside the filter, and a report counts them. So the script doesn't print that test's Observation, and
-the status is 1.
+The script turns only what means the same; docs/FROM-HERD7.md lists it. A line `converted=` in the header says what went.
+If a test has anything else, the script prints no test, lists each obstacle with its line, and ends with status 2. A
+report is what `tardis litmus` prints. Tests among the files of --log give their conditions and hashes to the reports
+that have their names. The name of a test with a filter gets `+filter`: herd7 drops runs outside the filter, and a
+report counts them. So the script doesn't print that test's Observation, and the status is 1.
 """
 import re
 import sys
+from collections import Counter
+from contextlib import contextmanager
 from pathlib import Path
 
 sys.path.insert(0, str(Path(__file__).resolve().parent.parent))
+from tools import herd_conditions, herd_logs  # noqa: E402
 from tools.program import fail, text_of  # noqa: E402
 
 
@@ -25,19 +31,27 @@ FILTER = "+filter"  # behind the name of a test with a filter
 TYPES = {"w": ("int", "int32_t", "uint32_t"), "d": ("long", "int64_t", "uint64_t")}
 ORDER = r"(?:\.aqrl|\.aq\.rl|\.aq|\.rl)?"
 KEYWORD = r"(?m)^[ \t]*(locations|filter|~[ \t]*exists|exists|forall)\b"
-TOKEN = re.compile(r"\s+|(\d+:\w+|\[\w+\]|\w+)\s*=\s*(0[xX][0-9a-fA-F]+|\d+)(?!\w)|/\\|\\/|[()]")
+TOKEN = re.compile(r"\s+|(\d+:\w+|\[\w+\]|\w+)\s*(=|<>)\s*(0[xX][0-9a-fA-F]+|\d+)(?!\w)|/\\|\\/|=>|"
+                   r"(?:not|true|false)\b|[()]")
 COMPUTED = {"or": int.__or__, "and": int.__and__, "xor": int.__xor__, "add": int.__add__, "sub": int.__sub__}
+OF_NUMBERS = ("ori", "andi", "xori", "addi")  # their last operand is a number
+JUMPS = (r"b(?:eq|ne|lt|ge|ltu|geu) (\w+),(\w+),([A-Za-z_]\w*)|b(?:eq|ne|le|ge|lt|gt)z (\w+)(),([A-Za-z_]\w*)"
+         r"|(?:j|jal x0,|jal zero,) ?()()([A-Za-z_]\w*)")
 
 
 def number_of(text):
     return int(text, 16 if text[1:2] in ("x", "X") else 10)
 
 
+class Obstacle(Exception):
+    """What has no counterpart; the source has it listed."""
+
+
 class Source:
-    """A text whose comments are blanked, and which reports faults by its lines."""
+    """A text whose comments are blanked, and which lists obstacles by its lines."""
 
     def __init__(self, path):
-        self.path = path
+        self.path, self.obstacles = path, []
         raw = text_of(path).replace(b"\r", b"")
         self.text = self.without_comments(raw.decode("latin-1"))
         found = re.search(r"[^\t\n -~]", self.text)
@@ -45,7 +59,16 @@ class Source:
             self.refuse(found.start(), "a byte that isn't ASCII")
 
     def refuse(self, at, what):
-        fail(f"{self.path}, line {self.text.count(chr(10), 0, at) + 1}: {what}")
+        self.obstacles.append((self.text.count("\n", 0, at) + 1, what))
+        raise Obstacle
+
+    @contextmanager
+    def going_on(self):
+        """What goes on behind an obstacle."""
+        try:
+            yield
+        except Obstacle:
+            pass
 
     def without_comments(self, text):
         """Each sign of a comment becomes a blank. Comments nest."""
@@ -69,26 +92,32 @@ class Herd:
 
     def __init__(self, source):
         self.source, self.registers, self.memory, self.types = source, {}, {}, []
+        self.dropped, self.stored = Counter(), {}  # what goes, by its name; by location what stores write
         head = re.match(r"\s*(\S+)[ \t]+(\S+)[ \t]*\n", source.text)
         if not head or head[1] != "RISCV" or not re.fullmatch(r"[\w+.\[\]-]{1,128}", head[2], re.A):
             source.refuse(0, "the first line isn't `RISCV` and a name")
         self.name = head[2]
-        block = re.compile(r"(?m)^[ \t]*\{([^}]*)\}").search(source.text, head.end() - 1)
+        block = re.compile(r"(?m)^[ \t]*\{((?:[^{}]|\{[^{}]*\})*)\}").search(source.text, head.end() - 1)
         if not block:
             source.refuse(head.end(), "no initial block")
         lines = source.text[head.end():block.start()].split("\n")
         self.header = [line.strip() for line in lines if re.fullmatch(r'\s*("[^"]*"|[A-Za-z]\w*\s*=.*)', line.rstrip())]
         for item in re.finditer(r"[^;]+", block[1]):
             if item[0].strip():
-                self.read_item(item[0].strip(), block.start(1) + item.end() - len(item[0].lstrip()))
+                with source.going_on():
+                    self.read_item(item[0].strip(), block.start(1) + item.end() - len(item[0].lstrip()))
         self.read_table(block.end())
 
     def read_item(self, item, at):
         found = re.fullmatch(r"(?:(\w+)\s+)?(?:(\d+)\s*:\s*(\w+)|\[\s*(\w+)\s*\]|(\w+))(?:\s*=\s*&?(-?\w+))?", item)
-        if not found or found[6] is None and (found[2] or not found[1]):
-            self.source.refuse(at, f"`{item}` of the initial block")
-        if found[1]:
+        if not found or found[6] is None and not found[1]:
+            is_array = re.match(r"\w+\s+\w+\s*\[", item)
+            self.source.refuse(at, f"`{item}` of the initial block" + (": an array" if is_array else ""))
+        if found[1] and not found[2]:
             self.types.append((found[1], item, at))
+        if found[2] and found[6] is None:
+            self.register(found[3], at)
+            return
         value = self.value(found[6] or "0", at)
         if found[2]:
             of = self.registers.setdefault(int(found[2]), {})
@@ -125,18 +154,21 @@ class Herd:
             self.source.refuse(len(text) - 1, "no condition")
         self.tail, self.rows, at = found.start(), [], start
         for line in text[start:found.start()].split("\n"):
-            if line.strip():
-                if not line.rstrip().endswith(";"):
+            with self.source.going_on():
+                if line.strip() and not line.rstrip().endswith(";"):
                     self.source.refuse(at, f"`{line.strip()}`: a row without its `;`")
-                self.rows.append((at, [" ".join(cell.split()) for cell in line.rstrip()[:-1].split("|")]))
+                if line.strip():
+                    self.rows.append((at, [" ".join(cell.split()) for cell in line.rstrip()[:-1].split("|")]))
             at += len(line) + 1
         heads = self.rows.pop(0)[1] if self.rows else []
         self.threads = len(heads)
         if not heads or heads != [f"P{number}" for number in range(self.threads)]:
             self.source.refuse(start, "the table doesn't begin with P0, P1, ..")
         for at, cells in self.rows:
-            if len(cells) != self.threads:
-                self.source.refuse(at, f"{len(cells)} cells for {self.threads} threads")
+            with self.source.going_on():
+                if len(cells) != self.threads:
+                    self.source.refuse(at, f"{len(cells)} cells for {self.threads} threads")
+        self.rows = [(at, cells) for at, cells in self.rows if len(cells) == self.threads]
 
 
 class Column:
@@ -148,7 +180,9 @@ class Column:
         self.opening = herd.registers.get(thread, {})
         self.known = {register: self.opening.get(register, 0) for register in REGISTERS.values()}
         self.bases = {value: name for name, value in reversed(self.opening.items()) if isinstance(value, str)}
-        self.widths = []
+        self.widths, self.last = [], {}  # by register the number or the location that it got last
+        self.loaded = set()              # registers whose values come from loads, by way of computing, too
+        self.spoiled = set()             # registers that got what has no counterpart
 
     def refuse(self, at, cell, why="is no instruction here"):
         self.herd.source.refuse(at, f"P{self.thread}: `{cell}` {why}")
@@ -157,11 +191,33 @@ class Column:
         """The cells, each with its place, in the form of docs/TEXTS.md; a blank one where nothing is left to do."""
         bare = [(at, cell, *self.label_of(cell)) for at, cell in cells]
         for number, (at, cell, _, code) in enumerate(bare):
-            jump = re.fullmatch(r"(?:b(?:ne|eq)z? ?.*,|j )\s*([A-Za-z_]\w*)", code)
-            if jump and jump[1] in self.labels_behind(bare, number):
-                yield ""
-            else:
-                yield self.instruction(at, cell, re.sub(r"\s*([,()])\s*", r"\1", code)) if code else ""
+            code, text = re.sub(r"\s*([,()])\s*", r"\1", code), ""
+            with self.herd.source.going_on():
+                if code and not self.is_jump_on(at, cell, code, self.labels_behind(bare, number)) and \
+                        not self.is_spoiled(code):
+                    text = self.instruction(at, cell, code)
+            yield text
+
+    def is_spoiled(self, code):
+        """Whether an instruction uses what an earlier obstacle spoiled, so that it can't be judged."""
+        name, *words = re.findall(r"[\w.]+", code)
+        used = {REGISTERS.get(word) for word in (words if name[0] == "s" else words[1:])}
+        target = {REGISTERS[word] for word in words[:1] if word in REGISTERS and name[0] != "s"}
+        is_spoiled = bool(used & self.spoiled)
+        self.spoiled = self.spoiled | target if is_spoiled else self.spoiled - target
+        return is_spoiled
+
+    def is_jump_on(self, at, cell, code, labels):
+        """Whether that is a branch to the next instruction. One to another place is refused."""
+        jump = re.fullmatch(JUMPS, code)
+        if not jump:
+            return False
+        first, second, label = [part for part in jump.groups() if part is not None]
+        used = [self.register(at, cell, name) for name in (first, second) if name]
+        if label not in labels:
+            self.refuse(at, cell, "is a branch that may skip or repeat something")
+        self.herd.dropped["control dependency" if self.loaded & set(used) else "branch"] += 1
+        return True
 
     @staticmethod
     def label_of(cell):
@@ -185,11 +241,14 @@ class Column:
         if "(" in rest:
             return self.memory(at, cell, name, rest)
         words = rest.split(",")
+        if name != "li" and name != "mv" and name.removesuffix("i") not in COMPUTED or name == "subi":
+            self.refuse(at, cell)
         if not all(word in REGISTERS or re.fullmatch(r"0[xX][0-9a-fA-F]+|\d+", word) for word in words):
             self.refuse(at, cell)
         return self.computed(at, cell, name, words)
 
     def fence(self, at, cell, code):
+        self.herd.dropped["order"] += code != "nop"
         found = re.fullmatch(r"fence ([iorw]+),([iorw]+)", code)
         if found:
             sets = ["".join(letter for letter in "rw" if letter in part) for part in found.groups()]
@@ -203,21 +262,30 @@ class Column:
         found = re.fullmatch(r"(?:(\w+),)?(\w+),(-?\w*)\((\w+)\)", rest)
         plain = re.fullmatch(rf"(lw|lwu|ld|sw|sd|amo(?:swap|add|or|xor)\.[wd]){ORDER}", name)
         if not plain or not found or (found[1] is not None) != plain[1].startswith("amo"):
-            self.refuse(at, cell)
+            is_atomic = re.match(r"(amo|lr\.|sc\.)", name)
+            self.refuse(at, cell, "is no instruction here" + (": a swap is the only atomic one" if is_atomic else ""))
         target, source, base = (self.register(at, cell, word) for word in (found[1] or found[2], found[2], found[4]))
         location = self.known[base]
         if not isinstance(location, str) or found[3] not in ("", "0"):
             self.refuse(at, cell, "has an address that isn't a location's")
+        self.herd.dropped["address dependency"] += base in self.loaded
+        is_known = plain[1][0] != "l" and self.known[source] is not None
+        self.herd.dropped["data dependency"] += is_known and source in self.loaded
+        self.herd.dropped["order"] += name != plain[1]
         base, width = self.bases[location], plain[1].rstrip("u")[-1]
         self.widths.append((width, at, cell))
         if isinstance(self.known[source], str) and plain[1][0] != "l":
             self.refuse(at, cell, "stores an address")
+        swaps = plain[1].startswith("amoswap")
+        if plain[1][0] == "s" or swaps:
+            self.herd.stored.setdefault(location, []).append(self.known[source] if source != "x0" else 0)
         if plain[1][0] == "s":
             return f"s{width} {source},0({base})"
-        swaps = plain[1].startswith("amoswap")
         if plain[1].startswith("amo") and not swaps and source != "x0":
-            self.refuse(at, cell)
+            self.refuse(at, cell, "is no instruction here: a swap is the only atomic one")
         self.set(at, cell, target, None)
+        self.last[target] = location
+        self.loaded |= {target} - {"x0"}
         order = re.search(r"\.(aq|rl)", name) if swaps else None
         return f"amoswap.{width}{order[0] if order else ''} {target},{source},({base})" if swaps else \
             f"l{width} {target},0({base})"
@@ -236,12 +304,20 @@ class Column:
         target, *sources = words
         target = self.register(at, cell, target)
         values = [self.known[REGISTERS[word]] if word in REGISTERS else number_of(word) for word in sources]
+        if len(sources) != (1 if name in ("li", "mv") else 2) or \
+                (name not in ("li", "mv")) and (sources[0] not in REGISTERS or
+                                                (name in OF_NUMBERS) == (sources[1] in REGISTERS)):
+            self.refuse(at, cell)
         value = self.result(name.removesuffix("i") if name != "li" else name, sources, values)
         if value is None:
+            self.spoiled.add(target)
             self.refuse(at, cell, "has a result that isn't known beforehand")
         if isinstance(value, int) and not 0 <= value <= MOST:
             self.refuse(at, cell, f"has the result {value}, and values go from 0 to {MOST}")
         self.set(at, cell, target, value)
+        self.last[target] = value
+        comes_from = {REGISTERS[word] for word in sources if word in REGISTERS}
+        self.loaded = self.loaded | {target} if comes_from & self.loaded else self.loaded - {target}
         if isinstance(value, str) or target == "x0":
             return ""
         as_it_is = name == "ori" and sources[0] in ("x0", "zero") and value <= 2047
@@ -290,26 +366,57 @@ def expression(herd, columns, start, end):
         if not token:
             source.refuse(at, f"`{source.text[at:end].split()[0]}` in the condition")
         if token[1]:
-            words.append(atom(herd, columns, *token.groups(), at))
+            words.append((*atom(herd, columns, token[1], token[3], at), token[2] == "="))
         elif token[0].strip():
             words.append(token[0])
         at = token.end()
-    shape, before = "".join(word if word in ("/\\", "\\/", "(", ")") else "a" for word in words), None
-    while shape != before:
-        shape, before = re.sub(r"\(a\)|a(?:/\\|\\/)a", "a", shape), shape
-    if shape != "a":
+    try:
+        found = herd_conditions.rewritten(words, lambda name: values_of(herd, columns, name))
+    except herd_conditions.Unreadable:
         source.refuse(len(source.text[:end].rstrip()), "the condition isn't whole, or its parentheses don't match")
-    return " ".join(words).replace("( ", "(").replace(" )", ")")
+    if isinstance(found, bool) or herd_conditions.is_too_long(found):
+        source.refuse(start, "the condition asks nothing" if isinstance(found, bool) else
+                      f"the condition has more than {herd_conditions.ATOMS} atoms, written without `not` and `=>`")
+    if herd_conditions.has_more(words):
+        return found
+    text = " ".join(f"{word[0]}={word[1]}" if isinstance(word, tuple) else word for word in words)
+    return text.replace("( ", "(").replace(" )", ")")
 
 
 def atom(herd, columns, name, value, at):
+    """The name and the value."""
     thread, is_register, register = name.partition(":")
     if not is_register:
-        return f"{herd.location(name.strip('[]'), at)}={herd.value(value, at)}"
+        return herd.location(name.strip("[]"), at), herd.value(value, at)
     register = herd.register(register, at)
     if register == "x0" or int(thread) >= herd.threads or isinstance(columns[int(thread)].known[register], str):
         herd.source.refuse(at, f"`{name}` in the condition: an address, x0, or a thread that isn't there")
-    return f"{int(thread)}:{register}={herd.value(value, at)}"
+    return f"{int(thread)}:{register}", herd.value(value, at)
+
+
+def values_of(herd, columns, name):
+    """All values that a name of the condition can have at the end, and perhaps others of the test."""
+    thread, is_register, register = name.partition(":")
+    if is_register:
+        last = columns[int(thread)].last.get(register, herd.registers.get(int(thread), {}).get(register, 0))
+        if isinstance(last, int):
+            return {last}
+        name = last
+    stored = herd.stored.get(name, [])
+    if None in stored:
+        stored = [value for values in herd.stored.values() for value in values if value is not None]
+        stored += [*herd.memory.values(), 0]
+    return {herd.memory.get(name, 0), *stored}
+
+
+def dropped(herd):
+    """The header line that says what a conversion dropped, and what orders nothing."""
+    several = {"branch": "branches"}
+    counted = [f"{count} {name if count == 1 else several.get(name, name[:-1] + 'ies')}"
+               for name, count in sorted(herd.dropped.items()) if count and name != "order"]
+    told = [f"{', '.join(counted)} dropped"] if counted else []
+    told += ["fences, .aq and .rl order nothing here"] if herd.dropped["order"] else []
+    return [f"converted={'; '.join(told)}"] if told else []
 
 
 def check_widths(herd, columns):
@@ -323,14 +430,16 @@ def check_widths(herd, columns):
             herd.source.refuse(at, f"`{item}`: a type that isn't as wide as the instructions")
 
 
-def converted(path):
+def lines_of(source):
     """The lines of the test in the form of docs/TEXTS.md."""
-    herd = Herd(Source(path))
+    herd = Herd(source)
     if herd.registers and max(herd.registers) >= herd.threads:
-        herd.source.refuse(0, f"the initial block has a thread {max(herd.registers)}, and the table has none")
+        with source.going_on():
+            source.refuse(0, f"the initial block has a thread {max(herd.registers)}, and the table has none")
     columns = [Column(herd, thread) for thread in range(herd.threads)]
     cells = [list(column.turned([(at, row[column.thread]) for at, row in herd.rows])) for column in columns]
-    check_widths(herd, columns)
+    with source.going_on():
+        check_widths(herd, columns)
     opening = [[f"{name}={value};" for name, value in herd.memory.items()]]
     opening += [[f"{thread}:{name}={value};" for name, value in herd.registers.get(thread, {}).items()]
                 for thread in range(herd.threads)]
@@ -338,9 +447,21 @@ def converted(path):
     widths = [max(map(len, column)) for column in zip(*rows)]
     end = condition(herd, columns)
     # The name is as the condition left it.
-    yield from (f"RISCV {herd.name}", *herd.header, "{", *(" ".join(items) for items in opening if items), "}")
-    yield from (f" {' | '.join(cell.ljust(width) for cell, width in zip(row, widths))} ;" for row in rows)
-    yield end
+    return [f"RISCV {herd.name}", *herd.header, *dropped(herd), "{", *(" ".join(items) for items in opening if items),
+            "}", *(f" {' | '.join(cell.ljust(width) for cell, width in zip(row, widths))} ;" for row in rows), end]
+
+
+def converted(path):
+    """The lines of the test, and the obstacles, each with its line; no lines if there are obstacles."""
+    source, lines = Source.__new__(Source), []
+    with Source.going_on(source):
+        source.__init__(path)
+        lines = lines_of(source)
+    return [] if source.obstacles else lines, sorted(dict.fromkeys(source.obstacles))
+
+
+def obstacles_of(path):
+    return converted(path)[1]
 
 
 def observation(path):
@@ -357,6 +478,21 @@ def observation(path):
     return f"Observation {name} {often} {held} {all_done - held}"
 
 
+def convert(paths, folder):
+    """Prints one test, or writes each into a folder; the status."""
+    status = 0
+    for path in paths:
+        lines, obstacles = converted(path)
+        for line, what in obstacles:
+            print(f"from_herd.py: {path}, line {line}: {what}", file=sys.stderr)
+        status = 2 if obstacles else status
+        if lines and folder is None:
+            print("\n".join(lines))
+        elif lines:
+            Path(folder, f"{lines[0].split()[1]}.litmus").write_text("\n".join(lines) + "\n", encoding="ascii")
+    return status
+
+
 def main(words):
     if words in (["-h"], ["--help"]):
         print(__doc__)
@@ -364,10 +500,16 @@ def main(words):
         lines = [observation(path) for path in words[1:]]
         print("".join(f"{line}\n" for line in lines if line), end="")
         sys.exit(int(None in lines))
+    elif len(words) > 1 and words[0] == "--log":
+        print("\n".join(herd_logs.log(words[1:])))
+    elif len(words) > 2 and words[0] == "--into" and not words[2].startswith("-"):
+        if not Path(words[1]).is_dir():
+            fail(f"{words[1]} is no folder")
+        sys.exit(convert(words[2:], words[1]))
     elif len(words) == 1 and not words[0].startswith("-"):
-        print("\n".join(list(converted(words[0]))))
+        sys.exit(convert(words, None))
     else:
-        fail("one test is wanted, or --observation and reports (--help tells all)")
+        fail("one test is wanted, --into FOLDER and tests, or --observation or --log and reports (--help tells all)")
 
 
 if __name__ == "__main__":

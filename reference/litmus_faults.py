@@ -180,7 +180,8 @@ class Reader:
         """One instruction, or none: its form, then its number, its width and its operands from the left."""
         if not cell:
             return
-        found = next((found for found in ((re.fullmatch(form, cell), of) for form, of in FORMS.items()) if found[0]), None)
+        forms = ((re.fullmatch(form, cell), operands) for form, operands in FORMS.items())
+        found = next((found for found in forms if found[0]), None)
         if not found:
             self.fault(BAD_INSTRUCTION)
         parts, operands = found

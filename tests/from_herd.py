@@ -3,8 +3,8 @@
 
 The tests of tests/herd were typed in as herd7's generator writes them. Each asks for the one end that the cycle of its
 name forbids, so under sequential consistency it has every other end: loads receive 0 or 1, and locations end as 1 or
-2. What the script turns single cells and conditions into, and which lines it refuses, was worked out by hand; so were the
-obstacles of the tests of tests/herd_users, which are as users have them. The last line is `N tried, M wrong`.
+2. What the script turns single cells and conditions into, and which lines it refuses, was worked out by hand;
+so were the obstacles of the tests of tests/herd_users, which are as users have them. The last line is `N tried, M wrong`.
 """
 import os
 import sys
@@ -35,7 +35,8 @@ CELLS = [("lwu x7,0(x6)", LOAD), ("lw.aq.rl t2 , ( x6 )", LOAD), ("sw.rl x5,0(t1
          ("addi x7,x5,5", "li x7,6"), ("xori x7,x5,3", "li x7,2"), ("andi x7,x5,3", "li x7,1"),
          ("li x9,3|sub x7,x9,x5", "li x7,2"), ("lwu x7,0(x6)|mv x9,x5", "li x9,1"), ("xor x7,x5,x5", "li x7,0"),
          ("andi x7,x5,0", "li x7,0"), ("add x7,x6,x0", None),
-         ("bne x5,x0,L0", None), ("blt x0,x5,L0", None), ("bgez x5,L0", None), ("jal x0,L0", None), ("j L0", None), ("L0: sw x5,0(x6)", STORE)]
+         ("bne x5,x0,L0", None), ("blt x0,x5,L0", None), ("bgez x5,L0", None), ("jal x0,L0", None), ("j L0", None),
+         ("L0: sw x5,0(x6)", STORE)]
 # Cells that are refused, in line 4, or with another cell above them in line 5.
 NO_CELLS = ["beqq x5,x5,L9", "bne x5,frob,L9", "bne x5,,L9", "subi x7,x5,1", "addi x7,x5,x5", "add x7,x5,1",
             "LI x7,1", "blt x0,x5,L8",
@@ -122,13 +123,15 @@ def cells(tester):
 
 # Conditions, and what they become. P0 stores 1 to x, P1 loads x: so x and 1:x7 have 0 or 1, and y has 0.
 CONDITIONS = {"exists (not (x=1))": "exists (x=0)", "exists (x=1 => 1:x7=1)": "exists (x=0 \\/ 1:x7=1)",
-              "forall (1:x7=1 => x=1)": "forall (1:x7=0 \\/ x=1)", "exists not (x=1 /\\ 1:x7=0)": "exists (x=0 \\/ 1:x7=1)",
+              "forall (1:x7=1 => x=1)": "forall (1:x7=0 \\/ x=1)",
+              "exists not (x=1 /\\ 1:x7=0)": "exists (x=0 \\/ 1:x7=1)",
               "exists (x=1 /\\ 1:x7<>1)": "exists (x=1 /\\ 1:x7=0)", "exists (true /\\ x=1)": "exists (x=1)",
               "~exists (x=0 /\\ not (1:x7=1 /\\ x=1))": "~exists (x=0 /\\ (1:x7=0 \\/ x=0))",
               "exists (not (0:x5=2) /\\ x=1)": "exists (0:x5=1 /\\ x=1)", "exists ((x=1))": "exists ((x=1))",
               "exists (x=1 \\/ not x=1)": "exists (x=1 \\/ x=0)"}
 # What the header says that a conversion dropped, by hand from the tests.
-DROPPED = {"IRIW+addrs": "2 address dependencies dropped", "CoRR-locs": None, "SB64": "fences, .aq and .rl order nothing here",
+DROPPED = {"IRIW+addrs": "2 address dependencies dropped", "CoRR-locs": None,
+           "SB64": "fences, .aq and .rl order nothing here",
            "LB+data+ctrl": "1 control dependency, 1 data dependency dropped",
            "PPOCA": "1 address dependency, 1 control dependency dropped; fences, .aq and .rl order nothing here",
            "AMO_X0": "fences, .aq and .rl order nothing here",
@@ -155,8 +158,8 @@ def users(tester):
         if path.stem in OBSTACLES:
             told = [line.removeprefix(f"from_herd.py: {path}, line ").split(": ", 1) for line in error.splitlines()]
             wanted = OBSTACLES[path.stem]
-            good = len(told) == len(wanted) and all(int(line) == number and words in what for (line, what), (number, words)
-                                                    in zip(told, wanted))
+            good = len(told) == len(wanted) and all(
+                int(line) == number and words in what for (line, what), (number, words) in zip(told, wanted))
             tester.expect((status, out) == (2, "") and good, f"{path.name}: {status} {out} {error}")
             continue
         test = Test(out)
@@ -202,7 +205,8 @@ def logs(tester):
     tester.file.write_text(report)
     out = tester.run("--log", str(TOP / "examples/litmus/SB.litmus"), str(tester.file))
     tester.expect(out == (0, LOG, ""), f"--log: {out}")
-    tester.file.write_text(report.replace("held 0", "held 10").replace("exists", "forall").replace("verdict no", "verdict yes"))
+    report = report.replace("held 0", "held 10").replace("exists", "forall").replace("verdict no", "verdict yes")
+    tester.file.write_text(report)
     status, out, error = tester.run("--log", str(tester.file))
     good = "Test SB Required\n" in out and "\nOk\n" in out and "Condition" not in out and "Always 10 0" in out
     tester.expect(good and status == 0, f"--log: {out} {error}")

@@ -4,8 +4,9 @@
 The script steps eight runs to their end and back by keys. At ten places of each and more, it compares the page with
 the records and look-ups that PLAYER, a built play_events, answers to texts that were written by hand here. What the
 page says of an event of each kind is in page.table, by hand, too. The script tries the slider, the jumps and what is
-refused, and prints the time that a key takes in a page of thousands of events. If no Chromium is installed, it says
-so, and tries only what needs none.
+refused, and prints the time that a key takes in a page of thousands of events. It compares a litmus test's question,
+registers and verdict with the test and its report. A changed rule's history must be marked as wrong. Nothing may be
+cut from 360 pixels on. If no Chromium is installed, it says so, and tries only what needs none.
 
     tests/page.py PLAYER --pictures FOLDER    writes the picture of README.md and docs/TUTORIAL.md into FOLDER, too
 """
@@ -339,9 +340,15 @@ def tried(browser, path, says):
 
 
 def cut(browser):
-    """What is wider than its place, or lies outside the window, at two sizes."""
-    return browser.value("""[...document.querySelectorAll("h2, .copy, .entry, .message b, #what, #count, nav button")]
-        .filter(one => one.scrollWidth > one.clientWidth + 1 || one.getBoundingClientRect().right > innerWidth)
+    """What is wider than its place, or lies outside the window; in the orders, outside its box."""
+    return browser.value("""[...document.querySelectorAll("h2, .copy, .entry, .message b, #what, #count, nav button, "
+          + "#question, #heads p, .registers, li .said, .copy .said, .dram span, #ties .order")]
+        .filter(one => one.scrollWidth > one.clientWidth + 1 && one.clientWidth || one.getBoundingClientRect().right
+          > innerWidth + 1 || /said/.test(one.className) && one.getBoundingClientRect().right
+          > one.closest("li, b").getBoundingClientRect().right + 1)
+        .concat([...document.querySelectorAll("#ties g g")].filter(one =>
+          one.querySelector("text:not(.who):not(.order)").getBoundingClientRect().right
+          > one.querySelector(".box").getBoundingClientRect().right))
         .map(one => one.textContent.trim()).join(", ")""")
 
 
@@ -349,6 +356,109 @@ def long_trace(path):
     """Operations of four cores on six words, many enough for some 4,000 events."""
     steps = [f"{n * n % 4} {'R' if n * 7 % 5 < 3 else 'W'} {8 * (n * n * 3 % 7 % 6):#x}" for n in range(640)]
     path.write_text("".join(step + (f" {n}\n" if " W " in step else "\n") for n, step in enumerate(steps)))
+
+
+# A test with the longest names: by rounds P1 loads the flag before it is stored, and swaps behind that.
+NAMES = """RISCV NAMES
+"names of thirty-two letters"
+{ 0:x5=1; 0:x6=message_buffer_of_the_first_core; 0:x8=ready_flag_of_the_first_core_abc;
+  1:x6=ready_flag_of_the_first_core_abc; 1:x8=message_buffer_of_the_first_core; }
+ P0          | P1                      ;
+ sw x5,0(x6) | lw x7,0(x6)             ;
+ sw x5,0(x8) | lw x9,0(x8)             ;
+             | amoswap.w x10,x7,(x8)   ;
+exists (1:x7=1 /\\ 1:x9=0)
+"""
+# By test its registers, by hand, and what is said behind the end of its run, which its report has.
+QUESTIONS = {"SB": ([[None, "x7"], [None, "x7"]], "not the end asked for; verdict no"),
+             "MP+yes": ([[None, None], ["x7", "x9"]], "the end asked for; verdict yes"),
+             "LOCK": ([["x7"], ["x7"], ["x7"]], "the expression does not hold; verdict yes"),
+             "SB+forall": ([[None, "x7"], [None, "x7"]], "the expression holds; verdict yes"),
+             "S": ([[None, None], ["x7", None]], "not the end asked for; verdict no")}
+# A store that takes its lease's last time, so that a load there misses it (docs/CHANGING-A-RULE.md).
+RULE, CHANGED = "copy.rts if private else fit(copy.rts + 1)", "copy.rts"
+WRONG = ["--schedule", "seed", "--seed", "23", "--limit", "500", "--lease", "1", "--sets", "1", "--ways", "2",
+         "--bank-sets", "1", "--bank-ways", "1"]
+SIZES = ((360, 740), (390, 844), (1024, 768), (1280, 720), (1920, 1080))
+
+
+def data_of(path):
+    return json.loads(re.search(r'(?s)<script id="data"[^>]*>(.*?)</script>', path.read_text())[1])
+
+
+def questions(player, folder):
+    """The question of litmus tests, and a history that a changed rule made wrong."""
+    for name, (registers, said) in QUESTIONS.items():
+        path = folder / f"{name}.html"
+        written(player, [f"examples/litmus/{name}.litmus"], path)
+        text = (TOP / f"examples/litmus/{name}.litmus").read_text()
+        report = (TOP / f"examples/litmus/{name}.report").read_text()
+        end = re.search(r"(?m)^states 1\n1 (.*)$", report)[1]
+        wanted = {"asked": text.split('"')[1], "registers": registers, "answer": f"{end}: {said}",
+                  "condition": " ".join(re.search(r"(?ms)^(~?exists|forall)\b.*", text)[0].split())}
+        found = data_of(path)["question"]
+        if found != wanted or f"verdict {said.split()[-1]}\n" not in report:
+            yield f"{name}: {found}, wanted {wanted}"
+    (folder / "names.litmus").write_text(NAMES)
+    written(player, [str(folder / "names.litmus")], folder / "names.html")
+    source = (TOP / "reference/machine.py").read_text()
+    changed = folder / "changed.py"
+    changed.write_text(f"#!{sys.executable}\nimport sys\nsys.path.insert(0, {str(TOP)!r})\n"
+                       "from reference import machine\n"
+                       f"exec(compile({source.replace(RULE, CHANGED)!r}, 'changed', 'exec'), machine.__dict__)\n"
+                       "from reference import play\nsys.exit(play.main(sys.argv[1:]))\n")
+    changed.chmod(0o755)
+    (folder / "two.trace").write_text("0 W 0x0 1\n1 R 0x0\n")
+    status, said = written(str(changed), [*WRONG, str(folder / "two.trace")], folder / "wrong.html")
+    found = data_of(folder / "wrong.html")
+    marked = [step[1] for step in found["steps"] if "w" in step[6]]
+    if source.count(RULE) != 1 or status != 1 or "wrong: wrong value 1" not in said or found["wrong"] != 1 or \
+            marked != ["completed 1 0 R 0x0 0 1 1"]:
+        yield f"a changed rule: status {status}, {said!r}, {found['wrong']}, {marked}"
+
+
+def asked(browser, folder):
+    """The question on its page, the keys, the address, the rule's paragraph, a wrong record, narrow windows."""
+    compared = Compared(CASES["the past"])
+    text = lambda of: " ".join(browser.value(f"document.querySelector('{of}').textContent").split())  # noqa: E731
+    rows = lambda: json.loads(browser.value(  # noqa: E731
+        "JSON.stringify([...document.querySelectorAll('.registers')].map(one => one.textContent))"))
+    browser.open(folder / "SB.html")
+    compared.same("the condition", text("#condition"), "exists (0:x7=0 /\\ 1:x7=0)")
+    compared.same("no answer yet", [text("#answer"), rows()], ["", ["P0 x7", "P1 x7"]])
+    browser.press("End")
+    compared.same("the answer", text("#answer"), "0:x7=1 1:x7=1: not the end asked for; verdict no")
+    compared.same("the registers", rows(), ["P0 x7 = 1", "P1 x7 = 1"])
+    compared.same("the address", browser.value("location.hash"), f"#{browser.value('at')}")
+    browser.press("?")
+    keys = text("#keys")
+    compared.same("the keys", [key in keys for key in ("right, left", "space", "stale hit", "? ")], [True] * 4)
+    browser.press("p")
+    compared.same("one panel", browser.value("[...document.querySelectorAll('.over')].map(one => one.hidden).join()"),
+                  "false,true")
+    paragraph = browser.value("document.getElementById('rule').textContent")
+    section = (TOP / "docs/PROTOCOL.md").read_text().split("## A core", 1)[1].split("\n", 1)[1].split("\n## ")[0]
+    compared.same("the rule", paragraph, f"docs/PROTOCOL.md, A core\n\n{section.strip()}")
+    browser.press("Escape")
+    compared.same("no panel", browser.value("document.querySelectorAll('.over:not([hidden])').length"), 0)
+    browser.open(folder / "wrong.html")
+    compared.same("the heading", text("#by-time"), "By timestampoperation 1 is wrong here")
+    browser.press("w")
+    compared.same("the wrong record", browser.value("run.steps[at - 1][1]"), "completed 1 0 R 0x0 0 1 1")
+    compared.same("its mark", browser.value("document.querySelector('#ties > .wrong').dataset.number"), "1")
+    return compared.faults
+
+
+def narrow(browser, folder):
+    """What is cut in windows of five sizes."""
+    for name in ("SB", "LOCK", "names", "wrong"):
+        for size in SIZES:
+            browser.open(f"{folder / name}.html", *size)
+            for at in ("run.steps.length >> 1", "run.steps.length"):
+                browser.value(f"go({at})")
+                fault = cut(browser)
+                if fault or browser.value("document.documentElement.scrollWidth > innerWidth"):
+                    yield f"{name} at {size}: {fault} is cut"
 
 
 def refusals(player, folder):
@@ -375,6 +485,8 @@ def in_browser(browser, player, pages, folder):
                 browser.value(f"go({at})")
                 yield from [f"{name} at {size}: {fault} is cut" for fault in [cut(browser)] if fault]
     yield from tried(browser, pages["the past"], says["the past"])
+    yield from asked(browser, folder)
+    yield from narrow(browser, folder)
     browser.open(f"{folder / 'long.html'}#3000")
     yield from [f"the long page: {fault} is cut" for fault in [cut(browser)] if fault]
     took = browser.value(TIMED)
@@ -396,6 +508,7 @@ def main(given):
             faults += [f"{words[-1]}: status {status}, {said}"] if status else []
             faults += [f"{words[-1]}: more than 4 MB"] if path.stat().st_size > MOST_BYTES else []
         faults += refusals(player, folder)
+        faults += questions(player, folder)
         if installed():
             browser = Browser(installed())
             faults += in_browser(browser, player, pages, folder)

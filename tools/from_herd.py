@@ -6,7 +6,7 @@
     tools/from_herd.py --observation REPORT ..
     tools/from_herd.py --log FILE ..            reports as a log in litmus7's form, which mcompare7 reads
 
-The script turns only what means the same; docs/FROM-HERD7.md lists it. A line `converted=` in the header says what went.
+The script turns only what means the same; docs/FROM-HERD7.md lists it. A header line `converted=` says what went.
 If a test has anything else, the script prints no test, lists each obstacle with its line, and ends with status 2. A
 report is what `tardis litmus` prints. Tests among the files of --log give their conditions and hashes to the reports
 that have their names. The name of a test with a filter gets `+filter`: herd7 drops runs outside the filter, and a

@@ -9,11 +9,12 @@ import re
 from reference.litmus import Test
 from tools import from_herd
 
-OPERANDS = {"lw": "xD,0(xB)", "ld": "xD,0(xB)", "sw": "xS,0(xB)", "sd": "xS,0(xB)", "amoswap.w": "xD,xS,(xB)",
-            "amoswap.d": "xD,xS,(xB)", "li": "xD,N", "ori": "xD,x0,N", "fence": "A,B, each of them r, w or rw"}
+OPERANDS = {"lw": "xD,0(xB)", "ld": "xD,0(xB)", "sw": "xS,0(xB)", "sd": "xS,0(xB)", "li": "xD,N", "ori": "xD,x0,N",
+            "amoswap.w": "xD,xS,(xB)", "amoswap.d": "xD,xS,(xB)", "fence": "A,B, each of them r, w or rw"}
 # What other machines and languages call them.
-ELSEWHERE = {"st": "sw", "str": "sw", "store": "sw", "stw": "sw", "ldr": "lw", "load": "lw", "lwz": "lw", "set": "li",
-             "mov": "lw`, `sw` or `li", "movl": "lw`, `sw` or `li", "swap": "amoswap.w", "xchg": "amoswap.w", "swp": "amoswap.w",
+ELSEWHERE = {"st": "sw", "str": "sw", "store": "sw", "stw": "sw", "ldr": "lw", "load": "lw", "lwz": "lw",
+             "set": "li", "mov": "lw`, `sw` or `li", "movl": "lw`, `sw` or `li",
+             "swap": "amoswap.w", "xchg": "amoswap.w", "swp": "amoswap.w",
              "mfence": "fence rw,rw", "dmb": "fence rw,rw", "sync": "fence rw,rw", "lr.w": "lw", "lr.d": "ld"}
 KEYWORDS = ("exists", "~exists", "forall")
 ATOMIC = ("amo", "lr", "sc")
@@ -29,7 +30,7 @@ def of_herd(path):
 
 
 def of_instruction(cell):
-    """What a cell with an unknown instruction, or with operands of another shape, may mean; None if that isn't known."""
+    """What a cell with an unknown instruction or other operands may mean; None if that isn't known."""
     name, _, rest = cell.partition(" ")
     bare = re.sub(r"\.(aq|rl)$", "", name)
     if bare in OPERANDS:

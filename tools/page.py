@@ -6,14 +6,18 @@ That is the proved machine's, ./play, if it is built and no source is newer. Oth
 reference/play.py, and standard error says so; nothing is built. --player names another. The page says which.
 
 The page stands alone: it loads nothing. Keys: right and left (on to the next event that changes something, and back),
-down and up (each event), space (play), c, s, r, l, e (the next completion, stale hit, renewal, recall, eviction; with
-shift the one before), Home, End, d (dark or light). run.html#12 opens at event 12, run.html#stale at the first stale
-hit.
+down and up (each event), space (play), c, s, r, l, e, w (the next completion, stale hit, renewal, recall, eviction,
+wrong record; with shift the one before), Home, End, p (the rule's paragraph), d (dark or light), ? (the keys). The
+address follows the event: run.html#12 opens at event 12, run.html#stale at the first stale hit.
 
-The status is 1 if the run isn't all done; the page then shows it as far as it went, and says how it ended.
+Of a litmus test the page shows the question, the registers as they fill, and at the end the verdict.
+
+The status is 1 if the run isn't all done; the page then shows it as far as it went, and says how it ended. It is 1,
+too, if the history isn't legal, as a changed rule may make it; the page then marks the first wrong record.
 """
 import html
 import json
+import re
 import sys
 from pathlib import Path
 
@@ -23,6 +27,7 @@ from reference.given import Subject, Words, tool  # noqa: E402
 from reference.order import overwriting  # noqa: E402
 from reference.schedules import ADVANCE  # noqa: E402
 from tools.shown.played import SECOND, Played, Player, player_of  # noqa: E402
+from tools.shown.questions import question  # noqa: E402
 from tools.shown.rules import Rules  # noqa: E402
 
 
@@ -40,7 +45,21 @@ def marks(run, step, before):
                                       if name[0] == "m" and name not in before}
     if first == "completed" and int(step.answer.split(" ")[-1]) in run.stale:
         found.add("s")
+    if first == "completed" and int(step.answer.split(" ")[-1]) == wrong_record(run):
+        found.add("w")
     return "".join(sorted(found))
+
+
+def wrong_record(run):
+    """The number of the first record that is wrong, or None."""
+    found = re.search(r"\d+$", run.verdict)
+    return found and int(found[0])
+
+
+def sections():
+    """By heading the text of docs/PROTOCOL.md's sections."""
+    parts = re.split(r"(?m)^## (.*)\n", (PARTS.parent.parent / "docs/PROTOCOL.md").read_text(encoding="utf-8"))
+    return {re.sub(r" \(.*", "", title): text.strip() for title, text in zip(parts[1::2], parts[2::2])}
 
 
 class Places:
@@ -105,7 +124,8 @@ def data(run, options):
             "programs": [["advance" if step == ADVANCE else rules.operation(told.operation(step)) for step in steps]
                          for steps in run.programs],
             "opening": run.opening, "steps": list(steps(run)), "records": records, "arranged": run.arranged,
-            "past": past, "verdict": run.verdict}
+            "past": past, "verdict": run.verdict, "wrong": wrong_record(run), "question": question(run),
+            "rules": {title: text for title, text in sections().items() if title in rules.sections()}}
 
 
 def cores_shown(run, options):
@@ -145,7 +165,9 @@ def main(given):
               "minutes: ./play crates/play_events/data/pages.events", file=sys.stderr)
     if run.end != "all-done":
         print(f"page.py: {options.FILE}: {ENDS[run.end]}", file=sys.stderr)
-    return int(run.end != "all-done")
+    if run.verdict != "legal":
+        print(f"page.py: {options.FILE}: by timestamp the history is wrong: {run.verdict}", file=sys.stderr)
+    return int(run.end != "all-done" or run.verdict != "legal")
 
 
 if __name__ == "__main__":

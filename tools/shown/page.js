@@ -6,7 +6,11 @@ const SIGNS = {"&": "&amp;", "<": "&lt;", ">": "&gt;", '"': "&quot;"};
 const escaped = text => String(text).replace(/[&<>"]/g, sign => SIGNS[sign]);
 const hue = core => `style="--hue: var(--c${core % 8})"`;
 const JUMPS = [["c", "completion"], ["s", "stale hit"], ["r", "renewal"], ["l", "recall"], ["e", "eviction"]];
-const PLAY = 1200, WIDE = 1000, LEFT = 64, BOX = 320, RIGHT = 545, FEW = 64n;
+if (run.wrong !== null) JUMPS.push(["w", "wrong"]);
+const PLAY = 1200, FEW = 64n, MOST_OF_NAME = 12;
+// The rows' units: how wide they are, where the two columns of boxes begin, and how wide a box is.
+const PLACES = {wide: [1000, 64, 545, 320], narrow: [790, 40, 388, 276]};
+let [WIDE, LEFT, RIGHT, BOX] = PLACES.wide;
 
 // The view after `at` events, and the names of what the last of them changed. Changes are undone on the way back.
 const view = {...run.opening};
@@ -36,6 +40,8 @@ function go(to) {
   while (at < to) make();
   while (at > to) unmake();
   show();
+  const address = `#${at}`;
+  if (location.hash !== address) try { history.replaceState(null, "", address); } catch { /* too often */ }
 }
 
 // What a text says behind a word, as `wts` in `shared wts 0 rts 3 words 0`.
@@ -52,10 +58,15 @@ const isNew = name => at > 0 && name in run.steps[at - 1][5] ? " new" : "";
 const lineName = line => run.words === 1 ? run.names[line][0] : line;
 
 // The values of a line's words that the run names.
-function values(line, words) {
-  const named = run.names[line].map((name, place) => [name, words[place]]).filter(([name]) => run.named.has(name));
-  return named.map(([name, value]) => `${name} = ${value}`).join(", ");
-}
+const valuesOf = (line, words) =>
+  run.names[line].map((name, place) => [name, words[place]]).filter(([name]) => run.named.has(name));
+const values = (line, words) => valuesOf(line, words).map(([name, value]) => `${name} = ${value}`).join(", ");
+
+// The same with names that give way where there is no room, so that values stay.
+const shownValues = (line, words) => valuesOf(line, words).map(([name, value]) =>
+  `<span class="name">${escaped(name)}</span><span class="said"> = ${escaped(value)}</span>`).join(
+    '<span class="said">, </span>');
+const isLong = line => run.words > 1 || run.names[line].some(name => name.length > MOST_OF_NAME);
 
 // All times of the run along one scale, of whole numbers, since times may have 64 bits.
 run.named = new Set(run.records.map(record => record[2]));
@@ -80,8 +91,8 @@ function copies(core, time) {
     const copy = view[name], line = name.split(" ")[2], owned = copy.startsWith("exclusive");
     const wts = behind(copy, "wts"), rts = behind(copy, "rts"), ended = !owned && BigInt(time) > BigInt(rts);
     const start = place(wts), wide = Math.max(place(rts) - start, 0);
-    return `<div class="copy${isNew(name)}${run.words > 1 ? " wide" : ""}" title="${escaped(copy)}" ${asSeen(name)}>
-      <b>${escaped(values(line, wordsOf(copy)) || line)}</b>
+    return `<div class="copy${isNew(name)}${isLong(line) ? " wide" : ""}" title="${escaped(copy)}" ${asSeen(name)}>
+      <b title="${escaped(values(line, wordsOf(copy)))}">${shownValues(line, wordsOf(copy)) || escaped(line)}</b>
       <span class="bar${ended ? " ended" : ""}${owned ? " own" : ""}">
       <i class="${wide ? "" : "point"}" style="left:${start}%;width:${wide}%"></i>
       <u style="left:${place(time)}%"></u></span>
@@ -102,9 +113,27 @@ function program(core, room) {
     const number = step !== "advance" && from + index < next ? numbersOf[core][done++] : -1;
     const state = from + index === next ? "next" : from + index < next ? "done" : "";
     const received = number < 0 || run.records[number][4] === null ? "" : ` → ${run.records[number][4]}`;
-    const text = escaped(step) + received;
-    return `<li class="${state}${number in run.past ? " past" : ""}" title="${text}">${text}</li>`;
+    const [, does, name] = /^(.* )?([^ ]*)$/.exec(step);
+    const text = `<span class="said">${escaped(does || "")}</span><span class="name">${escaped(name)}</span>` +
+      (received && `<span class="said">${received}</span>`);
+    const title = escaped(step) + received;
+    return `<li class="${state}${number in run.past ? " past" : ""}" title="${title}">${text}</li>`;
   }).join("");
+}
+
+// The registers that a thread's operations fill, with what they have so far.
+function registers(core) {
+  if (!run.question) return "";
+  const count = completed(), filled = new Map();
+  const newest = at && run.steps[at - 1][6].includes("c") ? count - 1 : -1;
+  run.question.registers[core].forEach((name, place) => {
+    const number = numbersOf[core][place];
+    if (name === null || name === "x0") return;
+    if (number < count) filled.set(name, `<span class="${number === newest ? "new" : ""}">${name} = ${
+      run.records[number][4]}</span>`);
+    else if (!filled.has(name)) filled.set(name, name);
+  });
+  return filled.size ? `<p class="registers"><b>P${core}</b> ${[...filled.values()].join(", ")}</p>` : "";
 }
 
 function message(name) {
@@ -142,7 +171,7 @@ function showCores() {
     const wire = messages(text => new RegExp(` core ${core} `).test(text)), now = acts === `core ${core}` ? " now" : "";
     return `<div class="row"><div class="core${now}" id="core-${core}" ${hue(core)} ${asSeen(`core ${core}`)}>
       <h2>core ${core}<span class="time${moved ? " new" : ""}" title="${time}">time ${brief(time)}</span></h2>
-      <ol>${program(core, room)}</ol>
+      <ol>${program(core, room)}</ol>${registers(core)}
       <div class="copies">${copies(core, time)}</div></div><div class="wire">${wire}</div></div>`;
   }).join("");
 }
@@ -163,14 +192,15 @@ function showBanks() {
   byId("banks").innerHTML = [...Array(run.banks).keys()].map(bank => {
     const lines = Object.keys(run.names).filter(line => bankOf(line) === bank);
     const entries = lines.map(line => `entry ${line}`).filter(name => view[name] !== "none").map(entry);
-    const dram = lines.map(line => escaped(values(line, view[`dram ${line}`].split(" "))));
+    const dram = lines.map(line => escaped(values(line, view[`dram ${line}`].split(" ")))).map((pair, place, all) =>
+      pair + (place < all.length - 1 ? "," : ""));
     const wire = messages(text => new RegExp(` dram ${bank} `).test(text));
     const now = acts === `bank ${bank}` ? " now" : "";
     return `<div class="bank${now}" id="bank-${bank}" ${asSeen(`bank ${bank}`)}><h2>bank ${bank}</h2>
       <h3>memory time ${brief(behind(view[`bank ${bank}`], "time"))}</h3>
       ${entries.join("") || '<p class="none">no entries</p>'}
       <div class="wire">${wire}</div>
-      <div class="dram"><b>DRAM</b> ${dram.map(pair => `<span>${pair}</span>`).join(", ")}</div></div>`;
+      <div class="dram"><b>DRAM</b> ${dram.map(pair => `<span>${pair}</span>`).join(" ")}</div></div>`;
   }).join("");
 }
 
@@ -179,14 +209,22 @@ let counts = [0];
 run.steps.forEach(([, , , , , , marks], index) => counts.push(counts[index] + (marks.includes("c") ? 1 : 0)));
 const completed = () => counts[at];
 
+// Where an operation may be cut into two lines.
+const SPLITS = {load: [/ (?=→)/, /(?<=load) /], store: [/ (?=to )/, /(?<=to) /], swap: [/ (?=into )/, /(?<=into) /]};
+
+// A name in a box: of a long one its two ends.
+const shortName = name => name.length > MOST_OF_NAME ? `${name.slice(0, 7)}…${name.slice(-4)}` : name;
+
 function box(x, y, high, number, isLeft) {
   const [core, kind, name, value, received, time] = run.records[number];
-  const says = of => ({load: "load ", store: `store ${of(value)} to `, swap: `swap ${of(value)} into `}[kind] + name +
-    (received === null ? "" : ` → ${of(received)}`));
-  const said = says(brief), whole = says(String), middle = high / 2;
-  const parts = said.length > 20 ? said.split({load: / (?=→)/, store: / (?=to )/, swap: / (?=into )/}[kind]) : [said];
-  const long = Math.max(...parts.map(part => part.length)), most = parts.length > 1 ? high * .45 : 27;
-  const size = Math.min(27, 27 * 13.5 / long, most), title = whole === said ? "" : `<title>${escaped(whole)}</title>`;
+  const says = (of, name) => ({load: "load ", store: `store ${of(value)} to `, swap: `swap ${of(value)} into `}[kind] +
+    name + (received === null ? "" : ` → ${of(received)}`));
+  const said = says(brief, shortName(name)), whole = says(String, name), middle = high / 2;
+  const {parts, size} = [[said], ...SPLITS[kind].map(by => said.split(by))].map(parts => {
+    const long = Math.max(...parts.map(part => part.length));
+    return {parts, size: Math.min(27, (BOX - 96) * 1.5 / long, parts.length > 1 ? high * .45 : 27)};
+  }).reduce((one, other) => other.size > one.size ? other : one);
+  const title = whole === said ? "" : `<title>${escaped(whole)}</title>`;
   const shown = parts.map((part, row) => `<tspan x="100" y="${middle + size * (row - (parts.length - 1) / 2)}">${
     escaped(part)}</tspan>`).join(" ");
   const shownTime = `time ${brief(time)}`, small = Math.min(24, 24 * 8.5 / shownTime.length);
@@ -199,13 +237,17 @@ function box(x, y, high, number, isLeft) {
     <text class="order" y="${middle}" ${order}</text></g>`;
 }
 
+// Swaps and long names take two lines of a box, which must be high enough for them.
+const leastStep = run.records.some(([, kind, name]) => kind === "swap" || name.length > MOST_OF_NAME) ? 66 : 40;
+
 // The rows are as many as there will be; those that are out of sight aren't drawn.
 let shownOrders = "";
 let size = null; // of the window of the rows: how many units a pixel has, and its height
 
 function measure() {
+  [WIDE, LEFT, RIGHT, BOX] = innerWidth < 700 ? PLACES.narrow : PLACES.wide;
   const rows = byId("rows"), unit = WIDE / Math.max(rows.clientWidth, 1), frame = rows.clientHeight * unit;
-  size = {unit, frame, step: Math.max(40, Math.min(105, (frame - 70) / Math.max(run.records.length, 1)))};
+  size = {unit, frame, step: Math.max(leastStep, Math.min(105, (frame - 70) / Math.max(run.records.length, 1)))};
   shownOrders = "";
 }
 
@@ -225,7 +267,7 @@ function showOrders(top) {
   const over = past in run.past ? run.past[past] : -1;
   const group = number => {
     const y = number * step + 6, to = rank[number] * step + 6;
-    const classes = [[number in run.past, "past"], [number === last, "latest"], [number === over, "over"]]
+    const classes = [[number in run.past, "past"], [number === run.wrong, "wrong"], [number === last, "latest"], [number === over, "over"]]
       .filter(([is]) => is).map(([, name]) => name).join(" ");
     const ends = [y + high / 2, to + high / 2];
     return `<g class="${classes}" ${hue(run.records[number][0])} data-number="${number}" data-rank="${rank[number]}">
@@ -251,11 +293,15 @@ function crossing(last, over, rank, step, high) {
 }
 
 function showSaid() {
-  const step = at ? run.steps[at - 1] : null, past = step && step[6].includes("s");
+  byId("passed").textContent = "";
+  const step = at ? run.steps[at - 1] : null, past = step && /[sw]/.test(step[6]);
   byId("what").textContent = step ? step[2] : `${run.title}: before the first event`;
-  byId("why").innerHTML = step ? `${escaped(step[3])} <cite>docs/PROTOCOL.md, ${escaped(step[4])}</cite>` :
+  byId("why").innerHTML = step ? `${escaped(step[3])} <cite><a href="#rule" id="cite" title="p">docs/PROTOCOL.md, ${
+    escaped(step[4])}</a></cite>` :
     `The right arrow goes on to the next event${find("s", 1) === null ? "" : ", and s to the first stale hit"}.`;
   byId("said").className = past ? "past" : "";
+  if (!byId("rule").hidden) showRule();
+  if (run.question) byId("answer").textContent = at === run.steps.length ? run.question.answer || "" : "";
   byId("count").textContent = `event ${at} of ${run.steps.length}`;
   byId("count").title = step ? `${step[0]}: ${step[1]}` : "";
 }
@@ -284,6 +330,24 @@ function follow() {
   if (acting) acting.scrollIntoView({block: "nearest"});
 }
 
+// The rule's section of docs/PROTOCOL.md, and the keys.
+function showRule() {
+  const title = at ? run.steps[at - 1][4] : "";
+  byId("rule").textContent = title ? `docs/PROTOCOL.md, ${title}\n\n${run.rules[title]}` : "No event yet.";
+}
+
+function turn(id) {
+  const other = id === "rule" ? "keys" : "rule";
+  byId(other).hidden = true;
+  byId(id).hidden = !byId(id).hidden;
+  showRule();
+}
+
+const HELP = [["right, left", "on to the next event that changes something, and back"], ["down, up", "each event"],
+  ["Home, End", "the first and the last event"], ["space", "play"],
+  ...JUMPS.map(([key, name]) => [key, `the next ${name}; with shift the one before`]),
+  ["p", "the rule's paragraph"], ["d", "dark or light"], ["?", "these keys"]];
+
 // The next event of a kind, or the one before.
 function find(key, by) {
   for (let to = at + by; to > 0 && to <= run.steps.length; to += by) if (run.steps[to - 1][6].includes(key)) return to;
@@ -294,7 +358,9 @@ function find(key, by) {
 function walk(by) {
   let to = at + by;
   while (to > 0 && to < run.steps.length && !Object.keys(run.steps[to - 1][5]).length) to += by;
+  const over = Math.abs(to - at) - 1;
   go(to);
+  if (over > 0) byId("passed").textContent = `(${over} passed over that changed nothing)`;
 }
 
 function jump(key, by) {
@@ -321,11 +387,14 @@ function dark(is) {
 
 const KEYS = {ArrowRight: () => walk(1), ArrowLeft: () => walk(-1), PageDown: () => walk(1), PageUp: () => walk(-1),
   ArrowDown: () => go(at + 1), ArrowUp: () => go(at - 1), Home: () => go(0), End: () => go(run.steps.length),
-  " ": play, d: () => dark(!document.documentElement.classList.contains("dark"))};
+  " ": play, "?": () => turn("keys"), p: () => turn("rule"), Escape: () => {
+    byId("keys").hidden = byId("rule").hidden = true;
+  }, d: () => dark(!document.documentElement.classList.contains("dark"))};
 document.addEventListener("keydown", event => {
   if (event.ctrlKey || event.altKey || event.metaKey) return;
   if (event.key === " " && event.target.tagName === "BUTTON") return;
   const key = event.key.length === 1 ? event.key.toLowerCase() : event.key;
+  if (event.key === "Escape" && byId("keys").hidden && byId("rule").hidden) return;
   if (JUMPS.some(([letter]) => letter === key)) jump(key, event.shiftKey ? -1 : 1);
   else if (KEYS[key]) KEYS[key]();
   else return;
@@ -343,8 +412,19 @@ function begin() {
   byId("title").textContent = run.title;
   byId("how").textContent = `${run.how}; played by ${run.made}`;
   byId("end").textContent = !run.done ? run.end :
-    `The run: ${run.end[0].toLowerCase()}${run.end.slice(1)} By timestamp they are ${run.verdict}.`;
-  byId("end").className = run.done ? "" : "cut";
+    `The run: ${run.end[0].toLowerCase()}${run.end.slice(1)} By timestamp they are ${
+      run.wrong === null ? "legal" : `not legal: ${run.verdict}`}.`;
+  byId("end").className = run.done && run.wrong === null ? "" : "cut";
+  if (run.wrong !== null) {
+    byId("by-time").className = "wrong";
+    byId("by-time").querySelector("span").textContent = `operation ${run.wrong} is wrong here`;
+  }
+  if (run.question) {
+    byId("question").hidden = false;
+    byId("asked").textContent = run.question.asked || "";
+    byId("condition").textContent = run.question.condition;
+  }
+  byId("keys").innerHTML = HELP.map(([key, does]) => `<kbd>${key}</kbd>  ${does}`).join("\n");
   byId("slider").max = steps;
   byId("ticks").setAttribute("viewBox", `0 0 ${Math.max(steps, 1)} 10`);
   byId("ticks").classList.toggle("many", steps > 800);
@@ -354,6 +434,12 @@ function begin() {
   for (const [key] of JUMPS) byId(`jump-${key}`).onclick = event => jump(key, event.shiftKey ? -1 : 1);
   Object.entries({first: () => go(0), back: () => walk(-1), next: () => walk(1), play}).forEach(([id, act]) => {
     byId(id).onclick = act;
+  });
+  byId("help").onclick = () => turn("keys");
+  byId("why").addEventListener("click", event => {
+    if (event.target.id !== "cite") return;
+    event.preventDefault();
+    turn("rule");
   });
   byId("slider").oninput = event => go(Number(event.target.value));
   addEventListener("resize", () => {

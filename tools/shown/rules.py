@@ -29,6 +29,10 @@ def fields(text):
 class Rules:
     """Describes the steps of a run that was played."""
 
+    @staticmethod
+    def sections():
+        return CORE, BANK, LEASES, MEMORY, COPIES, EVENTS
+
     def __init__(self, run):
         self.run, self.subject = run, run.subject
         self.completed = 0  # how many operations so far

@@ -70,7 +70,7 @@ def main(paths):
     for path in paths:
         test = litmus_test(path, contents(path))
         ends = ends_of(test)
-        print(f"{test.name}: {len(ends)} ends, {test.kind}: {answer(test, ends)}")
+        print(f"{test.name}: {len(ends)} ends, {test.kind}: {answer(test, ends)} by sequential consistency")
         for end in sorted(ends):
             print(f"{'*' if test.holds(end) else ' '} {text_of(end)}")
     return 0

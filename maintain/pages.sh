@@ -1,6 +1,6 @@
 #!/bin/sh
-# Runs the commands that README.md, the other pages at the top and docs/*.md show, and compares what they print with
-# what the page shows: maintain/pages.sh [PROGRAM [PAGE ..]]
+# Runs the commands that README.md, the other pages at the top, docs/*.md and the solutions of exercises show, and
+# compares what they print with what the page shows: maintain/pages.sh [PROGRAM [PAGE ..]]
 # PROGRAM is a program that is built; without it the program at the top is built where it isn't, and run.
 #
 # In a page a command stands in a fenced block `console`: a line `$ command`, and then all that it prints, standard
@@ -82,7 +82,7 @@ page() {
 # The program is built here, where it isn't, so that what building tells is no command's output.
 "$tardis" litmus "$top/examples/litmus/SB.litmus" >/dev/null || { echo "pages.sh: the program doesn't run"; exit 1; }
 
-[ $# -gt 0 ] || set -- "$top"/*.md "$top"/docs/*.md
+[ $# -gt 0 ] || set -- "$top"/*.md "$top"/docs/*.md "$top"/examples/exercises/README.md
 for each in "$@"; do
     page "$each"
 done

@@ -7,9 +7,10 @@
 - past.svg: the records of examples/traces/PAST.trace, by tools/timeline.py.
 - first_store.svg: the messages of examples/traces/FIRST-STORE.trace, by tools/chart.py.
 - line_life.svg: the changes of a bank's entry that occur in the runs of all traces of examples/traces.
+- ring.svg: the ring that forbids the end of examples/litmus/SB.litmus, by tools/rings.py.
 - layers.svg: the crates of crates.txt, each above all that it depends on.
 
-`tests/page.py PLAYER --pictures docs/pictures` writes page.png, a page of tools/page.py in a browser.
+`tests/page.py PLAYER --pictures docs/pictures` writes page.png and wrong.png, pages of tools/page.py in a browser.
 """
 import sys
 from pathlib import Path
@@ -17,11 +18,12 @@ from pathlib import Path
 TOP = Path(__file__).resolve().parent.parent
 sys.path.insert(0, str(TOP))
 from reference import oracle  # noqa: E402
+from reference.litmus import Test  # noqa: E402
 from reference.reports import drive  # noqa: E402
 from reference.schedules import Run  # noqa: E402
 from reference.traces import read_records  # noqa: E402
 from tests.expected import options_of  # noqa: E402
-from tools import chart, timeline  # noqa: E402
+from tools import chart, rings, timeline  # noqa: E402
 
 TRACES = TOP / "examples/traces"
 
@@ -135,10 +137,30 @@ def layers():
     return svg(30 + widest * WIDE, 20 + most * STEP, lines)
 
 
+RULES = {"Po": "in its thread's order", "Fr": "misses it", "Rf": "sees it", "Ws": "overwrites it"}
+
+
+def ring():
+    """A ring of two threads with two operations each, clockwise: each is before the next."""
+    steps = rings.rings_of(Test((TOP / "examples/litmus/SB.litmus").read_text(encoding="ascii")))[0]
+    # Where each box is, and its arrow's ends and label.
+    places = [(130, 60), (130, 190), (470, 60), (470, 190)]
+    arrows = [((130, 80), (130, 172), (140, 130)), ((192, 182), (408, 72), (200, 206)),
+              ((470, 80), (470, 172), (480, 130)), ((408, 182), (192, 72), (348, 206))]
+    lines = [f'<text x="{x}" y="24" text-anchor="middle" font-weight="bold">P{thread}</text>'
+             for thread, x in enumerate((130, 470))]
+    for (one, rule), place, (start, end, label) in zip(steps, places, arrows):
+        lines.append(box(*place, f"{rings.VERBS[one.kind]} {one.name}"))
+        lines.append(f'<path d="M{start[0]} {start[1]} L{end[0]} {end[1]}" stroke="#245" fill="none" '
+                     f'marker-end="url(#end)"/><text x="{label[0]}" y="{label[1]}">{RULES[rule[:2]]}</text>')
+    return svg(600, 220, lines)
+
+
 def pictures():
     yield "past.svg", timeline.picture(read_records((TRACES / "PAST.records").read_bytes()))
     yield "first_store.svg", chart.chart([TRACES / "FIRST-STORE.trace"])
     yield "line_life.svg", line_life()
+    yield "ring.svg", ring()
     yield "layers.svg", layers()
 
 

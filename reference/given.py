@@ -3,6 +3,7 @@
 A tool's `--help` is its own docstring and its options. It reports a bad text or option in one line, with status 2.
 """
 import argparse
+import os
 import sys
 from pathlib import Path
 
@@ -149,9 +150,18 @@ def records_of(path):
 
 
 def tool(main):
-    """Runs a tool, with the words of the command line: its status, or one line of what is bad."""
+    """Runs a tool, with the words of the command line: its status, or one line of what is bad. A reader that goes away,
+    as `head` does, and Ctrl-C end it without a word."""
     try:
-        sys.exit(main(sys.argv[1:]))
+        try:
+            status = main(sys.argv[1:])
+        except SystemExit as ended:
+            status = ended.code
+        sys.stdout.flush()
+        sys.exit(status)
+    except (BrokenPipeError, KeyboardInterrupt):
+        os.dup2(os.open(os.devnull, os.O_WRONLY), 1)  # what is left goes there, when Python ends
+        sys.exit(1)
     except Bad as cause:
         print(f"{Path(sys.argv[0]).name}: {cause}", file=sys.stderr)
         sys.exit(2)

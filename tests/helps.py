@@ -1,10 +1,11 @@
 #!/usr/bin/env python3
 """Asks the tools of reference/, tools/ and maintain/ for help, and gives them files that they can't read: tests/helps.py
 
-Help comes on standard output, with status 0, and no tool writes a file of the repository. For a missing file and one
-of another kind, each tool writes one line and ends with status 2; reference/oracle.py ends with status 4 for a missing
-one. The script also tries tools/page.py in copies of the repository: who plays, if the proved player isn't built,
-is built, or is older than a source. The last line is `N tried, M wrong`.
+Help comes on standard output, with status 0, and no tool writes a file of the repository. A reader that goes away ends
+a tool without a word. For a missing file and one of another kind, each tool writes one line and ends with status 2;
+reference/oracle.py ends with status 4 for a missing one. The script also tries tools/page.py in copies of the
+repository: who plays, if the proved player isn't built, is built, or is older than a source. The last line is
+`N tried, M wrong`.
 """
 import os
 import shutil
@@ -24,6 +25,13 @@ READERS = ["tools/advance.py 1 {}", "env TARDIS=reference/oracle.py tools/seeds.
            "tools/cycles.py --why {}"]
 
 
+PIPED = ["tools/cycles.py --all 8", "tools/cycles.py SB", "reference/sequential.py examples/litmus/Z6.0.litmus",
+         "env TARDIS=reference/oracle.py tools/witness.py --seeds 20 examples/litmus/SB.litmus",
+         "tools/from_herd.py tests/herd/Z6.0.litmus", "tools/page.py --player reference/play.py examples/litmus/SB.litmus",
+         "env TARDIS=reference/oracle.py tools/explain.py examples/exercises/history.trace "
+         "examples/exercises/history.records"]
+
+
 def files():
     """What there is, with the time of its last change, but for what builds and imports write."""
     return {path: path.stat().st_mtime_ns for folder in (*FOLDERS, "examples", "docs", "crates/play_events/data")
@@ -33,6 +41,14 @@ def files():
 def ran(words):
     return subprocess.run(words, cwd=TOP, capture_output=True, text=True, stdin=subprocess.DEVNULL, timeout=120,
                           check=False)
+
+
+def pipes():
+    """What tools say to a reader that goes away: nothing."""
+    for words in PIPED:
+        told = ran(["sh", "-c", f"{words} | head -n 1"])
+        if told.stderr or told.stdout.count("\n") != 1:
+            yield f"{words} | head -n 1: {told.stdout!r}, {told.stderr[-160:]!r}"
 
 
 def page_players():
@@ -93,8 +109,9 @@ def main():
         wanted = 4 if words.startswith("reference/oracle.py") and path == "no-such-file" else 2
         if got.returncode != wanted or got.stdout or got.stderr.count("\n") != 1:
             wrong.append(f"{words.format(path)}: status {got.returncode}, {got.stderr[-160:]!r}")
+    wrong += pipes()
     wrong += page_players()
-    print("\n".join([*wrong, f"{len(tools) + 2 * len(READERS) + 7} tried, {len(wrong)} wrong"]))
+    print("\n".join([*wrong, f"{len(tools) + 2 * len(READERS) + len(PIPED) + 7} tried, {len(wrong)} wrong"]))
     return int(bool(wrong))
 
 

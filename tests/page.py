@@ -8,7 +8,8 @@ refused, and prints the time that a key takes in a page of thousands of events. 
 registers and verdict with the test and its report. A changed rule's history must be marked as wrong. Nothing may be
 cut from 360 pixels on. If no Chromium is installed, it says so, and tries only what needs none.
 
-    tests/page.py PLAYER --pictures FOLDER    writes the picture of README.md and docs/TUTORIAL.md into FOLDER, too
+    tests/page.py PLAYER --pictures FOLDER    writes the pictures of README.md, docs/TUTORIAL.md and docs/TEACHING.md into
+                                              FOLDER, too
 """
 import json
 import re
@@ -515,6 +516,9 @@ def main(given):
             if given[1:2] == ["--pictures"]:
                 browser.open(f"{pages['the past']}#stale")
                 (Path(given[2]) / "page.png").write_bytes(browser.picture())
+                browser.open(f"{folder / 'wrong.html'}", 1280, 520)
+                browser.press("w")
+                (Path(given[2]) / "wrong.png").write_bytes(browser.picture())
             browser.close()
         else:
             print("page.py: no Chromium is installed (Debian's package chromium), so that no page was opened")

@@ -17,6 +17,7 @@ import sys
 from pathlib import Path
 
 sys.path.insert(0, str(Path(__file__).resolve().parent.parent))
+from reference.given import tool  # noqa: E402
 from tools import litmus_hints, program  # noqa: E402
 from tools.explained_texts import explained_text  # noqa: E402
 from tools.program import Refused, fail, text_of  # noqa: E402
@@ -215,4 +216,4 @@ def main(paths):
 
 
 if __name__ == "__main__":
-    sys.exit(main(sys.argv[1:]))
+    tool(main)

@@ -19,6 +19,7 @@ from contextlib import contextmanager
 from pathlib import Path
 
 sys.path.insert(0, str(Path(__file__).resolve().parent.parent))
+from reference.given import tool  # noqa: E402
 from tools import herd_conditions, herd_logs  # noqa: E402
 from tools.program import fail, text_of  # noqa: E402
 
@@ -513,4 +514,4 @@ def main(words):
 
 
 if __name__ == "__main__":
-    main(sys.argv[1:])
+    tool(main)

@@ -57,8 +57,9 @@ def wrong_record(run):
 
 
 def sections():
-    """By heading the text of docs/PROTOCOL.md's sections."""
-    parts = re.split(r"(?m)^## (.*)\n", (PARTS.parent.parent / "docs/PROTOCOL.md").read_text(encoding="utf-8"))
+    """By heading the text of docs/PROTOCOL.md's sections; none in a copy of the tools without docs."""
+    path = PARTS.parent.parent / "docs/PROTOCOL.md"
+    parts = re.split(r"(?m)^## (.*)\n", path.read_text(encoding="utf-8") if path.exists() else "")
     return {re.sub(r" \(.*", "", title): text.strip() for title, text in zip(parts[1::2], parts[2::2])}
 
 

@@ -17,7 +17,7 @@ from pathlib import Path
 
 sys.path.insert(0, str(Path(__file__).resolve().parent.parent))
 from reference.calls import OPTIONS  # noqa: E402
-from reference.given import NUMBERS  # noqa: E402
+from reference.given import NUMBERS, tool  # noqa: E402
 from tools import program  # noqa: E402
 from tools.program import TOP, Refused, fail  # noqa: E402
 
@@ -114,8 +114,8 @@ def told(seeds, runs, command):
         yield f"    {command} {shlex.join(seeds.command(start, 1))}"
 
 
-def main():
-    options = words().parse_args()
+def main(given):
+    options = words().parse_args(given)
     program.text_of(options.TEST)
     seeds = Seeds(options)
     seeds.look_through(options.seeds)
@@ -123,4 +123,4 @@ def main():
 
 
 if __name__ == "__main__":
-    main()
+    tool(main)

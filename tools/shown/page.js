@@ -333,7 +333,7 @@ function follow() {
 // The rule's section of docs/PROTOCOL.md, and the keys.
 function showRule() {
   const title = at ? run.steps[at - 1][4] : "";
-  byId("rule").textContent = title ? `docs/PROTOCOL.md, ${title}\n\n${run.rules[title]}` : "No event yet.";
+  byId("rule").textContent = title ? `docs/PROTOCOL.md, ${title}\n\n${run.rules[title] || ""}` : "No event yet.";
 }
 
 function turn(id) {

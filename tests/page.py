@@ -400,6 +400,7 @@ def questions(player, folder):
         found = data_of(path)["question"]
         if found != wanted or f"verdict {said.split()[-1]}\n" not in report:
             yield f"{name}: {found}, wanted {wanted}"
+    written(player, ["examples/litmus/IRIW.litmus"], folder / "IRIW.html")
     (folder / "names.litmus").write_text(NAMES)
     written(player, [str(folder / "names.litmus")], folder / "names.html")
     source = (TOP / "reference/machine.py").read_text()
@@ -451,13 +452,24 @@ def asked(browser, folder):
 
 
 def narrow(browser, folder):
-    """What is cut in windows of five sizes."""
+    """What is cut or small in windows of five sizes; of four cores, what is below the window of a projector."""
+    browser.open(f"{folder / 'IRIW'}.html", 1280, 720)
+    for at in range(0, browser.value("run.steps.length") + 1, 5):
+        below = browser.value(f"go({at}), document.querySelector('.row:last-child').getBoundingClientRect().bottom - "
+                              "document.getElementById('parts').getBoundingClientRect().bottom")
+        if below > 1:
+            yield f"IRIW at event {at}: {below} pixels are below"
     for name in ("SB", "LOCK", "names", "wrong"):
         for size in SIZES:
             browser.open(f"{folder / name}.html", *size)
             for at in ("run.steps.length >> 1", "run.steps.length"):
                 browser.value(f"go({at})")
                 fault = cut(browser)
+                small = browser.value("Math.min(...[...document.querySelectorAll('#ties g g text:not(.who):not(.order)')]"
+                                      ".map(one => parseFloat(one.style.fontSize) / size.unit))")
+                least = (11 if size[0] > 1000 else 9) - 2 * (name == "names")
+                if small is not None and small < least:
+                    yield f"{name} at {size}: letters of {small} pixels"
                 if fault or browser.value("document.documentElement.scrollWidth > innerWidth"):
                     yield f"{name} at {size}: {fault} is cut"
 

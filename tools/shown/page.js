@@ -171,7 +171,7 @@ function showCores() {
     const wire = messages(text => new RegExp(` core ${core} `).test(text)), now = acts === `core ${core}` ? " now" : "";
     return `<div class="row"><div class="core${now}" id="core-${core}" ${hue(core)} ${asSeen(`core ${core}`)}>
       <h2>core ${core}<span class="time${moved ? " new" : ""}" title="${time}">time ${brief(time)}</span></h2>
-      <ol>${program(core, room)}</ol>${registers(core)}
+      <div class="does"><ol>${program(core, room)}</ol>${registers(core)}</div>
       <div class="copies">${copies(core, time)}</div></div><div class="wire">${wire}</div></div>`;
   }).join("");
 }

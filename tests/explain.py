@@ -96,6 +96,16 @@ TEXTS = [
 
 # Tests of tests/herd_users that tools/from_herd.py converts: they have no loop, offset, array, pointer or sum.
 HERD_CONVERTED = {"AMO_X0", "CTRLFENCEI", "CoRR-locs", "IRIW+addrs", "LB+data+ctrl", "PPOCA", "SB64", "SB64b"}
+# Cells of P1 and conditions that aren't read, and words of the hint that each must get.
+SLIPS = [("lw x7,x6", "", "The operands of `lw` are xD,0(xB)."), ("ldr x5,[x6]", "", "did you mean `lw`?"),
+         ("amoswap x7,x5,(x6)", "", "`amoswap.w` or `amoswap.d`"), ("mfence", "", "did you mean `fence rw,rw`?"),
+         ("lw x7,0(x6) ;", "", "One `;` ends the row"), ("amoswap.w x7,(x6),x5", "", "are xD,xS,(xB)."),
+         ("", "final (1:x7=1)", "A condition begins with `exists`"), ("", "(1:x7=1)", "A condition begins with `exists`"),
+         ("", "forrall (x=1)", "did you mean `forall`?"), ("", "exists (1:r7=1)", "Registers are x0 to x31."),
+         ("", "exists (P1:x7=1)", "`1:x7`, not `P1:x7`"), ("", "exists (1:x7=-1)", "No number is negative."),
+         ("", "exists (1:x7=1))", "A parenthesis too many"), ("", "exists (3:x7=1)", "There is no thread 3"),
+         ("", "exists [x]=1", "`tools/from_herd.py` converts it"),
+         ("", "forall (1:x7=1 => x=1)", "`tools/from_herd.py` converts this test")]
 # Tests that are read, and what of them can't be meant.
 WARNED = [
     ("RISCV T\n{ 0:x6=x; 0:x8=y; 0:x5=1; }\n P0 ;\n sw x5,0(x6) ;\nexists x=1\n", [
@@ -185,6 +195,9 @@ def malformed(tester):
         is_read = fault_of(path.read_bytes()) is None
         says = any("from_herd.py` converts" in line for line in out)
         tester.expect(is_read or says == is_converted, f"{path.name}: {out}")
+    for cell, condition, words in SLIPS:
+        text = f"{PLAIN}{OPENING} sw x5,0(x6) | {cell} ;\n{condition or 'exists (x=1)'}\n"
+        tester.tells(["  often meant: ", words], text.encode(), names=["text.litmus"])
     for text, wanted in WARNED:
         out = tester.tells(["nothing is wrong"], text.encode(), names=["text.litmus"], is_good=True)
         tester.expect(out.split("\n")[1:] == [f"  but {one}" for one in wanted], f"{text}: {out}, wanted {wanted}")

@@ -50,18 +50,39 @@ def of_row(text, line):
     """What a line of the table may mean, by its keyword or by how many cells it has."""
     word = (line.split() or [""])[0].split("(")[0]
     near = difflib.get_close_matches(word.lower(), KEYWORDS, 1, 0.7)
+    if re.match(r"\s*\w*\s*\(*\s*\d+\s*:\s*x\d+\s*=", line) and word not in KEYWORDS and not near:
+        return "A condition begins with `exists`, `~exists` or `forall`; any other line counts as a row."
     if near and word not in KEYWORDS:
         return f"`{word}`: did you mean `{near[0]}`? Any line that begins otherwise counts as a row."
     heads = next((row for row in text.split("\n") if re.match(r"[ \t\r]*P0\b", row)), None)
     bare = line.rstrip(" \t\r")
-    if heads is None or bare == heads.rstrip(" \t\r") or bare.count(";") > 1 or ";" in bare[:-1]:
+    if heads is None or bare == heads.rstrip(" \t\r"):
         return None
+    if ";" in bare[:-1]:
+        return "One `;` ends the row; `|` stands between cells."
     if not bare.endswith(";"):
         return "The row lacks its `;`." if "|" in bare or heads.count("|") == 0 else None
     cells, threads = bare.count("|") + 1, heads.count("|") + 1
     if cells == threads:
         return None
     return f"The row has {cells} cell{'s' * (cells > 1)}, and there are {threads} threads: a blank cell stands, too."
+
+
+def of_condition(text, line):
+    """What a condition may mean that can't go on in this line."""
+    heads = next((row for row in text.split("\n") if re.match(r"[ \t\r]*P0\b", row)), "")
+    missing = [thread for thread in re.findall(r"(\d+)\s*:\s*x\d", line) if int(thread) > heads.count("|")]
+    if missing:
+        threads = heads.count("|") + 1
+        return f"There is no thread {missing[0]}: the table has {threads}, from P0 on." if threads > 1 else \
+            f"There is no thread {missing[0]}: the table has P0 alone."
+    if re.search(r"\bP\d+\s*:", line):
+        return "A thread stands as its number alone: `1:x7`, not `P1:x7`."
+    if re.search(r"\d\s*:\s*(?!x\d)\w", line):
+        return "Registers are x0 to x31."
+    if re.search(r"=\s*-", line):
+        return "No number is negative."
+    return "A parenthesis too many, or one that is missing." if line.count("(") != line.count(")") else None
 
 
 def of_block(text, number, line):
@@ -95,6 +116,8 @@ def hint(text, number, kind, cell):
         found = of_block(text, number, line)
     if kind == 7:
         found = of_row(text, line)
+    if kind == 13:
+        found = of_condition(text, line)
     if kind == 8 and cell:
         found = of_instruction(cell)
     return found

@@ -202,8 +202,9 @@ class Column:
     def is_spoiled(self, code):
         """Whether an instruction uses what an earlier obstacle spoiled, so that it can't be judged."""
         name, *words = re.findall(r"[\w.]+", code)
-        used = {REGISTERS.get(word) for word in (words if name[0] == "s" else words[1:])}
-        target = {REGISTERS[word] for word in words[:1] if word in REGISTERS and name[0] != "s"}
+        is_store = name[:2] in ("sw", "sd")
+        used = {REGISTERS.get(word) for word in (words if is_store else words[1:])}
+        target = {REGISTERS[word] for word in words[:1] if word in REGISTERS and not is_store}
         is_spoiled = bool(used & self.spoiled)
         self.spoiled = self.spoiled | target if is_spoiled else self.spoiled - target
         return is_spoiled

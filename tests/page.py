@@ -380,7 +380,7 @@ QUESTIONS = {"SB": ([[None, "x7"], [None, "x7"]], "not the end asked for; verdic
 RULE, CHANGED = "copy.rts if private else fit(copy.rts + 1)", "copy.rts"
 WRONG = ["--schedule", "seed", "--seed", "23", "--limit", "500", "--lease", "1", "--sets", "1", "--ways", "2",
          "--bank-sets", "1", "--bank-ways", "1"]
-SIZES = ((360, 740), (390, 844), (1024, 768), (1280, 720), (1920, 1080))
+SIZES = ((360, 740), (390, 844), (770, 1000), (1024, 768), (1280, 720), (1920, 1080))
 
 
 def data_of(path):
@@ -452,7 +452,7 @@ def asked(browser, folder):
 
 
 def narrow(browser, folder):
-    """What is cut or small in windows of five sizes; of four cores, what is below the window of a projector."""
+    """What is cut or small in windows of six sizes; of four cores, what is below the window of a projector."""
     browser.open(f"{folder / 'IRIW'}.html", 1280, 720)
     for at in range(0, browser.value("run.steps.length") + 1, 5):
         below = browser.value(f"go({at}), document.querySelector('.row:last-child').getBoundingClientRect().bottom - "
@@ -465,6 +465,8 @@ def narrow(browser, folder):
             for at in ("run.steps.length >> 1", "run.steps.length"):
                 browser.value(f"go({at})")
                 fault = cut(browser)
+                if browser.value("scrollY"):
+                    yield f"{name} at {size}: the page itself has moved"
                 small = browser.value("Math.min(...[...document.querySelectorAll('#ties g g text:not(.who):not(.order)')]"
                                       ".map(one => parseFloat(one.style.fontSize) / size.unit))")
                 least = (11 if size[0] > 1000 else 9) - 2 * (name == "names")

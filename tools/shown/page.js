@@ -7,7 +7,7 @@ const escaped = text => String(text).replace(/[&<>"]/g, sign => SIGNS[sign]);
 const hue = core => `style="--hue: var(--c${core % 8})"`;
 const JUMPS = [["c", "completion"], ["s", "stale hit"], ["r", "renewal"], ["l", "recall"], ["e", "eviction"]];
 if (run.wrong !== null) JUMPS.push(["w", "wrong"]);
-const PLAY = 1200, FEW = 64n, MOST_OF_NAME = 12;
+const PLAY = 1200, FEW = 64n, MOST_OF_NAME = 12, NARROW = 760;
 // The rows' units: how wide they are, where the two columns of boxes begin, and how wide a box is.
 const PLACES = {wide: [1000, 64, 545, 320], narrow: [790, 40, 388, 276]};
 let [WIDE, LEFT, RIGHT, BOX] = PLACES.wide;
@@ -245,7 +245,7 @@ let shownOrders = "";
 let size = null; // of the window of the rows: how many units a pixel has, and its height
 
 function measure() {
-  [WIDE, LEFT, RIGHT, BOX] = innerWidth < 700 ? PLACES.narrow : PLACES.wide;
+  [WIDE, LEFT, RIGHT, BOX] = innerWidth <= NARROW ? PLACES.narrow : PLACES.wide;
   const rows = byId("rows"), unit = WIDE / Math.max(rows.clientWidth, 1), frame = rows.clientHeight * unit;
   size = {unit, frame, step: Math.max(leastStep, Math.min(105, (frame - 70) / Math.max(run.records.length, 1)))};
   shownOrders = "";
@@ -327,7 +327,8 @@ function show() {
 function follow() {
   byId("rows").scrollTop = bottom(completed()) / size.unit;
   const acting = document.querySelector(".core.now") || document.querySelector(".row .new");
-  if (acting) acting.scrollIntoView({block: "nearest"});
+  // In a narrow window that would move the page itself.
+  if (acting && innerWidth > NARROW) acting.scrollIntoView({block: "nearest"});
 }
 
 // The rule's section of docs/PROTOCOL.md, and the keys.

@@ -40,6 +40,7 @@ RECORDS = [
     (4, "0 2 R 0x0 1 1 3", ["out of program order 3", "Core 0 has 2 operations in the trace, numbered from 0"]),
     (4, "1 1 R 0x0 1 1 5", ["bad number 3", "their numbers are 0 to 3, each once. None has 3.",
                             "the record with 3 is missing", "5 is too great: line 4: 1 1 R 0x0 1 1 5."]),
+    (1, "0 0 W 0x0 1 1 4", ["bad number 0", "The numbers below and above:", "  line 2: 0 1 W 0x8 1 1 1"]),
     (4, "1 1 R 0x0 1 1 1", ["bad number 3", "Two have 1: line 2: 0 1 W 0x8 1 1 1, and line 4: 1 1 R 0x0 1 1 1."]),
 ]
 # Two stores of one word, and a load of the first one behind both.

@@ -34,7 +34,7 @@ CELLS = [("lwu x7,0(x6)", LOAD), ("lw.aq.rl t2 , ( x6 )", LOAD), ("sw.rl x5,0(t1
          ("ori x7,x5,2", "li x7,3"), ("mv x7,x5", "li x7,1"),
          ("addi x7,x5,5", "li x7,6"), ("xori x7,x5,3", "li x7,2"), ("andi x7,x5,3", "li x7,1"),
          ("li x9,3|sub x7,x9,x5", "li x7,2"), ("lwu x7,0(x6)|mv x9,x5", "li x9,1"), ("xor x7,x5,x5", "li x7,0"),
-         ("andi x7,x5,0", "li x7,0"), ("add x7,x6,x0", None),
+         ("andi x7,x5,0", "li x7,0"), ("lw x0,0(x6)|add x7,x0,x5", "li x7,1"), ("add x7,x6,x0", None),
          ("bne x5,x0,L0", None), ("blt x0,x5,L0", None), ("bgez x5,L0", None), ("jal x0,L0", None), ("j L0", None),
          ("L0: sw x5,0(x6)", STORE)]
 # Cells that are refused, in line 4, or with another cell above them in line 5.
@@ -220,8 +220,9 @@ def others(tester):
     tester.expect((status, error) == (0, "") and out.endswith(wanted), f"a filter: {status} {out} {error}")
     _, _, error = tester.turned(OPENING + " li x5,2147483647 | ;\n addi x5,x5,1 | ;\n" + END)
     tester.expect("the result 2147483648, and values go from 0 to 2147483647" in error, f"a great result: {error}")
-    for held, told in ((0, "Never 0 50"), (20, "Sometimes 20 30"), (50, "Always 50 0")):
-        tester.file.write_text(f"test T\nruns 60\nall-done 50\nheld {held}\nverdict yes\n")
+    for done, held, told in ((50, 0, "Never 0 50"), (50, 20, "Sometimes 20 30"), (50, 50, "Always 50 0"),
+                             (0, 0, "Never 0 0")):
+        tester.file.write_text(f"test T\nruns 60\nall-done {done}\nheld {held}\nverdict yes\n")
         out = tester.run("--observation", str(tester.file), str(tester.file))
         tester.expect(out == (0, f"Observation T {told}\n" * 2, ""), f"{held}: {out}")
     for words in ([], ["none.litmus"], ["--observation"], ["--observation", str(TOP / "LICENSE")], [str(TOP)], ["--x"]):

@@ -32,6 +32,8 @@ CASES = {
     "a first store": (["examples/traces/FIRST-STORE.trace"], "machine cores 1", ["W 0x0 1"], "rounds 100", {}),
     "the past": (["--lease", "3", "examples/traces/PAST.trace"], "machine cores 2 lease 3",
                  ["R 0x8; W 0x0 7", "R 0x0; R 0x10; R 0x0; 4 A; R 0x0"], "rounds 100", {}),
+    "advances": (["--lease", "4", "examples/traces/ADVANCES-PAST-A-WRITE.trace"], "machine cores 2 lease 4",
+                 ["R 0x0; R 0x8; R 0x18; R 0x20; R 0x0; 5 A; R 0x0", "R 0x10; W 0x0 5"], "rounds 100", {}),
     "a lock by swaps": (["examples/litmus/LOCK.litmus"], "machine cores 3", ["S 0x0 1"] * 3, "rounds 100",
                         {"0x0": "lock"}),
     "IRIW by a seed": (["--schedule", "seed", "--seed", "7", "examples/litmus/IRIW.litmus"], "machine cores 4",

@@ -20,7 +20,7 @@ from tools import sweep  # noqa: E402
 RENEWED, ALONE = "trace 2\n0 R 0x0\n0 A\n0 A\n0 A\n0 R 0x0\n", "0 W 0x0 1\n"
 # With lease 1 and an advance after each, the loads are at the times 0 to 3, and the one at time 2 asks anew.
 LOADS, BY_ADVANCE = "0 R 0x0\n" * 4, [("0", "0", "0"), ("1", "1", "3"), ("2", "0", "1")]
-NAMED = "# two\nshort : --lease 1,3\n\nlong: --lease 4 --private-write yes # and one\n"
+NAMED = "# two\nshort : --lease 1,3\n\nlong: --lease 4 --private-write yes # and one\nsame: --lease 3\n"
 # The columns that are looked at, and their rows by lease, for lines of one word.
 LOOKED = ["lease", "line-words", "completed", "end", "renewals", "stale-hits", "order", "hits", "misses", "last-time",
           "turns", "events", "dram-loads", "RenewRep-delivered", "failed"]
@@ -95,14 +95,16 @@ def names(tester):
     """The combinations of each line of a file of names, and a plot with a line for each."""
     Path("names").write_text(NAMED)
     rows = tester.sweep("--csv", "names.csv", "--named", "names", "--lease", "2", "--time", "5", "--plot",
-                        "lease:renewals", "renewed.trace", made=3, rows=3, table="names.csv")
+                        "lease:renewals", "renewed.trace", made=4, rows=4, table="names.csv")
     got = [(row["name"], row["lease"], row["private-write"], row["time"], row["renewals"]) for row in rows]
-    wanted = [("short", "1", "no", "5", "1"), ("short", "3", "no", "5", "0"), ("long", "4", "yes", "5", "0")]
+    wanted = [("short", "1", "no", "5", "1"), ("short", "3", "no", "5", "0"), ("long", "4", "yes", "5", "0"),
+              ("same", "3", "no", "5", "0")]
     tester.expect(got == wanted, f"names: {got}, wanted {wanted}")
     root = xml.parse("names.svg").getroot()
-    said = [text.text for text in root.iter(f"{SVG}text")][-2:]
+    said = [text.text for text in root.iter(f"{SVG}text")][-3:]
     points = [line.get("points") for line in root.iter(f"{SVG}polyline")]
-    tester.expect((said, points) == (["short", "long"], ["220.0,30.0 500.0,430.0", "640.0,430.0"]), f"{said} {points}")
+    wanted = ["short", "long", "same"], ["220.0,30.0 500.0,430.0", "640.0,430.0", "500.0,430.0"]
+    tester.expect((said, points) == wanted, f"{said} {points}")
     for text, wrong in (("one\n", "names, line 1: a new name"), ("a:\n\na:\n", "names, line 3: a new name"),
                         (":\n", "names, line 1: a new name"), ("# a: b\n", "names has no name"),
                         ("a: --csv b\n", "names, line 1: unrecognized arguments: --csv b"),

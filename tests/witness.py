@@ -17,7 +17,7 @@ from tests.texts import TOP, Tester  # noqa: E402
 
 # A test of the catalogue, and options; how many seeds from which one on. In the last two some runs aren't all done.
 CASES = [("SB+yes", "", 60, 0), ("MP", "--lease 1", 50, 990), ("2+2W", "--line-words 8", 50, 7),
-         ("PRIVATE", "--private-write", 50, 0), ("SB", "--workers 16", 3, 2 ** 64 - 1),
+         ("PRIVATE", "--private-write", 50, 0), ("SB", "--workers 16", 12, 2 ** 64 - 1),
          ("WRC", "--banks 2 --sets 1 --ways 1", 40, 2 ** 64 - 20), ("LEASE", "--lease 1 --limit 100", 60, 5000),
          ("SB+forall", "--limit 80", 60, 0)]
 NO_FILE, CUT, SB = "none.litmus", "examples/bad/SB-cut.litmus", "examples/litmus/SB.litmus"

@@ -173,6 +173,7 @@ static void nulls(void) {
     struct tardis_options options;
     struct tardis_told told;
     tardis_defaults(&options);
+    length = told.kind = told.number = 7;
     MUST(tardis_defaults(NULL) == TARDIS_NULL);
     MUST(tardis_check(NULL, 1, RECORDS, 1, buffer, 1000, &length) == TARDIS_NULL);
     MUST(tardis_check(TRACE, 1, NULL, 1, buffer, 1000, &length) == TARDIS_NULL);
@@ -191,6 +192,7 @@ static void nulls(void) {
     MUST(tardis_check_records(NULL, 1, NULL, 0, &told) == TARDIS_NULL);
     MUST(tardis_check_records(NULL, 0, NULL, 1, &told) == TARDIS_NULL);
     MUST(tardis_check_records(NULL, 0, NULL, 0, NULL) == TARDIS_NULL);
+    MUST(length == 7 && told.kind == 7 && told.number == 7); /* nothing is written */
     length = 0;
     MUST(has(""));
 }

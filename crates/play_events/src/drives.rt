@@ -5,7 +5,7 @@ use event_text::{Reply, put_event};
 use interleaving_core::{Event, System};
 use physiological_order::Op;
 use programs::{End, Step, StepProgram};
-use schedules::{Driven, Policy, drive_round, drive_seed};
+use schedules::{Driven, Policy, drive_fair_round, drive_round, drive_seed};
 use std::alloc::{AllocError, Global};
 
 /// The programs of cores, and the events of the last drive.
@@ -70,6 +70,7 @@ fn driven(
     }
     Some(match policy {
         Policy::Rounds => drive_round(alloc, system, programs, limit),
+        Policy::FairRounds => drive_fair_round(alloc, system, programs, limit),
         Policy::Seed(seed) => drive_seed(alloc, system, programs, seed, limit),
     })
 }

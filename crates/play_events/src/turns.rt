@@ -35,7 +35,7 @@ impl Turns {
     pub(crate) fn new(policy: Policy) -> Turns {
         Turns {
             count: 0,
-            by_rounds: matches!(policy, Policy::Rounds),
+            by_rounds: matches!(policy, Policy::Rounds | Policy::FairRounds),
             at: BEHIND,
             evicts: false,
             tries: false,

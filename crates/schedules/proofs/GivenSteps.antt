@@ -1,55 +1,55 @@
--- What a schedule has next gives a core only what its program does.
-use Rattle.std.proofs.Common.{◌≡◌, ℕ, zero, suc, List, [], ◌∷◌, ◌++◌, map, get_or, None, Some, subst}
-use Rattle.std.specs.List.{flat_map}
-use Rattle.programs.specs.declared.steps.Step.TheVariants as step
+-- What the parts of a turn make gives a core only what its program does next.
+use Rattle.std.proofs.Common.{ℕ, Bool, true, false, List, [], ◌∷◌, ◌++◌, Option, Some, None, ◌&&◌}
 use Rattle.machine_table.specs.declared.event.Event.TheVariants as event
-use Rattle.machine_table.specs.Machine.{Machine, open_op}
-use Rattle.programs.specs.Acts.{Acts, next_in}
-use Rattle.schedules.specs.Schedules.{Schedule, Choice, Does, Tries, Delivers, Advances, Goes, Over}
-use Rattle.schedules.specs.GivenSteps.{GivesSteps}
+use Rattle.machine_table.specs.Machine.{open_op}
+use Rattle.machine_table.specs.Transition.{transition}
+use Rattle.interleaving_core.specs.LookUps.{victim_for_core, make_room}
+use Rattle.programs.specs.Acts.{Acts}
+use Rattle.schedules.specs.Parts.{Action, Does, Standing, Part, after_action, after_actions, followed_by, for_each}
+use Rattle.schedules.specs.Parts.{one, only_if, copy_leaves, makes_place, finds_no_place, tries, line_leaves, makes_room}
+use Rattle.schedules.specs.Parts.{delivery, is_evicted, is_held}
+use Rattle.schedules.specs.GivenSteps.{AreGiven, Gives}
 
-module _ {P S : Type 0} (acts : Acts P) (m : Machine) (programs : List P) where
-  -- an issue and an advance are the next step of a core without an open operation
-  unfoldable pub Gives : Choice S → Type 0
-  Gives (Does (event.Issue core op)) =
-      (open_op m core ≡ None) × (next_in acts programs core ≡ Some (step.Op op))
-  Gives (Advances core) = (open_op m core ≡ None) × (next_in acts programs core ≡ Some step.Advance)
-  Gives _ = Unit {0}
+module _ {P : Type 0} (acts : Acts P) where
+  given_both : (s : Standing P) (xs ys : List Action) → AreGiven acts s xs →
+      AreGiven acts (after_actions acts s xs) ys → AreGiven acts s (xs ++ ys)
+  given_both s [] ys front back = back
+  given_both s (x ∷ xs) ys front back = (front.0, given_both (after_action acts s x) xs ys front.1 back)
 
-  -- each of a list does
-  unfoldable pub AllGive : List (Choice S) → Type 0
-  AllGive [] = Unit {0}
-  AllGive (choice ∷ choices) = Gives choice × AllGive choices
+  pub gives_then : (f g : Part P) → Gives acts f → Gives acts g → Gives acts (followed_by acts f g)
+  gives_then f g first second s =
+      given_both s (f s) (g (after_actions acts s (f s))) (first s) (second (after_actions acts s (f s)))
 
-  pub give_both : (xs ys : List (Choice S)) → AllGive xs → AllGive ys → AllGive (xs ++ ys)
-  unfolding AllGive
-  give_both [] ys front back = back
-  give_both (x ∷ xs) ys front back = (front.0, give_both xs ys front.1 back)
+  pub gives_each : (part : ℕ → Part P) → ((n : ℕ) → Gives acts (part n)) → (numbers : List ℕ) →
+      Gives acts (for_each acts part numbers)
+  gives_each part each [] s = tt
+  gives_each part each (n ∷ numbers) s =
+      gives_then (part n) (for_each acts part numbers) (each n) (gives_each part each numbers) s
 
-  pub give_mapped : {X : Type 0} (f : X → Choice S) → ((x : X) → Gives (f x)) → (xs : List X) → AllGive (map f xs)
-  unfolding AllGive
-  give_mapped f each [] = tt
-  give_mapped f each (x ∷ xs) = (each x, give_mapped f each xs)
+  pub gives_if : (b : Bool) (f : Part P) → Gives acts f → Gives acts (only_if b f)
+  gives_if true f gives s = gives s
+  gives_if false f gives s = tt
 
-  pub give_pieces : {X : Type 0} (f : X → List (Choice S)) → ((x : X) → AllGive (f x)) → (xs : List X) →
-      AllGive (flat_map f xs)
-  unfolding AllGive
-  give_pieces f each [] = tt
-  give_pieces f each (x ∷ xs) = give_both (f x) (flat_map f xs) (each x) (give_pieces f each xs)
+  copy_gives : (core : ℕ) (o : Option ℕ) (s : Standing P) → AreGiven acts s (copy_leaves core o s)
+  copy_gives core None s = tt
+  copy_gives core (Some line) s = (tt, tt)
 
-  pub give_one : (xs : List (Choice S)) (k : ℕ) → AllGive xs → Gives (get_or xs k Over)
-  unfolding Gives AllGive
-  give_one [] zero all = tt
-  give_one [] (suc k) all = tt
-  give_one (x ∷ xs) zero all = all.0
-  give_one (x ∷ xs) (suc k) all = give_one xs k all.1
+  pub tries_give : (core : ℕ) → Gives acts (tries acts core)
+  tries_give core s =
+      gives_then (one (Does (event.Attempt core))) (only_if (finds_no_place s.machine core) (makes_place core))
+      (λ t. (tt, tt)) (gives_if (finds_no_place s.machine core) (makes_place core)
+      (λ t. copy_gives core (victim_for_core t.machine core (open_op t.machine core)) t)) s
 
--- a schedule gives cores their steps if all that it ever has next does
-pub gives_steps : {P S : Type 0} (acts : Acts P) (schedule : Schedule P S) →
-    ((m : Machine) (programs : List P) (own : S) → Gives acts m programs (schedule.next m programs own)) →
-    GivesSteps acts schedule
-unfolding Gives
-gives_steps {P} {S} acts schedule each = record {
-  issues = λ m programs own core op is. subst (Gives {P = P} {S = S} acts m programs) is (each m programs own);
-  advances = λ m programs own core is. subst (Gives {P = P} {S = S} acts m programs) is (each m programs own);
-}
+  line_gives : (fair : Bool) (number : ℕ) (o : Option (ℕ × ℕ)) → Gives acts (line_leaves acts fair number o)
+  line_gives fair number None s = tt
+  line_gives fair number (Some x) s =
+      let again = fair && is_evicted (transition s.machine (event.EvictBank x.0 x.1)).0 in
+      gives_then (one (Does (event.EvictBank x.0 x.1))) (only_if again (one (Does (event.Deliver number))))
+      (λ t. (tt, tt)) (gives_if again (one (Does (event.Deliver number))) (λ t. (tt, tt))) s
+
+  pub delivery_gives : (fair : Bool) (number : ℕ) → Gives acts (delivery acts fair number)
+  delivery_gives fair number s =
+      let held = is_held (transition s.machine (event.Deliver number)).0 in
+      gives_then (one (Does (event.Deliver number))) (only_if held (makes_room acts fair number)) (λ t. (tt, tt))
+      (gives_if held (makes_room acts fair number)
+      (λ t. line_gives fair number (make_room t.machine number) t)) s

@@ -1,7 +1,7 @@
 -- What follows from what is so of events, kept or not.
 use Rattle.std.proofs.Common.{List, Option, Some, None}
 use Rattle.machine_table.specs.declared.event.Event.{Event}
-use Rattle.schedules.specs.RunEvents.{Known}
+use Rattle.schedules.specs.Runs.{Known}
 
 pub known_too : (kept : Option (List Event)) (P Q : List Event → Type 0) → Known kept P →
     ((events : List Event) → P events → Q events) → Known kept Q

@@ -1,43 +1,64 @@
--- Rounds issue and advance a core as its program says.
-use Rattle.std.proofs.Common.{◌≡◌, ℕ, nat_lt, Bool, List, [], ◌∷◌, Option, Some, None, refl}
-use Rattle.std.proofs.lemmas.Bool.{cond_both}
+-- A core's turn, by what is open; and rounds issue and advance a core as its program says.
+use Rattle.std.proofs.Common.{◌≡◌, ℕ, Bool, true, false, [], Option, Some, None, refl}
+use Rattle.std.specs.Prelude.{is_some}
 use Rattle.physiological_order.specs.declared.operation.Op.{Op}
 use Rattle.programs.specs.declared.steps.Step.{Step}
 use Rattle.programs.specs.declared.steps.Step.TheVariants as step
-use Rattle.machine_table.specs.Machine.{Machine, open_op}
+use Rattle.machine_table.specs.declared.event.Event.TheVariants as event
+use Rattle.machine_table.specs.Machine.{open_op}
 use Rattle.programs.specs.Acts.{Acts, next_in}
-use Rattle.schedules.specs.RoundSchedule.{Round, RoundStage, Stepping, Attempting, AttemptingAgain, Delivering}
-use Rattle.schedules.specs.RoundSchedule.{rounds, round_next, step_of, attempt_of, to_stage, numbers_in_flight}
-use Rattle.schedules.specs.GivenSteps.{GivesSteps}
-use Rattle.schedules.proofs.GivenSteps.{Gives, gives_steps}
+use Rattle.schedules.specs.Parts.{Does, Standing, one, only_if, finds_no_place, tries, delivery}
+use Rattle.schedules.specs.RoundSchedule.{rising, numbers_in_flight, step_action, step_of, steps_on, tries_twice, attempts_op, attempts, core_turn}
+use Rattle.schedules.specs.RoundSchedule.{core_turns, deliveries, rounds}
+use Rattle.schedules.specs.GivenSteps.{AreGiven, Gives, GivesSteps}
+use Rattle.schedules.proofs.GivenSteps.{gives_then, gives_each, gives_if, tries_give, delivery_gives}
 
-module _ {P : Type 0} (acts : Acts P) (m : Machine) (programs : List P) where
-  step_gives : (round : Round) (core : ℕ) (o : Option (Op × Bool)) (s : Option Step) → open_op m core ≡ o →
-      next_in acts programs core ≡ s → Gives acts m programs (step_of round core o s)
-  unfolding Gives
-  step_gives round core None None free next = tt
-  step_gives round core None (Some (step.Op op)) free next = (free, next)
-  step_gives round core None (Some step.Advance) free next = (free, next)
-  step_gives round core (Some x) next is_open is_next = tt
+pub has_step : {P : Type 0} (core : ℕ) (o : Option (Op × Bool)) (n : Option Step) (next : Step) (s : Standing P) →
+    o ≡ None → n ≡ Some next → one (step_action core next) s ≡ step_of core o n s
+has_step core o n next s free is = rw (free, is) refl
 
-  attempt_gives : (round : Round) (core : ℕ) (o : Option (Op × Bool)) →
-      Gives acts m programs (attempt_of round core o)
-  unfolding Gives
-  attempt_gives round core None = tt
-  attempt_gives round core (Some x) = tt
+pub no_step : {P : Type 0} (core : ℕ) (o : Option (Op × Bool)) (next : Option Step) (s : Standing P) →
+    is_some o ≡ true → step_of core o next s ≡ []
+no_step core (Some x) next s has = refl
+no_step core None next s has = absurd cc
 
-  stage_gives : (round : Round) (stage : RoundStage) → Gives acts m programs (round_next acts m programs round stage)
-  unfolding Gives
-  stage_gives round (Stepping core) = cond_both (nat_lt core round.cores)
-      (step_of round core (open_op m core) (next_in acts programs core))
-      (to_stage round (Delivering (numbers_in_flight m)))
-      (Gives acts m programs) (λ t. step_gives round core (open_op m core) (next_in acts programs core) refl refl)
-      (λ t. tt)
-  stage_gives round (Attempting core) = attempt_gives round core (open_op m core)
-  stage_gives round (AttemptingAgain core) = tt
-  stage_gives round (Delivering []) = tt
-  stage_gives round (Delivering (number ∷ left)) = tt
+module _ {P : Type 0} (acts : Acts P) where
+  step_gives : (core : ℕ) (o : Option (Op × Bool)) (next : Option Step) (s : Standing P) → open_op s.machine core ≡ o →
+      next_in acts s.programs core ≡ next → AreGiven acts s (step_of core o next s)
+  step_gives core None None s free is = tt
+  step_gives core None (Some (step.Op op)) s free is = ((free, is), tt)
+  step_gives core None (Some step.Advance) s free is = ((free, is), tt)
+  step_gives core (Some x) next s free is = tt
 
-pub rounds_give_steps : {P : Type 0} (acts : Acts P) → GivesSteps acts (rounds acts)
-rounds_give_steps acts =
-    gives_steps acts (rounds acts) (λ m programs round. stage_gives acts m programs round round.stage)
+  pub attempted : (core : ℕ) (o : Option (Op × Bool)) (s : Standing P) → is_some o ≡ true →
+      tries_twice acts core s ≡ attempts_op acts core o s
+  attempted core (Some x) s has = refl
+  attempted core None s has = absurd cc
+
+  pub not_attempted : (core : ℕ) (o : Option (Op × Bool)) (s : Standing P) → is_some o ≡ false →
+      attempts_op acts core o s ≡ []
+  not_attempted core None s has = refl
+  not_attempted core (Some x) s has = absurd cc
+
+  attempt_gives : (core : ℕ) (o : Option (Op × Bool)) → Gives acts (attempts_op acts core o)
+  attempt_gives core None s = tt
+  attempt_gives core (Some x) s =
+      gives_then acts (tries acts core) (only_if (finds_no_place s.machine core) (one (Does (event.Attempt core))))
+      (tries_give acts core)
+      (gives_if acts (finds_no_place s.machine core) (one (Does (event.Attempt core))) (λ t. (tt, tt))) s
+
+  turn_gives : (core : ℕ) → Gives acts (core_turn acts core)
+  turn_gives core =
+      gives_then acts (steps_on acts core) (attempts acts core)
+      (λ s. step_gives core (open_op s.machine core) (next_in acts s.programs core) s refl refl)
+      (λ s. attempt_gives core (open_op s.machine core) s)
+
+  pub rounds_give_steps : GivesSteps acts (rounds acts)
+  rounds_give_steps round =
+      gives_then acts (core_turns acts round.cores) (deliveries acts round.is_fair)
+      (gives_each acts (core_turn acts) turn_gives (rising round.cores 0))
+      (λ s. (
+        tt,
+        gives_each acts (delivery acts round.is_fair) (delivery_gives acts round.is_fair)
+            (numbers_in_flight s.machine) s,
+      ))

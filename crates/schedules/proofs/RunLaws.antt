@@ -1,184 +1,241 @@
--- Laws of runs that follow their plan: the events make the machine, and all done means that nothing is left to do.
-use Rattle.std.proofs.Common.{◌≡◌, ℕ, ◌+◌, ◌<◌, ◌==◌, Bool, true, false, ◌||◌, ◌&&◌, not, is_none, List, [], ◌∷◌}
-use Rattle.std.proofs.Common.{◌++◌, Option, Some, None, refl, sym, ap, ◌∙◌, subst, ⊎_elim}
-use Rattle.std.proofs.lemmas.Bool.{and_parts, cond_both, true≢false, false≢true}
+-- Laws of runs: the events make the machine, all done means that nothing is left to do, and a run leaves no choice.
+use Rattle.std.proofs.Common.{◌≡◌, ◌≢◌, ◌⊎◌, inl, inr, ℕ, zero, suc, ◌<◌, Bool, true, ◌&&◌, not, is_none, List, []}
+use Rattle.std.proofs.Common.{◌∷◌, ◌++◌, Option, Some, None, refl, sym, ap, ◌∙◌, subst, append-nil}
+use Rattle.std.proofs.lemmas.Bool.{and_parts, cases_Bool, cond_both, false≢true}
 use Rattle.machine_table.specs.declared.event.Event.{Event}
-use Rattle.machine_table.specs.declared.event.Answer.{Answer}
 use Rattle.machine_table.specs.Machine.{Machine, open_op}
 use Rattle.machine_table.specs.Transition.{transition}
 use Rattle.machine_table.specs.Runs.{after_all}
-use Rattle.interleaving_core.specs.LookUps.{make_room, victim_for_core}
 use Rattle.programs.specs.declared.ends.End.{End}
-use Rattle.programs.specs.declared.ends.End.TheVariants.{AllDone, Stalled, TurnsUsed, NoMemory}
-use Rattle.programs.specs.Acts.{next_in}
-use Rattle.schedules.specs.Schedules.{Choice, Does, Tries, Delivers, Advances, Goes, Over}
-use Rattle.schedules.specs.Runs.{Plan, Stage, Before, Within, Evicting, MakingRoom, OutOfTimes, Position, Continuation}
-use Rattle.schedules.specs.Runs.{Makes, Moves, Ends, next, next_at, begin, chosen, next_eviction, evict_bank}
-use Rattle.schedules.specs.Runs.{does, tries, delivers, advances, eviction_leads, onward, at_stage, after_answer}
-use Rattle.schedules.specs.Runs.{is_progress, is_times_end, is_no_room, are_over}
-use Rattle.schedules.specs.RunEvents.{FollowsPlan, stays, moves, makes, Ended}
+use Rattle.programs.specs.declared.ends.End.TheVariants.{AllDone, Stalled, TurnsUsed, Exhausted, NoMemory}
+use Rattle.programs.specs.Acts.{Acts, next_in}
+use Rattle.schedules.specs.declared.policy.Policy.{Policy}
+use Rattle.schedules.specs.declared.policy.Policy.TheVariants.{Rounds, FairRounds, Seed}
+use Rattle.schedules.specs.Parts.{Action, Does, Advances, Lists, Standing, after_action, after_actions}
+use Rattle.schedules.specs.Parts.{events_of_one, events_of}
+use Rattle.schedules.specs.Policies.{EndedBy}
+use Rattle.schedules.specs.RoundSchedule.{Round, round_of, rounds, AreRounds, ArePartOfRounds, none, more}
+use Rattle.schedules.specs.Runs.{Plan, Position, begin, turn_at, end_of_turn, one_more, run, HasRun, IsCut, Ended}
+use Rattle.schedules.specs.Runs.{are_over, end_here, initial_position, opened, plan_of}
 use Rattle.schedules.proofs.Over.{each_over}
 
--- one more event
-after_more : (m : Machine) (events : List Event) (e : Event) → after_all m (events ++ e ∷ []) ≡
-    (transition (after_all m events) e).1
-after_more m [] e = refl
-after_more m (x ∷ events) e = after_more (transition m x).1 events e
+all_both : (m : Machine) (xs ys : List Event) → after_all m (xs ++ ys) ≡ after_all (after_all m xs) ys
+all_both m [] ys = refl
+all_both m (x ∷ xs) ys = all_both (transition m x).1 xs ys
 
-module _ {P S : Type 0} (plan : Plan P S) where
-  -- an answer leads to the machine afterwards
-  Arrives : (Answer → Position P S → Position P S) → Type 0
-  Arrives leads = (a : Answer) (d : Position P S) → (leads a d).machine ≡ d.machine
+module _ {P : Type 0} (acts : Acts P) where
+  one_makes : (s : Standing P) (action : Action) →
+      after_all s.machine (events_of_one acts s action) ≡ (after_action acts s action).machine
+  one_makes s (Does e) = elim (cases_Bool s.is_out) [
+    | inl out ↦ rw out refl
+    | inr out ↦ rw out refl
+  ]
+  one_makes s (Advances core) = elim (cases_Bool s.is_out) [
+    | inl out ↦ rw out refl
+    | inr out ↦ rw out refl
+  ]
+  one_makes s Lists = refl
 
-  arrives : (d : Position P S) (leads : Answer → Position P S → Position P S) → Arrives leads →
-      (o : Answer × Machine) → (after_answer d leads o).machine ≡ o.1
-  unfolding Arrives
-  arrives d leads keeps (a, m) =
-      let e = record d { machine = m; has_progressed = d.has_progressed || is_progress a } in
-      cond_both (is_times_end a) (at_stage e OutOfTimes) (leads a e) (λ x. x.machine ≡ m) (λ t. refl)
-      (λ t. keeps a e)
+  actions_make : (s : Standing P) (actions : List Action) →
+      after_all s.machine (events_of acts s actions) ≡ (after_actions acts s actions).machine
+  actions_make s [] = refl
+  actions_make s (action ∷ actions) =
+      all_both s.machine (events_of_one acts s action) (events_of acts (after_action acts s action) actions)
+      ∙ ap (λ (m : Machine). after_all m (events_of acts (after_action acts s action) actions)) (one_makes s action)
+      ∙ actions_make (after_action acts s action) actions
 
-  -- without an event the machine and the programs stay
-  Keeps : Position P S → Continuation P S → Type 0
-  Keeps d (Moves e) = (e.machine ≡ d.machine) × (e.programs ≡ d.programs)
-  Keeps d (Makes event leads) = (o : Answer × Machine) → (leads o).machine ≡ o.1
-  Keeps d (Ends e) = Unit {0}
+module _ {P S : Type 0} (plan : Plan P S) (start : Position P S) where
+  -- what is so at the start and after each part of a turn, is so at the end
+  module _ (K : Standing P → List Event → Type 0) (first : K start.standing start.events)
+      (turns : (own : S) (s : Standing P) (events : List Event) (made left : List Action) → K s events →
+      plan.schedule.turn own (begin s) ≡ made ++ left →
+      K (after_actions plan.acts (begin s) made) (events ++ events_of plan.acts (begin s) made)) where
+    more_kept : (e : End) (p : Position P S) → K p.standing p.events →
+        K (one_more plan e p).standing (one_more plan e p).events
+    more_kept TurnsUsed p so = turns p.own p.standing p.events (turn_at plan p) [] so (sym (append-nil (turn_at plan p)))
+    more_kept _ p so = so
 
-  begin_keeps : (d : Position P S) (over : Bool) → Keeps d (begin plan d over)
-  unfolding Keeps
-  begin_keeps d true = tt
-  begin_keeps d false = cond_both (d.turns == plan.limit) (Ends TurnsUsed)
-      (Moves (record d { own = plan.schedule.first d.own; stage = Within; has_progressed = false })) (Keeps d)
-      (λ t. tt) (λ t. (refl, refl))
+    run_kept : (n : ℕ) → K (run plan n start).standing (run plan n start).events
+    unfolding run
+    run_kept zero = first
+    run_kept (suc n) = more_kept (run plan n start).end (run plan n start) (run_kept n)
 
-  tries_arrives : (core : ℕ) (a : Answer) (d : Position P S) →
-      (tries plan.acts plan.schedule core a d).machine ≡ d.machine
-  tries_arrives core a d = cond_both (is_no_room a) (onward plan.acts plan.schedule true (Evicting core) d)
-      (does plan.acts plan.schedule a d) (λ x. x.machine ≡ d.machine) (λ t. refl) (λ t. refl)
+    pub all_kept : {keeps : Bool} {events : List Event} {m : Machine} {programs : List P} {e : End} →
+        (ended : Ended keeps plan start events m programs e) → K ended.last events
+    all_kept {keeps} {events} {m} {programs} {e} ended = by_end ended.ends
+      where
+        by_end : HasRun (run plan plan.limit start) events ended.last e
+            ⊎ IsCut keeps plan start events ended.last e → K ended.last events
+        by_end (inl h) = rw (h.standing_is, h.events_are) at (run_kept plan.limit)
+        by_end (inr cut) =
+            let p = run plan cut.turns start in
+            rw (cut.leads, ← cut.events_are) at
+            (turns p.own p.standing p.events cut.made cut.left (run_kept cut.turns) cut.turn_is)
 
-  chosen_keeps : (d : Position P S) (choice : Choice S) → Keeps d (chosen plan d choice)
-  unfolding Keeps Arrives
-  chosen_keeps d (Does event) = arrives d (does plan.acts plan.schedule) (λ a e. refl)
-  chosen_keeps d (Tries core) = arrives d (tries plan.acts plan.schedule core) (tries_arrives core)
-  chosen_keeps d (Delivers number) = arrives d (delivers plan.acts plan.schedule number) (λ a e. refl)
-  chosen_keeps d (Advances core) = arrives d (advances plan.acts plan.schedule core) (λ a e. refl)
-  chosen_keeps d (Goes own) = (refl, refl)
-  chosen_keeps d Over = cond_both (plan.schedule.stalls && not d.has_progressed) (Ends Stalled)
-      (Moves (record d { stage = Before; turns = d.turns + 1 })) (Keeps d) (λ t. tt) (λ t. (refl, refl))
+  pub run_makes : {keeps : Bool} {events : List Event} {m : Machine} {programs : List P} {e : End} → start.events ≡ [] →
+      Ended keeps plan start events m programs e → m ≡ after_all start.standing.machine events
+  run_makes {keeps} {events} opens ended =
+      sym ended.machine_is
+      ∙ all_kept (λ s events. s.machine ≡ after_all start.standing.machine events) (rw opens refl)
+      (λ own s events made left so is.
+      sym (all_both start.standing.machine events (events_of plan.acts (begin s) made)
+      ∙ ap (λ (m : Machine). after_all m (events_of plan.acts (begin s) made)) (sym so)
+      ∙ actions_make plan.acts (begin s) made)) ended
 
-  evict_keeps : (d : Position P S) (core : ℕ) (o : Option ℕ) → Keeps d (next_eviction d core o)
-  unfolding Keeps Arrives
-  evict_keeps d core None = (refl, refl)
-  evict_keeps d core (Some line) = arrives d eviction_leads (λ a e. refl)
+  -- all done is said of a run that left nothing to do
+  abbrev SaysDone : End → Standing P → Type 0
+  SaysDone e s = e ≡ AllDone → are_over plan.acts s.machine s.programs s.machine.config.cores ≡ true
 
-  evict_bank_keeps : (d : Position P S) (o : Option (ℕ × ℕ)) → Keeps d (evict_bank d o)
-  unfolding Keeps Arrives
-  evict_bank_keeps d None = (refl, refl)
-  evict_bank_keeps d (Some x) = arrives d eviction_leads (λ a e. refl)
+  here_says : (s : Standing P) → SaysDone (end_here plan.acts s.machine s.programs) s
+  here_says s = elim (cases_Bool (are_over plan.acts s.machine s.programs s.machine.config.cores)) [
+    | inl e ↦ λ _. e
+    | inr e ↦ rw e (λ bad. absurd cc)
+  ]
 
-  next_keeps : (d : Position P S) (stage : Stage) → Keeps d (next_at plan d stage)
-  unfolding Keeps
-  next_keeps d Before = begin_keeps d (are_over plan.acts d.machine d.programs d.machine.config.cores)
-  next_keeps d Within = chosen_keeps d (plan.schedule.next d.machine d.programs d.own)
-  next_keeps d (Evicting core) = evict_keeps d core (victim_for_core d.machine core (open_op d.machine core))
-  next_keeps d (MakingRoom number) = evict_bank_keeps d (make_room d.machine number)
-  next_keeps d OutOfTimes = tt
+  turn_says : (s : Standing P) → SaysDone (end_of_turn plan s) s
+  turn_says s = cond_both s.is_out Exhausted _ (λ e. SaysDone e s) (λ _ bad. absurd cc) (λ _.
+      cond_both (plan.schedule.stalls && not s.has_progressed) Stalled _ (λ e. SaysDone e s) (λ _ bad. absurd cc)
+      (λ _. here_says s))
 
-  pub moves_keeps : (d e : Position P S) → next plan d ≡ Moves e →
-      (e.machine ≡ d.machine) × (e.programs ≡ d.programs)
-  unfolding Keeps
-  moves_keeps d e is = subst (Keeps d) is (next_keeps d d.stage)
+  more_says : (e : End) (p : Position P S) → SaysDone p.end p.standing →
+      SaysDone (one_more plan e p).end (one_more plan e p).standing
+  more_says TurnsUsed p says = turn_says (after_actions plan.acts (begin p.standing) (turn_at plan p))
+  more_says _ p says = says
 
-  makes_keeps : (d : Position P S) (event : Event) (leads : Answer × Machine → Position P S) →
-      next plan d ≡ Makes event leads → (o : Answer × Machine) → (leads o).machine ≡ o.1
-  unfolding Keeps
-  makes_keeps d event leads is = subst (Keeps d) is (next_keeps d d.stage)
+  run_says : SaysDone start.end start.standing → (n : ℕ) → SaysDone (run plan n start).end (run plan n start).standing
+  unfolding run
+  run_says first zero = first
+  run_says first (suc n) = more_says (run plan n start).end (run plan n start) (run_says first n)
 
-  -- the events make the machine
-  pub made_by : (start d : Position P S) (events : List Event) → FollowsPlan plan start events d →
-      d.machine ≡ after_all start.machine events
-  made_by start d events stays = refl
-  made_by start d events (moves {events = taken} {d = before} {e = e} follows is) =
-      (moves_keeps before e is).0 ∙ made_by start before taken follows
-  made_by start d events (makes {events = taken} {d = before} {event = event} {leads = leads} follows is) =
-      makes_keeps before event leads is (transition before.machine event)
-      ∙ ap (λ (m : Machine). (transition m event).1) (made_by start before taken follows)
-      ∙ sym (after_more start.machine taken event)
+none_of : {A : Type 0} (o : Option A) → is_none o ≡ true → o ≡ None
+none_of None is = refl
+none_of (Some x) is = absurd (false≢true is)
 
-  -- whether the end is that all is done
-  says_done : Continuation P S → Bool
-  says_done (Ends AllDone) = true
-  says_done _ = false
-
-  begin_says : (d : Position P S) (over : Bool) → says_done (begin plan d over) ≡ true → over ≡ true
-  unfolding says_done
-  begin_says d true done = refl
-  begin_says d false done =
-      absurd (true≢false (sym done ∙ cond_both (d.turns == plan.limit) (Ends TurnsUsed)
-      (Moves (record d { own = plan.schedule.first d.own; stage = Within; has_progressed = false }))
-      (λ x. says_done x ≡ false) (λ t. refl) (λ t. refl)))
-
-  chosen_says : (d : Position P S) (choice : Choice S) → says_done (chosen plan d choice) ≡ false
-  unfolding says_done
-  chosen_says d (Does event) = refl
-  chosen_says d Over = cond_both (plan.schedule.stalls && not d.has_progressed) (Ends Stalled)
-      (Moves (record d { stage = Before; turns = d.turns + 1 })) (λ x. says_done x ≡ false) (λ t. refl) (λ t. refl)
-  chosen_says d _ = refl
-
-  evict_says : (d : Position P S) (core : ℕ) (o : Option ℕ) → says_done (next_eviction d core o) ≡ false
-  unfolding says_done
-  evict_says d core None = refl
-  evict_says d core (Some line) = refl
-
-  evict_bank_says : (d : Position P S) (o : Option (ℕ × ℕ)) → says_done (evict_bank d o) ≡ false
-  unfolding says_done
-  evict_bank_says d None = refl
-  evict_bank_says d (Some x) = refl
-
-  never : {A : Type 0} {b : Bool} → b ≡ true → b ≡ false → A
-  never here not_here = absurd (true≢false (sym here ∙ not_here))
-
-  next_says : (d : Position P S) (stage : Stage) → says_done (next_at plan d stage) ≡ true →
-      are_over plan.acts d.machine d.programs d.machine.config.cores ≡ true
-  unfolding says_done
-  next_says d Before done = begin_says d (are_over plan.acts d.machine d.programs d.machine.config.cores) done
-  next_says d Within done = never done (chosen_says d (plan.schedule.next d.machine d.programs d.own))
-  next_says d (Evicting core) done =
-      never done (evict_says d core (victim_for_core d.machine core (open_op d.machine core)))
-  next_says d (MakingRoom number) done = never done (evict_bank_says d (make_room d.machine number))
-  next_says d OutOfTimes done = absurd (false≢true done)
-
-  none_of : {A : Type 0} (o : Option A) → is_none o ≡ true → o ≡ None
-  none_of None none = refl
-  none_of (Some x) none = absurd (false≢true none)
-
+module _ {P S : Type 0} (plan : Plan P S) (m : Machine) (opening : List P) (own : S) where
   -- all done means that no core has an open operation and no program a next step
-  nothing_left : (d : Position P S) → next plan d ≡ Ends AllDone → (core : ℕ) → core < d.machine.config.cores →
-      (open_op d.machine core ≡ None) × (next_in plan.acts d.programs core ≡ None)
-  unfolding says_done
-  nothing_left d all core below =
-      let over = next_says d d.stage (ap says_done all) in
-      let parts = and_parts (is_none (open_op d.machine core)) (is_none (next_in plan.acts d.programs core))
-      (each_over plan.acts d.machine d.programs d.machine.config.cores core below over) in
-      (none_of (open_op d.machine core) parts.0, none_of (next_in plan.acts d.programs core) parts.1)
+  pub run_leaves_nothing : {keeps : Bool} {events : List Event} {after : Machine} {programs : List P} {e : End} →
+      Ended keeps plan (initial_position plan.acts m opening own) events after programs e → e ≡ AllDone → (core : ℕ) →
+      core < after.config.cores → (open_op after core ≡ None) × (next_in plan.acts programs core ≡ None)
+  run_leaves_nothing {keeps} {events} {after} {programs} {e} ended done core below =
+      rw (ended.machine_is, ended.programs_are) at (nothing_left (by_end ended.ends))
+    where
+      start : Position P S
+      start = initial_position plan.acts m opening own
 
-  is_all : End → Bool
-  is_all AllDone = true
-  is_all _ = false
+      s : Standing P
+      s = ended.last
 
-  other : AllDone ≡ NoMemory → ⊥
-  unfolding is_all
-  other same = true≢false (ap is_all same)
+      by_end : HasRun (run plan plan.limit start) events ended.last e
+          ⊎ IsCut keeps plan start events ended.last e →
+          are_over plan.acts ended.last.machine ended.last.programs ended.last.machine.config.cores ≡ true
+      by_end (inl h) =
+          rw h.standing_is at (run_says plan start (here_says plan start start.standing) plan.limit (h.end_is ∙ done))
+      by_end (inr cut) = absurd (let bad = sym done ∙ cut.end_is in cc)
 
-  module _ (start : Position P S) (events : List Event) (m : Machine) (programs : List P) (e : End)
-      {keeps : Bool} (ended : Ended keeps plan start events m programs e) where
-    pub run_makes : m ≡ after_all start.machine events
-    run_makes = sym ended.machine_is ∙ made_by start ended.last events ended.follows
+      nothing_left : are_over plan.acts ended.last.machine ended.last.programs ended.last.machine.config.cores ≡ true →
+          (open_op ended.last.machine core ≡ None) × (next_in plan.acts ended.last.programs core ≡ None)
+      nothing_left over =
+          let parts = and_parts (is_none (open_op ended.last.machine core))
+          (is_none (next_in plan.acts ended.last.programs core))
+          (each_over plan.acts ended.last.machine ended.last.programs ended.last.machine.config.cores core
+          (rw ended.machine_is below) over) in (
+            none_of (open_op ended.last.machine core) parts.0,
+            none_of (next_in plan.acts ended.last.programs core) parts.1,
+          )
 
-    pub run_leaves_nothing : e ≡ AllDone → (core : ℕ) → core < m.config.cores →
-        (open_op m core ≡ None) × (next_in plan.acts programs core ≡ None)
-    run_leaves_nothing done core below =
-        rw (ended.machine_is, ended.programs_are) at
-        (nothing_left ended.last (⊎_elim (λ ends. ends ∙ ap Ends done) (λ memory. absurd (other (sym
-        done ∙ memory.0))) ended.ends) core (subst (λ (k : Machine). core < k.config.cores) (sym ended.machine_is)
-        below))
+-- a run that its last turn ended
+not_cut : {P S : Type 0} {keeps : Bool} {plan : Plan P S} {start : Position P S} {events : List Event} {m : Machine}
+    {programs : List P} {e : End} (ended : Ended keeps plan start events m programs e) → e ≢ NoMemory →
+    HasRun (run plan plan.limit start) events ended.last e
+not_cut ended other = elim ended.ends [
+  | inl h ↦ h
+  | inr cut ↦ absurd (other cut.end_is)
+]
+
+-- a run leaves no choice
+same_run : {P S : Type 0} {keeps : Bool} (plan : Plan P S) (start : Position P S) (events others : List Event)
+    (m n : Machine) (programs told : List P) (e last : End) → Ended keeps plan start events m programs e →
+    Ended keeps plan start others n told last → e ≢ NoMemory → last ≢ NoMemory →
+    (events ≡ others) × (m ≡ n) × (programs ≡ told) × (e ≡ last)
+same_run {P} plan start events others m n programs told e last first second had too =
+    let a = not_cut first had in
+    let b = not_cut second too in
+    let same : first.last ≡ second.last = sym a.standing_is ∙ b.standing_is in (
+      sym a.events_are ∙ b.events_are,
+      sym first.machine_is ∙ ap (λ (s : Standing P). s.machine) same ∙ second.machine_is,
+      sym first.programs_are ∙ ap (λ (s : Standing P). s.programs) same ∙ second.programs_are,
+      sym a.end_is ∙ b.end_is,
+    )
+
+-- so it is of every policy
+pub same_list : {P : Type 0} (acts : Acts P) (policy : Policy) (limit : ℕ) (start : Machine) (opening : List P)
+    (events others : List Event) (m n : Machine) (programs told : List P) (e last : End) →
+    EndedBy acts policy limit start opening events m programs e →
+    EndedBy acts policy limit start opening others n told last →
+    e ≢ NoMemory → last ≢ NoMemory → (events ≡ others) × (m ≡ n) × (programs ≡ told) × (e ≡ last)
+same_list acts Rounds limit start opening events others m n programs told e last = same_run _ _ events others m n programs told e last
+same_list acts FairRounds limit start opening events others m n programs told e last = same_run _ _ events others m n programs told e last
+same_list acts (Seed seed) limit start opening events others m n programs told e last = same_run _ _ events others m n programs told e last
+
+-- a run by rounds makes rounds
+module _ {P : Type 0} (acts : Acts P) (limit : ℕ) (round : Round) (m : Machine) (opening : List P) where
+  abbrev plan : Plan P Round
+  plan = plan_of acts (rounds acts) limit
+
+  abbrev start : Position P Round
+  start = initial_position acts m opening round
+
+  record Stands (p : Position P Round) : Type 0 where
+    own_is : p.own ≡ round
+    rounds_are : AreRounds acts round (opened m opening) p.events p.standing
+
+  more_stands : (e : End) (p : Position P Round) → Stands p → Stands (one_more plan e p)
+  more_stands TurnsUsed p so = record {
+    own_is = so.own_is;
+    rounds_are = subst (λ (r : Round). AreRounds acts round (opened m opening)
+        (p.events ++ events_of acts (begin p.standing) (round_of acts r (begin p.standing)))
+        (after_actions acts (begin p.standing) (round_of acts r (begin p.standing)))) (sym so.own_is)
+        (more so.rounds_are);
+  }
+  more_stands _ p so = so
+
+  run_stands : (n : ℕ) → Stands (run plan n start)
+  unfolding run
+  run_stands zero = record { own_is = refl; rounds_are = none }
+  run_stands (suc n) = more_stands (run plan n start).end (run plan n start) (run_stands n)
+
+  module _ (keeps : Bool) (events : List Event) (after : Machine) (programs : List P) (e : End)
+      (ended : Ended keeps plan start events after programs e) where
+    by_run : HasRun (run plan limit start) events ended.last e →
+        AreRounds acts round (opened m opening) events ended.last
+    by_run h = rw (h.standing_is, h.events_are) at (run_stands limit).rounds_are
+
+    pub whole_rounds : e ≢ NoMemory → (last : Standing P) × (last.machine ≡ after) × (last.programs ≡ programs)
+        × AreRounds acts round (opened m opening) events last
+    whole_rounds had = (ended.last, ended.machine_is, ended.programs_are, by_run (not_cut ended had))
+
+    pub part_of_rounds : ArePartOfRounds acts round (opened m opening) events
+    part_of_rounds = by_end ended.ends
+      where
+        by_end : HasRun (run plan limit start) events ended.last e ⊎ IsCut keeps plan start events ended.last e →
+            ArePartOfRounds acts round (opened m opening) events
+        by_end (inl h) = record {
+          before = events;
+          begun = ended.last;
+          rounds_are = by_run h;
+          made = [];
+          left = round_of acts round (begin ended.last);
+          events_are = sym (append-nil events);
+          round_is = refl;
+        }
+        by_end (inr cut) =
+            let so = run_stands cut.turns in record {
+              before = (run plan cut.turns start).events;
+              begun = (run plan cut.turns start).standing;
+              rounds_are = so.rounds_are;
+              made = cut.made;
+              left = cut.left;
+              events_are = cut.events_are;
+              round_is = ap (λ (r : Round). round_of acts r (begin (run plan cut.turns start).standing)) (sym so.own_is)
+                  ∙ cut.turn_is;
+            }

@@ -1,7 +1,7 @@
 -- Whatever the end of a run, each core was issued what its program gave, and the program was told of each record.
-use Rattle.std.proofs.Common.{◌≡◌, ℕ, ◌+◌, ◌<◌, ◌==◌, Bool, true, false, ◌||◌, ◌&&◌, not, List, [], ◌∷◌, ◌++◌, length}
-use Rattle.std.proofs.Common.{map, get_or, Option, Some, None, refl, sym, ap, ◌∙◌, subst, ⊎_elim, arith}
-use Rattle.std.proofs.Common.{append-nil, append_assoc}
+use Rattle.std.proofs.Common.{◌≡◌, ℕ, ◌+◌, ◌<◌, ◌==◌, Bool, false, List, [], ◌∷◌, ◌++◌, length}
+use Rattle.std.proofs.Common.{map, get_or, Option, Some, None, refl, sym, ap, ◌∙◌, subst, arith}
+use Rattle.std.proofs.Common.{append-nil, append_assoc, inl, inr, if◌then◌else◌}
 use Rattle.std.specs.Prelude.{slice_get, option_map}
 use Rattle.std.proofs.lemmas.Bool.{cond_both, true≢false}
 use Rattle.std.proofs.lemmas.Option.{slice_get_within}
@@ -20,25 +20,20 @@ use Rattle.machine_table.specs.Machine.{Machine, operation_of, open_op, open_op_
 use Rattle.machine_table.specs.Transition.{transition}
 use Rattle.protocol.specs.Issued.{IsIssued, listed}
 use Rattle.machine_theorem.proofs.Lemmas.{after_all_same}
-use Rattle.interleaving_core.specs.LookUps.{make_room, victim_for_core}
 use Rattle.programs.specs.declared.ends.End.{End}
-use Rattle.programs.specs.declared.ends.End.TheVariants.{Stalled, TurnsUsed}
-use Rattle.programs.specs.Acts.{Acts, done_in}
-use Rattle.schedules.specs.Schedules.{Choice, Does, Tries, Delivers, Advances, Goes, Over}
-use Rattle.schedules.specs.Runs.{Plan, Stage, Before, Within, Evicting, MakingRoom, OutOfTimes, Position, Continuation}
-use Rattle.schedules.specs.Runs.{Makes, Moves, Ends, next, next_at, begin, chosen, next_eviction, evict_bank}
-use Rattle.schedules.specs.Runs.{does, tries, delivers, advances, eviction_leads, onward, programs_told, at_stage}
-use Rattle.schedules.specs.Runs.{after_answer, is_progress, is_times_end, is_advanced, is_no_room}
-use Rattle.schedules.specs.Runs.{are_over}
-use Rattle.schedules.specs.RunEvents.{FollowsPlan, stays, moves, makes, Ended}
+use Rattle.programs.specs.declared.steps.Step.TheVariants as step
+use Rattle.programs.specs.Acts.{Acts, done_in, next_in}
+use Rattle.schedules.specs.Parts.{Action, Does, Advances, Lists, Standing, after_action, after_actions, after_answer}
+use Rattle.schedules.specs.Parts.{programs_told, told_advance, is_advanced}
+use Rattle.schedules.specs.Runs.{Plan, begin, initial_position, Ended}
 use Rattle.machine_theorem.specs.Service.{AreServed}
-use Rattle.schedules.specs.GivenSteps.{GivesSteps}
-use Rattle.schedules.proofs.TableSteps.{op_at, IsQuiet, Opens, IsDone, is_completion}
+use Rattle.schedules.specs.GivenSteps.{GivesSteps, AreGiven, IsGiven}
+use Rattle.schedules.proofs.TableSteps.{op_at, IsQuiet, is_completion}
 use Rattle.schedules.proofs.TableSteps.{not_completed, issue_does, attempt_does, advance_stays, delivery_stays}
 use Rattle.schedules.proofs.TableSteps.{cache_eviction_stays, bank_eviction_stays}
 use Rattle.schedules.proofs.ServiceSteps.{Serving, served_none, served_quiet, served_issue, served_done}
 use Rattle.schedules.proofs.ServiceSteps.{served_advance}
-use Rattle.schedules.proofs.RunLaws.{moves_keeps, made_by}
+use Rattle.schedules.proofs.RunLaws.{all_kept}
 
 -- behind the first of the records
 pub behind : (rs more : List Record) (k : ℕ) (ops : List Op) → Stand k ops (rs ++ more) →
@@ -107,203 +102,119 @@ untold : {P : Type 0} (acts : Acts P) (programs : List P) (a : Answer) → is_co
 untold acts programs (answer.Completed done) silent = absurd (true≢false silent)
 untold acts programs _ silent = refl
 
--- no want of room is a completion
-room_silent : (a : Answer) → is_no_room a ≡ true → is_completion a ≡ false
-room_silent (answer.Completed done) room = absurd (true≢false (sym room))
-room_silent _ room = refl
+module _ {P : Type 0} (acts : Acts P) (start : Machine) (opening : List P) where
+  record Kept (s : Standing P) : Type 0 where
+    serving : Serving acts start opening s.machine s.programs
+    count : length s.machine.cores ≡ start.config.cores
 
-module _ {P S : Type 0} (plan : Plan P S) (gives : GivesSteps plan.acts plan.schedule) (start : Position P S) where
-  abbrev Kept : Machine → List P → Type 0
-  Kept m programs = Serving plan.acts start.machine start.programs m programs
+  -- an answered event leads to where it is so again
+  answered : (s : Standing P) (tells : Answer → List P) (event : Event) → Kept s →
+      Serving acts start opening (transition s.machine event).1 (tells (transition s.machine event).0) →
+      Kept (if s.is_out then s else after_answer s tells (transition s.machine event))
+  answered s tells event so on =
+      cond_both s.is_out s (after_answer s tells (transition s.machine event)) Kept (λ out. so)
+      (λ more. record { serving = on; count = (after_all_same s.machine (event ∷ [])).cores ∙ so.count })
 
-  abbrev KeptAt : Position P S → Type 0
-  KeptAt d = Kept d.machine d.programs
-
-  -- where an answer leads
-  lands : (d : Position P S) (leads : Answer → Position P S → Position P S) (o : Answer × Machine) →
-      (is_times_end o.0 ≡ true → Kept o.1 d.programs) →
-      ((e : Position P S) → e.machine ≡ o.1 → e.programs ≡ d.programs → KeptAt (leads o.0 e)) →
-      KeptAt (after_answer d leads o)
-  lands d leads (a, m) out on =
-      let e : Position P S = record d { machine = m; has_progressed = d.has_progressed || is_progress a } in
-      cond_both (is_times_end a) (at_stage e OutOfTimes) (leads a e) KeptAt out (λ t. on e refl refl)
-
-  module _ (d : Position P S) (so_far : KeptAt d)
-      (count : length d.machine.cores ≡ start.machine.config.cores) where
-    -- an event leads to where it is so again
-    Onward : Continuation P S → Type 0
-    Onward (Makes event leads) = KeptAt (leads (transition d.machine event))
-    Onward (Moves e) = Unit {0}
-    Onward (Ends e) = Unit {0}
+  module _ (s : Standing P) (so : Kept s) where
+    abbrev Told : Event → Type 0
+    Told event = Serving acts start opening (transition s.machine event).1
+        (programs_told acts s.programs (transition s.machine event).0)
 
     -- nothing is opened or completed, and no program told
-    quietly : (leads : Answer → Position P S → Position P S) (event : Event) →
-        IsQuiet d.machine (transition d.machine event).1 →
-        ((e : Position P S) (a : Answer) → is_completion a ≡ false →
-        ((leads a e).machine ≡ e.machine) × ((leads a e).programs ≡ e.programs)) →
-        KeptAt (after_answer d leads (transition d.machine event))
-    quietly leads event quiet same =
-        let on = served_quiet plan.acts start.machine start.programs d.machine (transition d.machine event).1
-        d.programs so_far quiet in
-        let silent = not_completed d.machine event quiet.records in
-        lands d leads (transition d.machine event) (λ t. on) (λ e machine programs.
-        let is = same e (transition d.machine event).0 silent in rw (is.0, is.1, machine, programs) on)
+    quietly : (event : Event) → IsQuiet s.machine (transition s.machine event).1 → Told event
+    quietly event quiet =
+        rw (untold acts s.programs (transition s.machine event).0 (not_completed s.machine event quiet.records))
+        (served_quiet acts start opening s.machine (transition s.machine event).1 s.programs so.serving quiet)
 
-    does_same : (e : Position P S) (a : Answer) → is_completion a ≡ false →
-        ((does plan.acts plan.schedule a e).machine ≡ e.machine) ×
-        ((does plan.acts plan.schedule a e).programs ≡ e.programs)
-    does_same e a silent = (refl, untold plan.acts e.programs a silent)
+    issued : (core : ℕ) (op : Op) → next_in acts s.programs core ≡ Some (step.Op op) → Told (Issue core op)
+    issued core op next = elim (issue_does s.machine core op) [
+      | inl quiet ↦ quietly (Issue core op) quiet
+      | inr opens ↦
+          rw (untold acts s.programs (transition s.machine (Issue core op)).0
+          (not_completed s.machine (Issue core op) opens.records))
+          (served_issue acts start opening s.machine (transition s.machine (Issue core op)).1 s.programs so.serving core
+          op next opens)
+    ]
 
     -- a completion is told
-    tells : (leads : Answer → Position P S → Position P S) (core : ℕ) →
-        ((e : Position P S) (a : Answer) → ((leads a e).machine ≡ e.machine) ×
-        ((leads a e).programs ≡ programs_told plan.acts e.programs a)) →
-        KeptAt (after_answer d leads (transition d.machine (Attempt core)))
-    tells leads core same =
-        let o = transition d.machine (Attempt core) in
-        ⊎_elim
-        (λ (silent : (is_completion o.0 ≡ false) × IsQuiet d.machine o.1).
-        let on = served_quiet plan.acts start.machine start.programs d.machine o.1 d.programs so_far silent.1 in
-        lands d leads o (λ t. on) (λ e machine programs. rw (
-          (same e o.0).0,
-          (same e o.0).1,
-          machine,
-          programs,
-          untold plan.acts d.programs o.0 silent.0,
-        ) on))
-        (λ (ends : (done : Record) × (o.0 ≡ answer.Completed done) × IsDone d.machine core done o.1).
-        let below : core < start.machine.config.cores = subst (λ (n : ℕ). core < n) count
-        (has_core d.machine.cores core (slice_get d.machine.cores core) ends.0.op refl ends.2.op) in
-        let on = subst (λ (c : ℕ). Kept o.1 (done_in plan.acts d.programs c ends.0.received)) (sym ends.2.core)
-        (served_done plan.acts start.machine start.programs d.machine o.1 d.programs so_far core ends.0 below
-        ends.2) in
-        lands d leads o (λ t. absurd (true≢false (sym t ∙ ap is_times_end ends.1))) (λ e machine programs.
-        rw ((same e o.0).0, (same e o.0).1, machine, programs, ends.1) on))
-        (attempt_does d.machine core)
+    attempted : (core : ℕ) → Told (Attempt core)
+    attempted core = elim (attempt_does s.machine core) [
+      | inl silent ↦
+          rw (untold acts s.programs (transition s.machine (Attempt core)).0 silent.0)
+          (served_quiet acts start opening s.machine (transition s.machine (Attempt core)).1 s.programs so.serving
+          silent.1)
+      | inr ends ↦
+          let below : core < start.config.cores = subst (λ (n : ℕ). core < n) so.count
+          (has_core s.machine.cores core (slice_get s.machine.cores core) ends.0.op refl ends.2.op) in
+          rw (ends.1, ends.2.core)
+          (served_done acts start opening s.machine (transition s.machine (Attempt core)).1 s.programs so.serving core
+          ends.0 below ends.2)
+    ]
 
-    tries_same : (core : ℕ) (e : Position P S) (a : Answer) →
-        ((tries plan.acts plan.schedule core a e).machine ≡ e.machine) ×
-        ((tries plan.acts plan.schedule core a e).programs ≡ programs_told plan.acts e.programs a)
-    tries_same core e a = cond_both (is_no_room a) (onward plan.acts plan.schedule true (Evicting core) e)
-        (does plan.acts plan.schedule a e)
-        (λ x. (x.machine ≡ e.machine) × (x.programs ≡ programs_told plan.acts e.programs a))
-        (λ t. (refl, sym (untold plan.acts e.programs a (room_silent a t)))) (λ t. (refl, refl))
+    -- a program goes on after its advance
+    advanced : (core : ℕ) → open_op s.machine core ≡ None → next_in acts s.programs core ≡ Some step.Advance →
+        Serving acts start opening (transition s.machine (Advance core)).1
+        (told_advance acts s.programs core (transition s.machine (Advance core)).0)
+    advanced core free next =
+        let o = transition s.machine (Advance core) in
+        let quiet = advance_stays s.machine core in
+        cond_both (is_advanced o.0) (done_in acts s.programs core None) s.programs
+        (λ (ps : List P). Serving acts start opening o.1 ps)
+        (λ t. served_advance acts start opening s.machine o.1 s.programs so.serving core
+        (none_open s.machine core free) next quiet)
+        (λ t. served_quiet acts start opening s.machine o.1 s.programs so.serving quiet)
 
-    -- an event that a schedule has next
-    does_onward : (event : Event) → plan.schedule.next d.machine d.programs d.own ≡ Does event →
-        KeptAt (after_answer d (does plan.acts plan.schedule) (transition d.machine event))
-    does_onward (Issue core op) is =
-        let step = gives.issues d.machine d.programs d.own core op is in
-        ⊎_elim
-        (λ (quiet : IsQuiet d.machine (transition d.machine (Issue core op)).1).
-        quietly (does plan.acts plan.schedule) (Issue core op) quiet does_same)
-        (λ (opens : Opens d.machine core op (transition d.machine (Issue core op)).1).
-        let on = served_issue plan.acts start.machine start.programs d.machine
-        (transition d.machine (Issue core op)).1 d.programs so_far core op step.1 opens in
-        let silent = not_completed d.machine (Issue core op) opens.records in
-        lands d (does plan.acts plan.schedule) (transition d.machine (Issue core op)) (λ t. on) (λ e machine programs.
-        rw (
-          untold plan.acts e.programs (transition d.machine (Issue core op)).0 silent,
-          machine,
-          programs,
-        ) on))
-        (issue_does d.machine core op)
-    does_onward (Attempt core) is = tells (does plan.acts plan.schedule) core (λ e a. (refl, refl))
-    does_onward (Deliver number) is = quietly (does plan.acts plan.schedule) (Deliver number)
-        (delivery_stays d.machine number) does_same
-    does_onward (EvictCache core line) is = quietly (does plan.acts plan.schedule) (EvictCache core line)
-        (cache_eviction_stays d.machine core line) does_same
-    does_onward (EvictBank bank line) is = quietly (does plan.acts plan.schedule) (EvictBank bank line)
-        (bank_eviction_stays d.machine bank line) does_same
-    does_onward (Advance core) is = quietly (does plan.acts plan.schedule) (Advance core)
-        (advance_stays d.machine core) does_same
+  one_kept : (s : Standing P) (action : Action) → IsGiven acts s action → Kept s → Kept (after_action acts s action)
+  one_kept s Lists given so = so
+  one_kept s (Advances core) given so =
+      answered s (told_advance acts s.programs core) (Advance core) so (advanced s so core given.0 given.1)
+  one_kept s (Does (Issue core op)) given so =
+      answered s (programs_told acts s.programs) (Issue core op) so (issued s so core op given.1)
+  one_kept s (Does (Attempt core)) given so =
+      answered s (programs_told acts s.programs) (Attempt core) so (attempted s so core)
+  one_kept s (Does (Deliver number)) given so =
+      answered s (programs_told acts s.programs) (Deliver number) so
+      (quietly s so (Deliver number) (delivery_stays s.machine number))
+  one_kept s (Does (EvictCache core line)) given so =
+      answered s (programs_told acts s.programs) (EvictCache core line) so
+      (quietly s so (EvictCache core line) (cache_eviction_stays s.machine core line))
+  one_kept s (Does (EvictBank bank line)) given so =
+      answered s (programs_told acts s.programs) (EvictBank bank line) so
+      (quietly s so (EvictBank bank line) (bank_eviction_stays s.machine bank line))
+  one_kept s (Does (Advance core)) given so =
+      answered s (programs_told acts s.programs) (Advance core) so
+      (quietly s so (Advance core) (advance_stays s.machine core))
 
-    advances_onward : (core : ℕ) → plan.schedule.next d.machine d.programs d.own ≡ Advances core →
-        KeptAt (after_answer d (advances plan.acts plan.schedule core) (transition d.machine (Advance core)))
-    advances_onward core is =
-        let step = gives.advances d.machine d.programs d.own core is in
-        let o = transition d.machine (Advance core) in
-        let quiet = advance_stays d.machine core in
-        let still = served_quiet plan.acts start.machine start.programs d.machine o.1 d.programs so_far quiet in
-        let moved = served_advance plan.acts start.machine start.programs d.machine o.1 d.programs so_far core
-        (none_open d.machine core step.0) step.1 quiet in
-        lands d (advances plan.acts plan.schedule core) o (λ t. still) (λ e machine programs.
-        rw (machine, programs) (cond_both (is_advanced o.0) (done_in plan.acts d.programs core None) d.programs
-        (λ (ps : List P). Kept o.1 ps) (λ t. moved) (λ t. still)))
+  -- the front of a turn whose steps are given
+  front_kept : (s : Standing P) (made left : List Action) → AreGiven acts s (made ++ left) → Kept s →
+      Kept (after_actions acts s made)
+  front_kept s [] left given so = so
+  front_kept s (action ∷ made) left given so =
+      front_kept (after_action acts s action) made left given.1 (one_kept s action given.0 so)
 
-    chosen_onward : (choice : Choice S) → plan.schedule.next d.machine d.programs d.own ≡ choice →
-        Onward (chosen plan d choice)
-    unfolding Onward
-    chosen_onward (Does event) is = does_onward event is
-    chosen_onward (Tries core) is = tells (tries plan.acts plan.schedule core) core (tries_same core)
-    chosen_onward (Delivers number) is = quietly (delivers plan.acts plan.schedule number) (Deliver number)
-        (delivery_stays d.machine number) (λ e a silent. (refl, refl))
-    chosen_onward (Advances core) is = advances_onward core is
-    chosen_onward (Goes own) is = tt
-    chosen_onward Over is = cond_both (plan.schedule.stalls && not d.has_progressed) (Ends Stalled)
-        (Moves (record d { stage = Before; turns = d.turns + 1 })) Onward (λ t. tt) (λ t. tt)
-
-    evict_onward : (core : ℕ) (o : Option ℕ) → Onward (next_eviction d core o)
-    unfolding Onward
-    evict_onward core None = tt
-    evict_onward core (Some line) =
-        quietly eviction_leads (EvictCache core line) (cache_eviction_stays d.machine core line)
-        (λ e a silent. (refl, refl))
-
-    evict_bank_onward : (o : Option (ℕ × ℕ)) → Onward (evict_bank d o)
-    unfolding Onward
-    evict_bank_onward None = tt
-    evict_bank_onward (Some x) = quietly eviction_leads (EvictBank x.0 x.1) (bank_eviction_stays d.machine x.0 x.1)
-        (λ e a silent. (refl, refl))
-
-    begin_onward : (over : Bool) → Onward (begin plan d over)
-    unfolding Onward
-    begin_onward true = tt
-    begin_onward false = cond_both (d.turns == plan.limit) (Ends TurnsUsed)
-        (Moves (record d { own = plan.schedule.first d.own; stage = Within; has_progressed = false })) Onward
-        (λ t. tt) (λ t. tt)
-
-    next_onward : (s : Stage) → Onward (next_at plan d s)
-    unfolding Onward
-    next_onward Before = begin_onward (are_over plan.acts d.machine d.programs d.machine.config.cores)
-    next_onward Within = chosen_onward (plan.schedule.next d.machine d.programs d.own) refl
-    next_onward (Evicting core) = evict_onward core (victim_for_core d.machine core (open_op d.machine core))
-    next_onward (MakingRoom number) = evict_bank_onward (make_room d.machine number)
-    next_onward OutOfTimes = tt
-
-    goes_on : (event : Event) (leads : Answer × Machine → Position P S) → next plan d ≡ Makes event leads →
-        KeptAt (leads (transition d.machine event))
-    unfolding Onward
-    goes_on event leads is = subst Onward is (next_onward d.stage)
-
-  follows_kept : length start.machine.cores ≡ start.machine.config.cores → (d : Position P S) (events : List Event) →
-      FollowsPlan plan start events d → KeptAt d
-  follows_kept count d events stays = served_none plan.acts start.machine start.programs
-  follows_kept count d events (moves {events = taken} {d = before} {e = e} follows is) =
-      let same = moves_keeps plan before e is in
-      rw (same.0, same.1) (follows_kept count before taken follows)
-  follows_kept count d events (makes {events = taken} {d = before} {event = event} {leads = leads} follows is) =
-      let made = made_by plan start before taken follows in
-      let same = after_all_same start.machine taken in
-      goes_on before (follows_kept count before taken follows)
-      (ap (λ (m : Machine). length m.cores) made ∙ same.cores ∙ count) event leads is
-
-  pub all_served : length start.machine.cores ≡ start.machine.config.cores → Issues start.machine →
-      (events : List Event) (m : Machine) (programs : List P) (e : End) → Issues m → {keeps : Bool} →
-      Ended keeps plan start events m programs e →
-      AreServed plan.acts start.machine m start.programs programs
+module _ {P S : Type 0} (plan : Plan P S) (gives : GivesSteps plan.acts plan.schedule) (start : Machine)
+    (opening : List P) (own : S) where
+  pub all_served : length start.cores ≡ start.config.cores → Issues start → (events : List Event) (m : Machine)
+      (programs : List P) (e : End) → Issues m → {keeps : Bool} →
+      Ended keeps plan (initial_position plan.acts start opening own) events m programs e →
+      AreServed plan.acts start m opening programs
   all_served count issued events m programs e issued_after ended =
-      let kept : Kept m programs =
-      rw (ended.machine_is, ended.programs_are) at (follows_kept count ended.last events ended.follows) in
+      let last = all_kept plan (initial_position plan.acts start opening own) (λ s events. Kept plan.acts start opening s)
+      (record { serving = served_none plan.acts start opening; count = count })
+      (λ own s events made left so is. front_kept plan.acts start opening (begin s) made left
+      (subst (AreGiven plan.acts (begin s)) is (gives own (begin s)))
+      (record { serving = so.serving; count = so.count })) ended in
+      let kept : Serving plan.acts start opening m programs =
+      rw (ended.machine_is, ended.programs_are) at last.serving in
       record {
         added = kept.added;
         records = kept.records;
         there = kept.there;
         each = λ core below none.
-            let closed = none_open start.machine core none in
+            let closed = none_open start core none in
             record {
-              issued = issued_more start.machine m issued issued_after kept.added kept.records core closed;
-              in_order = added_in_order start.machine m issued issued_after kept.added kept.records core closed;
+              issued = issued_more start m issued issued_after kept.added kept.records core closed;
+              in_order = added_in_order start m issued issued_after kept.added kept.records core closed;
               told = kept.told core closed;
             };
       }

@@ -1,18 +1,28 @@
 -- Which steps a schedule gives a core.
-use Rattle.std.specs.Prelude.{◌≡◌, ℕ, List, Some, None}
-use Rattle.physiological_order.specs.declared.operation.Op.{Op}
+use Rattle.std.specs.Prelude.{◌≡◌, List, [], ◌∷◌, Some, None}
 use Rattle.programs.specs.declared.steps.Step.TheVariants as step
 use Rattle.machine_table.specs.declared.event.Event.TheVariants as event
-use Rattle.machine_table.specs.Machine.{Machine, open_op}
+use Rattle.machine_table.specs.Machine.{open_op}
 use Rattle.programs.specs.Acts.{Acts, next_in}
-use Rattle.schedules.specs.Schedules.{Schedule, Does, Advances}
+use Rattle.schedules.specs.Parts.{Action, Does, Advances, Standing, Part, after_action}
+use Rattle.schedules.specs.Schedules.{Schedule}
 
--- a schedule issues a core without an open operation what its program gives next, and advances the core if that is an
--- advance
-pub record GivesSteps {P S : Type 0} (acts : Acts P) (schedule : Schedule P S) : Type 0 where
-  pub issues : (m : Machine) (programs : List P) (own : S) (core : ℕ) (op : Op) →
-      schedule.next m programs own ≡ Does (event.Issue core op) →
-      (open_op m core ≡ None) × (next_in acts programs core ≡ Some (step.Op op))
-  pub advances : (m : Machine) (programs : List P) (own : S) (core : ℕ) →
-      schedule.next m programs own ≡ Advances core →
-      (open_op m core ≡ None) × (next_in acts programs core ≡ Some step.Advance)
+module _ {P : Type 0} (acts : Acts P) where
+  -- an issue, and an advance of which the program is told, is the next step of a core without an open operation
+  abbrev pub IsGiven : Standing P → Action → Type 0
+  IsGiven s (Does (event.Issue core op)) =
+      (open_op s.machine core ≡ None) × (next_in acts s.programs core ≡ Some (step.Op op))
+  IsGiven s (Advances core) = (open_op s.machine core ≡ None) × (next_in acts s.programs core ≡ Some step.Advance)
+  IsGiven s _ = Unit {0}
+
+  abbrev pub AreGiven : Standing P → List Action → Type 0
+  AreGiven s [] = Unit {0}
+  AreGiven s (action ∷ actions) = IsGiven s action × AreGiven (after_action acts s action) actions
+
+  -- all that a part makes is given
+  abbrev pub Gives : Part P → Type 0
+  Gives part = (s : Standing P) → AreGiven s (part s)
+
+-- and all that a schedule ever makes
+abbrev pub GivesSteps : {P S : Type 0} → Acts P → Schedule P S → Type 0
+GivesSteps {P} {S} acts schedule = (own : S) → Gives acts (schedule.turn own)

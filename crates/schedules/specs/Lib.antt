@@ -1,12 +1,10 @@
+pub mod Parts
 pub mod Schedules
 pub mod Runs
 pub mod RoundSchedule
-pub mod RoundEvents
-pub mod RoundViews
 pub mod SeedSchedule
 pub mod SeedViews
 pub mod Policies
 pub mod Batches
-pub mod RunEvents
 pub mod Notes
 pub mod GivenSteps

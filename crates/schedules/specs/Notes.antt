@@ -1,9 +1,8 @@
 -- How a run notes the events that it makes.
 use Rattle.std.specs.Prelude.{◌≡◌, ℕ, Bool, true, false, ◌||◌, List, [], ◌∷◌, ◌++◌, Option, is_some, option_map, IsTrue}
-use Rattle.std.specs.Prelude.{Result, Ok, Err}
+use Rattle.std.specs.Prelude.{Some, None, Result, Ok, Err}
 use Rattle.physiological_order.specs.declared.operation.Record.{Record}
 use Rattle.machine_table.specs.declared.event.Event.{Event}
-use Rattle.machine_table.specs.declared.event.Event.TheVariants as event
 use Rattle.machine_table.specs.declared.event.Answer.{Answer}
 use Rattle.machine_table.specs.declared.event.Answer.TheVariants.{Refused}
 use Rattle.machine_table.specs.declared.event.Refusal.TheVariants.{Exhausted as TimesEnd, NoMemory as NoMemoryAnswer}
@@ -14,12 +13,9 @@ use Rattle.interleaving_core.specs.PartChanges.{answer_in}
 use Rattle.interleaving_core.specs.StepAnswers.{asks_memory}
 use Rattle.programs.specs.declared.ends.End.{End}
 use Rattle.programs.specs.declared.ends.End.TheVariants.{AllDone, Stalled, TurnsUsed, Exhausted, NoMemory}
-use Rattle.programs.specs.declared.steps.Step.{Step}
-use Rattle.programs.specs.declared.steps.Step.TheVariants as step
 use Rattle.programs.specs.Acts.{Acts}
-use Rattle.schedules.specs.Schedules.{Schedule, Choice, Does, Advances}
-use Rattle.schedules.specs.Runs.{Stage, Within, Position, plan_of, is_progress, is_times_end}
-use Rattle.schedules.specs.RunEvents.{Arrives, Finishes}
+use Rattle.schedules.specs.Parts.{Action, Standing, Part, after_actions, events_of, is_progress, is_times_end}
+use Rattle.schedules.specs.Runs.{AsksMemory}
 
 -- the events so far, if they are kept, whether an answer of this turn was progress, and how many more can be noted
 -- before the next allocation
@@ -64,69 +60,54 @@ Noted m log event (Err AllDone) after after_log = ⊥
 Noted m log event (Err Stalled) after after_log = ⊥
 Noted m log event (Err TurnsUsed) after after_log = ⊥
 
--- where a run is, with what it has noted
-pub record Point (P S : Type 0) : Type 0 where
+-- where a run is in a turn, with what it has noted
+pub record Point (P : Type 0) : Type 0 where
   pub machine : Machine
   pub programs : List P
   pub log : Log
-  pub own : S
-  pub stage : Stage
 
-abbrev pub at : {P S : Type 0} → Machine → List P → Log → S → Stage → Point P S
-at m programs log own stage =
-    record { machine = m; programs = programs; log = log; own = own; stage = stage }
+abbrev pub at : {P : Type 0} → Machine → List P → Log → Point P
+at m programs log = record { machine = m; programs = programs; log = log }
 
--- its position, after this many turns
-abbrev pub position : {P S : Type 0} → Point P S → ℕ → Position P S
-position p turns =
-    record {
-      machine = p.machine;
-      programs = p.programs;
-      own = p.own;
-      stage = p.stage;
-      has_progressed = p.log.has_progressed;
-      turns = turns;
-    }
+abbrev pub standing : {P : Type 0} → Point P → Bool → Standing P
+standing p out = record {
+  machine = p.machine;
+  programs = p.programs;
+  has_progressed = p.log.has_progressed;
+  is_out = out;
+}
 
 -- events are kept exactly if they were
 abbrev pub KeepsAs : Log → Log → Type 0
 KeepsAs log after = is_some after.events ≡ is_some log.events
 
--- a run that follows its plan to the one point follows it to the other, for any limit of turns
-pub record Leads {P S : Type 0} (acts : Acts P) (schedule : Schedule P S) (p q : Point P S) : Type 0 where
-  pub kept : KeepsAs p.log q.log
-  pub arrives : (limit : ℕ) (start : Position P S) (turns : ℕ) →
-      Arrives (plan_of acts schedule limit) start p.log.events (position p turns) →
-      Arrives (plan_of acts schedule limit) start q.log.events (position q turns)
+-- actions lead from the one point to the other, where times may be exhausted, and their events are noted
+pub record IsMade {P : Type 0} (acts : Acts P) (actions : List Action) (p q : Point P) (out : Bool) : Type 0 where
+  pub leads : after_actions acts (standing p false) actions ≡ standing q out
+  pub notes : q.log.events ≡ option_map (λ events. events ++ events_of acts (standing p false) actions) p.log.events
 
--- a run that follows its plan to the point ends with this machine, these programs and this log
-pub record Stops {P S : Type 0} (acts : Acts P) (schedule : Schedule P S) (p : Point P S) (m : Machine)
-    (programs : List P) (log : Log) (end : End) : Type 0 where
-  pub kept : KeepsAs p.log log
-  pub finishes : (limit : ℕ) (start : Position P S) (turns : ℕ) →
-      Arrives (plan_of acts schedule limit) start p.log.events (position p turns) →
-      Finishes (plan_of acts schedule limit) start log.events m programs end
+-- memory was refused behind some of the actions, where the next one asks for some
+pub record IsRefused {P : Type 0} (acts : Acts P) (actions : List Action) (p q : Point P) : Type 0 where
+  pub made : List Action
+  pub left : List Action
+  pub actions_are : actions ≡ made ++ left
+  pub is_made : IsMade acts made p q false
+  pub asks : AsksMemory (is_some q.log.events) q.machine left
 
--- a part of a run leads from the one point to the other, or ends the run
-abbrev pub Led : {X : Type 0} {P S : Type 0} → Acts P → Schedule P S → Point P S → Result X End →
-    Point P S → Type 0
-Led acts schedule p (Ok x) q = Leads acts schedule p q
-Led acts schedule p (Err end) q = Stops acts schedule p q.machine q.programs q.log end
+-- a part of a turn leads from the one point to the other: all that it makes by where it begins was made; or that up to
+-- the end of times; or some of it, where memory was refused
+abbrev pub Reaches : {P : Type 0} → Acts P → Part P → Point P → Option End → Point P → Type 0
+Reaches acts part p None q = IsMade acts (part (standing p false)) p q false
+Reaches acts part p (Some Exhausted) q = IsMade acts (part (standing p false)) p q true
+Reaches acts part p (Some NoMemory) q = IsRefused acts (part (standing p false)) p q
+Reaches acts part p (Some AllDone) q = ⊥
+Reaches acts part p (Some Stalled) q = ⊥
+Reaches acts part p (Some TurnsUsed) q = ⊥
 
--- what a schedule has next is made, with the eviction that follows: from wherever a schedule has it next, this leads to
--- the stage behind, or ends the run
-abbrev pub IsMade : {X P S : Type 0} → Acts P → Choice S → Bool → Machine → List P → Log → Result X End → Machine →
-    List P → Log → Type 0
-IsMade {X} {P} {S} acts choice full m programs log result after told after_log =
-    (rule : Schedule P S) (own : S) → rule.next m programs own ≡ choice →
-    Led acts rule (at m programs log own Within) result (at after told after_log (rule.behind full own) Within)
+-- the end that an error is
+abbrev pub end_in : {X : Type 0} → Result X End → Option End
+end_in (Ok x) = None
+end_in (Err e) = Some e
 
--- whether an attempt found no place
-abbrev pub is_full : Result Bool End → Bool
-is_full (Ok full) = full
-is_full (Err end) = false
-
--- a step of a core's program as a choice
-abbrev pub step_choice : {S : Type 0} → ℕ → Step → Choice S
-step_choice core (step.Op op) = Does (event.Issue core op)
-step_choice core step.Advance = Advances core
+abbrev pub Did : {X P : Type 0} → Acts P → Part P → Point P → Result X End → Point P → Type 0
+Did acts part p r q = Reaches acts part p (end_in r) q

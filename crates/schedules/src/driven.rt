@@ -4,8 +4,7 @@ ghost use Rattle.machine_table.specs.Runs.{after_all};
 ghost use Rattle.machine_table.specs.Machine.{open_op};
 ghost use Rattle.programs.specs.Acts.{next_in};
 ghost use Rattle.schedules.specs.Notes.{KeepsAs};
-ghost use Rattle.schedules.specs.RunEvents.{Ended, Known, initial_position};
-ghost use Rattle.schedules.specs.Runs.{plan_of};
+ghost use Rattle.schedules.specs.Runs.{Ended, Known, initial_position, plan_of};
 ghost use Rattle.machine_theorem.specs.Service.{AreServed};
 ghost use Rattle.schedules.specs.GivenSteps.{GivesSteps};
 
@@ -37,7 +36,7 @@ pub(crate) fn finish<P: Program, S: Schedule<P>>(
     requires no_progress_yet { log.old.has_progressed ≡ false }
     ensures ended { Known log.new.events (λ events.
         Ended (is_some log.new.events) (plan_of P.acts S.rule limit)
-        (initial_position system.old programs.old schedule.old) events system.new
+        (initial_position P.acts system.old programs.old schedule.old) events system.new
         programs.new result
         × (system.new ≡ after_all system.old events)) }
     ensures kept { KeepsAs log.old log.new }
@@ -62,7 +61,7 @@ pub(crate) fn drive<P: Program, S: Schedule<P>>(
 ) -> Driven
     requires { GivesSteps P.acts S.rule }
     ensures schedule { Ended true (plan_of P.acts S.rule limit)
-        (initial_position system.old programs.old schedule.old)
+        (initial_position P.acts system.old programs.old schedule.old)
         result.events.items system.new programs.new result.end }
     ensures machine { system.new ≡ after_all system.old result.events.items }
     ensures all_done { result.end ≡ End.AllDone → (core : ℕ) → core < system.old.config.cores →

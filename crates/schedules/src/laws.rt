@@ -1,6 +1,6 @@
 //! Which answers are progress, which events rounds make, that seeds differ, and that a run has no choice. A function
 //! does nothing: its contract is the law.
-ghost use Rattle.std.specs.Prelude.{◌≡◌, ◌≢◌, ◌⊎◌, ◌+◌, ◌<◌, ◌^◌, false, true, ℕ, List};
+ghost use Rattle.std.specs.Prelude.{◌≡◌, ◌≢◌, ◌+◌, ◌<◌, ◌^◌, Bool, false, true, ℕ, List};
 ghost use Rattle.physiological_order.specs.declared.operation.Record.{Record};
 ghost use Rattle.machine_table.specs.Machine.{Machine};
 ghost use Rattle.machine_table.specs.declared.event.Event.{Event};
@@ -11,10 +11,9 @@ ghost use Rattle.schedules.specs.declared.policy.Policy.{Policy};
 ghost use Rattle.schedules.specs.declared.policy.Policy.TheVariants as policy;
 ghost use Rattle.schedules.specs.Batches.{policy_of_run};
 ghost use Rattle.schedules.specs.Policies.{EndedBy};
-ghost use Rattle.schedules.specs.Runs.{Position, Before, Ends, next, plan_of, is_progress};
-ghost use Rattle.schedules.specs.RunEvents.{FollowsPlan, initial_position};
-ghost use Rattle.schedules.specs.RoundSchedule.{Round, no_round, rounds};
-ghost use Rattle.schedules.specs.RoundEvents.{AreRounds, ArePartOfRounds};
+ghost use Rattle.schedules.specs.Parts.{Standing, is_progress};
+ghost use Rattle.schedules.specs.Runs.{Ended, initial_position, opened, plan_of};
+ghost use Rattle.schedules.specs.RoundSchedule.{no_round, rounds, AreRounds, ArePartOfRounds};
 
 use programs::End;
 use programs::program::Program;
@@ -36,27 +35,28 @@ pub fn progress_is_all_but_waiting()
     ensures refused { (why : Refusal) → is_progress (answer.Refused why) ≡ false }
 {}
 
-/// A run by rounds makes the events of whole rounds, one after the other, and the first events of one more: none
-/// before a round, and all of them at the end of a last round without progress. A round's events are the cores' turns
-/// in rising order. In each there is an Issue or Advance exactly if the core has no open operation and its program a
-/// next step, and then an Attempt exactly if it has one. After NoRoom, and only there, EvictCache of the copy that
-/// makes a place follows, if there is one, and a second Attempt. Then there is one Deliver of each message in flight
-/// after the cores, in their order. After Held, and only there, EvictBank of the line that makes a place follows, if
-/// there is one.
+/// A run by rounds makes the events of whole rounds, one after the other, unless memory is refused; exhausted times cut
+/// the last one short. If memory is refused, it makes those of whole rounds and the first ones of one more. A round's
+/// events are the cores' turns in rising order. In each there is an Issue or Advance exactly if the core has no open
+/// operation and its program a next step, and then an Attempt exactly if it has one. After NoRoom, and only there,
+/// EvictCache of the copy that makes a place follows, if there is one, and a second Attempt. Then there is one Deliver of
+/// each message in flight after the cores, in their order. After Held, and only there, EvictBank of the line that makes
+/// room follows, if there is one. In fair rounds, and only there, a second Deliver of the message follows if that is
+/// answered Evicted.
 pub fn rounds_make_their_events<P: Program>()
-    ensures whole { (start : Machine) (opening : List P) (limit : ℕ) (events : List Event)
-        (last : Position P Round) →
-        FollowsPlan (plan_of P.acts (rounds P.acts) limit)
-        (initial_position start opening (no_round start.config.cores)) events last →
-        (last.stage ≡ Before) ⊎ (next (plan_of P.acts (rounds P.acts) limit) last ≡ Ends End.Stalled) →
-        AreRounds P.acts start.config.cores (record { machine = start; programs = opening })
-        events (record { machine = last.machine; programs = last.programs }) }
-    ensures part { (start : Machine) (opening : List P) (limit : ℕ) (events : List Event)
-        (last : Position P Round) →
-        FollowsPlan (plan_of P.acts (rounds P.acts) limit)
-        (initial_position start opening (no_round start.config.cores)) events last →
-        ArePartOfRounds P.acts start.config.cores (record { machine = start; programs = opening })
-        events }
+    ensures whole { (fair keeps : Bool) (start m : Machine) (opening programs : List P) (limit : ℕ)
+        (events : List Event) (end : End) →
+        Ended keeps (plan_of P.acts (rounds P.acts) limit)
+        (initial_position P.acts start opening (no_round fair start.config.cores)) events m programs
+        end → end ≢ End.NoMemory → (last : Standing P) × (last.machine ≡ m)
+        × (last.programs ≡ programs) × AreRounds P.acts (no_round fair start.config.cores)
+        (opened start opening) events last }
+    ensures part { (fair keeps : Bool) (start m : Machine) (opening programs : List P) (limit : ℕ)
+        (events : List Event) (end : End) →
+        Ended keeps (plan_of P.acts (rounds P.acts) limit)
+        (initial_position P.acts start opening (no_round fair start.config.cores)) events m programs
+        end → ArePartOfRounds P.acts (no_round fair start.config.cores)
+        (opened start opening) events }
 {}
 
 /// Up to 2^64 runs of a batch by seeds have seeds that differ: run i has the first seed plus i, modulo 2^64.

@@ -19,5 +19,5 @@ mod turn;
 pub use driven::Driven;
 pub use policies::run_to_end;
 pub use policy::Policy;
-pub use rounds::drive_round;
+pub use rounds::{drive_fair_round, drive_round};
 pub use seeds::drive_seed;

@@ -3,7 +3,7 @@ ghost use Rattle.std.specs.Prelude.{◌≡◌, ◌<◌, ◌++◌, ◌∷◌, [],
 ghost use Rattle.std.specs.Prelude.{is_some, option_map, true};
 ghost use Rattle.interleaving_core.specs.PartChanges.{answer_in};
 ghost use Rattle.schedules.specs.Notes.{Noted, answered, is_no_memory, is_refused};
-ghost use Rattle.schedules.specs.Runs.{is_advanced, is_times_end, is_held, is_progress, is_no_room};
+ghost use Rattle.schedules.specs.Parts.{is_advanced, is_times_end, is_held, is_evicted, is_progress, is_no_room};
 
 use interleaving_core::{Event, PlainAnswer, Refusal, System};
 use machine_table::laws::every_answer_keeps_its_word;
@@ -47,6 +47,12 @@ pub(crate) fn is_held(plain: &Option<PlainAnswer>) -> bool
     ensures { (records : List Record) → result ≡ is_held (answer_in records plain.now) }
 {
     matches!(*plain, Some(PlainAnswer::Held))
+}
+
+pub(crate) fn is_evicted(plain: &Option<PlainAnswer>) -> bool
+    ensures { (records : List Record) → result ≡ is_evicted (answer_in records plain.now) }
+{
+    matches!(*plain, Some(PlainAnswer::Evicted))
 }
 
 pub(crate) fn is_no_room(plain: &Option<PlainAnswer>) -> bool

@@ -3,7 +3,8 @@ ghost use Rattle.std.specs.Prelude.{◌≡◌, List};
 ghost use Rattle.interleaving_core.specs.PartChanges.{answer_in};
 ghost use Rattle.machine_table.specs.Machine.{open_op};
 ghost use Rattle.programs.specs.Acts.{next_in, done_in};
-ghost use Rattle.schedules.specs.Runs.{are_over, is_over, programs_told, told_advance};
+ghost use Rattle.schedules.specs.Parts.{programs_told, told_advance};
+ghost use Rattle.schedules.specs.Runs.{are_over, is_over};
 
 use crate::log::is_advanced;
 use interleaving_core::{PlainAnswer, System};

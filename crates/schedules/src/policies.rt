@@ -18,7 +18,7 @@ use programs::End;
 use programs::program::Program;
 use std::alloc::Global;
 
-/// Drives the machine as `drive_round` and `drive_seed` do, and gives the end alone: it keeps no list of events, and
+/// Drives the machine as `drive_round`, `drive_fair_round` and `drive_seed` do, and gives the end alone: it keeps no list of events, and
 /// allocates nothing for one. So the end is NoMemory only before an event that allocates, an issue or the first store
 /// of a line in its DRAM, or where the schedule lists messages or orders lines. Afterwards the machine keeps its lines
 /// in rising order exactly if it did before.
@@ -40,7 +40,11 @@ pub fn run_to_end<P: Program>(
     let mut log = Log::without_events(alloc);
     match policy {
         Policy::Rounds => {
-            let mut schedule = Rounds::new(alloc, system.cores());
+            let mut schedule = Rounds::new(alloc, false, system.cores());
+            finish(&mut schedule, system, programs, &mut log, limit)
+        }
+        Policy::FairRounds => {
+            let mut schedule = Rounds::new(alloc, true, system.cores());
             finish(&mut schedule, system, programs, &mut log, limit)
         }
         Policy::Seed(seed) => {

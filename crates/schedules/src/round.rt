@@ -1,8 +1,9 @@
 //! Rounds as a schedule: each core has its turn, in rising order, and then each message that is in flight is delivered.
-ghost use Rattle.std.specs.Prelude.{◌≡◌, ◌<◌, ◌+◌, [], ℕ, List, IfOk, is_some, true};
+ghost use Rattle.std.specs.Prelude.{◌≡◌, List, IfOk, is_some, true};
 ghost use Rattle.machine_table.specs.Machine.{open_op};
-ghost use Rattle.schedules.specs.RoundSchedule.{no_round, Stepping, Attempting, Delivering};
-ghost use Rattle.schedules.specs.RoundViews.{LedInRound};
+ghost use Rattle.schedules.specs.Parts.{delivery, for_each};
+ghost use Rattle.schedules.specs.RoundSchedule.{no_round, steps_on, tries_twice, core_turn, core_turns};
+ghost use Rattle.schedules.specs.Notes.{Did, at};
 
 use crate::log::Log;
 use crate::look_ups::next_in;
@@ -15,11 +16,12 @@ use programs::program::Program;
 use std::alloc::Global;
 use std::marker::Model;
 
-// How many cores have turns, and the list of the messages that a round delivers. It keeps its memory from round to
-// round.
+// How many cores have turns, whether rounds are fair, and the list of the messages that a round delivers. It keeps its
+// memory from round to round.
 #[derive(Drop)]
 pub(crate) struct Rounds {
     cores: u32,
+    is_fair: bool,
     numbers: Vec<MsgNo>,
 }
 
@@ -28,17 +30,18 @@ impl Model for Rounds {
 
     ghost Value = { Round };
 
-    // Between turns, all messages of the last one are delivered.
-    ghost view = { λ a. no_round a.cores };
+    // The list is of no use between turns.
+    ghost view = { λ a. no_round a.is_fair a.cores };
 }
 
 impl Rounds {
     // Before the first round.
-    pub(crate) fn new(alloc: Global, cores: u32) -> Rounds
-        ensures { result ≡ no_round cores }
+    pub(crate) fn new(alloc: Global, is_fair: bool, cores: u32) -> Rounds
+        ensures { result ≡ no_round is_fair cores }
     {
         Rounds {
             cores,
+            is_fair,
             numbers: Vec::new(alloc),
         }
     }
@@ -52,8 +55,8 @@ fn begin_core<P: Program>(
     log: &mut Log,
     core: u32,
 ) -> Result<bool, End>
-    ensures led { (cores : ℕ) → core < cores → LedInRound P.acts cores (Stepping core)
-        (Attempting core) system.old programs.old log.old result system.new programs.new log.new }
+    ensures did { Did P.acts (steps_on P.acts core) (at system.old programs.old log.old) result
+        (at system.new programs.new log.new) }
     ensures has { IfOk result (λ has. has ≡ is_some (open_op system.new core)) }
 {
     if system.open_op(core).is_some() {
@@ -62,7 +65,7 @@ fn begin_core<P: Program>(
     let Some(next) = next_in(programs, core) else {
         return Ok(false);
     };
-    do_step::<P, Rounds>(system, programs, log, core, &next)?;
+    do_step(system, programs, log, core, &next)?;
     Ok(system.open_op(core).is_some())
 }
 
@@ -74,12 +77,11 @@ fn try_core<P: Program>(
     log: &mut Log,
     core: u32,
 ) -> Result<(), End>
-    requires { is_some (open_op system.old core) ≡ true }
-    ensures { (cores : ℕ) → LedInRound P.acts cores (Attempting core) (Stepping (core + 1))
-        system.old programs.old log.old result system.new programs.new log.new }
+    ensures { Did P.acts (tries_twice P.acts core) (at system.old programs.old log.old) result
+        (at system.new programs.new log.new) }
 {
-    if attempt::<P, Rounds>(system, programs, log, core)? {
-        return make::<P, Rounds>(system, programs, log, &Event::Attempt(core));
+    if attempt(system, programs, log, core)? {
+        return make(system, programs, log, &Event::Attempt(core));
     }
     Ok(())
 }
@@ -92,8 +94,8 @@ fn core_turn<P: Program>(
     log: &mut Log,
     core: u32,
 ) -> Result<(), End>
-    ensures { (cores : ℕ) → core < cores → LedInRound P.acts cores (Stepping core)
-        (Stepping (core + 1)) system.old programs.old log.old result system.new programs.new log.new }
+    ensures { Did P.acts (core_turn P.acts core) (at system.old programs.old log.old) result
+        (at system.new programs.new log.new) }
 {
     match begin_core(system, programs, log, core) {
         Ok(true) => try_core(system, programs, log, core),
@@ -110,8 +112,8 @@ fn core_turns<P: Program>(
     log: &mut Log,
     cores: u32,
 ) -> Result<(), End>
-    ensures { LedInRound P.acts cores (Stepping 0) (Stepping cores) system.old programs.old log.old
-        result system.new programs.new log.new }
+    ensures { Did P.acts (core_turns P.acts cores) (at system.old programs.old log.old) result
+        (at system.new programs.new log.new) }
 {
     for core in 0..cores {
         if let Err(end) = core_turn(system, programs, log, core) {
@@ -123,12 +125,18 @@ fn core_turns<P: Program>(
 
 // The messages with these numbers are delivered.
 #[inline(always)]
-fn deliveries<P: Program>(system: &mut System, log: &mut Log, numbers: &[MsgNo]) -> Result<(), End>
-    ensures { (programs : List P) (cores : ℕ) → LedInRound P.acts cores (Delivering numbers.now)
-        (Delivering []) system.old programs log.old result system.new programs log.new }
+fn deliveries<P: Program>(
+    system: &mut System,
+    log: &mut Log,
+    is_fair: bool,
+    numbers: &[MsgNo],
+) -> Result<(), End>
+    ensures { (programs : List P) → Did P.acts
+        (for_each P.acts (delivery P.acts is_fair) numbers.now) (at system.old programs log.old) result
+        (at system.new programs log.new) }
 {
     for number in numbers {
-        deliver::<P, Rounds>(system, log, *number)?;
+        deliver::<P>(system, log, is_fair, *number)?;
     }
     Ok(())
 }
@@ -144,7 +152,7 @@ impl<P: Program> Schedule<P> for Rounds {
         if system.list_in_flight(&mut self.numbers).is_err() {
             return Err(End::NoMemory);
         }
-        deliveries::<P>(system, log, self.numbers.as_slice())
+        deliveries::<P>(system, log, self.is_fair, self.numbers.as_slice())
     }
 
     fn stalls(&self) -> bool {

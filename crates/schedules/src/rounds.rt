@@ -1,11 +1,10 @@
 //! The schedule of rounds, until a run ends.
-ghost use Rattle.std.specs.Prelude.{◌≡◌, ◌<◌, true, None, length, ℕ};
+ghost use Rattle.std.specs.Prelude.{◌≡◌, ◌<◌, false, true, None, length, ℕ};
 ghost use Rattle.machine_table.specs.Runs.{after_all};
 ghost use Rattle.machine_table.specs.Machine.{open_op};
 ghost use Rattle.programs.specs.Acts.{next_in};
 ghost use Rattle.schedules.specs.RoundSchedule.{no_round, rounds};
-ghost use Rattle.schedules.specs.RunEvents.{Ended, initial_position};
-ghost use Rattle.schedules.specs.Runs.{plan_of};
+ghost use Rattle.schedules.specs.Runs.{Ended, initial_position, plan_of};
 ghost use Rattle.machine_theorem.specs.Service.{AreServed};
 
 use crate::driven::{Driven, drive};
@@ -30,13 +29,34 @@ pub fn drive_round<P: Program>(
 ) -> Driven
     requires one_each { length programs.old ≡ system.old.config.cores }
     ensures schedule { Ended true (plan_of P.acts (rounds P.acts) limit)
-        (initial_position system.old programs.old (no_round system.old.config.cores))
+        (initial_position P.acts system.old programs.old (no_round false system.old.config.cores))
         result.events.items system.new programs.new result.end }
     ensures machine { system.new ≡ after_all system.old result.events.items }
     ensures all_done { result.end ≡ End.AllDone → (core : ℕ) → core < system.old.config.cores →
         (open_op system.new core ≡ None) × (next_in P.acts programs.new core ≡ None) }
     ensures served { AreServed P.acts system.old system.new programs.old programs.new }
 {
-    let mut schedule = Rounds::new(alloc, system.cores());
+    let mut schedule = Rounds::new(alloc, false, system.cores());
+    drive(alloc, system, programs, &mut schedule, limit)
+}
+
+/// Drives the machine by fair rounds (docs/SCHEDULES.md), as `drive_round` does by rounds. In these, a held message whose
+/// bank a line has left is delivered once more at once, so that no younger request takes the place.
+pub fn drive_fair_round<P: Program>(
+    alloc: Global,
+    system: &mut System,
+    programs: &mut [P],
+    limit: u32,
+) -> Driven
+    requires one_each { length programs.old ≡ system.old.config.cores }
+    ensures schedule { Ended true (plan_of P.acts (rounds P.acts) limit)
+        (initial_position P.acts system.old programs.old (no_round true system.old.config.cores))
+        result.events.items system.new programs.new result.end }
+    ensures machine { system.new ≡ after_all system.old result.events.items }
+    ensures all_done { result.end ≡ End.AllDone → (core : ℕ) → core < system.old.config.cores →
+        (open_op system.new core ≡ None) × (next_in P.acts programs.new core ≡ None) }
+    ensures served { AreServed P.acts system.old system.new programs.old programs.new }
+{
+    let mut schedule = Rounds::new(alloc, true, system.cores());
     drive(alloc, system, programs, &mut schedule, limit)
 }

@@ -1,8 +1,7 @@
 //! Turns of a schedule, until a run ends.
 ghost use Rattle.std.specs.Prelude.{◌≡◌, ◌&&◌, [], false, not, IfSome};
 ghost use Rattle.schedules.specs.Notes.{KeepsAs};
-ghost use Rattle.schedules.specs.RunEvents.{Finishes, initial_position};
-ghost use Rattle.schedules.specs.Runs.{plan_of};
+ghost use Rattle.schedules.specs.Runs.{Finishes, initial_position, plan_of};
 
 use crate::log::Log;
 use crate::look_ups::are_over;
@@ -29,8 +28,8 @@ pub(crate) fn run<P: Program, S: Schedule<P>>(
 ) -> End
     requires nothing_yet { IfSome log.old.events (λ events. events ≡ []) }
     requires no_progress_yet { log.old.has_progressed ≡ false }
-    ensures ended { Finishes (plan_of P.acts S.rule limit) (initial_position system.old programs.old
-        schedule.old)
+    ensures ended { Finishes (plan_of P.acts S.rule limit) (initial_position P.acts system.old
+        programs.old schedule.old)
         log.new.events system.new programs.new result }
     ensures kept { KeepsAs log.old log.new }
 {

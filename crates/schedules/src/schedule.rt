@@ -1,8 +1,6 @@
 //! Schedules: the turns of a run.
 ghost use Rattle.std.specs.Prelude.{◌≡◌, OnOk};
-ghost use Rattle.schedules.specs.Schedules.{Over};
-ghost use Rattle.schedules.specs.Runs.{Within};
-ghost use Rattle.schedules.specs.Notes.{Led, at};
+ghost use Rattle.schedules.specs.Notes.{Did, at};
 
 use crate::log::Log;
 use interleaving_core::System;
@@ -16,12 +14,11 @@ pub(crate) trait Schedule<P: Program> {
     // How its turns go.
     ghost rule: { Schedule P Self };
 
-    // A turn from its first stage to its end, or to the end of the run.
+    // A turn, to its end or to the end of the run.
     fn turn(&mut self, system: &mut System, programs: &mut [P], log: &mut Log) -> Result<(), End>
-        ensures led { Led P.acts rule
-            (at system.old programs.old log.old (rule.first self.old) Within) result
-            (at system.new programs.new log.new self.new Within) }
-        ensures over { OnOk result (rule.next system.new programs.new self.new ≡ Over) };
+        ensures did { Did P.acts (rule.turn self.old) (at system.old programs.old log.old) result
+            (at system.new programs.new log.new) }
+        ensures next { OnOk result (self.new ≡ rule.next self.old) };
 
     // Whether a turn without progress is the last.
     fn stalls(&self) -> bool

@@ -1,7 +1,7 @@
 //! The seeded schedule: each turn draws two words, the first for a list of events, the second for the entry of it that
 //! is made. No list of events is built: the schedule knows the cores that do something, counts the other entries, and
 //! looks the drawn one up.
-ghost use Rattle.std.specs.Prelude.{◌≡◌, ◌∷◌, [], ◌<◌, ◌≤◌, ◌+◌, ◌%◌, ◌*◌, ◌^◌, ◌&&◌, ℕ, List, length, IfOk, IsTrue};
+ghost use Rattle.std.specs.Prelude.{◌≡◌, ◌∷◌, [], ◌<◌, ◌≤◌, ◌+◌, ◌%◌, ◌*◌, ◌^◌, ◌&&◌, ℕ, List, length, IfOk};
 ghost use Rattle.std.specs.Prelude.{Some};
 ghost use Rattle.std.specs.Prelude.{count_ones, is_some, slice_get};
 ghost use Rattle.std.specs.Int.{bit_at};
@@ -10,11 +10,10 @@ ghost use Rattle.interleaving_core.specs.LookUps.{entries, free_copies};
 ghost use Rattle.machine_table.specs.Machine.{open_op};
 ghost use Rattle.ranked_lines.specs.Rising.{sorted};
 ghost use Rattle.programs.specs.Acts.{next_in};
-ghost use Rattle.schedules.specs.SeedSchedule.{Seeded, advances, core_step, core_steps, choice_at, draws_eviction};
-ghost use Rattle.schedules.specs.SeedSchedule.{line_events, of_seed, seeded_next, steps};
-ghost use Rattle.schedules.specs.Runs.{Within};
-ghost use Rattle.schedules.specs.Notes.{at};
-ghost use Rattle.schedules.specs.SeedViews.{IsDrawn, IsLine, IsTurn, was_made};
+ghost use Rattle.schedules.specs.SeedSchedule.{advances, core_step, core_steps, choice_at, chosen, drawn, line_events};
+ghost use Rattle.schedules.specs.SeedSchedule.{of_seed, steps};
+ghost use Rattle.schedules.specs.Notes.{Did, at};
+ghost use Rattle.schedules.specs.SeedViews.{IsLine};
 
 use crate::log::Log;
 use crate::look_ups::next_in;
@@ -30,19 +29,18 @@ use rand_pcg::Pcg32;
 use std::alloc::AllocError;
 use std::marker::Model;
 
-// The generator, and the words that the last turn drew if there was nothing to make.
+// The generator.
 #[derive(Drop)]
 pub(crate) struct Seeds {
     generator: Pcg32,
-    drawn: Option<(u32, u32)>,
 }
 
 impl Model for Seeds {
-    ghost use Rattle.schedules.specs.SeedSchedule.{Seeded};
+    ghost use Rattle.rand_pcg.specs.Lcg.{Lcg};
 
-    ghost Value = { Seeded };
+    ghost Value = { Lcg };
 
-    ghost view = { λ a. record { generator = a.generator; drawn = a.drawn } };
+    ghost view = { λ a. a.generator };
 }
 
 impl Seeds {
@@ -52,7 +50,6 @@ impl Seeds {
     {
         Seeds {
             generator: Pcg32::seed_from_u64(seed),
-            drawn: None,
         }
     }
 }
@@ -158,34 +155,21 @@ fn place_in(b: u32, total: u128) -> u32
     b % total as u32
 }
 
-// What a turn's functions say: there was something to make, and it was made, or the run ends.
-#[inline(always)]
-fn made(outcome: Result<(), End>) -> Result<bool, End>
-    ensures { result ≡ was_made outcome }
-{
-    match outcome {
-        Ok(()) => Ok(true),
-        Err(end) => Err(end),
-    }
-}
-
 // An advance of a core.
 fn advance<P: Program>(
     system: &mut System,
     programs: &mut [P],
     log: &mut Log,
     b: u32,
-) -> Result<bool, End>
-    ensures { (own : Seeded) → seeded_next P.acts system.old programs.old own.drawn ≡
-        choice_at (advances system.old) b → IsTurn P.acts
-        (at system.old programs.old log.old own Within) result
-        (at system.new programs.new log.new own Within) }
+) -> Result<(), End>
+    ensures { Did P.acts (chosen P.acts (choice_at (advances system.old) b))
+        (at system.old programs.old log.old) result (at system.new programs.new log.new) }
 {
     let cores = system.cores();
     if cores == 0 {
-        return Ok(false);
+        return Ok(());
     }
-    made(make::<P, Seeds>(system, programs, log, &Event::Advance(b % cores)))
+    make(system, programs, log, &Event::Advance(b % cores))
 }
 
 // How many lines each holder has, and all together.
@@ -242,20 +226,18 @@ fn evict<P: Program, H: Holder>(
     programs: &mut [P],
     log: &mut Log,
     b: u32,
-) -> Result<bool, End>
-    ensures { (own : Seeded) → IsTrue (draws_eviction own.drawn) →
-        seeded_next P.acts system.old programs.old own.drawn ≡ choice_at
-        (line_events H.eviction (H.lines system.old) (H.holders system.old)) b →
-        IsTurn P.acts (at system.old programs.old log.old own Within) result
-        (at system.new programs.new log.new own Within) }
+) -> Result<(), End>
+    ensures { Did P.acts (chosen P.acts (choice_at
+        (line_events H.eviction (H.lines system.old) (H.holders system.old)) b))
+        (at system.old programs.old log.old) result (at system.new programs.new log.new) }
 {
     let Ok(drawn) = drawn_line::<H>(system, b) else {
         return Err(End::NoMemory);
     };
     let Some((holder, line)) = drawn else {
-        return Ok(false);
+        return Ok(());
     };
-    made(make::<P, Seeds>(system, programs, log, &H::eviction(holder, line)))
+    make(system, programs, log, &H::eviction(holder, line))
 }
 
 // The cores that have no open operation and whose programs have a step: core c is one exactly if bit c is set.
@@ -316,15 +298,15 @@ fn step_core<P: Program>(
     requires { 0 < length (core_step core (open_op system.old core)
         (next_in P.acts programs.old core)) }
     ensures { (next : _) → core_step core (open_op system.old core)
-        (next_in P.acts programs.old core) ≡ next ∷ [] → IsDrawn P.acts next
-        system.old programs.old log.old result system.new programs.new log.new }
+        (next_in P.acts programs.old core) ≡ next ∷ [] → Did P.acts (chosen P.acts next)
+        (at system.old programs.old log.old) result (at system.new programs.new log.new) }
 {
     if system.open_op(core).is_some() {
-        attempt::<P, Seeds>(system, programs, log, core)?;
+        attempt(system, programs, log, core)?;
         return Ok(());
     }
     match next_in(programs, core) {
-        Some(next) => do_step::<P, Seeds>(system, programs, log, core, &next),
+        Some(next) => do_step(system, programs, log, core, &next),
         None => unreachable!(),
     }
 }
@@ -335,25 +317,23 @@ fn step<P: Program>(
     programs: &mut [P],
     log: &mut Log,
     b: u32,
-) -> Result<bool, End>
-    ensures { (own : Seeded) → seeded_next P.acts system.old programs.old own.drawn ≡
-        choice_at (steps P.acts system.old programs.old) b → IsTurn P.acts
-        (at system.old programs.old log.old own Within) result
-        (at system.new programs.new log.new own Within) }
+) -> Result<(), End>
+    ensures { Did P.acts (chosen P.acts (choice_at (steps P.acts system.old programs.old) b))
+        (at system.old programs.old log.old) result (at system.new programs.new log.new) }
 {
     let ready = ready_cores(system, programs);
     let count = ready.count_ones();
     let total = u128::from(count) + u128::from(system.messages());
     if total == 0 {
-        return Ok(false);
+        return Ok(());
     }
     let at = place_in(b, total);
     if at < count {
         let core = core_at(system, programs, ready, at);
-        return made(step_core(system, programs, log, core));
+        return step_core(system, programs, log, core);
     }
     match system.seek_message(at - count) {
-        Some(number) => made(deliver::<P, Seeds>(system, log, number)),
+        Some(number) => deliver::<P>(system, log, false, number),
         None => unreachable!(),
     }
 }
@@ -366,10 +346,9 @@ fn make_drawn<P: Program>(
     log: &mut Log,
     a: u32,
     b: u32,
-) -> Result<bool, End>
-    ensures { (own : Seeded) → own.drawn ≡ Some (a, b) → IsTurn P.acts
-        (at system.old programs.old log.old own Within) result
-        (at system.new programs.new log.new own Within) }
+) -> Result<(), End>
+    ensures { Did P.acts (drawn P.acts a b) (at system.old programs.old log.old) result
+        (at system.new programs.new log.new) }
 {
     match a % 16 {
         0 => advance(system, programs, log, b),
@@ -387,12 +366,7 @@ impl<P: Program> Schedule<P> for Seeds {
     fn turn(&mut self, system: &mut System, programs: &mut [P], log: &mut Log) -> Result<(), End> {
         let a = self.generator.next_word();
         let b = self.generator.next_word();
-        if make_drawn(system, programs, log, a, b)? {
-            self.drawn = None;
-            return Ok(());
-        }
-        self.drawn = Some((a, b));
-        Ok(())
+        make_drawn(system, programs, log, a, b)
     }
 
     fn stalls(&self) -> bool {

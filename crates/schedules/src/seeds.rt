@@ -3,8 +3,7 @@ ghost use Rattle.std.specs.Prelude.{◌≡◌, ◌<◌, true, None, length, ℕ}
 ghost use Rattle.machine_table.specs.Runs.{after_all};
 ghost use Rattle.machine_table.specs.Machine.{open_op};
 ghost use Rattle.programs.specs.Acts.{next_in};
-ghost use Rattle.schedules.specs.RunEvents.{Ended, initial_position};
-ghost use Rattle.schedules.specs.Runs.{plan_of};
+ghost use Rattle.schedules.specs.Runs.{Ended, initial_position, plan_of};
 ghost use Rattle.schedules.specs.SeedSchedule.{of_seed, seeded};
 ghost use Rattle.machine_theorem.specs.Service.{AreServed};
 
@@ -41,7 +40,7 @@ pub fn drive_seed<P: Program>(
 ) -> Driven
     requires one_each { length programs.old ≡ system.old.config.cores }
     ensures schedule { Ended true (plan_of P.acts (seeded P.acts) limit)
-        (initial_position system.old programs.old (of_seed seed))
+        (initial_position P.acts system.old programs.old (of_seed seed))
         result.events.items system.new programs.new result.end }
     ensures machine { system.new ≡ after_all system.old result.events.items }
     ensures all_done { result.end ≡ End.AllDone → (core : ℕ) → core < system.old.config.cores →

@@ -1,11 +1,11 @@
-//! What a schedule has next is made: each event is noted, the program receives what it completed, and the eviction
-//! follows that makes a place.
-ghost use Rattle.std.specs.Prelude.{◌≡◌, false, List};
-ghost use Rattle.schedules.specs.Schedules.{Schedule, Does, Tries, Delivers, Advances};
-ghost use Rattle.schedules.specs.Runs.{Within, Evicting, MakingRoom};
-ghost use Rattle.schedules.specs.Notes.{IsMade, Led, at, is_full, step_choice};
+//! The parts of a turn: each event is noted, the program receives what it completed, and the eviction follows that makes a
+//! place.
+ghost use Rattle.std.specs.Prelude.{◌≡◌, IfOk, List};
+ghost use Rattle.schedules.specs.Parts.{Does, Advances, one, finds_no_place, tries, makes_place, makes_room, delivery};
+ghost use Rattle.schedules.specs.RoundSchedule.{step_action};
+ghost use Rattle.schedules.specs.Notes.{Did, at};
 
-use crate::log::{Log, is_held, is_no_room, step, try_core};
+use crate::log::{Log, is_evicted, is_held, is_no_room, step, try_core};
 use crate::look_ups::{tell, tell_advance};
 use interleaving_core::{Event, System};
 use network::MsgNo;
@@ -14,14 +14,14 @@ use programs::{End, Step};
 
 // An event that nothing follows.
 #[inline(always)]
-pub(crate) fn make<P: Program, S>(
+pub(crate) fn make<P: Program>(
     system: &mut System,
     programs: &mut [P],
     log: &mut Log,
     event: &Event,
 ) -> Result<(), End>
-    ensures { IsMade {S = S} P.acts (Does event.now) false system.old programs.old log.old result
-        system.new programs.new log.new }
+    ensures { Did P.acts (one (Does event.now)) (at system.old programs.old log.old) result
+        (at system.new programs.new log.new) }
 {
     let plain = step(log, system, event)?;
     tell(system, programs, &plain);
@@ -30,18 +30,19 @@ pub(crate) fn make<P: Program, S>(
 
 // An attempt; if there is no place for the line, a copy goes. The result says whether there was none.
 #[inline(always)]
-pub(crate) fn attempt<P: Program, S>(
+pub(crate) fn attempt<P: Program>(
     system: &mut System,
     programs: &mut [P],
     log: &mut Log,
     core: u32,
 ) -> Result<bool, End>
-    ensures { IsMade {S = S} P.acts (Tries core) (is_full result) system.old programs.old log.old
-        result system.new programs.new log.new }
+    ensures did { Did P.acts (tries P.acts core) (at system.old programs.old log.old) result
+        (at system.new programs.new log.new) }
+    ensures full { IfOk result (λ full. full ≡ finds_no_place system.old core) }
 {
     let plain = try_core(log, system, core)?;
     if is_no_room(&plain) {
-        evict::<P, S>(system, log, core)?;
+        evict::<P>(system, log, core)?;
         return Ok(true);
     }
     tell(system, programs, &plain);
@@ -49,10 +50,9 @@ pub(crate) fn attempt<P: Program, S>(
 }
 
 // A copy goes so that there is a place for the line of a core's open operation.
-fn evict<P: Program, S>(system: &mut System, log: &mut Log, core: u32) -> Result<(), End>
-    ensures { (rule : Schedule P S) (programs : List P) (own : S) →
-        Led P.acts rule (at system.old programs log.old own (Evicting core)) result
-        (at system.new programs log.new own Within) }
+fn evict<P: Program>(system: &mut System, log: &mut Log, core: u32) -> Result<(), End>
+    ensures { (programs : List P) → Did P.acts (makes_place core) (at system.old programs log.old)
+        result (at system.new programs log.new) }
 {
     let Some(line) = system.open_victim(core) else {
         return Ok(());
@@ -63,43 +63,52 @@ fn evict<P: Program, S>(system: &mut System, log: &mut Log, core: u32) -> Result
 
 // A message is delivered; if it is held, a line leaves its bank if that makes a place.
 #[inline(always)]
-pub(crate) fn deliver<P: Program, S>(
+pub(crate) fn deliver<P: Program>(
     system: &mut System,
     log: &mut Log,
+    is_fair: bool,
     number: MsgNo,
 ) -> Result<(), End>
-    ensures { (programs : List P) → IsMade {S = S} P.acts (Delivers number) false
-        system.old programs log.old result system.new programs log.new }
+    ensures { (programs : List P) → Did P.acts (delivery P.acts is_fair number)
+        (at system.old programs log.old) result (at system.new programs log.new) }
 {
     let plain = step(log, system, &Event::Deliver(number))?;
     if is_held(&plain) {
-        return evict_bank::<P, S>(system, log, number);
+        return evict_bank::<P>(system, log, is_fair, number);
     }
     Ok(())
 }
 
-// A line leaves the bank of a held message, if that makes a place for it.
-fn evict_bank<P: Program, S>(system: &mut System, log: &mut Log, number: MsgNo) -> Result<(), End>
-    ensures { (rule : Schedule P S) (programs : List P) (own : S) →
-        Led P.acts rule (at system.old programs log.old own (MakingRoom number)) result
-        (at system.new programs log.new own Within) }
+// A line leaves the bank of a held message, if that makes a place for it. If it did and rounds are fair, the message is
+// delivered once more.
+fn evict_bank<P: Program>(
+    system: &mut System,
+    log: &mut Log,
+    is_fair: bool,
+    number: MsgNo,
+) -> Result<(), End>
+    ensures { (programs : List P) → Did P.acts (makes_room P.acts is_fair number)
+        (at system.old programs log.old) result (at system.new programs log.new) }
 {
     let Some(victim) = system.make_room(number) else {
         return Ok(());
     };
-    step(log, system, &Event::EvictBank(victim.0, victim.1))?;
+    let plain = step(log, system, &Event::EvictBank(victim.0, victim.1))?;
+    if is_fair && is_evicted(&plain) {
+        step(log, system, &Event::Deliver(number))?;
+    }
     Ok(())
 }
 
 // A core advances, and its program is told.
-fn advance<P: Program, S>(
+fn advance<P: Program>(
     system: &mut System,
     programs: &mut [P],
     log: &mut Log,
     core: u32,
 ) -> Result<(), End>
-    ensures { IsMade {S = S} P.acts (Advances core) false system.old programs.old log.old result
-        system.new programs.new log.new }
+    ensures { Did P.acts (one (Advances core)) (at system.old programs.old log.old) result
+        (at system.new programs.new log.new) }
 {
     let plain = step(log, system, &Event::Advance(core))?;
     tell_advance(programs, core, &plain);
@@ -108,18 +117,18 @@ fn advance<P: Program, S>(
 
 // A core does this step of its program.
 #[inline(always)]
-pub(crate) fn do_step<P: Program, S>(
+pub(crate) fn do_step<P: Program>(
     system: &mut System,
     programs: &mut [P],
     log: &mut Log,
     core: u32,
     next: &Step,
 ) -> Result<(), End>
-    ensures { IsMade {S = S} P.acts (step_choice core next.now) false system.old programs.old
-        log.old result system.new programs.new log.new }
+    ensures { Did P.acts (one (step_action core next.now)) (at system.old programs.old log.old) result
+        (at system.new programs.new log.new) }
 {
     match *next {
-        Step::Op(op) => make::<P, S>(system, programs, log, &Event::Issue(core, op)),
-        Step::Advance => advance::<P, S>(system, programs, log, core),
+        Step::Op(op) => make(system, programs, log, &Event::Issue(core, op)),
+        Step::Advance => advance(system, programs, log, core),
     }
 }

@@ -15,7 +15,7 @@ pub use batches::{batch, policy_runs, seeded_runs};
 pub use finished::Finished;
 pub use programs::{End, OpProgram, Program, Step, StepProgram};
 pub use report_text::RunEnd;
-pub use schedules::{Driven, Policy, drive_round, drive_seed, run_to_end};
+pub use schedules::{Driven, Policy, drive_fair_round, drive_round, drive_seed, run_to_end};
 pub use set_up::{config_of, limit_of, policy_of, workers_of};
 pub use shared_jobs::{Free, Gate};
 pub use thread_driver::{Shift, ThreadRun, drive_threads, run_threads};

@@ -1,4 +1,4 @@
-use Rattle.schedules.proofs.SameRuns.{same_list}
+use Rattle.schedules.proofs.RunLaws.{same_list}
 use Rattle.schedules.proofs.laws.one_seed_gives_one_list.Goals as goal
 
 pub returns : goal.returns

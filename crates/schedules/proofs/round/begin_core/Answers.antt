@@ -1,33 +1,40 @@
-use Rattle.std.proofs.Common.{refl, rules}
+use Rattle.std.proofs.Common.{◌≡◌, Some, None, false, rules}
 use Rattle.std.proofs.lemmas.Result.{err_from_is_err_and}
 use Rattle.machine_table.specs.Machine.{open_op}
-use Rattle.schedules.specs.RoundSchedule.{Stepping, rounds}
-use Rattle.schedules.specs.RoundViews.{round_at}
-use Rattle.schedules.proofs.RoundTurns.{does_step, has_ended, has_open}
+use Rattle.programs.specs.Acts.{next_in}
+use Rattle.schedules.specs.Parts.{one}
+use Rattle.schedules.specs.RoundSchedule.{step_action, steps_on}
+use Rattle.schedules.specs.Notes.{at, standing}
+use Rattle.schedules.proofs.Parts.{did_as, none_made}
+use Rattle.schedules.proofs.RoundSteps.{has_step, no_step}
 use Rattle.schedules.proofs.round.begin_core.Goals as goal
 
-pub returns-then-is_some-clause-led : goal.returns-then-is_some-clause-led
-returns-then-is_some-clause-led g c cores below =
+pub returns-then-is_some-clause-did : goal.returns-then-is_some-clause-did
+returns-then-is_some-clause-did g c =
     let a = c.args in
-    has_open g.P.Program.acts a.system.now a.programs.now cores a.core a.log.now below (open_op a.system.now a.core) refl
-    (search rules)
+    rw (no_step a.core (open_op a.system.now a.core) (next_in g.P.Program.acts a.programs.now a.core) _ (search rules))
+    (none_made g.P.Program.acts _)
 
-pub returns-in_default-clause-led : goal.returns-in_default-clause-led
-returns-in_default-clause-led g c cores below =
+pub returns-in_default-clause-did : goal.returns-in_default-clause-did
+returns-in_default-clause-did g c =
     let a = c.args in
-    has_ended g.P.Program.acts a.system.now a.programs.now cores a.core a.log.now below (search rules) (search rules)
+    let free : open_op a.system.now a.core ≡ None = search rules in
+    let ended : next_in g.P.Program.acts a.programs.now a.core ≡ None = search rules in
+    rw (free, ended) (none_made g.P.Program.acts _)
 
-pub returns-in_err-do_step-clause-led : goal.returns-in_err-do_step-clause-led
-returns-in_err-do_step-clause-led g c cores below =
+pub returns-in_err-do_step-clause-did : goal.returns-in_err-do_step-clause-did
+returns-in_err-do_step-clause-did g c =
     let a = c.args in
     let e = err_from_is_err_and c.from_residual.result c.from_residual.ensures.1 in
-    rw (e.1, e.2) (c.in_err-do_step.ensures (rounds g.P.Program.acts) (round_at cores (Stepping a.core))
-    (does_step g.P.Program.acts a.system.now a.programs.now cores a.core below c.in-Some.next (search rules)
-    (search rules)))
+    let free : open_op a.system.now a.core ≡ None = search rules in
+    let next : next_in g.P.Program.acts a.programs.now a.core ≡ Some c.in-Some.next = search rules in
+    rw (e.1, e.2) (did_as g.P.Program.acts _ _ (one (step_action a.core c.in-Some.next)) (steps_on g.P.Program.acts a.core)
+    (has_step a.core _ _ c.in-Some.next (standing (at a.system.now a.programs.now a.log.now) false) free next) (Some _)
+    c.in_err-do_step.ensures)
 
-pub returns-clause-led : goal.returns-clause-led
-returns-clause-led g c cores below =
+pub returns-clause-did : goal.returns-clause-did
+returns-clause-did g c =
     let a = c.args in
-    c.in_ok-do_step.ensures (rounds g.P.Program.acts) (round_at cores (Stepping a.core))
-    (does_step g.P.Program.acts a.system.now a.programs.now cores a.core below c.in-Some.next (search rules)
-    (search rules))
+    let free : open_op a.system.now a.core ≡ None = search rules in
+    let next : next_in g.P.Program.acts a.programs.now a.core ≡ Some c.in-Some.next = search rules in
+    rw (free, next) c.in_ok-do_step.ensures

@@ -1,32 +1,39 @@
-use Rattle.std.proofs.Common.{◌∷◌, ◌+◌, drop, refl}
+use Rattle.std.proofs.Common.{◌+◌, drop, None}
 use Rattle.std.proofs.lemmas.List.{drop_all}
 use Rattle.std.proofs.lemmas.Result.{err_from_is_err_and}
-use Rattle.schedules.specs.RoundSchedule.{Delivering, rounds}
-use Rattle.schedules.specs.RoundViews.{round_at}
-use Rattle.schedules.proofs.RunSteps.{and_stops, and_then}
-use Rattle.schedules.proofs.RoundTurns.{left_from}
+use Rattle.schedules.specs.Parts.{for_each, delivery}
+use Rattle.schedules.specs.Notes.{at}
+use Rattle.schedules.proofs.Parts.{none_made, left_then, left_first, left_from}
 use Rattle.schedules.proofs.round.deliveries.Goals as goal
 
+pub loop-number-init : goal.loop-number-init
+loop-number-init g c programs o u did = did
+
 pub returns-in_err-deliver : goal.returns-in_err-deliver
-returns-in_err-deliver g c programs cores =
+returns-in_err-deliver g c programs =
+    let a = c.args in
     let l = c.loop-number in
-    let numbers = c.args.numbers.now in
+    let acts = g.P.Program.acts in
     let number = c.number-item.result in
     let e = err_from_is_err_and c.from_residual.result c.from_residual.ensures.1 in
-    let left = left_from numbers l.number-index number c.loop-number-test.true c.number-item.is in
-    rw (e.1, e.2) (and_stops (rw left at (l.invariant programs cores)) (c.in_err-deliver.ensures programs
-    (rounds g.P.Program.acts) (round_at cores (Delivering (number ∷ drop (l.number-index + 1) numbers))) refl))
+    let left = left_from a.numbers.now l.number-index number c.loop-number-test.true c.number-item.is in
+    rw (e.1, e.2) (left_first acts _ (at l.system programs l.log) _ (for_each acts (delivery acts a.is_fair) a.numbers.now) (delivery acts a.is_fair number)
+    (for_each acts (delivery acts a.is_fair) (drop (l.number-index + 1) a.numbers.now))
+    (rw left at (l.invariant programs)) _ (c.in_err-deliver.ensures programs))
 
 pub loop-number-preserved : goal.loop-number-preserved
-loop-number-preserved g c programs cores =
+loop-number-preserved g c programs =
+    let a = c.args in
     let l = c.loop-number in
-    let numbers = c.args.numbers.now in
+    let acts = g.P.Program.acts in
     let number = c.number-item.result in
-    let left = left_from numbers l.number-index number c.loop-number-test.true c.number-item.is in
-    and_then (rw left at (l.invariant programs cores)) (c.in_ok-deliver.ensures programs (rounds g.P.Program.acts)
-    (round_at cores (Delivering (number ∷ drop (l.number-index + 1) numbers))) refl)
+    let left = left_from a.numbers.now l.number-index number c.loop-number-test.true c.number-item.is in
+    left_then acts (for_each acts (delivery acts a.is_fair) a.numbers.now) (delivery acts a.is_fair number)
+    (for_each acts (delivery acts a.is_fair) (drop (l.number-index + 1) a.numbers.now))
+    (rw left at (l.invariant programs)) (c.in_ok-deliver.ensures programs)
 
 pub returns : goal.returns
-returns g c programs cores =
+returns g c programs =
     let l = c.loop-number in
-    rw (drop_all l.number-index c.args.numbers.now c.loop-number-test.false) at (l.invariant programs cores)
+    (rw (drop_all l.number-index c.args.numbers.now c.loop-number-test.false) at (l.invariant programs))
+    None _ (none_made g.P.Program.acts _)

@@ -1,11 +1,12 @@
-use Rattle.std.proofs.Common.{ℕ, List, drop}
-use Rattle.schedules.specs.Runs.{Within}
-use Rattle.schedules.specs.RoundSchedule.{Delivering, rounds}
-use Rattle.schedules.specs.RoundViews.{round_at}
-use Rattle.schedules.specs.Notes.{Leads, at}
+use Rattle.std.proofs.Common.{List, drop}
+use Rattle.schedules.specs.Parts.{for_each, delivery}
+use Rattle.schedules.specs.Notes.{at}
+use Rattle.schedules.proofs.Parts.{IsLeft}
 use Rattle.schedules.proofs.round.deliveries.Given as goal
 
 abbrev pub invariant-loop-number : goal.invariant-loop-number
-invariant-loop-number g l = (programs : List g.row.P.Denot) (cores : ℕ) → Leads g.P.Program.acts (rounds g.P.Program.acts)
-    (at l.fn.system programs l.fn.log (round_at cores (Delivering l.fn.numbers)) Within)
-    (at l.system programs l.log (round_at cores (Delivering (drop l.number-index l.numbers))) Within)
+invariant-loop-number g l = (programs : List g.row.P.Denot) →
+    let acts = g.P.Program.acts in
+    IsLeft acts (for_each acts (delivery acts l.fn.is_fair) l.fn.numbers)
+    (for_each acts (delivery acts l.fn.is_fair) (drop l.number-index l.numbers))
+    (at l.fn.system programs l.fn.log) (at l.system programs l.log)

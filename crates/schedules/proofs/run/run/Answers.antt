@@ -1,17 +1,16 @@
 use Rattle.std.proofs.Common.{arith, refl, sym, ap, ◌∙◌}
 use Rattle.std.specs.Prelude.{is_some}
-use Rattle.schedules.specs.Runs.{plan_of}
-use Rattle.schedules.specs.RunEvents.{initial_position}
-use Rattle.schedules.specs.Notes.{Log}
-use Rattle.schedules.proofs.RunSteps.{at_first}
-use Rattle.schedules.proofs.TurnEnds.{all_done, turns_used, turn_begun, stalled, turn_over}
+use Rattle.schedules.specs.Runs.{initial_position, plan_of}
+use Rattle.schedules.specs.Notes.{Log, at}
+use Rattle.schedules.proofs.Parts.{made_keeps}
+use Rattle.schedules.proofs.RunTurns.{at_first, all_done, turns_used, turn_begun, did_end, turn_over, stalled}
 use Rattle.schedules.proofs.run.run.Goals as goal
 
 pub loop-made-init : goal.loop-made-init
 loop-made-init g c =
     let a = c.args in record {
-      arrived = rw c.requires.no_progress_yet (at_first (plan_of g.P.Program.acts g.S.Schedule.rule a.limit)
-          (initial_position a.system.now a.programs.now a.schedule.now) a.log.now.events c.requires.nothing_yet);
+      here = at_first (plan_of g.P.Program.acts g.S.Schedule.rule a.limit) a.system.now a.programs.now a.log.now
+          a.schedule.now c.requires.nothing_yet;
       kept = refl;
     }
 
@@ -20,8 +19,9 @@ returns-then-are_over g c =
     let a = c.args in
     let l = c.loop-made in record {
       ended = all_done (plan_of g.P.Program.acts g.S.Schedule.rule a.limit)
-          (initial_position a.system.now a.programs.now a.schedule.now) l.system l.programs l.log l.schedule l._made
-          l.invariant.arrived (rw c.cores.ensures.cores at (sym c.if-are_over.ensures));
+          (initial_position g.P.Program.acts a.system.now a.programs.now a.schedule.now) l._made
+          (at l.system l.programs l.log) l.schedule l.invariant.here
+          (rw c.cores.ensures.cores at (sym c.if-are_over.ensures)) (omega (arith, c.loop-made-test.true));
       kept = l.invariant.kept;
     }
 
@@ -29,44 +29,46 @@ pub returns-in-Err : goal.returns-in-Err
 returns-in-Err g c =
     let a = c.args in
     let l = c.loop-made in
+    let n = c.turn.new in
     let plan = plan_of g.P.Program.acts g.S.Schedule.rule a.limit in
-    let start = initial_position a.system.now a.programs.now a.schedule.now in
-    let began = turn_begun plan start l.system l.programs l.log l.schedule l._made
-    c.begin_turn.new.self l.invariant.arrived c.begin_turn.ensures (rw c.cores.ensures.cores at (sym c.if-are_over.ensures)) c.loop-made-test.true in record {
-      ended = c.in-Err.ensures.led.finishes a.limit start l._made began;
-      kept = c.in-Err.ensures.led.kept ∙ ap (λ (log : Log). is_some log.events) c.begin_turn.ensures ∙ l.invariant.kept;
+    let start = initial_position g.P.Program.acts a.system.now a.programs.now a.schedule.now in
+    let now = turn_begun plan start l._made l.system l.programs l.log c.begin_turn.new.self l.schedule l.invariant.here
+    (rw c.cores.ensures.cores at (sym c.if-are_over.ensures)) c.begin_turn.ensures in
+    let ended = did_end plan start l._made (at l.system l.programs c.begin_turn.new.self) l.schedule now
+    c.loop-made-test.true c.in-Err.end (at n.system n.programs n.log) c.in-Err.ensures.did in record {
+      ended = ended.0;
+      kept = ended.1 ∙ ap (λ (log : Log). is_some log.events) c.begin_turn.ensures ∙ l.invariant.kept;
     }
 
 pub returns-then-is_last : goal.returns-then-is_last
 returns-then-is_last g c =
     let a = c.args in
     let l = c.loop-made in
+    let n = c.turn.new in
     let plan = plan_of g.P.Program.acts g.S.Schedule.rule a.limit in
-    let start = initial_position a.system.now a.programs.now a.schedule.now in
-    let began = turn_begun plan start l.system l.programs l.log l.schedule l._made
-    c.begin_turn.new.self l.invariant.arrived c.begin_turn.ensures (rw c.cores.ensures.cores at (sym c.if-are_over.ensures)) c.loop-made-test.true in
-    let n = c.turn.new in record {
-      ended = stalled plan start n.system n.programs n.log n.self l._made
-          (c.in_default.ensures.led.arrives a.limit start l._made began) c.in_default.ensures.over
-          (sym c.if-is_last.ensures);
-      kept = c.in_default.ensures.led.kept ∙ ap (λ (log : Log). is_some log.events) c.begin_turn.ensures
-          ∙ l.invariant.kept;
+    let start = initial_position g.P.Program.acts a.system.now a.programs.now a.schedule.now in
+    let now = turn_begun plan start l._made l.system l.programs l.log c.begin_turn.new.self l.schedule l.invariant.here
+    (rw c.cores.ensures.cores at (sym c.if-are_over.ensures)) c.begin_turn.ensures in record {
+      ended = stalled plan start l._made (at l.system l.programs c.begin_turn.new.self) l.schedule now
+          (at n.system n.programs n.log) c.in_default.ensures.did (sym c.if-is_last.ensures) c.loop-made-test.true;
+      kept = made_keeps g.P.Program.acts c.in_default.ensures.did
+          ∙ ap (λ (log : Log). is_some log.events) c.begin_turn.ensures ∙ l.invariant.kept;
     }
 
 pub loop-made-preserved : goal.loop-made-preserved
 loop-made-preserved g c =
     let a = c.args in
     let l = c.loop-made in
+    let n = c.turn.new in
     let plan = plan_of g.P.Program.acts g.S.Schedule.rule a.limit in
-    let start = initial_position a.system.now a.programs.now a.schedule.now in
-    let began = turn_begun plan start l.system l.programs l.log l.schedule l._made
-    c.begin_turn.new.self l.invariant.arrived c.begin_turn.ensures (rw c.cores.ensures.cores at (sym c.if-are_over.ensures)) c.loop-made-test.true in
-    let n = c.turn.new in record {
-      arrived = turn_over plan start n.system n.programs n.log n.self l._made
-          (c.in_default.ensures.led.arrives a.limit start l._made began) c.in_default.ensures.over
-          (sym c.if-is_last.ensures);
-      kept = c.in_default.ensures.led.kept ∙ ap (λ (log : Log). is_some log.events) c.begin_turn.ensures
-          ∙ l.invariant.kept;
+    let start = initial_position g.P.Program.acts a.system.now a.programs.now a.schedule.now in
+    let now = turn_begun plan start l._made l.system l.programs l.log c.begin_turn.new.self l.schedule l.invariant.here
+    (rw c.cores.ensures.cores at (sym c.if-are_over.ensures)) c.begin_turn.ensures in record {
+      here = turn_over plan start l._made (at l.system l.programs c.begin_turn.new.self) l.schedule now
+          (at n.system n.programs n.log) c.in_default.ensures.did (sym c.if-is_last.ensures) n.self
+          c.in_default.ensures.next;
+      kept = made_keeps g.P.Program.acts c.in_default.ensures.did
+          ∙ ap (λ (log : Log). is_some log.events) c.begin_turn.ensures ∙ l.invariant.kept;
     }
 
 pub returns-then-are_over-2 : goal.returns-then-are_over-2
@@ -74,8 +76,9 @@ returns-then-are_over-2 g c =
     let a = c.args in
     let l = c.loop-made in record {
       ended = all_done (plan_of g.P.Program.acts g.S.Schedule.rule a.limit)
-          (initial_position a.system.now a.programs.now a.schedule.now) l.system l.programs l.log l.schedule l._made
-          l.invariant.arrived (rw c.cores-2.ensures.cores at (sym c.if-are_over-2.ensures));
+          (initial_position g.P.Program.acts a.system.now a.programs.now a.schedule.now) l._made
+          (at l.system l.programs l.log) l.schedule l.invariant.here
+          (rw c.cores-2.ensures.cores at (sym c.if-are_over-2.ensures)) (omega (arith, l.auto._made-end));
       kept = l.invariant.kept;
     }
 
@@ -84,8 +87,9 @@ returns-else-are_over-2 g c =
     let a = c.args in
     let l = c.loop-made in record {
       ended = turns_used (plan_of g.P.Program.acts g.S.Schedule.rule a.limit)
-          (initial_position a.system.now a.programs.now a.schedule.now) l.system l.programs l.log l.schedule l._made
-          l.invariant.arrived (rw c.cores-2.ensures.cores at (sym c.if-are_over-2.ensures))
+          (initial_position g.P.Program.acts a.system.now a.programs.now a.schedule.now) l._made
+          (at l.system l.programs l.log) l.schedule l.invariant.here
+          (rw c.cores-2.ensures.cores at (sym c.if-are_over-2.ensures))
           (omega (arith, c.loop-made-test.false, l.auto._made-end));
       kept = l.invariant.kept;
     }

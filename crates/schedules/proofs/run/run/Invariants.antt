@@ -1,13 +1,13 @@
-use Rattle.schedules.specs.Runs.{Before, plan_of}
-use Rattle.schedules.specs.RunEvents.{Arrives, initial_position}
-use Rattle.schedules.specs.Notes.{KeepsAs, at, position}
+use Rattle.schedules.specs.Runs.{initial_position, plan_of}
+use Rattle.schedules.specs.Notes.{KeepsAs, at}
+use Rattle.schedules.proofs.RunTurns.{IsAt}
 use Rattle.schedules.proofs.run.run.Given as goal
 
 abbrev pub invariant-loop-made : goal.invariant-loop-made
 invariant-loop-made g l = record {
-  arrived :
-      Arrives (plan_of g.P.Program.acts g.S.Schedule.rule l.fn.limit)
-      (initial_position l.fn.system l.fn.programs l.fn.schedule) l.log.events
-      (position (at l.system l.programs l.log l.schedule Before) l._made);
+  here :
+      IsAt (plan_of g.P.Program.acts g.S.Schedule.rule l.fn.limit)
+      (initial_position g.P.Program.acts l.fn.system l.fn.programs l.fn.schedule) l._made
+      (at l.system l.programs l.log) l.schedule;
   kept : KeepsAs l.fn.log l.log;
 }

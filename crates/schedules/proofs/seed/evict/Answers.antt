@@ -1,18 +1,27 @@
-use Rattle.std.proofs.Common.{◌∙◌, ap, sym, rules}
-use Rattle.schedules.specs.Schedules.{Does}
-use Rattle.schedules.specs.SeedSchedule.{seeded}
-use Rattle.schedules.proofs.SeedEntries.{is_turn}
-use Rattle.schedules.proofs.TurnSteps.{refused}
+use Rattle.std.proofs.Common.{◌≡◌, ◌∙◌, ap, refl, subst, sym, rules}
+use Rattle.schedules.specs.Parts.{Does, Lists, one, followed_by}
+use Rattle.schedules.specs.SeedSchedule.{Evicts, choice_at, chosen, line_events}
+use Rattle.schedules.specs.Notes.{Reaches, at, end_in}
+use Rattle.schedules.proofs.Parts.{list_made, did_as, did_then}
+use Rattle.schedules.proofs.SeedEntries.{not_listed}
 use Rattle.schedules.proofs.seed.evict.Goals as goal
 
 pub returns-in_default : goal.returns-in_default
-returns-in_default g c own draws is =
-    let a = c.args in
-    rw c.drawn_line.ensures.machine (refused g.P.Program.acts (seeded g.P.Program.acts) a.system.now a.programs.now
-    a.log.now own (λ over. c.in_default.ensures.found (sym is ∙ over)) draws)
+returns-in_default g c =
+    rw c.drawn_line.ensures.machine (not_listed g.P.Program.acts _ c.in_default.ensures.found _)
 
 pub returns : goal.returns
-returns g c own draws is =
-    rw (c.made.ensures, ← c.drawn_line.ensures.machine) (is_turn g.P.Program.acts _ _ c.make.result
-    (c.make.ensures (seeded g.P.Program.acts) own
-    (rw c.drawn_line.ensures.machine (is ∙ search rules ∙ ap Does (sym c.eviction.ensures)))))
+returns g c =
+    let a = c.args in
+    let n = c.make.new in
+    let acts = g.P.Program.acts in
+    let h = g.H.Holder in
+    let p = at a.system.now a.programs.now a.log.now in
+    let q = at n.system n.programs n.log in
+    let e = c.eviction.result in
+    let is : choice_at (line_events h.eviction (h.lines a.system.now) (h.holders a.system.now)) a.b ≡ Evicts e =
+    search rules ∙ ap Evicts (sym c.eviction.ensures) in
+    subst (λ choice. Reaches acts (chosen acts choice) p (end_in c.make.result) q) (sym is)
+    (did_as acts p q (followed_by acts (one Lists) (one (Does e))) (chosen acts (Evicts e)) refl (end_in c.make.result)
+    (did_then acts q (one Lists) (one (Does e)) (list_made acts p) (end_in c.make.result)
+    (rw c.drawn_line.ensures.machine at c.make.ensures)))

@@ -1,4 +1,4 @@
-use Rattle.std.proofs.Common.{◌≡◌, ◌<◌, ◌^◌}
+use Rattle.std.proofs.Common.{◌<◌, ◌^◌}
 use Rattle.std.specs.Prelude.{is_some}
 use Rattle.interleaving_core.specs.CoreMasks.{is_idle}
 use Rattle.programs.specs.Acts.{next_in}

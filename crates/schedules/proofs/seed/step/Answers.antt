@@ -1,19 +1,20 @@
-use Rattle.std.proofs.Common.{◌≡◌, ◌+◌, ◌∙◌, ◌%◌, length, ap, sym, arith}
+use Rattle.std.proofs.Common.{◌≡◌, ◌+◌, ◌∙◌, ◌%◌, length, ap, subst, sym, arith}
 use Rattle.std.specs.Prelude.{count_ones}
-use Rattle.schedules.specs.SeedSchedule.{seeded}
-use Rattle.schedules.proofs.SeedEntries.{delivery_drawn, is_in_flight, is_turn, step_drawn}
+use Rattle.schedules.specs.SeedSchedule.{chosen, steps}
+use Rattle.schedules.specs.Notes.{Reaches, at, end_in}
+use Rattle.schedules.proofs.Parts.{none_made}
+use Rattle.schedules.proofs.SeedEntries.{delivery_drawn, is_in_flight, no_entry, step_drawn, steps_count}
 use Rattle.schedules.proofs.seed.step.Goals as goal
 
 pub returns-then-at-count : goal.returns-then-at-count
-returns-then-at-count g c own is =
+returns-then-at-count g c =
     let a = c.args in
     let found = c.core_at-core.ensures in
     let all : c.from.result + c.from-2.result ≡ count_ones c.ready_cores-ready.result
     + length a.system.now.mail.messages = omega (arith, c.from.ensures, c.from-2.ensures, c.messages.ensures) in
-    rw c.made.ensures (is_turn g.P.Program.acts _ _ c.step_core.result (c.step_core.ensures found.0 found.1 own
-    (is ∙ step_drawn g.P.Program.acts a.system.now a.programs.now a.b
+    rw (step_drawn g.P.Program.acts a.system.now a.programs.now a.b
     c.place_in-at.result (count_ones c.ready_cores-ready.result) c.ready_cores-ready.ensures.count
-    (c.place_in-at.ensures ∙ ap (λ n. a.b % n) all) found.0 found.2)))
+    (c.place_in-at.ensures ∙ ap (λ n. a.b % n) all) found.0 found.2) (c.step_core.ensures found.0 found.1)
 
 pub unreachable-requires : goal.unreachable-requires
 unreachable-requires g c =
@@ -26,13 +27,30 @@ unreachable-requires g c =
     (sym c.seek_message.ensures.number ∙ c.in-None.is)
 
 pub returns : goal.returns
-returns g c own is =
+returns g c =
+    let a = c.args in
+    let acts = g.P.Program.acts in
+    let all : c.from.result + c.from-2.result ≡ count_ones c.ready_cores-ready.result
+    + length a.system.now.mail.messages = omega (arith, c.from.ensures, c.from-2.ensures, c.messages.ensures) in
+    let is = delivery_drawn acts a.system.now a.programs.now a.b
+    c.place_in-at.result (count_ones c.ready_cores-ready.result) c.ready_cores-ready.ensures.count
+    (c.place_in-at.ensures ∙ ap (λ n. a.b % n) all) c.in-Some.number c.if-at-count.false
+    (sym c.seek_message.ensures.number ∙ c.in-Some.is) in
+    subst (λ choice. Reaches acts (chosen acts choice) (at a.system.now a.programs.now a.log.now)
+    (end_in c.deliver.result) (at c.deliver.new.system a.programs.now c.deliver.new.log)) (sym is)
+    (rw c.seek_message.ensures.same at (c.deliver.ensures a.programs.now))
+
+pub returns-then-total-eq0 : goal.returns-then-total-eq0
+returns-then-total-eq0 g c =
     let a = c.args in
     let all : c.from.result + c.from-2.result ≡ count_ones c.ready_cores-ready.result
     + length a.system.now.mail.messages = omega (arith, c.from.ensures, c.from-2.ensures, c.messages.ensures) in
-    rw (c.made-in-Some.ensures, ← c.seek_message.ensures.same) (is_turn g.P.Program.acts _ _ c.deliver.result
-    (c.deliver.ensures a.programs.now (seeded g.P.Program.acts) own
-    (rw c.seek_message.ensures.same (is ∙ delivery_drawn g.P.Program.acts a.system.now a.programs.now a.b
-    c.place_in-at.result (count_ones c.ready_cores-ready.result) c.ready_cores-ready.ensures.count
-    (c.place_in-at.ensures ∙ ap (λ n. a.b % n) all) c.in-Some.number c.if-at-count.false
-    (sym c.seek_message.ensures.number ∙ c.in-Some.is)))))
+    rw (no_entry (steps g.P.Program.acts a.system.now a.programs.now) a.b
+    (omega (
+      arith,
+      steps_count g.P.Program.acts a.system.now a.programs.now,
+      c.ready_cores-ready.ensures.count,
+      all,
+      c.if-total-eq0.true,
+    )))
+    (none_made g.P.Program.acts _)

@@ -1,28 +1,46 @@
-use Rattle.std.proofs.Common.{rules, false}
+use Rattle.std.proofs.Common.{◌≡◌, ◌∙◌, None, true, false, ap, sym, rules}
 use Rattle.std.proofs.lemmas.Result.{err_from_is_err_and}
-use Rattle.schedules.specs.Runs.{Within}
-use Rattle.schedules.specs.Notes.{at}
-use Rattle.schedules.proofs.RunSteps.{and_led}
-use Rattle.schedules.proofs.TurnSteps.{delivered, held, delivered_not}
+use Rattle.machine_table.specs.declared.event.Event.TheVariants.{Deliver}
+use Rattle.machine_table.specs.declared.event.Answer.{Answer}
+use Rattle.machine_table.specs.Machine.{Machine}
+use Rattle.machine_table.specs.Transition.{transition}
+use Rattle.schedules.specs.Parts.{Does, one, only_if, makes_room, is_held}
+use Rattle.schedules.specs.Notes.{end_in}
+use Rattle.schedules.proofs.Parts.{did_then, did_first, did_if, did_not}
+use Rattle.schedules.proofs.Events.{event_not_made, delivery_made}
 use Rattle.schedules.proofs.turn.deliver.Goals as goal
 
 pub returns-in_err-plain : goal.returns-in_err-plain
-returns-in_err-plain g c programs rule own is =
+returns-in_err-plain g c programs =
     let a = c.args in
+    let acts = g.P.Program.acts in
     let e = err_from_is_err_and c.from_residual.result c.from_residual.ensures.1 in
-    rw (e.1, e.2) (delivered_not g.P.Program.acts rule a.system.now programs a.log.now own
-    c.step.new.system c.step.new.log a.number is c.in_err-plain.field-0.0 c.in_err-plain.ensures)
+    rw (e.1, e.2) (did_first acts _ _ (one (Does (Deliver a.number)))
+    (only_if (is_held (transition a.system.now (Deliver a.number)).0) (makes_room acts a.is_fair a.number))
+    c.in_err-plain.field-0.0 (event_not_made acts a.system.now programs a.log.now (Deliver a.number)
+    c.in_err-plain.field-0.0 c.step.new.system c.step.new.log c.in_err-plain.ensures))
 
 pub returns-then-is_held : goal.returns-then-is_held
-returns-then-is_held g c programs rule own is =
+returns-then-is_held g c programs =
     let a = c.args in
-    and_led (held g.P.Program.acts rule a.system.now programs a.log.now own c.step.new.system c.step.new.log a.number is
-    _ c.in_ok-plain.ensures (search rules))
-    c.evict_bank.result (at c.evict_bank.new.system programs c.evict_bank.new.log (rule.behind false own) Within)
-    (c.evict_bank.ensures rule programs (rule.behind false own))
+    let acts = g.P.Program.acts in
+    let stays : is_held _ ≡ true = search rules in
+    let held : is_held (transition a.system.now (Deliver a.number)).0 ≡ true =
+    ap (λ (x : Answer × Machine). is_held x.0) (sym c.in_ok-plain.ensures.0) ∙ stays in
+    did_then acts _ (one (Does (Deliver a.number)))
+    (only_if (is_held (transition a.system.now (Deliver a.number)).0) (makes_room acts a.is_fair a.number))
+    (delivery_made acts a.system.now programs a.log.now a.number _ c.step.new.system c.step.new.log
+    c.in_ok-plain.ensures) (end_in c.evict_bank.result)
+    (did_if acts _ _ _ (makes_room acts a.is_fair a.number) held (end_in c.evict_bank.result) (c.evict_bank.ensures programs))
 
 pub returns : goal.returns
-returns g c programs rule own is =
+returns g c programs =
     let a = c.args in
-    delivered g.P.Program.acts rule a.system.now programs a.log.now own c.step.new.system c.step.new.log a.number is
-    _ c.in_ok-plain.ensures (search rules)
+    let acts = g.P.Program.acts in
+    let gone : is_held _ ≡ false = search rules in
+    let held : is_held (transition a.system.now (Deliver a.number)).0 ≡ false =
+    ap (λ (x : Answer × Machine). is_held x.0) (sym c.in_ok-plain.ensures.0) ∙ gone in
+    did_then acts _ (one (Does (Deliver a.number)))
+    (only_if (is_held (transition a.system.now (Deliver a.number)).0) (makes_room acts a.is_fair a.number))
+    (delivery_made acts a.system.now programs a.log.now a.number _ c.step.new.system c.step.new.log
+    c.in_ok-plain.ensures) None (did_not acts _ _ (makes_room acts a.is_fair a.number) held)

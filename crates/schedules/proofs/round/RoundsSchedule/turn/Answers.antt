@@ -1,28 +1,39 @@
-use Rattle.std.proofs.Common.{[], ◌≡◌, ◌∙◌, rules}
-use Rattle.schedules.specs.Runs.{Within}
-use Rattle.schedules.specs.RoundSchedule.{Delivering, numbers_in_flight}
-use Rattle.schedules.specs.RoundViews.{round_at}
-use Rattle.schedules.specs.Notes.{at}
-use Rattle.schedules.proofs.RunSteps.{and_led, and_stops, and_then}
-use Rattle.schedules.proofs.RoundTurns.{listed, not_listed}
+use Rattle.std.proofs.Common.{◌≡◌, ◌∙◌, Some, refl, rules}
+use Rattle.std.proofs.lemmas.Result.{err_from_is_err_and}
+use Rattle.programs.specs.declared.ends.End.TheVariants.{NoMemory}
+use Rattle.schedules.specs.Parts.{Lists, one, for_each, delivery}
+use Rattle.schedules.specs.RoundSchedule.{core_turns, deliveries, numbers_in_flight}
+use Rattle.schedules.specs.Notes.{at, end_in}
+use Rattle.schedules.proofs.Parts.{did_then, did_first, did_as, list_made, list_refused}
 use Rattle.schedules.proofs.round.RoundsSchedule.turn.Goals as goal
 
-pub returns-then-is_err-clause-led : goal.returns-then-is_err-clause-led
-returns-then-is_err-clause-led g c =
-    let n = c.core_turns.new in
-    rw (← c.self.view_is, c.seek_message-first.ensures.same) (and_stops c.in_ok-core_turns.ensures
-    (not_listed g.P.Program.acts n.system n.programs n.log c.self.inside.cores))
+pub returns-in_err-core_turns-clause-did : goal.returns-in_err-core_turns-clause-did
+returns-in_err-core_turns-clause-did g c =
+    let acts = g.P.Program.acts in
+    let s = c.self.inside in
+    let e = err_from_is_err_and c.from_residual.result c.from_residual.ensures.1 in
+    rw (← c.self.view_is, e.1, e.2) (did_first acts _ _ (core_turns acts s.cores) (deliveries acts s.is_fair) _
+    c.in_err-core_turns.ensures)
 
-pub returns-clause-led : goal.returns-clause-led
-returns-clause-led g c =
+pub returns-then-is_err-clause-did : goal.returns-then-is_err-clause-did
+returns-then-is_err-clause-did g c =
+    let acts = g.P.Program.acts in
+    let s = c.self.inside in
+    rw (← c.self.view_is, c.seek_message-first.ensures.same) (did_then acts _ (core_turns acts s.cores)
+    (deliveries acts s.is_fair) c.in_ok-core_turns.ensures (Some NoMemory) (list_refused acts _ _))
+
+pub returns-clause-did : goal.returns-clause-did
+returns-clause-did g c =
+    let acts = g.P.Program.acts in
+    let s = c.self.inside in
     let n = c.core_turns.new in
-    let d = c.deliveries.new in
-    let cores = c.self.inside.cores in
     let here = c.seek_message-first.ensures.same in
     let seen : c.as_slice.result.now ≡ numbers_in_flight c.seek_message-first.new.self =
     c.as_slice.ensures.value ∙ search rules in
     let numbers : c.as_slice.result.now ≡ numbers_in_flight n.system = rw here at seen in
-    rw (← c.self.view_is) (and_led
-    (and_then c.in_ok-core_turns.ensures (listed g.P.Program.acts n.system n.programs n.log cores))
-    c.deliveries.result (at d.system n.programs d.log (round_at cores (Delivering [])) Within)
-    (rw (numbers, here) at (c.deliveries.ensures n.programs cores)))
+    rw (← c.self.view_is) (did_then acts _ (core_turns acts s.cores) (deliveries acts s.is_fair)
+    c.in_ok-core_turns.ensures (end_in c.deliveries.result) (did_then acts _ (one Lists)
+    (λ t. for_each acts (delivery acts s.is_fair) (numbers_in_flight t.machine) t) (list_made acts (at n.system n.programs n.log))
+    (end_in c.deliveries.result) (did_as acts _ _ (for_each acts (delivery acts s.is_fair) (numbers_in_flight n.system))
+    (λ t. for_each acts (delivery acts s.is_fair) (numbers_in_flight t.machine) t) refl
+    (end_in c.deliveries.result) (rw (numbers, here) at (c.deliveries.ensures n.programs)))))

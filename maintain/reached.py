@@ -19,7 +19,7 @@ TABLES = {
     "interleaving_core": "LookUps", "machine_theorem": "Coherence Service", "inbox": "Serving",
     "mailboxes": "Attempts BankCalls BankServing BoxMoves CoreServing Evictions PartServing Places Turns",
     "closed_machine": "Sending",
-    "programs": "Acts", "schedules": "Policies RoundSchedule Runs SeedSchedule",
+    "programs": "Acts", "schedules": "Parts Policies RoundSchedule Runs SeedSchedule",
 }
 NAMES = re.compile(r"^\s*(?:(?:pub|abbrev|unfoldable|opaque|data|record)\s+)*([^\s:(){},=]+)\s*(?:\{[^}]*\}\s*)*:(?=\s)", re.M)
 REFUSES = re.compile(r"# refuses: (\S+?):? ")

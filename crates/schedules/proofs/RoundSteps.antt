@@ -8,7 +8,7 @@ use Rattle.machine_table.specs.declared.event.Event.TheVariants as event
 use Rattle.machine_table.specs.Machine.{open_op}
 use Rattle.programs.specs.Acts.{Acts, next_in}
 use Rattle.schedules.specs.Parts.{Does, Standing, one, only_if, finds_no_place, tries, delivery}
-use Rattle.schedules.specs.RoundSchedule.{rising, numbers_in_flight, step_action, step_of, steps_on, tries_twice, attempts_op, attempts, core_turn}
+use Rattle.schedules.specs.RoundSchedule.{rising, numbers_in_flight, step_action, step_of, steps_on, tries_twice, attempt_of, attempts, core_turn}
 use Rattle.schedules.specs.RoundSchedule.{core_turns, deliveries, rounds}
 use Rattle.schedules.specs.GivenSteps.{AreGiven, Gives, GivesSteps}
 use Rattle.schedules.proofs.GivenSteps.{gives_then, gives_each, gives_if, tries_give, delivery_gives}
@@ -31,16 +31,16 @@ module _ {P : Type 0} (acts : Acts P) where
   step_gives core (Some x) next s free is = tt
 
   pub attempted : (core : ℕ) (o : Option (Op × Bool)) (s : Standing P) → is_some o ≡ true →
-      tries_twice acts core s ≡ attempts_op acts core o s
+      tries_twice acts core s ≡ attempt_of acts core o s
   attempted core (Some x) s has = refl
   attempted core None s has = absurd cc
 
   pub not_attempted : (core : ℕ) (o : Option (Op × Bool)) (s : Standing P) → is_some o ≡ false →
-      attempts_op acts core o s ≡ []
+      attempt_of acts core o s ≡ []
   not_attempted core None s has = refl
   not_attempted core (Some x) s has = absurd cc
 
-  attempt_gives : (core : ℕ) (o : Option (Op × Bool)) → Gives acts (attempts_op acts core o)
+  attempt_gives : (core : ℕ) (o : Option (Op × Bool)) → Gives acts (attempt_of acts core o)
   attempt_gives core None s = tt
   attempt_gives core (Some x) s =
       gives_then acts (tries acts core) (only_if (finds_no_place s.machine core) (one (Does (event.Attempt core))))

@@ -50,13 +50,13 @@ module _ {P : Type 0} (acts : Acts P) where
       followed_by acts (tries acts core)
       (only_if (finds_no_place s.machine core) (one (Does (event.Attempt core)))) s
 
-  abbrev pub attempts_op : ℕ → Option (Op × Bool) → Part P
-  attempts_op core None s = []
-  attempts_op core (Some x) s = tries_twice core s
+  abbrev pub attempt_of : ℕ → Option (Op × Bool) → Part P
+  attempt_of core None s = []
+  attempt_of core (Some x) s = tries_twice core s
 
   -- an open operation is attempted
   abbrev pub attempts : ℕ → Part P
-  attempts core s = attempts_op core (open_op s.machine core) s
+  attempts core s = attempt_of core (open_op s.machine core) s
 
   abbrev pub core_turn : ℕ → Part P
   core_turn core = followed_by acts (steps_on core) (attempts core)

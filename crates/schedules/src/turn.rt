@@ -95,8 +95,18 @@ fn evict_bank<P: Program>(
     };
     let plain = step(log, system, &Event::EvictBank(victim.0, victim.1))?;
     if is_fair && is_evicted(&plain) {
-        step(log, system, &Event::Deliver(number))?;
+        return deliver_again::<P>(system, log, number);
     }
+    Ok(())
+}
+
+// A message that was held is delivered once more. Rounds that aren't fair pay nothing for this.
+#[inline(never)]
+fn deliver_again<P: Program>(system: &mut System, log: &mut Log, number: MsgNo) -> Result<(), End>
+    ensures { (programs : List P) → Did P.acts (one (Does (Event.Deliver number)))
+        (at system.old programs log.old) result (at system.new programs log.new) }
+{
+    step(log, system, &Event::Deliver(number))?;
     Ok(())
 }
 

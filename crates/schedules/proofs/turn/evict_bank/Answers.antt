@@ -8,9 +8,9 @@ use Rattle.machine_table.specs.Transition.{transition}
 use Rattle.interleaving_core.specs.LookUps.{make_room}
 use Rattle.interleaving_core.specs.PartChanges.{answer_in}
 use Rattle.schedules.specs.Parts.{Does, one, only_if, line_leaves, makes_room, is_evicted}
-use Rattle.schedules.specs.Notes.{at, standing}
+use Rattle.schedules.specs.Notes.{at, standing, end_in}
 use Rattle.schedules.proofs.Parts.{none_made, did_as, did_then, did_first, did_if}
-use Rattle.schedules.proofs.Events.{event_not_made, line_gone, delivery_made}
+use Rattle.schedules.proofs.Events.{event_not_made, line_gone}
 use Rattle.schedules.proofs.turn.evict_bank.Goals as goal
 
 pub returns-in_default : goal.returns-in_default
@@ -32,41 +32,21 @@ returns-in_err-plain g c programs =
     c.in_err-plain.field-0.0 (event_not_made acts a.system.now programs a.log.now (EvictBank v.0 v.1)
     c.in_err-plain.field-0.0 c.step.new.system c.step.new.log c.in_err-plain.ensures)))
 
-pub returns-in_err-step : goal.returns-in_err-step
-returns-in_err-step g c programs =
+pub returns-then-is_evicted : goal.returns-then-is_evicted
+returns-then-is_evicted g c programs =
     let a = c.args in
     let n = c.step.new in
     let acts = g.P.Program.acts in
     let v = c.in-Some.victim in
-    let e = err_from_is_err_and c.from_residual-in_err-step.result c.from_residual-in_err-step.ensures.1 in
+    let o = end_in c.deliver_again.result in
     let line : make_room a.system.now a.number ≡ Some (v.0, v.1) = search rules in
     let left : is_evicted (answer_in n.system.records c.in_ok-plain.plain) ≡ true = search rules in
     let gone : is_evicted (transition a.system.now (EvictBank v.0 v.1)).0 ≡ true =
     ap (λ (x : Answer × Machine). is_evicted x.0) (sym c.in_ok-plain.ensures.0) ∙ left in
     let again = a.is_fair && is_evicted (transition a.system.now (EvictBank v.0 v.1)).0 in
-    let holds : again ≡ true = rw (c.if-is_fair.true, gone) refl in
-    rw (e.1, e.2) (did_as acts _ _ (line_leaves acts a.is_fair a.number (Some (v.0, v.1))) (makes_room acts a.is_fair a.number)
+    did_as acts _ _ (line_leaves acts a.is_fair a.number (Some (v.0, v.1))) (makes_room acts a.is_fair a.number)
     (ap (λ o. line_leaves acts a.is_fair a.number o (standing (at a.system.now programs a.log.now) false)) (sym line))
-    (Some _) (did_then acts _ (one (Does (EvictBank v.0 v.1))) (only_if again (one (Does (Deliver a.number))))
+    o (did_then acts _ (one (Does (EvictBank v.0 v.1))) (only_if again (one (Does (Deliver a.number))))
     (line_gone acts a.system.now programs a.log.now v.0 v.1 _ n.system n.log c.in_ok-plain.ensures)
-    (Some _) (did_if acts _ _ again (one (Does (Deliver a.number))) holds (Some _)
-    (event_not_made acts n.system programs n.log (Deliver a.number) c.in_err-step.field-0.0
-    c.step-then-is_evicted.new.system c.step-then-is_evicted.new.log c.in_err-step.ensures))))
-
-pub returns-in_ok-step : goal.returns-in_ok-step
-returns-in_ok-step g c programs =
-    let a = c.args in
-    let n = c.step.new in
-    let acts = g.P.Program.acts in
-    let v = c.in-Some.victim in
-    let line : make_room a.system.now a.number ≡ Some (v.0, v.1) = search rules in
-    let left : is_evicted (answer_in n.system.records c.in_ok-plain.plain) ≡ true = search rules in
-    let gone : is_evicted (transition a.system.now (EvictBank v.0 v.1)).0 ≡ true =
-    ap (λ (x : Answer × Machine). is_evicted x.0) (sym c.in_ok-plain.ensures.0) ∙ left in
-    let again = a.is_fair && is_evicted (transition a.system.now (EvictBank v.0 v.1)).0 in
-    let holds : again ≡ true = rw (c.if-is_fair.true, gone) refl in
-    rw line (did_then acts _ (one (Does (EvictBank v.0 v.1))) (only_if again (one (Does (Deliver a.number))))
-    (line_gone acts a.system.now programs a.log.now v.0 v.1 _ n.system n.log c.in_ok-plain.ensures)
-    None (did_if acts _ _ again (one (Does (Deliver a.number))) holds None
-    (delivery_made acts n.system programs n.log a.number _ c.step-then-is_evicted.new.system
-    c.step-then-is_evicted.new.log c.in_ok-step.ensures)))
+    o (did_if acts _ _ again (one (Does (Deliver a.number))) (rw (c.if-is_fair.true, gone) refl) o
+    (c.deliver_again.ensures programs)))

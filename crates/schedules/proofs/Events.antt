@@ -66,9 +66,7 @@ module _ {P : Type 0} (acts : Acts P) (m : Machine) (programs : List P) (log : L
           (subst (λ n. AsksMemory (is_some log.events) n (action ∷ [])) (sym noted.0)
           (asks (is_some log.events) noted.2));
     }
-    was_not end.AllDone after after_log noted = absurd noted
-    was_not end.Stalled after after_log noted = absurd noted
-    was_not end.TurnsUsed after after_log noted = absurd noted
+    was_not _ after after_log noted = absurd noted
 
   module _ (event : Event) where
     pub event_made : (answer : Answer) (after : Machine) (told : List P) (after_log : Log) →

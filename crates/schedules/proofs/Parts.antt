@@ -6,7 +6,7 @@ use Rattle.std.specs.Prelude.{option_map, is_some}
 use Rattle.machine_table.specs.declared.event.Event.{Event}
 use Rattle.machine_table.specs.Machine.{Machine}
 use Rattle.programs.specs.declared.ends.End.{End}
-use Rattle.programs.specs.declared.ends.End.TheVariants.{AllDone, Stalled, TurnsUsed, Exhausted, NoMemory}
+use Rattle.programs.specs.declared.ends.End.TheVariants.{Exhausted, NoMemory}
 use Rattle.programs.specs.Acts.{Acts}
 use Rattle.schedules.specs.Parts.{Action, Does, Advances, Lists, Standing, Part, after_action, after_actions}
 use Rattle.schedules.specs.Parts.{events_of_one, events_of, followed_by, only_if}
@@ -129,9 +129,7 @@ module _ {P : Type 0} (acts : Acts P) where
   did_then {p} {q} u f g h (Some NoMemory) k =
       subst (λ (s : Standing P). IsRefused acts (f (standing p false) ++ g s) p u) (sym h.leads)
       (refused_then (f (standing p false)) (g (standing q false)) h k)
-  did_then u f g h (Some AllDone) k = absurd k
-  did_then u f g h (Some Stalled) k = absurd k
-  did_then u f g h (Some TurnsUsed) k = absurd k
+  did_then u f g h _ k = absurd k
 
   -- one part, which ends the run
   pub did_first : (p q : Point P) (f g : Part P) (e : End) → Reaches acts f p (Some e) q →
@@ -140,9 +138,7 @@ module _ {P : Type 0} (acts : Acts P) where
       made_out (f (standing p false)) (g (after_actions acts (standing p false) (f (standing p false)))) h
   did_first p q f g NoMemory h =
       refused_first (f (standing p false)) (g (after_actions acts (standing p false) (f (standing p false)))) h
-  did_first p q f g AllDone h = absurd h
-  did_first p q f g Stalled h = absurd h
-  did_first p q f g TurnsUsed h = absurd h
+  did_first p q f g _ h = absurd h
 
   -- one part is another one, where both begin
   pub did_as : (p q : Point P) (f g : Part P) → f (standing p false) ≡ g (standing p false) → (o : Option End) →
@@ -150,9 +146,7 @@ module _ {P : Type 0} (acts : Acts P) where
   did_as p q f g same None h = subst (λ (xs : List Action). IsMade acts xs p q false) same h
   did_as p q f g same (Some Exhausted) h = subst (λ (xs : List Action). IsMade acts xs p q true) same h
   did_as p q f g same (Some NoMemory) h = subst (λ (xs : List Action). IsRefused acts xs p q) same h
-  did_as p q f g same (Some AllDone) h = absurd h
-  did_as p q f g same (Some Stalled) h = absurd h
-  did_as p q f g same (Some TurnsUsed) h = absurd h
+  did_as p q f g same _ h = absurd h
 
   -- a part that is made under a condition
   pub did_if : (p q : Point P) (b : Bool) (f : Part P) → b ≡ true → (o : Option End) → Reaches acts f p o q →

@@ -210,9 +210,7 @@ module _ {P S : Type 0} (plan : Plan P S) (start : Position P S) where
         Finishes plan start q.log.events q.machine q.programs e × KeepsAs p.log q.log
     did_end below end.Exhausted q made = (exhausted below q made, made_keeps plan.acts made)
     did_end below end.NoMemory q cut = (refused below q cut, made_keeps plan.acts cut.is_made)
-    did_end below end.AllDone q did = absurd did
-    did_end below end.Stalled q did = absurd did
-    did_end below end.TurnsUsed q did = absurd did
+    did_end below _ q did = absurd did
 
 -- before the first turn
 pub at_first : {P S : Type 0} (plan : Plan P S) (m : Machine) (programs : List P) (log : Log) (own : S) →

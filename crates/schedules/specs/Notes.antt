@@ -100,9 +100,7 @@ abbrev pub Reaches : {P : Type 0} → Acts P → Part P → Point P → Option E
 Reaches acts part p None q = IsMade acts (part (standing p false)) p q false
 Reaches acts part p (Some Exhausted) q = IsMade acts (part (standing p false)) p q true
 Reaches acts part p (Some NoMemory) q = IsRefused acts (part (standing p false)) p q
-Reaches acts part p (Some AllDone) q = ⊥
-Reaches acts part p (Some Stalled) q = ⊥
-Reaches acts part p (Some TurnsUsed) q = ⊥
+Reaches acts part p _ q = ⊥
 
 -- the end that an error is
 abbrev pub end_in : {X : Type 0} → Result X End → Option End

@@ -50,6 +50,7 @@ pub(crate) fn attempt<P: Program>(
 }
 
 // A copy goes so that there is a place for the line of a core's open operation.
+#[inline(always)]
 fn evict<P: Program>(system: &mut System, log: &mut Log, core: u32) -> Result<(), End>
     ensures { (programs : List P) → Did P.acts (makes_place core) (at system.old programs log.old)
         result (at system.new programs log.new) }
@@ -81,6 +82,7 @@ pub(crate) fn deliver<P: Program>(
 
 // A line leaves the bank of a held message, if that makes a place for it. If it did and rounds are fair, the message is
 // delivered once more.
+#[inline(always)]
 fn evict_bank<P: Program>(
     system: &mut System,
     log: &mut Log,

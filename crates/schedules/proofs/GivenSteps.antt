@@ -6,7 +6,8 @@ use Rattle.machine_table.specs.Transition.{transition}
 use Rattle.interleaving_core.specs.LookUps.{victim_for_core, make_room}
 use Rattle.programs.specs.Acts.{Acts}
 use Rattle.schedules.specs.Parts.{Action, Does, Standing, Part, after_action, after_actions, followed_by, for_each}
-use Rattle.schedules.specs.Parts.{one, only_if, copy_leaves, makes_place, finds_no_place, tries, line_leaves, makes_room}
+use Rattle.schedules.specs.Parts.{one, only_if, copy_leaves, makes_place, finds_no_place, tries, line_leaves}
+use Rattle.schedules.specs.Parts.{makes_room}
 use Rattle.schedules.specs.Parts.{delivery, is_evicted, is_held}
 use Rattle.schedules.specs.GivenSteps.{AreGiven, Gives}
 

@@ -24,7 +24,8 @@ noted_both : (kept : Option (List Event)) (xs ys : List Event) →
 noted_both None xs ys = refl
 noted_both (Some events) xs ys = ap (λ l. Some l) (append_assoc events xs ys)
 
-kept_as : (kept : Option (List Event)) (xs : List Event) → is_some (option_map (λ events. events ++ xs) kept) ≡ is_some kept
+kept_as : (kept : Option (List Event)) (xs : List Event) →
+    is_some (option_map (λ events. events ++ xs) kept) ≡ is_some kept
 kept_as None xs = refl
 kept_as (Some events) xs = refl
 
@@ -154,7 +155,8 @@ module _ {P : Type 0} (acts : Acts P) where
   did_if p q b f holds =
       did_as p q f (only_if b f) (ap (λ (c : Bool). only_if c f (standing p false)) (sym holds))
 
-  pub did_not : (p : Point P) (b : Bool) (f : Part P) → b ≡ false → IsMade acts (only_if b f (standing p false)) p p false
+  pub did_not : (p : Point P) (b : Bool) (f : Part P) → b ≡ false →
+      IsMade acts (only_if b f (standing p false)) p p false
   did_not p b f fails =
       subst (λ (c : Bool). IsMade acts (only_if c f (standing p false)) p p false) (sym fails) (none_made p)
 

@@ -8,7 +8,8 @@ use Rattle.machine_table.specs.declared.event.Event.TheVariants as event
 use Rattle.machine_table.specs.Machine.{open_op}
 use Rattle.programs.specs.Acts.{Acts, next_in}
 use Rattle.schedules.specs.Parts.{Does, Standing, one, only_if, finds_no_place, tries, delivery}
-use Rattle.schedules.specs.RoundSchedule.{rising, numbers_in_flight, step_action, step_of, steps_on, tries_twice, attempt_of, attempts, core_turn}
+use Rattle.schedules.specs.RoundSchedule.{rising, numbers_in_flight, step_action, step_of, steps_on, tries_twice}
+use Rattle.schedules.specs.RoundSchedule.{attempt_of, attempts, core_turn}
 use Rattle.schedules.specs.RoundSchedule.{core_turns, deliveries, rounds}
 use Rattle.schedules.specs.GivenSteps.{AreGiven, Gives, GivesSteps}
 use Rattle.schedules.proofs.GivenSteps.{gives_then, gives_each, gives_if, tries_give, delivery_gives}

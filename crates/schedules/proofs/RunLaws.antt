@@ -52,7 +52,8 @@ module _ {P S : Type 0} (plan : Plan P S) (start : Position P S) where
       K (after_actions plan.acts (begin s) made) (events ++ events_of plan.acts (begin s) made)) where
     more_kept : (e : End) (p : Position P S) → K p.standing p.events →
         K (one_more plan e p).standing (one_more plan e p).events
-    more_kept TurnsUsed p so = turns p.own p.standing p.events (turn_at plan p) [] so (sym (append-nil (turn_at plan p)))
+    more_kept TurnsUsed p so =
+        turns p.own p.standing p.events (turn_at plan p) [] so (sym (append-nil (turn_at plan p)))
     more_kept _ p so = so
 
     run_kept : (n : ℕ) → K (run plan n start).standing (run plan n start).events
@@ -173,9 +174,12 @@ pub same_list : {P : Type 0} (acts : Acts P) (policy : Policy) (limit : ℕ) (st
     EndedBy acts policy limit start opening events m programs e →
     EndedBy acts policy limit start opening others n told last →
     e ≢ NoMemory → last ≢ NoMemory → (events ≡ others) × (m ≡ n) × (programs ≡ told) × (e ≡ last)
-same_list acts Rounds limit start opening events others m n programs told e last = same_run _ _ events others m n programs told e last
-same_list acts FairRounds limit start opening events others m n programs told e last = same_run _ _ events others m n programs told e last
-same_list acts (Seed seed) limit start opening events others m n programs told e last = same_run _ _ events others m n programs told e last
+same_list acts Rounds limit start opening events others m n programs told e last =
+    same_run _ _ events others m n programs told e last
+same_list acts FairRounds limit start opening events others m n programs told e last =
+    same_run _ _ events others m n programs told e last
+same_list acts (Seed seed) limit start opening events others m n programs told e last =
+    same_run _ _ events others m n programs told e last
 
 -- a run by rounds makes rounds
 module _ {P : Type 0} (acts : Acts P) (limit : ℕ) (round : Round) (m : Machine) (opening : List P) where

@@ -8,13 +8,15 @@ use Rattle.machine_table.specs.Machine.{Machine}
 use Rattle.programs.specs.declared.ends.End.{End}
 use Rattle.programs.specs.declared.ends.End.TheVariants as end
 use Rattle.schedules.specs.Parts.{Action, Standing, after_actions, events_of}
-use Rattle.schedules.specs.Runs.{Plan, Position, initial_position, begin, turn_at, end_of_turn, after_turn, one_more, run}
+use Rattle.schedules.specs.Runs.{Plan, Position, initial_position, begin, turn_at, end_of_turn, after_turn}
+use Rattle.schedules.specs.Runs.{one_more, run}
 use Rattle.schedules.specs.Runs.{are_over, end_here, AsksMemory, Ended, Finishes}
 use Rattle.schedules.specs.Notes.{Log, Point, at, standing, IsMade, IsRefused, Reaches, KeepsAs}
 use Rattle.schedules.proofs.Parts.{made_keeps}
 
 -- a run that ended stays as it is
-one_more_stays : {P S : Type 0} (plan : Plan P S) (e : End) (p : Position P S) → e ≢ end.TurnsUsed → one_more plan e p ≡ p
+one_more_stays : {P S : Type 0} (plan : Plan P S) (e : End) (p : Position P S) → e ≢ end.TurnsUsed →
+    one_more plan e p ≡ p
 one_more_stays plan end.TurnsUsed p over = absurd (over refl)
 one_more_stays plan _ p over = refl
 
@@ -119,7 +121,8 @@ module _ {P S : Type 0} (plan : Plan P S) (start : Position P S) where
     unfolding run
     next_is = ap (λ (e : End). one_more plan e (run plan turns start)) now.goes_on
 
-    module _ (q : Point P) (out : Bool) (made : IsMade plan.acts (plan.schedule.turn own (standing p false)) p q out) where
+    module _ (q : Point P) (out : Bool)
+        (made : IsMade plan.acts (plan.schedule.turn own (standing p false)) p q out) where
       stands : (run plan (suc turns) start).standing ≡ standing q out
       stands =
           ap (λ (r : Position P S). r.standing) next_is

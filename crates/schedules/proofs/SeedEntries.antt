@@ -21,7 +21,8 @@ use Rattle.programs.specs.declared.steps.Step.{Step}
 use Rattle.programs.specs.Acts.{Acts, next_in}
 use Rattle.schedules.specs.Parts.{Does}
 use Rattle.schedules.specs.RoundSchedule.{numbers_in_flight, step_action}
-use Rattle.schedules.specs.SeedSchedule.{Choice, Makes, Evicts, Tries, Delivers, Nothing, advances, core_step, core_steps}
+use Rattle.schedules.specs.SeedSchedule.{Choice, Makes, Evicts, Tries, Delivers, Nothing}
+use Rattle.schedules.specs.SeedSchedule.{advances, core_step, core_steps}
 use Rattle.schedules.specs.SeedSchedule.{choice_at, chosen, drawn_list, line_events, steps}
 use Rattle.schedules.specs.SeedViews.{is_eviction}
 use Rattle.schedules.specs.Notes.{Point, standing, IsRefused}
@@ -79,7 +80,8 @@ module _ (eviction : ℕ → ℕ → Event) (lines : ℕ → List ℕ) where
       go : (ls : List ℕ) (k : ℕ) → ((i : ℕ) → i < length (flat_map piece holders) →
           is_eviction (get_or (flat_map piece holders) i Nothing) ≡ true) →
           k < length (map (λ line. Evicts (eviction holder line)) ls ++ flat_map piece holders) →
-          is_eviction (get_or (map (λ line. Evicts (eviction holder line)) ls ++ flat_map piece holders) k Nothing) ≡ true
+          is_eviction (get_or (map (λ line. Evicts (eviction holder line)) ls ++ flat_map piece holders) k Nothing)
+          ≡ true
       go [] k later lt = later k lt
       go (l ∷ ls) zero later lt = refl
       go (l ∷ ls) (suc k) later lt = go ls k later (omega (arith, lt))

@@ -199,7 +199,8 @@ module _ {P S : Type 0} (plan : Plan P S) (gives : GivesSteps plan.acts plan.sch
       Ended keeps plan (initial_position plan.acts start opening own) events m programs e →
       AreServed plan.acts start m opening programs
   all_served count issued events m programs e issued_after ended =
-      let last = all_kept plan (initial_position plan.acts start opening own) (λ s events. Kept plan.acts start opening s)
+      let last = all_kept plan (initial_position plan.acts start opening own)
+      (λ s events. Kept plan.acts start opening s)
       (record { serving = served_none plan.acts start opening; count = count })
       (λ own s events made left so is. front_kept plan.acts start opening (begin s) made left
       (subst (AreGiven plan.acts (begin s)) is (gives own (begin s)))

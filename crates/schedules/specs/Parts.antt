@@ -136,8 +136,8 @@ module _ {P : Type 0} (acts : Acts P) where
   tries core s =
       followed_by acts (one (Does (event.Attempt core))) (only_if (finds_no_place s.machine core) (makes_place core)) s
 
-  -- at most two: the line leaves its bank, and exactly if it did and rounds are fair, the held message is delivered once
-  -- more
+  -- at most two: the line leaves its bank; and exactly if that is answered Evicted and rounds are fair, the message
+  -- that was held is delivered once more, and no line leaves for it again
   abbrev pub line_leaves : Bool → ℕ → Option (ℕ × ℕ) → Part P
   line_leaves fair number None s = []
   line_leaves fair number (Some x) s =

@@ -1,4 +1,4 @@
--- The schedule of rounds: the cores have their turns in rising order, and then each message in flight is delivered once.
+-- The schedule of rounds: the cores have their turns in rising order, and then each message in flight is delivered.
 use Rattle.std.specs.Prelude.{◌≡◌, ℕ, zero, suc, ◌+◌, Bool, true, List, [], ◌∷◌, ◌++◌, map, Option, Some, None}
 use Rattle.physiological_order.specs.declared.operation.Op.{Op}
 use Rattle.programs.specs.declared.steps.Step.{Step}

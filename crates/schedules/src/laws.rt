@@ -39,10 +39,10 @@ pub fn progress_is_all_but_waiting()
 /// the last one short. If memory is refused, it makes those of whole rounds and the first ones of one more. A round's
 /// events are the cores' turns in rising order. In each there is an Issue or Advance exactly if the core has no open
 /// operation and its program a next step, and then an Attempt exactly if it has one. After NoRoom, and only there,
-/// EvictCache of the copy that makes a place follows, if there is one, and a second Attempt. Then there is one Deliver of
-/// each message in flight after the cores, in their order. After Held, and only there, EvictBank of the line that makes
-/// room follows, if there is one. In fair rounds, and only there, a second Deliver of the message follows if that is
-/// answered Evicted.
+/// EvictCache of the copy that makes a place follows, if there is one, and a second Attempt. Then there is one Deliver
+/// of each message in flight after the cores, in their order. After Held, and only there, EvictBank of the line that
+/// makes room follows, if there is one. In fair rounds, and only there, if that is answered Evicted, one more Deliver
+/// of the message follows.
 pub fn rounds_make_their_events<P: Program>()
     ensures whole { (fair keeps : Bool) (start m : Machine) (opening programs : List P) (limit : ℕ)
         (events : List Event) (end : End) →

@@ -18,10 +18,10 @@ use programs::End;
 use programs::program::Program;
 use std::alloc::Global;
 
-/// Drives the machine as `drive_round`, `drive_fair_round` and `drive_seed` do, and gives the end alone: it keeps no list of events, and
-/// allocates nothing for one. So the end is NoMemory only before an event that allocates, an issue or the first store
-/// of a line in its DRAM, or where the schedule lists messages or orders lines. Afterwards the machine keeps its lines
-/// in rising order exactly if it did before.
+/// Drives the machine as `drive_round`, `drive_fair_round` and `drive_seed` do, and gives the end alone: it keeps no
+/// list of events, and allocates nothing for one. So the end is NoMemory only before an event that allocates, an issue
+/// or the first store of a line in its DRAM, or where the schedule lists messages or orders lines. Afterwards the
+/// machine keeps its lines in rising order exactly if it did before.
 pub fn run_to_end<P: Program>(
     alloc: Global,
     system: &mut System,

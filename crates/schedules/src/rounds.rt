@@ -40,8 +40,9 @@ pub fn drive_round<P: Program>(
     drive(alloc, system, programs, &mut schedule, limit)
 }
 
-/// Drives the machine by fair rounds (docs/SCHEDULES.md), as `drive_round` does by rounds. In these, a held message whose
-/// bank a line has left is delivered once more at once, so that no younger request takes the place.
+/// Drives the machine by fair rounds (docs/SCHEDULES.md), as `drive_round` does by rounds. In these, if the eviction
+/// that makes room for a held message is answered Evicted, the message is delivered once more at once. So no younger
+/// request takes the place. A second Held is followed by no eviction.
 pub fn drive_fair_round<P: Program>(
     alloc: Global,
     system: &mut System,

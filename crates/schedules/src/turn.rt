@@ -1,5 +1,5 @@
-//! The parts of a turn: each event is noted, the program receives what it completed, and the eviction follows that makes a
-//! place.
+//! The parts of a turn: each event is noted, the program receives what it completed, and the eviction follows that
+//! makes a place.
 ghost use Rattle.std.specs.Prelude.{◌≡◌, IfOk, List};
 ghost use Rattle.schedules.specs.Parts.{Does, Advances, one, finds_no_place, tries, makes_place, makes_room, delivery};
 ghost use Rattle.schedules.specs.RoundSchedule.{step_action};
@@ -80,8 +80,8 @@ pub(crate) fn deliver<P: Program>(
     Ok(())
 }
 
-// A line leaves the bank of a held message, if that makes a place for it. If it did and rounds are fair, the message is
-// delivered once more.
+// A line leaves the bank of a held message, if that makes a place for it. If that is answered Evicted and rounds are
+// fair, the message is delivered once more.
 #[inline(always)]
 fn evict_bank<P: Program>(
     system: &mut System,

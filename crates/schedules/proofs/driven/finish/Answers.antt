@@ -50,5 +50,6 @@ returns-clause-served g c =
     (λ events.
     Ended (is_some n.log.events) plan start events n.system n.programs c.run-end.result) c.run-end.ensures.ended
     (λ events ended.
-    all_served plan c.requires.gives a.system.now a.programs.now a.schedule.now (c.cores-cores.ensures.count ∙ c.cores-cores.ensures.cores)
+    all_served plan c.requires.gives a.system.now a.programs.now a.schedule.now
+    (c.cores-cores.ensures.count ∙ c.cores-cores.ensures.cores)
     c.records-before.ensures.issued events n.system n.programs c.run-end.result c.records-after.ensures.issued ended)

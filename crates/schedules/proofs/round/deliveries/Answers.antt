@@ -17,7 +17,8 @@ returns-in_err-deliver g c programs =
     let number = c.number-item.result in
     let e = err_from_is_err_and c.from_residual.result c.from_residual.ensures.1 in
     let left = left_from a.numbers.now l.number-index number c.loop-number-test.true c.number-item.is in
-    rw (e.1, e.2) (left_first acts _ (at l.system programs l.log) _ (for_each acts (delivery acts a.is_fair) a.numbers.now) (delivery acts a.is_fair number)
+    rw (e.1, e.2) (left_first acts _ (at l.system programs l.log) _
+    (for_each acts (delivery acts a.is_fair) a.numbers.now) (delivery acts a.is_fair number)
     (for_each acts (delivery acts a.is_fair) (drop (l.number-index + 1) a.numbers.now))
     (rw left at (l.invariant programs)) _ (c.in_err-deliver.ensures programs))
 

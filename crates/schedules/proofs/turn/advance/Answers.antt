@@ -12,5 +12,6 @@ returns-in_err-plain g c =
 pub returns : goal.returns
 returns g c =
     let a = c.args in
-    advance_made g.P.Program.acts a.system.now a.programs.now a.log.now a.core _ c.step.new.system c.tell_advance.new.programs
+    advance_made g.P.Program.acts a.system.now a.programs.now a.log.now a.core _ c.step.new.system
+    c.tell_advance.new.programs
     c.step.new.log c.in_ok-plain.ensures (c.tell_advance.ensures c.step.new.system.records)

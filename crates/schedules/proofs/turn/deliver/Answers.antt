@@ -31,7 +31,8 @@ returns-then-is_held g c programs =
     (only_if (is_held (transition a.system.now (Deliver a.number)).0) (makes_room acts a.is_fair a.number))
     (delivery_made acts a.system.now programs a.log.now a.number _ c.step.new.system c.step.new.log
     c.in_ok-plain.ensures) (end_in c.evict_bank.result)
-    (did_if acts _ _ _ (makes_room acts a.is_fair a.number) held (end_in c.evict_bank.result) (c.evict_bank.ensures programs))
+    (did_if acts _ _ _ (makes_room acts a.is_fair a.number) held (end_in c.evict_bank.result)
+    (c.evict_bank.ensures programs))
 
 pub returns : goal.returns
 returns g c programs =

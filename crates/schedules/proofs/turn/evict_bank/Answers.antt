@@ -26,7 +26,8 @@ returns-in_err-plain g c programs =
     let e = err_from_is_err_and c.from_residual.result c.from_residual.ensures.1 in
     let line : make_room a.system.now a.number ≡ Some (v.0, v.1) = search rules in
     let again = a.is_fair && is_evicted (transition a.system.now (EvictBank v.0 v.1)).0 in
-    rw (e.1, e.2) (did_as acts _ _ (line_leaves acts a.is_fair a.number (Some (v.0, v.1))) (makes_room acts a.is_fair a.number)
+    rw (e.1, e.2) (did_as acts _ _ (line_leaves acts a.is_fair a.number (Some (v.0, v.1)))
+    (makes_room acts a.is_fair a.number)
     (ap (λ o. line_leaves acts a.is_fair a.number o (standing (at a.system.now programs a.log.now) false)) (sym line))
     (Some _) (did_first acts _ _ (one (Does (EvictBank v.0 v.1))) (only_if again (one (Does (Deliver a.number))))
     c.in_err-plain.field-0.0 (event_not_made acts a.system.now programs a.log.now (EvictBank v.0 v.1)

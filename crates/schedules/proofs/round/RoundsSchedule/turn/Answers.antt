@@ -33,7 +33,8 @@ returns-clause-did g c =
     let numbers : c.as_slice.result.now ≡ numbers_in_flight n.system = rw here at seen in
     rw (← c.self.view_is) (did_then acts _ (core_turns acts s.cores) (deliveries acts s.is_fair)
     c.in_ok-core_turns.ensures (end_in c.deliveries.result) (did_then acts _ (one Lists)
-    (λ t. for_each acts (delivery acts s.is_fair) (numbers_in_flight t.machine) t) (list_made acts (at n.system n.programs n.log))
+    (λ t. for_each acts (delivery acts s.is_fair) (numbers_in_flight t.machine) t)
+    (list_made acts (at n.system n.programs n.log))
     (end_in c.deliveries.result) (did_as acts _ _ (for_each acts (delivery acts s.is_fair) (numbers_in_flight n.system))
     (λ t. for_each acts (delivery acts s.is_fair) (numbers_in_flight t.machine) t) refl
     (end_in c.deliveries.result) (rw (numbers, here) at (c.deliveries.ensures n.programs)))))

@@ -38,12 +38,19 @@ class Words(argparse.ArgumentParser):
     def error(self, message):
         raise Bad(f"{message} (--help tells all)")
 
+    def parse_args(self, *words):
+        options = super().parse_args(*words)
+        if getattr(options, "fair", None) is True and options.schedule != "round":
+            raise Bad("--fair needs --schedule round")
+        return options
+
     def run_options(self):
         """The options of a run, and whose run it is."""
         self.add_argument("FILE", help="a litmus test or a trace")
         self.add_argument("--schedule", choices=["round", "seed"], default="round", help="as in docs/SCHEDULES.md")
         for name, (usual, says) in NUMBERS.items():
             self.add_argument("--" + name, type=int, default=usual, metavar="N", help=f"{says} ({usual})")
+        self.add_argument("--fair", action="store_true", help="with --schedule round, the older request goes first")
         self.add_argument("--private-write", action="store_true", help="an owner's further stores take no later time")
         self.core_option()
 

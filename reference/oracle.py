@@ -5,8 +5,8 @@ Written from docs/ alone: PROTOCOL.md, SCHEDULES.md, SEATS.md, TEXTS.md, ORDER.m
 refusal has the program's status and its line on standard error. But a wrong option has this script's own words, with
 status 2.
 
-    reference/oracle.py litmus [--schedule seed --seed N] [--runs N] [--lease N] .. [--private-write] FILE
-    reference/oracle.py trace [--records] [--schedule seed --seed N] [--lease N] .. FILE
+    reference/oracle.py litmus [--schedule seed --seed N] [--runs N] [--fair] [--lease N] .. [--private-write] FILE
+    reference/oracle.py trace [--records] [--schedule seed --seed N] [--fair] [--lease N] .. FILE
     reference/oracle.py check TRACE RECORDS
     reference/oracle.py --rows <ROWS
     reference/oracle.py --self-test
@@ -36,6 +36,7 @@ from reference.worked import test_machine  # noqa: E402
 
 
 MOST = 2 ** 64 - 1
+MORE = "\n\nFor more information, try '--help'."
 
 
 class Refused(Exception):
@@ -53,8 +54,7 @@ def number(name, least=0, most=MOST):
             "number too large to fit in target type" if int(text) > MOST else \
             f"{text} is not in {least}..={most}" if not least <= int(text) <= most else None
         if wrong:
-            raise Refused(3, f"error: invalid value '{text}' for '--{name} <{name}>': {wrong}\n\n"
-                             "For more information, try '--help'.")
+            raise Refused(3, f"error: invalid value '{text}' for '--{name} <{name}>': {wrong}{MORE}")
         return int(text)
     return read
 
@@ -71,6 +71,7 @@ def words():
             command.add_argument("--" + option, type=read, default=usual, metavar="N", help=f"{says} ({usual})")
         command.add_argument("--workers", type=number("workers", 1, 16), default=1, metavar="N",
                              help="with --schedule threads, 1 alone")
+        command.add_argument("--fair", action="store_true", help="with --schedule round")
         command.add_argument("--private-write", action="store_true")
         command.add_argument("--trace", action="store_true", dest="tell")
         command.add_argument("--events", action="store_true")
@@ -104,6 +105,12 @@ def read_trace(path):
     return Trace(contents(path))
 
 
+def refuse_fair(options):
+    """Only rounds can be fair."""
+    if options.command != "check" and options.fair and options.schedule != "round":
+        raise Refused(3, f"error: '--fair' needs '--schedule round'{MORE}")
+
+
 def refuse_threads(options):
     """Runs by several threads differ from one time to the next, and those by threads have no list of events."""
     if options.workers > 1:
@@ -114,6 +121,7 @@ def refuse_threads(options):
 
 def run(options):
     """What is printed, and the status."""
+    refuse_fair(options)
     if options.command == "check":
         trace = read_trace(options.TRACE)
         verdict = check({}, trace.issued(), read_records(contents(options.RECORDS)))

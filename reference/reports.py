@@ -13,8 +13,9 @@ def drive(options, programs, memory, seed, tell=None, kind=Run):
     if options.schedule == "threads":
         return by_one_worker(options, programs, memory, tell)
     run = kind(Machine(options, len(programs), memory), programs, tell)
-    end = by_seed(run, options.limit, seed) if options.schedule == "seed" else by_rounds(run, options.limit)
-    return run, end
+    if options.schedule == "seed":
+        return run, by_seed(run, options.limit, seed)
+    return run, by_rounds(run, options.limit, options.fair)
 
 
 def seed_of(options, number):

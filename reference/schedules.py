@@ -97,12 +97,12 @@ class Run:
     def is_done(self):
         return not any(self.is_open(core) or program.next() for core, program in enumerate(self.programs))
 
-    def deliver(self, number):
-        """Deliver, and the eviction that follows where it is held for room."""
+    def deliver(self, number, again=False):
+        """Deliver, and the eviction that follows where it is held for room; by fair rounds, Deliver once more then."""
         if self.make("Deliver", number) == "Held":
             line = self.machine.room_for(number)
-            if line is not None:
-                self.make("EvictBank", line % self.machine.o.banks, line)
+            if line is not None and self.make("EvictBank", line % self.machine.o.banks, line) == "Evicted" and again:
+                self.make("Deliver", number)
 
     def attempt(self, core):
         """Attempt, and the eviction that follows if there is no place for the line. Whether there was none."""
@@ -128,11 +128,11 @@ class Run:
         return "all-done"
 
 
-def by_rounds(run, limit):
-    return run.drive(limit, a_round, True)
+def by_rounds(run, limit, fair=False):
+    return run.drive(limit, lambda run: a_round(run, fair), True)
 
 
-def a_round(run):
+def a_round(run, fair):
     for core, program in enumerate(run.programs):
         if not run.is_open(core) and program.next():
             run.make_step(core)
@@ -141,7 +141,7 @@ def a_round(run):
         if run.is_exhausted():
             return
     for number in sorted(run.machine.flight):
-        run.deliver(number)
+        run.deliver(number, fair)
         if run.is_exhausted():
             return
 

@@ -136,7 +136,8 @@ def cores_shown(run, options):
 
 
 def how(options):
-    words = [f"lease {options.lease}", "by rounds" if options.schedule == "round" else f"seed {options.seed}"]
+    order = f"seed {options.seed}" if options.schedule == "seed" else "by fair rounds" if options.fair else "by rounds"
+    words = [f"lease {options.lease}", order]
     words += ["private writes"] * options.private_write
     words += [f"lines of {options.line_words} words"] * (options.line_words > 1)
     return ", ".join(words)

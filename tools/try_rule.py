@@ -153,7 +153,7 @@ class Draws:
 
 def options_of(draws):
     """A machine with few places, and a schedule: mostly a seed, and then often rounds after some turns."""
-    options = {**DEFAULTS, "sets": 1, "bank_sets": 1, "seed": draws.below(1000),
+    options = {**DEFAULTS, "sets": 1, "bank_sets": 1, "seed": draws.below(1000), "fair": False,
                "schedule": draws.one_of(*["seed"] * 8, "round", "threads"), "private_write": draws.below(2) == 0,
                "lease": draws.one_of(1, 2, 10), "line_words": draws.one_of(1, 1, 8), "banks": draws.one_of(1, 1, 2),
                "ways": draws.one_of(1, 2), "bank_ways": draws.one_of(1, 1, 2), "limit": TURNS}

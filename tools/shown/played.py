@@ -168,8 +168,8 @@ def machine_call(options, cores, memory):
 
 def drive_call(options):
     """The line that drives it."""
-    how = f"seed {options.seed} " if options.schedule == "seed" else "rounds "
-    return how + str(options.limit)
+    how = f"seed {options.seed}" if options.schedule == "seed" else "fair" if options.fair else "rounds"
+    return f"{how} {options.limit}"
 
 
 def steps_of(program, received):

@@ -52,7 +52,7 @@ class Values:
 
 class MachinePlayer(History, Parts):
     CALLS = {"machine": Call("options memory"), **EVENTS, "run": Call("events"), "reopen": Call("memory"),
-             "program": Call("count steps"), "rounds": Call("count"), "fair": Call("count"),
+             "program": Call("count steps"), "rounds": Call("count"), "fair-rounds": Call("count"),
              "seed": Call("number count"),
              "made": Call("count"), "counts": Call(), "order": Call("keeping"),
              "owners": Call("line"), "word": Call("address"), "sent": Call(), **History.CALLS, **Parts.LOOKS,
@@ -110,7 +110,7 @@ class MachinePlayer(History, Parts):
     def call_rounds(self, limit):
         return self.drive(lambda run: by_rounds(run, limit))
 
-    def call_fair(self, limit):
+    def call_fair_rounds(self, limit):
         return self.drive(lambda run: by_rounds(run, limit, fair=True))
 
     def call_seed(self, seed, limit):

@@ -4,7 +4,7 @@
 On the second program, each run must be all done, with no more than MOST_ROUNDS rounds between one step that is done (an
 operation completed, an advance) and the next. That is measured: no proof says so. Every other machine has places for
 one message more than it has cores, which is the least that a run needs; the others have 4,096, of which never more than
-two a core may be taken. Machines with fewer places must stall in their second round.
+three a core may be taken. Machines with fewer places must stall in their second round.
 
 PROGRAM is the built crate tardis: its report and its records of each run must be the second program's, byte for byte.
 Without it, or with thousands of machines, the script measures. The last lines are what was tried and the greatest gap.
@@ -88,7 +88,8 @@ class Fair(Tester):
         end = by_rounds(run, options.limit, fair=True)
         if self.program:
             status = int(end != "all-done")
-            for words, lines in (([], trace_lines(trace, run, end)), (["--records"], map(record_line, run.machine.records))):
+            texts = (([], trace_lines(trace, run, end)), (["--records"], map(record_line, run.machine.records)))
+            for words, lines in texts:
                 wanted = status, "".join(f"{line}\n" for line in lines), ""
                 got = self.run(*words_of(options), *words, text=text)
                 self.expect(got == wanted, f"{words_of(options)} {words} of {text}: {got}, wanted {wanted}")
@@ -101,7 +102,7 @@ class Fair(Tester):
         programs = steps_of(draw, cores, words * draw.choice([1, options.line_words]))
         options.limit = MOST_ROUNDS * (sum(map(len, programs)) + 1)
         run, end = self.run_of(text_of(programs), options)
-        good = end == "all-done" and run.gap <= MOST_ROUNDS and (is_crowded or run.crowd <= 2 * cores)
+        good = end == "all-done" and run.gap <= MOST_ROUNDS and (is_crowded or run.crowd <= 3 * cores)
         self.expect(good, f"{end}, a gap of {run.gap}, {run.crowd} messages: {options} {text_of(programs)}")
         self.gap, self.again = max(self.gap, run.gap), self.again + run.again
 

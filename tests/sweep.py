@@ -43,10 +43,10 @@ class Sweeper(Tester):
         super().__init__(str(TOP / "tools/sweep.py"))
         self.player = player
 
-    def sweep(self, *words, status=0, made=None, rows=None, failed=0, table="sweep.csv"):
+    def sweep(self, *words, status=0, made=None, rows=None, failed=0, cut=0, table="sweep.csv"):
         """The rows of the table, if the script says what it must."""
         got = self.run(*words)
-        wanted = status, f"{table}: {rows} rows, {failed} failed\n", f"{made} of {made} rows\n" if made else ""
+        wanted = status, f"{table}: {rows} rows, {failed} failed, {cut} cut short\n", f"{made} of {made} rows\n" if made else ""
         self.expect(got == wanted, f"{words}: {got}, wanted {wanted}")
         with open(table, newline="", encoding="utf-8") as file:
             return list(csv.DictReader(file))
@@ -71,7 +71,8 @@ def by_hand(tester):
     wanted = [(trace, schedule, seed, private) for trace in ("renewed.trace", "alone.trace")
               for schedule in ("seed", "round") for seed in "01" for private in ("no", "yes")]
     tester.expect(kinds == wanted, f"combinations: {kinds}")
-    cut = tester.sweep("--csv", "cut.csv", "--limit", "3", "alone.trace", status=1, made=1, rows=1, table="cut.csv")
+    cut = tester.sweep("--csv", "cut.csv", "--limit", "3", "alone.trace", status=1, made=1, rows=1, cut=1,
+                       table="cut.csv")
     tester.expect((cut[0]["end"], cut[0]["failed"], cut[0]["completed"]) == ("limit", "", "0"), f"a cut run: {cut}")
     missing = tester.sweep("--csv", "none.csv", "none.trace", "bad.trace", status=1, made=2, rows=2, failed=2,
                            table="none.csv")
@@ -141,11 +142,39 @@ def plot(tester):
     said = [text.text for text in root.iter(f"{SVG}text")]
     wanted = ["0", "1", "2", "3", "4", "0", "1", "lease", "renewals", "private-write no", "private-write yes"]
     tester.expect(said == wanted, f"what the plot says: {said}")
-    tester.sweep("--csv", "plot.csv", "--plot", "seed:completed", "--svg", "a.svg", "--seed", "0..99", "--limit", "1",
-                 "alone.trace", status=1, made=100, rows=100, table="plot.csv")
+    tester.sweep("--csv", "plot.csv", "--plot", "seed:completed", "--svg", "a.svg", "--seed", "0..99",
+                 "alone.trace", made=100, rows=100, table="plot.csv")
     root = xml.parse("a.svg").getroot()
     points = [line.get("points") for line in root.iter(f"{SVG}polyline")]
     tester.expect(len(points) == 1 and len(points[0].split(" ")) == 100, f"100 points: {points}")
+
+
+def cut_short(tester):
+    """Runs that a limit cuts are crosses beside the line, and counted apart. The store takes six rounds."""
+    rows = tester.sweep("--csv", "short.csv", "--plot", "limit:completed", "--limit", "5..8", "--lease", "0,1", "alone.trace",
+                        status=1, made=8, rows=8, failed=4, cut=1, table="short.csv")
+    ends = [row["end"] for row in rows]
+    tester.expect(ends == ["", "limit", "", "all-done", "", "all-done", "", "all-done"], f"ends: {ends}")
+    root = xml.parse("short.svg").getroot()
+    points = [line.get("points") for line in root.iter(f"{SVG}polyline")]
+    # The plot goes from 80 to 640 for the limits 0 to 8, and from 430 up to 30 for 0 to 1 operations.
+    tester.expect(points == ["500.0,30.0 570.0,30.0 640.0,30.0"], f"whole runs: {points}")
+    crosses = [path.get("d") for path in root.iter(f"{SVG}path") if "l6 6" in path.get("d")]
+    tester.expect(crosses == ["M427.0 427.0l6 6m0 -6l-6 6"], f"a cut run: {crosses}")
+    said = [text.text for text in root.iter(f"{SVG}text")][-1]
+    tester.expect(said == "lease 1 (1 cut short: \N{MULTIPLICATION SIGN})", f"the cut run's label: {said}")
+
+
+def fair(tester):
+    """By fair rounds a trace ends that else goes on until its limit."""
+    trace = str(TOP / "examples/traces/LIVELOCK.trace")
+    rows = tester.sweep("--csv", "fair.csv", "--counts", "--player", tester.player, "--fair", "both", "--bank-sets", "1",
+                        "--bank-ways", "1", "--limit", "500", trace, status=1, made=2, rows=2, cut=1, table="fair.csv")
+    got = [(row["fair"], row["end"], row["completed"], row["turns"]) for row in rows]
+    tester.expect(got == [("no", "limit", "1", "500"), ("yes", "all-done", "3", "12")], f"fair: {got}")
+    tester.refused("--fair needs --schedule round", "--fair", "both", "--schedule", "both", trace)
+    tester.refused("--fair needs --schedule round", "--fair", "yes", "--schedule", "seed", trace)
+    tester.refused("some is none of no, yes, both", "--fair", "some", trace)
 
 
 def passed_on(tester):
@@ -226,7 +255,7 @@ def refusals(tester):
 
 def large(tester):
     """Thirty lines of a picture, and a scale up to 10 ^ 19."""
-    lines = list(sweep.picture({f"l{k}": [(0, 1), (2 ** 64 - 1, 2 ** 64 - 1)] for k in range(30)}, "x", "y"))
+    lines = list(sweep.picture({f"l{k}": ([(0, 1), (2 ** 64 - 1, 2 ** 64 - 1)], []) for k in range(30)}, "x", "y"))
     tester.expect('height="570"' in lines[0] and sum("<polyline" in line for line in lines) == 30, lines[0])
     tester.expect(list(sweep.ticks(10 ** 19)) == [k * 2 * 10 ** 18 for k in range(6)], "ticks of 64 bits")
 
@@ -248,8 +277,8 @@ def main(program, player):
         Path("line").write_text("no table")
         for name, text in (("renewed", RENEWED), ("alone", ALONE), ("loads", LOADS), ("bad", "x\n")):
             Path(f"{name}.trace").write_text(text)
-        for part in (by_hand, advances, names, goes_on, plot, passed_on, compared, traces_apart, by_the_second, refusals,
-                     large, appended):
+        for part in (by_hand, advances, names, goes_on, plot, cut_short, fair, passed_on, compared, traces_apart,
+                     by_the_second, refusals, large, appended):
             part(tester)
         os.chdir(TOP)
     print(f"{tester.tried} tried, {tester.wrong} wrong")

@@ -3,7 +3,7 @@
 
     tools/sweep.py [--csv TABLE] [--counts] [--plot X:Y [--svg PICTURE]] [--jobs N] [--named FILE] [options] TRACE ..
 
-An option has a list of values, as --lease 1..100 or --line-words 1,8 or --banks 1,2,4..8; --schedule and
+An option has a list of values, as --lease 1..100 or --line-words 1,8 or --banks 1,2,4..8; --schedule, --fair and
 --private-write have words, as --private-write both. Any other option has the program's default. --advance N has an
 advance after each N operations of a core (tools/advance.py). A line of FILE has a name, a colon, and options with
 lists, which replace those that are given here: then the script runs the combinations of each line.
@@ -11,7 +11,8 @@ lists, which replace those that are given here: then the script runs the combina
 TABLE (sweep.csv) gets a row for each trace and combination: its name in FILE, the options, the lines of the program's
 report, with --counts the rows of docs/COUNTS.md, and the program's file. A run that fails has a row, too, which says
 why in its last column. The script doesn't make a row again that TABLE already has. PICTURE (TABLE's name with .svg)
-shows column Y over column X: a line for each name, or for each combination of the others.
+shows column Y over column X: a line for each name, or for each combination of the others. A run that was cut short, so
+that its numbers are of a part of the trace, is a cross beside the lines (docs/ENDING.md says why runs don't end).
 
 The program is what TARDIS names, else the one that ./tardis built, else reference/oracle.py. With --counts a player
 counts (tools/counts.py). The script makes N runs at a time, by default as many as there are processors.
@@ -41,9 +42,10 @@ from tools.program import Refused  # noqa: E402
 from tools.shown.played import player_of, say_second  # noqa: E402
 
 
-CHOICES = {"schedule": ("round", "seed"), "private-write": ("no", "yes")}
+CHOICES = {"schedule": ("round", "seed"), "private-write": ("no", "yes"), "fair": ("no", "yes")}
+FLAGS = ("private-write", "fair")
 LISTED = {**NUMBERS, "advance": (0, "an advance after each N operations of a core; 0: none")}
-OPTIONS = ("schedule", *NUMBERS, "private-write", "advance")
+OPTIONS = ("schedule", *NUMBERS, "private-write", "fair", "advance")
 REPORT = ("cores", "issued", "completed", "end", "loads", "stores", "swaps", *COUNTED.values(), "stale-hits", "order")
 # The rows of docs/COUNTS.md: first those that a report has, too, with what must be the same there.
 SAME = {"loads": "loads", "stores": "stores", "swaps": "swaps", "stale-hits": "stale-hits",
@@ -125,6 +127,8 @@ def combinations(options):
         lists = [words_of(value, CHOICES[name]) if name in CHOICES else values_of(value)
                  for name, value in ((name, getattr(given, name.replace("-", "_"))) for name in OPTIONS)]
         count += math.prod(map(len, [traces_of(options), *lists]))
+        if "yes" in words_of(given.fair, CHOICES["fair"]) and given.schedule != "round":
+            raise Bad("--fair needs --schedule round")
         if count > MOST_ROWS:
             raise Bad(f"{count:,} rows are too many: {MOST_ROWS:,} at most")
         found += [dict(zip(OPTIONS, values)) | ({"name": own} if own else {}) for values in product(*lists)]
@@ -157,7 +161,7 @@ def file_of(trace, chosen):
 def options_of(chosen):
     """The program's own options."""
     words = [word for name, value in chosen.items() if name in ("schedule", *NUMBERS) for word in ("--" + name, value)]
-    return words + ["--private-write"] * (chosen["private-write"] == "yes")
+    return words + ["--" + name for name in FLAGS if chosen[name] == "yes"]
 
 
 class Sweep:
@@ -188,7 +192,8 @@ class Sweep:
 
     def counted(self, key, file, row):
         values = {name.replace("-", "_"): int(row[name]) for name in NUMBERS}
-        options = Namespace(**values, schedule=row["schedule"], private_write=row["private-write"] == "yes")
+        flags = {name.replace("-", "_"): row[name] == "yes" for name in FLAGS}
+        options = Namespace(**values, **flags, schedule=row["schedule"])
         if key not in self.given:
             self.given[key] = counts.Given(file)
         found = counts.counted(self.player, self.given[key], options)
@@ -266,8 +271,14 @@ def tell(number, what, is_last):
         print(what, file=sys.stderr, flush=True)
 
 
+def is_cut(row):
+    """Whether the row's run ended before all was done."""
+    return not row["failed"] and row["end"] != "all-done"
+
+
 def series(rows, x, y):
-    """The points of each line of the plot, by its label: the columns that differ, but for x."""
+    """The points of each line of the plot, by its label: the columns that differ, but for x. First those of whole runs,
+    then those of runs that were cut short."""
     apart = ("trace", "name") if "name" in rows[0] else ("trace", *OPTIONS)
     names = [name for name in apart if name != x and len({row[name] for row in rows}) > 1]
     traces = {row["trace"] for row in rows}
@@ -277,8 +288,8 @@ def series(rows, x, y):
         if re.fullmatch("[0-9]+", row[x]) and re.fullmatch("[0-9]+", row[y]):
             said = ", ".join(short(Path(row[name])) if name == "trace" else f"{name} {row[name]}".removeprefix("name ")
                              for name in names)
-            found.setdefault(said or y, []).append((int(row[x]), int(row[y])))
-    return {said: sorted(points) for said, points in found.items()}
+            found.setdefault(said or y, ([], []))[is_cut(row)].append((int(row[x]), int(row[y])))
+    return {said: tuple(map(sorted, kinds)) for said, kinds in found.items()}
 
 
 def ticks(most):
@@ -304,19 +315,21 @@ def grid(most, place):
         yield words(at - 9, down + 4, str(number), "end")
 
 
-def drawn(number, said, of):
-    """A line of the plot, with its label at the right."""
+def drawn(number, said, of, cut):
+    """A line of the plot, with its label at the right, and the crosses beside it."""
     colour = COLOURS[number % len(COLOURS)]
     joined = " ".join(f"{at:.1f},{down:.1f}" for at, down in of)
     yield f'<polyline fill="none" stroke="{colour}" points="{joined}"/>'
     if len(of) <= 50:
         yield from (f'<circle cx="{at:.1f}" cy="{down:.1f}" r="2.5" fill="{colour}"/>' for at, down in of)
+    yield from (f'<path d="M{at - 3:.1f} {down - 3:.1f}l6 6m0 -6l-6 6" stroke="{colour}"/>' for at, down in cut)
+    said += f" ({len(cut)} cut short: \N{MULTIPLICATION SIGN})" if cut else ""
     yield words(WIDTH - RIGHT + 12, HIGHEST + 18 * number + 4, said, more=f' fill="{colour}"')
 
 
 def picture(found, x, y):
     """The plot's text. Both axes begin at 0."""
-    points = [point for of in found.values() for point in of]
+    points = [point for kinds in found.values() for of in kinds for point in of]
     most = [max((point[axis] for point in points), default=0) or 1 for axis in (0, 1)]
 
     def place(point):
@@ -330,8 +343,8 @@ def picture(found, x, y):
     yield from grid(most, place)
     yield words((LEFT + WIDTH - RIGHT) / 2, HEIGHT - 8, x, "middle", ' font-weight="bold"')
     yield words(LEFT, HIGHEST - 12, y, "middle", ' font-weight="bold"')
-    for number, (said, of) in enumerate(found.items()):
-        yield from drawn(number, said, list(map(place, of)))
+    for number, (said, kinds) in enumerate(found.items()):
+        yield from drawn(number, said, *(list(map(place, of)) for of in kinds))
     yield "</svg>"
 
 
@@ -356,10 +369,10 @@ def main(given):
             Path(path).write_text("\n".join(picture(series(rows, x, y), x, y)) + "\n", encoding="utf-8")
         except OSError as error:
             raise Bad(f"{path}: {error.strerror}") from None
-    failed = sum(bool(row["failed"]) for row in rows)
-    print(f"{options.csv}: {len(rows)} rows, {failed} failed")
+    failed, cut = sum(bool(row["failed"]) for row in rows), sum(map(is_cut, rows))
+    print(f"{options.csv}: {len(rows)} rows, {failed} failed, {cut} cut short")
     say_second("sweep.py", made.counted_by, options)
-    return int(any(row["end"] != "all-done" or row["failed"] for row in rows))
+    return int(failed + cut > 0)
 
 
 if __name__ == "__main__":

@@ -168,7 +168,7 @@ def machine_call(options, cores, memory):
 
 def drive_call(options):
     """The line that drives it."""
-    how = f"seed {options.seed}" if options.schedule == "seed" else "fair" if options.fair else "rounds"
+    how = f"seed {options.seed}" if options.schedule == "seed" else "fair-rounds" if options.fair else "rounds"
     return f"{how} {options.limit}"
 
 

@@ -1,7 +1,7 @@
 -- The subcommand that was found is the one that the words name, and words are refused only where they aren't taken.
 use Rattle.std.proofs.Common.{◌≡◌, true, List, Option, Some, None, refl, sym, ap, ◌∙◌, subst, [], inl, inr}
 use Rattle.std.specs.Prelude.{option_map}
-use Rattle.clap.specs.Words.{App, HasMatchesOf, Row, Text, first_value, is_simple, subcommand_of}
+use Rattle.clap.specs.Words.{App, HasMatchesOf, Row, Text, is_simple, subcommand_of}
 use Rattle.clap.specs.Words.{subcommand_rows_of, subcommand_name_of, HasKind, IsAmong, fault_of, is_simple_and_free}
 use Rattle.clap.specs.Words.{kind_of}
 use Rattle.clap.specs.declared.error.Error.{Error}
@@ -9,8 +9,7 @@ use Rattle.clap.specs.declared.error.kind.ErrorKind.TheVariants.{OutOfMemory}
 use Rattle.clap.specs.declared.parser.matches.ArgMatches.{ArgMatches}
 use Rattle.clap.proofs.OnLiterals.{clap_on_literals}
 use Rattle.command_line.specs.App.{NameSchedules, Parsers, tardis_app}
-use Rattle.command_line.specs.Job.{GivesJob, IsAskedBy}
-use Rattle.command_line.specs.declared.words.Job.{Job}
+use Rattle.command_line.specs.Job.{AreTaken}
 
 simple : (p : Parsers) → is_simple (tardis_app p) ≡ true
 unfolding clap_on_literals
@@ -39,12 +38,12 @@ pub no_fault : (a : App) (p : Parsers) (words : List Text) → a ≡ tardis_app 
     (is_simple_and_free a ≡ true → fault_of a words ≡ []) → fault_of (tardis_app p) words ≡ []
 no_fault a p words e given = ap (λ (b : App). fault_of b words) (sym e) ∙ given (ap is_simple_and_free e ∙ free p)
 
-pub is_named : (a : App) (p : Parsers) (words : List Text) (m : ArgMatches) (n : Text) (r : List Row) (job : Job) →
+pub are_taken : (a : App) (p : Parsers) (words : List Text) (m : ArgMatches) (n : Text) (r : List Row) →
     NameSchedules p → a ≡ tardis_app p → (is_simple_and_free a ≡ true → fault_of a words ≡ []) → HasMatchesOf a words m
     → Some n ≡ subcommand_name_of m
-    → Some r ≡ option_map (λ (p : Text × List Row). p.1) (subcommand_rows_of m) → GivesJob n r job → IsAskedBy words job
-is_named a p words m n r job names e given matches f g asks =
-    (p, names, no_fault a p words e given, (n, r), found_is a p words m n r e matches f g, asks)
+    → Some r ≡ option_map (λ (p : Text × List Row). p.1) (subcommand_rows_of m) → AreTaken words (n, r)
+are_taken a p words m n r names e given matches f g =
+    (p, names, no_fault a p words e given, found_is a p words m n r e matches f g)
 
 pub has_fault : (a : App) (p : Parsers) (words : List Text) (error : Error) → a ≡ tardis_app p →
     (is_simple_and_free a ≡ true → HasKind (fault_of a words) error) → (kind_of error ≡ OutOfMemory → ⊥) →

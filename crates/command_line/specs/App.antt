@@ -47,6 +47,7 @@ run_rules p =
     ∷ number_rule (codes "seed") (codes "0") any_number
     ∷ number_rule (codes "limit") (codes "100000") (up_to 4294967295)
     ∷ number_rule (codes "workers") (codes "1") (up_to 16)
+    ∷ flag_rule (codes "fair")
     ∷ flag_rule (codes "private-write")
     ∷ []
 

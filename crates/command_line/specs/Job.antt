@@ -1,9 +1,9 @@
 -- What a job has of the words, and why words are refused.
-use Rattle.std.specs.Prelude.{◌≡◌, ℕ, List, [], Some, codes}
+use Rattle.std.specs.Prelude.{◌≡◌, ◌⊎◌, ℕ, List, [], Some, None, codes, string_bytes}
 use Rattle.clap.specs.Words.{IsAmong, Row, Text, fault_of, subcommand_of}
 use Rattle.clap.specs.declared.error.kind.ErrorKind.{ErrorKind}
 use Rattle.command_line.specs.App.{NameSchedules, Parsers, tardis_app}
-use Rattle.command_line.specs.Options.{HasWord, TellsLitmus, TellsTrace}
+use Rattle.command_line.specs.Options.{HasWord, IsOrder, TellsLitmus, TellsTrace}
 use Rattle.command_line.specs.declared.words.Job.{Job}
 use Rattle.command_line.specs.declared.words.Job.TheVariants.{Litmus, Trace, Check}
 use Rattle.command_line.specs.declared.words.WordsError.{WordsError}
@@ -19,20 +19,33 @@ GivesJob command rows (Check trace records) =
     (command ≡ codes "check")
     × HasWord rows (codes "TRACE") trace.now × HasWord rows (codes "RECORDS") records.now
 
--- clap's rules find no fault in the words, which name the command that has the job's options and files
-abbrev pub IsAskedBy : List Text → Job → Type 0
-IsAskedBy words job =
+-- clap's rules find no fault in the words, which name a command and what it has
+abbrev pub AreTaken : List Text → Text × List Row → Type 0
+AreTaken words found =
     (p : Parsers) × NameSchedules p × (fault_of (tardis_app p) words ≡ [])
-    × (found : Text × List Row) × (subcommand_of (tardis_app p) words ≡ Some found) × GivesJob found.0 found.1 job
+    × (subcommand_of (tardis_app p) words ≡ Some found)
+
+-- the words are taken, and name the command that has the job's options and files
+abbrev pub IsAskedBy : List Text → Job → Type 0
+IsAskedBy words job = (found : Text × List Row) × AreTaken words found × GivesJob found.0 found.1 job
+
+-- the words are taken, and ask for a fair run that can't be
+abbrev pub AskUnfairly : List Text → Type 0
+AskUnfairly words = (found : Text × List Row) × AreTaken words found × IsOrder found.1 None
+
+-- what is said then
+abbrev pub unfair_text : Text
+unfair_text = codes "error: '--fair' needs '--schedule round'\n\nFor more information, try '--help'.\n"
 
 -- clap's rules find a fault of this kind in the words
 abbrev pub IsFaulty : List Text → ErrorKind → Type 0
 IsFaulty words kind = (p : Parsers) × NameSchedules p × IsAmong kind (fault_of (tardis_app p) words)
 
--- words are refused only for a fault that clap's rules find in them
+-- words are refused only for a fault that clap's rules find in them, or for a fair run that can't be
 abbrev pub IsRefusedFor : List Text → WordsError → Type 0
 IsRefusedFor words NoMemory = Unit {0}
-IsRefusedFor words (Refused text) = (kind : ErrorKind) × IsFaulty words kind
+IsRefusedFor words (Refused text) = ((kind : ErrorKind) × IsFaulty words kind)
+    ⊎ (AskUnfairly words × (string_bytes text ≡ unfair_text))
 
 -- the numbers of the refusals
 abbrev pub words_number : WordsError → ℕ

@@ -9,7 +9,7 @@ use Rattle.run_options.specs.declared.options.LitmusOptions.{LitmusOptions}
 use Rattle.run_options.specs.declared.options.MachineOptions.{MachineOptions}
 use Rattle.run_options.specs.declared.options.RunOptions.{RunOptions}
 use Rattle.run_options.specs.declared.options.Schedule.{Schedule}
-use Rattle.run_options.specs.declared.options.Schedule.TheVariants.{Round, Seed, Threads}
+use Rattle.run_options.specs.declared.options.Schedule.TheVariants.{Round, FairRound, Seed, Threads}
 use Rattle.run_options.specs.declared.options.TraceOptions.{TraceOptions}
 
 -- the text is this number in decimal, with a plus before it or without one
@@ -69,10 +69,24 @@ IsSchedule rows name schedule = (first_of name rows ≡ Some (codes "seed") → 
     × ((first_of name rows ≡ Some (codes "seed") → ⊥) → (first_of name rows ≡ Some (codes "threads") → ⊥)
     → schedule ≡ Round)
 
+-- rounds can be fair, and no other schedule
+abbrev pub fairly : Bool → Schedule → Option Schedule
+fairly false schedule = Some schedule
+fairly true Round = Some FairRound
+fairly true FairRound = Some FairRound
+fairly true Seed = None
+fairly true Threads = None
+
+-- the order of events is that of the schedule that the words name, made fair if they ask for it; none if it can't be
+abbrev pub IsOrder : List Row → Option Schedule → Type 0
+IsOrder rows order =
+    (named : Schedule) × IsSchedule rows (codes "schedule") named
+    × (fair : Bool) × IsFlag rows (codes "fair") fair × (order ≡ fairly fair named)
+
 -- how a run goes
 abbrev pub TellsRun : List Row → RunOptions → Type 0
 TellsRun rows options =
-    IsSchedule rows (codes "schedule") options.schedule
+    IsOrder rows (Some options.schedule)
     × HasAnyNumber rows (codes "seed") run_default.seed options.seed
     × HasNumber rows (codes "workers") 1 16 run_default.workers options.workers
     × HasNumber rows (codes "limit") 1 4294967295 run_default.limit options.limit

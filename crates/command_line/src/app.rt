@@ -33,6 +33,10 @@ const WORKERS: &str =
     "How many threads there are, 1 to 16: they share the runs of a litmus test by schedule seed, and \
     drive each run by schedule threads; else there is one";
 
+const FAIR: &str =
+    "By schedule round, delivers a message once more at once where a bank has made a place for it, \
+    so that no younger one takes the place";
+
 const PRIVATE_WRITE: &str = "Lets a core that wrote a line store to it again without a later time";
 
 const LEASE: &str = "How many ticks a lease goes past the times that it covers, 1 to 4294967296";
@@ -147,7 +151,8 @@ fn with_run_options<'a>(
     let two = with_any(one, alloc, "seed", "0", SEED);
     let three = with(two, option(alloc, "limit", "100000", limit, LIMIT));
     let four = with(three, option(alloc, "workers", "1", workers, WORKERS));
-    with(four, flag(alloc, "private-write", PRIVATE_WRITE))
+    let five = with(four, flag(alloc, "fair", FAIR));
+    with(five, flag(alloc, "private-write", PRIVATE_WRITE))
 }
 
 /// A command with the options that say how the machine is built.

@@ -1,8 +1,9 @@
 //! What the options of a run say.
 
+ghost use Rattle.std.specs.Prelude.{◌≡◌, IfSome, None};
 ghost use Rattle.clap.specs.Words.{found_of, rows_of};
-ghost use Rattle.command_line.specs.Options.{HasWord, HasAnyNumber, IsFlag, HasNumber, IsSchedule, TellsLitmus};
-ghost use Rattle.command_line.specs.Options.{TellsMachine, TellsRun, TellsTrace};
+ghost use Rattle.command_line.specs.Options.{HasWord, HasAnyNumber, IsFlag, HasNumber, IsOrder, IsSchedule};
+ghost use Rattle.command_line.specs.Options.{TellsLitmus, TellsMachine, TellsRun, TellsTrace, fairly};
 
 use clap::ArgMatches;
 use run_options::{LitmusOptions, MachineOptions, RunOptions, Schedule, TraceOptions};
@@ -50,6 +51,26 @@ fn schedule(matches: &ArgMatches<'_>, name: &str) -> Schedule
     }
 }
 
+/// The schedule, made fair if that is asked; none if it can't be.
+fn fairly(fair: bool, schedule: Schedule) -> Option<Schedule>
+    ensures { result ≡ fairly fair schedule }
+{
+    if !fair {
+        return Some(schedule);
+    }
+    match schedule {
+        Schedule::Round | Schedule::FairRound => Some(Schedule::FairRound),
+        Schedule::Seed | Schedule::Threads => None,
+    }
+}
+
+/// The order of events that the words ask for; none if it can't be fair and they ask for that.
+fn order(matches: &ArgMatches<'_>) -> Option<Schedule>
+    ensures { IsOrder (rows_of (found_of matches.now)) result }
+{
+    fairly(flag(matches, "fair"), schedule(matches, "schedule"))
+}
+
 /// The machine that the words ask for.
 fn machine_of(matches: &ArgMatches<'_>) -> MachineOptions
     ensures { TellsMachine (rows_of (found_of matches.now)) result }
@@ -69,36 +90,42 @@ fn machine_of(matches: &ArgMatches<'_>) -> MachineOptions
     }
 }
 
-/// The run that the words ask for.
-fn run_of(matches: &ArgMatches<'_>) -> RunOptions
-    ensures { TellsRun (rows_of (found_of matches.now)) result }
+/// The run that the words ask for; none if it can't be fair and they ask for that.
+fn run_of(matches: &ArgMatches<'_>) -> Option<RunOptions>
+    ensures run { IfSome result (TellsRun (rows_of (found_of matches.now))) }
+    ensures unfair { result ≡ None → IsOrder (rows_of (found_of matches.now)) None }
 {
     let default = RunOptions::DEFAULT;
-    RunOptions {
-        schedule: schedule(matches, "schedule"),
+    let schedule = order(matches)?;
+    Some(RunOptions {
+        schedule,
         seed: any_number(matches, "seed", default.seed),
         workers: number(matches, "workers", 1, 16, default.workers),
         limit: number(matches, "limit", 1, 4294967295, default.limit),
         machine: machine_of(matches),
-    }
+    })
 }
 
-/// The runs of a litmus test that the words ask for.
-pub(crate) fn litmus_options(matches: &ArgMatches<'_>) -> LitmusOptions
-    ensures { TellsLitmus (rows_of (found_of matches.now)) result }
+/// The runs of a litmus test that the words ask for; none as for one run.
+pub(crate) fn litmus_options(matches: &ArgMatches<'_>) -> Option<LitmusOptions>
+    ensures litmus { IfSome result (TellsLitmus (rows_of (found_of matches.now))) }
+    ensures unfair { result ≡ None → IsOrder (rows_of (found_of matches.now)) None }
 {
-    LitmusOptions {
+    let run = run_of(matches)?;
+    Some(LitmusOptions {
         runs: number(matches, "runs", 1, 1000000, LitmusOptions::DEFAULT.runs),
-        run: run_of(matches),
-    }
+        run,
+    })
 }
 
-/// The run of a trace that the words ask for.
-pub(crate) fn trace_options(matches: &ArgMatches<'_>) -> TraceOptions
-    ensures { TellsTrace (rows_of (found_of matches.now)) result }
+/// The run of a trace that the words ask for; none as for any run.
+pub(crate) fn trace_options(matches: &ArgMatches<'_>) -> Option<TraceOptions>
+    ensures trace { IfSome result (TellsTrace (rows_of (found_of matches.now))) }
+    ensures unfair { result ≡ None → IsOrder (rows_of (found_of matches.now)) None }
 {
-    TraceOptions {
+    let run = run_of(matches)?;
+    Some(TraceOptions {
         records: flag(matches, "records"),
-        run: run_of(matches),
-    }
+        run,
+    })
 }

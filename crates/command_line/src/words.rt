@@ -1,8 +1,10 @@
 //! The words of a command line, and the job that they ask for.
 
-ghost use Rattle.std.specs.Prelude.{◌≡◌, ◌⊎◌, codes, map, IfOk, IfErr, List};
+ghost use Rattle.std.specs.Prelude.{◌≡◌, ◌⊎◌, codes, map, IfOk, IfErr, IfSome, List, None};
 ghost use Rattle.clap.specs.Words.{Text, found_of, kind_of, rows_of};
-ghost use Rattle.command_line.specs.Job.{GivesJob, IsAskedBy, IsFaulty, IsRefusedFor, words_number};
+ghost use Rattle.command_line.specs.Job.{AskUnfairly, GivesJob, IsAskedBy, IsFaulty, IsRefusedFor};
+ghost use Rattle.command_line.specs.Job.{words_number};
+ghost use Rattle.command_line.specs.Options.{IsOrder};
 
 use crate::app::command;
 use crate::options::{litmus_options, trace_options, word_of};
@@ -25,7 +27,8 @@ pub enum Job<'a> {
 /// Why words are no job.
 #[derive(Debug, Drop)]
 pub enum WordsError {
-    /// The command line doesn't take the words, or they ask for help. This is the text to show, in whole lines.
+    /// The command line doesn't take the words, or they ask for help, or for a fair schedule that isn't round. This is
+    /// the text to show, in whole lines.
     Refused(String),
     /// Allocation failed.
     NoMemory,
@@ -53,15 +56,33 @@ fn refused(alloc: Global, error: &Error) -> WordsError
     }
 }
 
-/// The job of a command that the program has.
-fn job_of<'a>(name: &str, matches: &ArgMatches<'a>) -> Job<'a>
+/// What is said of a fair run that isn't by rounds.
+fn unfair(alloc: Global) -> WordsError
+    ensures { (words : List Text) → AskUnfairly words → IsRefusedFor words result }
+{
+    let said = "error: '--fair' needs '--schedule round'\n\nFor more information, try '--help'.\n";
+    match format!(in alloc; "{said}") {
+        Ok(text) => WordsError::Refused(text),
+        Err(_) => WordsError::NoMemory,
+    }
+}
+
+/// The job of a command that the program has; none if it asks for a fair run that isn't by rounds.
+fn job_of<'a>(name: &str, matches: &ArgMatches<'a>) -> Option<Job<'a>>
     requires { (name.now ≡ codes "litmus") ⊎ (name.now ≡ codes "trace") ⊎ (name.now ≡ codes "check") }
-    ensures { GivesJob name.now (rows_of (found_of matches.now)) result }
+    ensures job { IfSome result (GivesJob name.now (rows_of (found_of matches.now))) }
+    ensures unfair { result ≡ None → IsOrder (rows_of (found_of matches.now)) None }
 {
     match name {
-        "litmus" => Job::Litmus(litmus_options(matches), word_of(matches, "FILE")),
-        "trace" => Job::Trace(trace_options(matches), word_of(matches, "FILE")),
-        _ => Job::Check(word_of(matches, "TRACE"), word_of(matches, "RECORDS")),
+        "litmus" => {
+            let options = litmus_options(matches)?;
+            Some(Job::Litmus(options, word_of(matches, "FILE")))
+        }
+        "trace" => {
+            let options = trace_options(matches)?;
+            Some(Job::Trace(options, word_of(matches, "FILE")))
+        }
+        _ => Some(Job::Check(word_of(matches, "TRACE"), word_of(matches, "RECORDS"))),
     }
 }
 
@@ -81,5 +102,8 @@ pub fn read_words<'a>(alloc: Global, words: &'a [&'a str]) -> Result<Job<'a>, Wo
     let Some((name, inner)) = matches.subcommand() else {
         unreachable!()
     };
-    Ok(job_of(name, inner))
+    match job_of(name, inner) {
+        Some(job) => Ok(job),
+        None => Err(unfair(alloc)),
+    }
 }

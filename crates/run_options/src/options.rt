@@ -6,6 +6,8 @@
 pub enum Schedule {
     /// In rounds: each core in turn, and then each message in flight.
     Round,
+    /// In fair rounds: a message that a bank makes a place for is delivered once more at once.
+    FairRound,
     /// One event a turn, drawn by a generator that a seed opens.
     Seed,
     /// By threads, on a machine that they share: each worker gives each of its seats a turn, one after the other.
@@ -60,11 +62,11 @@ pub struct RunOptions {
     /// The order of events.
     pub schedule: Schedule,
     /// What opens the generator of schedule seed, in the first of several runs: run i, counted from 0, has this number
-    /// plus i, modulo 2^64. Schedules round and threads draw nothing.
+    /// plus i, modulo 2^64. The other schedules draw nothing.
     pub seed: u64,
     /// How many threads there are, 1 to 16. By schedule seed they share the runs of a litmus test, and a trace uses
-    /// one. By schedule threads they drive the seats of each run, one run after the other. Schedule round always uses
-    /// one thread.
+    /// one. By schedule threads they drive the seats of each run, one run after the other. Rounds, fair or not, always
+    /// use one thread.
     pub workers: u64,
     /// How many rounds a run has at most, or turns by schedule seed, or turns of each seat by schedule threads: 1 to
     /// 4294967295.

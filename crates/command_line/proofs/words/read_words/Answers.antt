@@ -1,6 +1,7 @@
-use Rattle.std.proofs.Common.{◌≡◌, ◌∙◌, sym, map, true, false, true≢false}
+use Rattle.std.proofs.Common.{◌≡◌, ◌∙◌, refl, sym, map, true, false, true≢false}
+use Rattle.clap.specs.Words.{found_of, rows_of}
 use Rattle.clap.specs.declared.error.kind.ErrorKind.TheVariants.{OutOfMemory}
-use Rattle.command_line.proofs.Found.{found_is, has_fault, is_named, no_fault}
+use Rattle.command_line.proofs.Found.{are_taken, found_is, has_fault, no_fault}
 use Rattle.command_line.proofs.HelpIsRefused.{one_is_named}
 use Rattle.command_line.proofs.words.read_words.Goals as goal
 
@@ -24,9 +25,21 @@ job_of-requires c =
     (found_is _ e.0 _ _ _ _ e.2 c.in-Ok-try_get_matches_from.ensures.matches c.in-Some.ensures.name
     c.in-Some.ensures.rows)
 
-pub returns-clause-job : goal.returns-clause-job
-returns-clause-job c =
+pub returns-in-Some-job_of-clause-job : goal.returns-in-Some-job_of-clause-job
+returns-in-Some-job_of-clause-job c =
+    let e = c.in-Ok.ensures.app in (
+      (c.in-Some.name.now, rows_of (found_of c.in-Some.inner.now)),
+      are_taken _ e.0 (map (λ w. w.now) c.args.words.now) _ _ _ e.1 e.2 c.in-Ok-try_get_matches_from.ensures.kinds
+          c.in-Ok-try_get_matches_from.ensures.matches c.in-Some.ensures.name c.in-Some.ensures.rows,
+      c.in-Some-job_of.ensures.job,
+    )
+
+pub returns-clause-refused : goal.returns-clause-refused
+returns-clause-refused c =
     let e = c.in-Ok.ensures.app in
-    is_named _ e.0 (map (λ w. w.now) c.args.words.now) _ _ _ _ e.1 e.2
-    c.in-Ok-try_get_matches_from.ensures.kinds c.in-Ok-try_get_matches_from.ensures.matches c.in-Some.ensures.name
-    c.in-Some.ensures.rows c.job_of.ensures
+    c.unfair.ensures (map (λ w. w.now) c.args.words.now) (
+      (c.in-Some.name.now, rows_of (found_of c.in-Some.inner.now)),
+      are_taken _ e.0 (map (λ w. w.now) c.args.words.now) _ _ _ e.1 e.2 c.in-Ok-try_get_matches_from.ensures.kinds
+          c.in-Ok-try_get_matches_from.ensures.matches c.in-Some.ensures.name c.in-Some.ensures.rows,
+      c.in-None.ensures.unfair refl,
+    )

@@ -113,7 +113,8 @@ class Picker:
         for core in sorted({core for core, _ in steps} | set(self.game.player.programs)):
             own = "; ".join(told.step(step) for of, step in steps if of == core)
             self.game.ask(f"program {core} {own}".rstrip())
-        answer = self.game.ask(f"rounds {limit}" if seed is None else f"seed {seed} {limit}")
+        how = self.random.choice(["rounds", "fair-rounds"]) if seed is None else f"seed {seed}"
+        answer = self.game.ask(f"{how} {limit}")
         for count in (1, 10, 10000, 1):
             self.game.ask(f"made {count}")
         self.game.ask("counts")

@@ -77,7 +77,7 @@ class Machines(MachinePlayer):
         """A run that ends with a failed allocation after this many events."""
         run = self.run_of(lambda machine, programs: Watched(machine, programs, count))
         try:
-            end = by_rounds(run, of[0]) if name == "rounds" else by_seed(run, of[1], of[0])
+            end = by_seed(run, of[1], of[0]) if name == "seed" else by_rounds(run, of[0], name == "fair-rounds")
         except OutOfMemory:
             self.refused[name], end = self.refused[name] + 1, "memory"
         return self.driven(run, end)

@@ -53,6 +53,7 @@ struct tardis_options {
     uint64_t runs;          /* of a litmus test; any number, 0 too (a report of no run, TARDIS_DONE). How each run ended
                                is kept in memory until the call ends */
     uint64_t records;       /* a flag: a trace's records are written, and not its report */
+    uint64_t fair;          /* a flag: rounds are fair; of no effect if events are drawn */
 };
 
 enum tardis_kind { TARDIS_LOAD = 0, TARDIS_STORE = 1, TARDIS_SWAP = 2 };

@@ -52,6 +52,7 @@ mod tardis {
         pub limit: u64,
         pub runs: u64,
         pub records: u64,
+        pub fair: u64,
     }
 
     unsafe extern "C" {

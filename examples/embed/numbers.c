@@ -133,6 +133,7 @@ static void runs(void) {
     options.by_seed = 4294967296; /* by rounds the load takes six turns, by the seed 6 nine */
     options.seed = 6;
     options.limit = 8;
+    options.fair = 1; /* of no effect by a seed */
     MUST(trace("0 R 0x0\n", &options, 1000) == TARDIS_NOT_DONE && has(""));
     options.limit = 9;
     MUST(trace("0 R 0x0\n", &options, 1000) == TARDIS_DONE && has("0 0 R 0x0 0 1 0\n"));
@@ -143,6 +144,12 @@ static void runs(void) {
     MUST(trace("", &options, 1000) == TARDIS_DONE && has(""));
     MUST(litmus(TEST, &options, 1000) == TARDIS_NOT_DONE);
     memset(buffer, '~', sizeof buffer);
+    tardis_defaults(&options);
+    options.bank_sets = options.bank_ways = 1; /* three loads want one place: only fair rounds end, the twelfth */
+    options.limit = 12;
+    MUST(trace("0 R 0x0\n1 R 0x8\n2 R 0x0\n", &options, 1000) == TARDIS_NOT_DONE);
+    options.fair = 4294967296;
+    MUST(trace("0 R 0x0\n1 R 0x8\n2 R 0x0\n", &options, 1000) == TARDIS_DONE);
     tardis_defaults(&options);
     options.runs = 0;
     MUST(litmus(TEST, &options, 1000) == TARDIS_DONE);

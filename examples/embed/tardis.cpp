@@ -47,6 +47,7 @@ std::vector<std::string> words_of(int count, char **words, tardis_options &optio
         const auto number = NUMBERS.find(word);
         if (word == "--private-write") options.private_write = 1;
         else if (word == "--records") options.records = 1;
+        else if (word == "--fair") options.fair = 1;
         else if (word.rfind("--", 0) != 0) others.push_back(word);
         else if (++at == count) fail("bad command line", 3);
         else if (word == "--schedule") options.by_seed = words[at] == std::string("seed");

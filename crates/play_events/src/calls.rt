@@ -207,7 +207,7 @@ fn call_of(alloc: Global, name: &str, words: &mut Words<'_>) -> Result<Call, Cau
             Ok(Call::Event(event_of(name, words)?))
         }
         "rounds" => Ok(Call::Drive(Policy::Rounds, words.small()?)),
-        "fair_rounds" => Ok(Call::Drive(Policy::FairRounds, words.small()?)),
+        "fair-rounds" => Ok(Call::Drive(Policy::FairRounds, words.small()?)),
         "seed" => {
             let seed = words.number()?;
             Ok(Call::Drive(Policy::Seed(seed), words.small()?))

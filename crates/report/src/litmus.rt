@@ -134,13 +134,10 @@ fn runs_of<R: Threads + Sync>(
     let run = &options.run;
     let (count, limit, workers) = (options.runs, limit_of(run), workers_of(run));
     match policy_of(run) {
-        Some(Policy::Rounds) => policy_runs(alloc, test, config, Policy::Rounds, count, limit),
-        Some(Policy::FairRounds) => {
-            policy_runs(alloc, test, config, Policy::FairRounds, count, limit)
-        }
         Some(Policy::Seed(first)) => {
             seeded_runs(rt, alloc, test, config, first, count, limit, workers, &Free)
         }
+        Some(policy) => policy_runs(alloc, test, config, policy, count, limit),
         None => threaded_runs(rt, alloc, test, config, count, limit, workers, &Free),
     }
 }

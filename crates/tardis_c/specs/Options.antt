@@ -2,7 +2,7 @@
 use Rattle.std.specs.Prelude.{ℕ, Bool, if◌then◌else◌, nat_lt}
 use Rattle.run_options.specs.declared.options.LitmusOptions.{LitmusOptions}
 use Rattle.run_options.specs.declared.options.RunOptions.{RunOptions}
-use Rattle.run_options.specs.declared.options.Schedule.TheVariants.{Round, Seed}
+use Rattle.run_options.specs.declared.options.Schedule.TheVariants.{Round, FairRound, Seed}
 use Rattle.run_options.specs.declared.options.TraceOptions.{TraceOptions}
 use Rattle.tardis_c.specs.declared.options.PlainOptions.{PlainOptions}
 
@@ -10,10 +10,10 @@ use Rattle.tardis_c.specs.declared.options.PlainOptions.{PlainOptions}
 abbrev pub is_set : ℕ → Bool
 is_set flag = nat_lt 0 flag
 
--- by a seed if that flag is set, and else by rounds, on the machine that the options describe
+-- by a seed if that flag is set, and else by rounds, fair if that flag is set, on the machine that the options describe
 abbrev pub run_options : PlainOptions → RunOptions
 run_options plain = record {
-  schedule = if is_set plain.by_seed then Seed else Round;
+  schedule = if is_set plain.by_seed then Seed else if is_set plain.fair then FairRound else Round;
   seed = plain.seed;
   workers = 1;
   limit = plain.limit;

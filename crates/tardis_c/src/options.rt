@@ -40,6 +40,8 @@ pub struct PlainOptions {
     pub runs: u64,
     /// A flag: the records of a trace are written in place of its report.
     pub records: u64,
+    /// A flag: rounds are fair. A run by a seed ignores it.
+    pub fair: u64,
 }
 
 // How the machine is built.
@@ -60,17 +62,25 @@ fn machine_options(plain: &PlainOptions) -> MachineOptions
     }
 }
 
+// In which order the events come.
+fn schedule(plain: &PlainOptions) -> Schedule
+    ensures { result ≡ (run_options plain.now).schedule }
+{
+    if plain.by_seed != 0 {
+        return Schedule::Seed;
+    }
+    if plain.fair != 0 {
+        return Schedule::FairRound;
+    }
+    Schedule::Round
+}
+
 // How a run goes.
 fn run_options(plain: &PlainOptions) -> RunOptions
     ensures { result ≡ run_options plain.now }
 {
-    let schedule = if plain.by_seed == 0 {
-        Schedule::Round
-    } else {
-        Schedule::Seed
-    };
     RunOptions {
-        schedule,
+        schedule: schedule(plain),
         seed: plain.seed,
         workers: 1,
         limit: plain.limit,
@@ -122,5 +132,6 @@ pub extern "C" fn tardis_c_defaults(options: &mut PlainOptions)
         limit: run.limit,
         runs: litmus.runs,
         records: 0,
+        fair: 0,
     };
 }

@@ -3,9 +3,10 @@ use Rattle.std.specs.Prelude.{ℕ, max, min, nat_le, Bool, ◌&&◌, Option, Som
 use Rattle.run_options.specs.declared.options.MachineOptions.{MachineOptions}
 use Rattle.run_options.specs.declared.options.RunOptions.{RunOptions}
 use Rattle.run_options.specs.declared.options.Schedule.{Schedule}
-use Rattle.run_options.specs.declared.options.Schedule.TheVariants.{Round, Seed as ScheduledBySeed, Threads}
+use Rattle.run_options.specs.declared.options.Schedule.TheVariants.{Round, FairRound}
+use Rattle.run_options.specs.declared.options.Schedule.TheVariants.{Seed as ScheduledBySeed, Threads}
 use Rattle.schedules.specs.declared.policy.Policy.{Policy}
-use Rattle.schedules.specs.declared.policy.Policy.TheVariants.{Rounds, Seed}
+use Rattle.schedules.specs.declared.policy.Policy.TheVariants.{Rounds, FairRounds, Seed}
 use Rattle.machine_table.specs.declared.config.Config.{Config}
 
 -- this many cores
@@ -38,14 +39,16 @@ limit_of options = min options.limit 4294967295
 -- which policy the first run follows; threads follow none
 abbrev pub policy_by : Schedule → ℕ → Option Policy
 policy_by Round seed = Some Rounds
+policy_by FairRound seed = Some FairRounds
 policy_by ScheduledBySeed seed = Some (Seed seed)
 policy_by Threads seed = None
 
 abbrev pub policy_of : RunOptions → Option Policy
 policy_of options = policy_by options.schedule options.seed
 
--- how many threads make the runs: one by rounds, and otherwise as many as the options say, from 1 to 16
+-- how many threads make the runs: one by rounds, fair or not, and otherwise as many as the options say, from 1 to 16
 abbrev pub workers_by : Schedule → ℕ → ℕ
 workers_by Round workers = 1
+workers_by FairRound workers = 1
 workers_by ScheduledBySeed workers = max (min workers 16) 1
 workers_by Threads workers = max (min workers 16) 1

@@ -1,7 +1,7 @@
 //! The machine that options ask for, and how far a run of it goes.
 ghost use Rattle.std.specs.Prelude.{◌≡◌, ◌≢◌, ◌<◌, ◌≤◌, ◌^◌, false, true, IfSome, None};
 ghost use Rattle.machine_table.specs.SetUp.{is_good};
-ghost use Rattle.run_options.specs.declared.options.Schedule.TheVariants.{Round};
+ghost use Rattle.run_options.specs.declared.options.Schedule.TheVariants.{FairRound, Round};
 ghost use Rattle.worker_driver.specs.SetUp.{config_of, has_small_parts, limit_of, policy_of, workers_by};
 
 use machine_table::Config;
@@ -55,30 +55,35 @@ pub fn limit_of(options: &RunOptions) -> u32
     options.limit.min(u64::from(u32::MAX)) as u32
 }
 
-/// Which policy the first run follows: rounds, or the seed of the options. None by threads, which follow no policy.
+/// Which policy the first run follows: rounds, fair rounds, or the seed of the options. None by threads, which follow no
+/// policy.
 pub fn policy_of(options: &RunOptions) -> Option<Policy>
     ensures { result ≡ policy_of options.now }
 {
     match options.schedule {
         Schedule::Round => Some(Policy::Rounds),
+        Schedule::FairRound => Some(Policy::FairRounds),
         Schedule::Seed => Some(Policy::Seed(options.seed)),
         Schedule::Threads => None,
     }
 }
 
 /// How many threads drive the machine of a run by threads, or share the runs by a seed: as many as the options say,
-/// from 1 to 16. By rounds it is one.
+/// from 1 to 16. By rounds, fair or not, it is one.
 pub fn workers_of(options: &RunOptions) -> u32
     ensures number { result ≡ workers_by options.now.schedule options.now.workers }
     ensures few { (0 < result) × (result ≤ 16) }
-    ensures whole { options.now.schedule ≢ Round → 1 ≤ options.now.workers →
-        options.now.workers ≤ 16 → result ≡ options.now.workers }
-    ensures most { options.now.schedule ≢ Round → 16 ≤ options.now.workers → result ≡ 16 }
+    ensures whole { options.now.schedule ≢ Round → options.now.schedule ≢ FairRound →
+        1 ≤ options.now.workers → options.now.workers ≤ 16 → result ≡ options.now.workers }
+    ensures most { options.now.schedule ≢ Round → options.now.schedule ≢ FairRound →
+        16 ≤ options.now.workers → result ≡ 16 }
     ensures none { options.now.workers ≡ 0 → result ≡ 1 }
     ensures rounds { options.now.schedule ≡ Round → result ≡ 1 }
+    ensures fair_rounds { options.now.schedule ≡ FairRound → result ≡ 1 }
 {
     match options.schedule {
         Schedule::Round => 1,
+        Schedule::FairRound => 1,
         Schedule::Seed => options.workers.min(16).max(1) as u32,
         Schedule::Threads => options.workers.min(16).max(1) as u32,
     }

@@ -49,7 +49,9 @@ class Watched(Run):
 def run_of(options, programs, memory, seed, last=None):
     run = Watched(Machine(options, len(programs), memory), programs, last)
     try:
-        return run, by_seed(run, options.limit, seed) if options.schedule == "seed" else by_rounds(run, options.limit)
+        if options.schedule == "seed":
+            return run, by_seed(run, options.limit, seed)
+        return run, by_rounds(run, options.limit, options.fair)
     except OutOfMemory:
         return run, "memory"
 

@@ -56,6 +56,44 @@ SWAPS = ("trace 2\n0 A\n0 S 0x0 1\n0 A\n0 S 0x0 2\n1 R 0x0\n", [
         "wrong value 2", "  line 2: 0 1 S 0x0 2 1 2 1 wrote that", "it is overwritten by line 2."]),
     ("0 1 S 0x0 2 1 2 1\n0 0 S 0x0 1 0 3 0\n1 0 R 0x0 2 2 2\n", [
         "out of program order 1", "  line 3 of the trace: 0 S 0x0 1"])])
+# Command lines of runs, and what must be told of each. Three loads want one place of a bank: the load that came first is
+# done in round 6. By rounds the other two take the place from each other, and a line leaves in every third round.
+LIVELOCK = "trace --bank-sets 1 --bank-ways 1 {}examples/traces/LIVELOCK.trace"
+RUNS = [
+    (LIVELOCK.format(""), 1, [
+        "end limit: 1 operations of 3 issued are completed", "Cause: starvation.",
+        "  core 1 waits for line 0x8 of bank 0 since turn 1 (R 0x8): its request is m1",
+        "  core 2 waits for line 0x0 of bank 0 since turn 1 (R 0x0): its request is m2",
+        "Set 0 of bank 0 has places for 1 lines:", "  0x0 left it 33 times in the last 100 turns", "Remedy: --fair;"]),
+    (LIVELOCK.format("--fair "), 0, ["nothing is wrong, all is done"]),
+    (LIVELOCK.format("--fair --limit 11 "), 1, [
+        "end limit: 2 operations of 3 issued are completed after turn 11", "Cause: too few turns.",
+        "the last in turn 9", "  core 2 waits for line 0x0 of bank 0 since turn 1 (R 0x0)", "Remedy: a greater --limit"]),
+    ("litmus --messages 2 examples/litmus/SB.litmus", 1, [
+        "end stalled: 0 operations of 2 issued are completed after turn 2", "Cause: the network is too small. All 2 places",
+        "  in flight: 2 ExReq", "  core 0 waits for line 0x0 of bank 0 since turn 1 (W 0x0 1): its request is m0",
+        "  core 1 waits for line 0x8 of bank 0 since turn 1 (W 0x8 1): its request is m1", "Remedy: --messages 3"]),
+    ("litmus --messages 1 examples/litmus/SB.litmus", 1, [
+        "Cause: the network is too small.", "its request is m0",
+        "  core 1 waits for line 0x8 of bank 0 since turn 1 (W 0x8 1): no place is free for its request"]),
+    # The recall m4 came to a core that had given the line back and waits for it again, as examples/traces says.
+    ("trace --schedule seed --seed 1538 --messages 2 --limit 1000 examples/traces/STALE-RECALLS.trace", 1, [
+        "by seed 1538", "end limit: 1 operations of 2 issued", "Cause: the network is too small.",
+        "  in flight: 1 ExReq, 1 FlushReq", "  1 of them recall a line that its owner has given back: m4",
+        "(W 0x0 2): its request is m8", "By a seed, stale recalls may fill any number of places"]),
+    ("litmus --limit 1 --schedule seed --seed 7 --runs 2 examples/litmus/SB.litmus", 1, [
+        "by seed 7", "end limit: 0 operations of", "Cause: too few turns.", "(none yet)"]),
+    ("trace --limit 4 examples/traces/FIRST-STORE.trace", 1, [
+        "end limit: 0 operations of 1", "Cause: too few turns.", "its reply is on the way"]),
+    ("trace --limit 5 examples/traces/FIRST-STORE.trace", 1, ["end limit: 0", "its next attempt is still to come"]),
+    ("trace --time 18446744073709551615 examples/traces/FIRST-STORE.trace", 1, [
+        "end exhausted: 0 operations of 1", "Cause: a sum of times doesn't fit 64 bits"]),
+]
+NO_RUNS = [("check a b", "a run by rounds or by a seed is wanted"), ("trace none", "read failed"),
+           ("trace --schedule threads examples/traces/PAST.trace", "a run by rounds or by a seed is wanted"),
+           ("trace --fair --schedule seed none", "'--fair' needs '--schedule round'"),
+           ("trace --lease 0 examples/traces/PAST.trace", "bad configuration"),
+           ("trace examples/traces/PAST.records", "line 1: 5 BadOperation")]
 # Texts that are refused: the end of the file's name, the text, and what must be told.
 PLAIN = "RISCV T\n"
 OPENING = "{ 0:x5=1; 0:x6=x; 1:x6=x; }\n P0 | P1 ;\n"
@@ -206,6 +244,20 @@ def malformed(tester):
         tester.expect(litmus_hints.warnings(path.read_text()) == [], f"{path.name}: warnings")
 
 
+def runs(tester):
+    os.chdir(TOP)
+    for words, wanted, said in RUNS:
+        status, out, error = tester.run("--", *words.split(" "))
+        at, good = 0, (status, error) == (wanted, "")
+        for part in said:
+            found = out.find(part, at)
+            at, good = found + len(part), good and found >= 0
+        tester.expect(good, f"{words}: {status} {out} {error}, wanted {said}")
+    for words, wanted in NO_RUNS:
+        status, out, error = tester.run("--", *words.split(" "))
+        tester.expect((status, out, error.count("\n")) == (2, "", 1) and wanted in error, f"{words}: {status} {error}")
+
+
 def others(tester):
     tester.tells(["nothing is wrong"], MP.encode(), names=["good.trace"], is_good=True)
     test = (TOP / "examples/litmus/SB.litmus").read_bytes()
@@ -231,7 +283,7 @@ def main(program):
     os.environ["TARDIS"] = os.path.abspath(program)
     with tempfile.TemporaryDirectory() as folder:
         tester = Explainer(folder)
-        for part in (verdicts, faults, causes, malformed, others):
+        for part in (verdicts, faults, causes, malformed, others, runs):
             part(tester)
     print(f"{tester.tried} tried, {tester.wrong} wrong")
     return int(tester.wrong > 0)

@@ -48,7 +48,7 @@ class Machines(MachinePlayer):
             return NO_MEMORY
         if name == "run" and NO_MEMORY in said:
             return self.run(of[0], said.split("; "))
-        if name in ("rounds", "seed") and said.startswith("memory, "):
+        if name in ("rounds", "fair-rounds", "seed") and said.startswith("memory, "):
             return self.ended(name, of, int(said.split(" ")[1]))
         return self.answer(name, of)
 

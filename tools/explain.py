@@ -1,11 +1,15 @@
 #!/usr/bin/env python3
-"""Says why records aren't legal, or why a text is refused.
+"""Says why records aren't legal, why a text is refused, or why a run didn't end.
 
     tools/explain.py TRACE RECORDS    the verdict of `check`, with the record, what was expected of it, and what lies
                                         around it in the order by time and number
     tools/explain.py TEST|TRACE       the fault of a text, with its cell, its cause and what is often meant; of a test
                                         that has none, what can't be meant: names in the condition that no
                                         instruction changes, addresses that none uses, values that nothing sets
+                                      around it in the order by time and number
+    tools/explain.py -- COMMAND ..    a run by a command line of tardis, as `-- trace --line-words 8 my.trace`, that
+                                      ended stalled or at its limit: the cores that wait, for which lines, and the
+                                      cause (docs/ENDING.md). The second program makes the run again
 
 A text is a litmus test if its name ends in .litmus, or if it has a brace and no name that ends in .trace. Verdicts and
 faults are the program's: what TARDIS names, else the one that ./tardis built, else reference/oracle.py.
@@ -19,6 +23,7 @@ from pathlib import Path
 sys.path.insert(0, str(Path(__file__).resolve().parent.parent))
 from reference.given import tool  # noqa: E402
 from tools import litmus_hints, program  # noqa: E402
+from tools.explained_runs import explained_run  # noqa: E402
 from tools.explained_texts import explained_text  # noqa: E402
 from tools.program import Refused, fail, text_of  # noqa: E402
 
@@ -208,9 +213,10 @@ def main(paths):
     if paths in (["-h"], ["--help"]):
         print(__doc__)
         return 0
-    if len(paths) not in (1, 2) or any(path.startswith("-") for path in paths):
-        fail("one file is wanted, or a trace and records (--help tells all)")
-    lines, is_wrong = explained(paths)
+    is_run = paths[:1] == ["--"]
+    if not is_run and (len(paths) not in (1, 2) or any(path.startswith("-") for path in paths)):
+        fail("one file is wanted, or a trace and records, or -- and a command line (--help tells all)")
+    lines, is_wrong = explained_run(paths[1:]) if is_run else explained(paths)
     print("\n".join(lines))
     return int(is_wrong)
 

@@ -1,0 +1,197 @@
+"""Why a run didn't end, for tools/explain.py: its cores, lines and cause. The second program makes the run: by rounds
+up to its end, or until nothing was done for so long that nothing will be.
+"""
+from collections import Counter, deque
+from copy import deepcopy
+
+from reference import oracle
+from reference.given import Bad, has_machine
+from reference.machine import Machine
+from reference.reports import seed_of
+from reference.schedules import Run, a_round, by_rounds, by_seed
+from reference.told import Teller, operation
+from reference.traces import Fault
+from tools.program import fail
+
+# In so many rounds without anything done nothing ever will be: by fair rounds something is done in at most sixteen.
+LONG = 100
+REQUESTS, RECALLS = ("ShReq", "ExReq"), ("FlushReq", "WbReq")
+
+
+class NothingGoesOn(Exception):
+    """Nothing was done for a long time."""
+
+
+class Observed(Run):
+    """A run that notes the turn in which each open operation was issued and that in which something was done last, and
+    which lines banks evicted in the last turns."""
+
+    def __init__(self, machine, programs):
+        super().__init__(machine, programs)
+        self.since, self.last, self.left = {}, 0, deque()
+
+    def make(self, *event):
+        answer = super().make(*event)
+        if answer == "Issued":
+            self.since[event[1]] = self.turns
+        elif answer in ("Completed", "Advanced"):
+            self.last = self.turns
+        elif answer == "Evicted" and event[0] == "EvictBank":
+            self.left.append((self.turns, event[2]))
+        return answer
+
+    def starved(self):
+        """The cores whose operation is open for long."""
+        return [core for core in range(len(self.programs)) if self.is_open(core)
+                and self.turns - self.since[core] >= LONG]
+
+    def drive_until_idle(self, limit, fair):
+        """The end of a run by rounds. Raises NothingGoesOn."""
+        def turn(run):
+            while run.left and run.left[0][0] <= run.turns - LONG:
+                run.left.popleft()
+            if run.turns - run.last > LONG:
+                raise NothingGoesOn
+            a_round(run, fair)
+
+        return self.drive(limit, turn, True)
+
+
+def run_of(read, options, number):
+    """The run of this number, and its end."""
+    memory = read.memory if options.command == "litmus" else {}
+    run = Observed(Machine(options, len(read.programs()), memory), read.programs())
+    try:
+        end = by_seed(run, options.limit, seed_of(options, number)) if options.schedule == "seed" else \
+            run.drive_until_idle(options.limit, options.fair)
+    except NothingGoesOn:
+        end = "limit"
+    del run.made[:-1]
+    return run, end
+
+
+def goes_on_fairly(run):
+    """In how many fair rounds from here something is done; None if nothing is."""
+    later = deepcopy(run)
+    for rounds in range(1, LONG):
+        end = by_rounds(later, run.turns + rounds, fair=True)
+        if later.last > run.turns:
+            return rounds
+        if end != "limit":
+            break
+    return None
+
+
+class Waiting:
+    """What the cores of a run wait for."""
+
+    def __init__(self, run):
+        self.run, self.machine, self.tell = run, run.machine, Teller(run.machine)
+
+    def core(self, core):
+        """A line on a core with an open operation."""
+        of, line = self.machine.cores[core], self.machine.line_at(core)
+        asked = [number for number, m in self.machine.flight.items() if m.kind in REQUESTS and m.core == core]
+        where = f"its request is m{asked[0]}" if asked else "its reply is on the way" if of.out else \
+            "no place is free for its request" if self.is_full() else "its next attempt is still to come"
+        return f"  core {core} waits for line {self.tell.line(line)} of bank {line % self.machine.o.banks} since turn " \
+               f"{self.run.since[core]} ({operation(of.op)}): {where}"
+
+    def is_full(self):
+        return len(self.machine.flight) >= self.machine.o.messages
+
+    def all_open(self):
+        return [self.core(core) for core in range(len(self.run.programs)) if self.run.is_open(core)]
+
+    def set_of(self, line):
+        """The bank and the set of a line."""
+        return line % self.machine.o.banks, line // self.machine.o.banks % self.machine.o.bank_sets
+
+    def places(self, line):
+        """What is in the set of a bank's line."""
+        entries = self.machine.bank_set(line)
+        said = ", ".join(f"{self.tell.line(e.line)} {e.state}" + (f" of core {e.owner}" if e.state == "Exclusive" else "")
+                         for e in entries)
+        bank, number = self.set_of(line)
+        return f"Set {number} of bank {bank} has places for {self.machine.o.bank_ways} lines: {said or 'it is empty'}"
+
+    def left(self, line):
+        """How often the lines of this line's set left their bank."""
+        count = Counter(other for _, other in self.run.left if self.set_of(other) == self.set_of(line))
+        return [f"  {self.tell.line(other)} left it {times} times in the last {LONG} turns"
+                for other, times in sorted(count.items())]
+
+
+def starvation(run, cores):
+    waiting, lines = Waiting(run), {}
+    for core in cores:
+        line = run.machine.line_at(core)
+        lines.setdefault(waiting.set_of(line), line)
+    yield "Cause: starvation. Requests take a place of a bank from each other; each is made, and lost, again and again."
+    yield from map(waiting.core, cores)
+    for line in lines.values():
+        yield waiting.places(line)
+        yield from waiting.left(line)
+    rounds = goes_on_fairly(run)
+    yield "Remedy: --fair" + (f"; by fair rounds from here, something is done in the next {rounds}." if rounds else ".")
+
+
+def full_network(run):
+    machine, waiting = run.machine, Waiting(run)
+    kinds = Counter(m.kind for m in machine.flight.values())
+    yield f"Cause: the network is too small. All {machine.o.messages} places (--messages) are taken, and no message in " \
+          "flight can be answered without one more:"
+    yield "  in flight: " + ", ".join(f"{count} {kind}" for kind, count in sorted(kinds.items()))
+    stale = [number for number, m in machine.flight.items() if m.kind in RECALLS and is_stale(machine, m)]
+    if stale:
+        yield f"  {len(stale)} of them recall a line that its owner has given back: m" + ", m".join(map(str, stale))
+    yield from waiting.all_open()
+    yield f"Remedy: --messages {len(machine.cores) + 1} or more, one above the number of cores" + \
+          (". By a seed, stale recalls may fill any number of places (docs/ENDING.md)." if stale else ".")
+
+
+def is_stale(machine, m):
+    """Whether a recall comes to a core that isn't the owner."""
+    copy, _ = machine.find(m.line, machine.cache_set(m.core, m.line))
+    return not copy or copy.state != "Exclusive"
+
+
+def too_few_turns(run, limit):
+    last = f"the last in turn {run.last}" if run.last else "none yet"
+    yield f"Cause: too few turns. The run was going on when its {limit} were used up ({last})."
+    yield from Waiting(run).all_open()
+    yield "Remedy: a greater --limit, up to 4294967295."
+
+
+def told(run, end, options):
+    """The lines on a run that didn't end all done."""
+    machine = run.machine
+    yield f"end {end}: {len(machine.records)} operations of {machine.issued} issued are completed after turn {run.turns}"
+    if end == "exhausted":
+        yield f"Cause: a sum of times doesn't fit 64 bits ({Teller(machine).event(run.made[-1][0])})."
+    elif end == "stalled" or len(machine.flight) >= machine.o.messages and goes_on_fairly(run) is None:
+        yield from full_network(run)
+    elif options.schedule == "round" and not options.fair and run.starved():
+        yield from starvation(run, run.starved())
+    else:
+        yield from too_few_turns(run, options.limit)
+
+
+def explained_run(words):
+    """The lines that explain the first run of a command line that isn't all done, and whether there is one."""
+    try:
+        options = oracle.words().parse_args(words)
+        oracle.refuse_fair(options)
+        if options.command == "check" or options.schedule == "threads":
+            fail("a run by rounds or by a seed is wanted, of litmus or trace: others can't be made again")
+        read = oracle.read_litmus(options.FILE) if options.command == "litmus" else oracle.read_trace(options.FILE)
+    except (Bad, Fault, oracle.Refused) as cause:
+        fail(str(cause).split("\n", maxsplit=1)[0].removeprefix("error: ").removeprefix("tardis: "))
+    if not has_machine(options, len(read.programs())):
+        fail("bad configuration")
+    for number in range(getattr(options, "runs", 1) if options.schedule == "seed" else 1):
+        run, end = run_of(read, options, number)
+        if end != "all-done":
+            which = [f"{options.FILE}, by seed {seed_of(options, number)}"] if options.schedule == "seed" else []
+            return which + list(told(run, end, options)), True
+    return [f"{options.FILE}: nothing is wrong, all is done"], False

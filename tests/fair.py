@@ -12,15 +12,17 @@ Without it, or with thousands of machines, the script measures. The last lines a
 import argparse
 import random
 import sys
+from pathlib import Path
 from types import SimpleNamespace
 
-from texts import Tester, oracle
-from reference import told
-from reference.given import NUMBERS
-from reference.machine import Machine
-from reference.reports import trace_lines
-from reference.schedules import ADVANCE, Run, by_rounds
-from reference.traces import Trace, record_line
+sys.path.insert(0, str(Path(__file__).resolve().parent.parent))
+from reference import told  # noqa: E402
+from reference.given import NUMBERS  # noqa: E402
+from reference.machine import Machine  # noqa: E402
+from reference.reports import trace_lines  # noqa: E402
+from reference.schedules import ADVANCE, Run, by_rounds  # noqa: E402
+from reference.traces import Trace, record_line  # noqa: E402
+from tests.texts import Tester  # noqa: E402
 
 MOST_ROUNDS = 16
 # How many machines of each kind the gate tries, by default.

@@ -150,7 +150,7 @@ def plot(tester):
 
 
 def cut_short(tester):
-    """Runs that a limit cuts are crosses beside the line, and counted apart. The store takes six rounds."""
+    """Runs that a limit cuts are crosses next to the line, and counted apart. The store takes six rounds."""
     rows = tester.sweep("--csv", "short.csv", "--plot", "limit:completed", "--limit", "5..8", "--lease", "0,1", "alone.trace",
                         status=1, made=8, rows=8, failed=4, cut=1, table="short.csv")
     ends = [row["end"] for row in rows]

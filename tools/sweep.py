@@ -12,7 +12,7 @@ TABLE (sweep.csv) gets a row for each trace and combination: its name in FILE, t
 report, with --counts the rows of docs/COUNTS.md, and the program's file. A run that fails has a row, too, which says
 why in its last column. The script doesn't make a row again that TABLE already has. PICTURE (TABLE's name with .svg)
 shows column Y over column X: a line for each name, or for each combination of the others. A run that was cut short, so
-that its numbers are of a part of the trace, is a cross beside the lines (docs/ENDING.md says why runs don't end).
+that its numbers are of a part of the trace, is a cross next to the lines (docs/ENDING.md says why runs don't end).
 
 The program is what TARDIS names, else the one that ./tardis built, else reference/oracle.py. With --counts a player
 counts (tools/counts.py). The script makes N runs at a time, by default as many as there are processors.
@@ -316,7 +316,7 @@ def grid(most, place):
 
 
 def drawn(number, said, of, cut):
-    """A line of the plot, with its label at the right, and the crosses beside it."""
+    """A line of the plot, with its label at the right, and the crosses next to it."""
     colour = COLOURS[number % len(COLOURS)]
     joined = " ".join(f"{at:.1f},{down:.1f}" for at, down in of)
     yield f'<polyline fill="none" stroke="{colour}" points="{joined}"/>'

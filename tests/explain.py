@@ -56,8 +56,8 @@ SWAPS = ("trace 2\n0 A\n0 S 0x0 1\n0 A\n0 S 0x0 2\n1 R 0x0\n", [
         "wrong value 2", "  line 2: 0 1 S 0x0 2 1 2 1 wrote that", "it is overwritten by line 2."]),
     ("0 1 S 0x0 2 1 2 1\n0 0 S 0x0 1 0 3 0\n1 0 R 0x0 2 2 2\n", [
         "out of program order 1", "  line 3 of the trace: 0 S 0x0 1"])])
-# Command lines of runs, and what must be told of each. Three loads want one place of a bank: the load that came first is
-# done in round 6. By rounds the other two take the place from each other, and a line leaves in every third round.
+# Command lines of runs, and what must be told of each. Three loads want one place of a bank: the first one is done in
+# round 6. By rounds the other two take the place from each other, and a line leaves in every third round.
 LIVELOCK = "trace --bank-sets 1 --bank-ways 1 {}examples/traces/LIVELOCK.trace"
 RUNS = [
     (LIVELOCK.format(""), 1, [
@@ -80,7 +80,7 @@ RUNS = [
     ("trace --schedule seed --seed 1538 --messages 2 --limit 1000 examples/traces/STALE-RECALLS.trace", 1, [
         "by seed 1538", "end limit: 1 operations of 2 issued", "Cause: the network is too small.",
         "  in flight: 1 ExReq, 1 FlushReq", "  1 of them recall a line that its owner has given back: m4",
-        "(W 0x0 2): its request is m8", "By a seed, stale recalls may fill any number of places"]),
+        "(W 0x0 2): its request is m8", "Remedy: more --messages, or another seed"]),
     ("litmus --limit 1 --schedule seed --seed 7 --runs 2 examples/litmus/SB.litmus", 1, [
         "by seed 7", "end limit: 0 operations of", "Cause: too few turns.", "(none yet)"]),
     ("trace --limit 4 examples/traces/FIRST-STORE.trace", 1, [

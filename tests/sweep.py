@@ -46,7 +46,8 @@ class Sweeper(Tester):
     def sweep(self, *words, status=0, made=None, rows=None, failed=0, cut=0, table="sweep.csv"):
         """The rows of the table, if the script says what it must."""
         got = self.run(*words)
-        wanted = status, f"{table}: {rows} rows, {failed} failed, {cut} cut short\n", f"{made} of {made} rows\n" if made else ""
+        counted = f"{table}: {rows} rows, {failed} failed, {cut} cut short\n"
+        wanted = status, counted, f"{made} of {made} rows\n" if made else ""
         self.expect(got == wanted, f"{words}: {got}, wanted {wanted}")
         with open(table, newline="", encoding="utf-8") as file:
             return list(csv.DictReader(file))
@@ -151,8 +152,8 @@ def plot(tester):
 
 def cut_short(tester):
     """Runs that a limit cuts are crosses next to the line, and counted apart. The store takes six rounds."""
-    rows = tester.sweep("--csv", "short.csv", "--plot", "limit:completed", "--limit", "5..8", "--lease", "0,1", "alone.trace",
-                        status=1, made=8, rows=8, failed=4, cut=1, table="short.csv")
+    rows = tester.sweep("--csv", "short.csv", "--plot", "limit:completed", "--limit", "5..8", "--lease", "0,1",
+                        "alone.trace", status=1, made=8, rows=8, failed=4, cut=1, table="short.csv")
     ends = [row["end"] for row in rows]
     tester.expect(ends == ["", "limit", "", "all-done", "", "all-done", "", "all-done"], f"ends: {ends}")
     root = xml.parse("short.svg").getroot()
@@ -168,8 +169,8 @@ def cut_short(tester):
 def fair(tester):
     """By fair rounds a trace ends that else goes on until its limit."""
     trace = str(TOP / "examples/traces/LIVELOCK.trace")
-    rows = tester.sweep("--csv", "fair.csv", "--counts", "--player", tester.player, "--fair", "both", "--bank-sets", "1",
-                        "--bank-ways", "1", "--limit", "500", trace, status=1, made=2, rows=2, cut=1, table="fair.csv")
+    rows = tester.sweep("--csv", "fair.csv", "--counts", "--player", tester.player, "--fair", "both",
+                        "--bank-sets", "1", "--bank-ways", "1", "--limit", "500", trace, status=1, made=2, rows=2, cut=1, table="fair.csv")
     got = [(row["fair"], row["end"], row["completed"], row["turns"]) for row in rows]
     tester.expect(got == [("no", "limit", "1", "500"), ("yes", "all-done", "3", "12")], f"fair: {got}")
     tester.refused("--fair needs --schedule round", "--fair", "both", "--schedule", "both", trace)

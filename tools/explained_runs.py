@@ -94,8 +94,8 @@ class Waiting:
         asked = [number for number, m in self.machine.flight.items() if m.kind in REQUESTS and m.core == core]
         where = f"its request is m{asked[0]}" if asked else "its reply is on the way" if of.out else \
             "no place is free for its request" if self.is_full() else "its next attempt is still to come"
-        return f"  core {core} waits for line {self.tell.line(line)} of bank {line % self.machine.o.banks} since turn " \
-               f"{self.run.since[core]} ({operation(of.op)}): {where}"
+        what, bank, since = self.tell.line(line), line % self.machine.o.banks, self.run.since[core]
+        return f"  core {core} waits for line {what} of bank {bank} since turn {since} ({operation(of.op)}): {where}"
 
     def is_full(self):
         return len(self.machine.flight) >= self.machine.o.messages
@@ -110,8 +110,8 @@ class Waiting:
     def places(self, line):
         """What is in the set of a bank's line."""
         entries = self.machine.bank_set(line)
-        said = ", ".join(f"{self.tell.line(e.line)} {e.state}" + (f" of core {e.owner}" if e.state == "Exclusive" else "")
-                         for e in entries)
+        owned = {e.line: f" of core {e.owner}" for e in entries if e.state == "Exclusive"}
+        said = ", ".join(f"{self.tell.line(e.line)} {e.state}{owned.get(e.line, '')}" for e in entries)
         bank, number = self.set_of(line)
         return f"Set {number} of bank {bank} has places for {self.machine.o.bank_ways} lines: {said or 'it is empty'}"
 
@@ -139,15 +139,18 @@ def starvation(run, cores):
 def full_network(run):
     machine, waiting = run.machine, Waiting(run)
     kinds = Counter(m.kind for m in machine.flight.values())
-    yield f"Cause: the network is too small. All {machine.o.messages} places (--messages) are taken, and no message in " \
-          "flight can be answered without one more:"
+    yield f"Cause: the network is too small. All {machine.o.messages} places (--messages) are taken, and each answer " \
+          "needs one."
     yield "  in flight: " + ", ".join(f"{count} {kind}" for kind, count in sorted(kinds.items()))
     stale = [number for number, m in machine.flight.items() if m.kind in RECALLS and is_stale(machine, m)]
     if stale:
         yield f"  {len(stale)} of them recall a line that its owner has given back: m" + ", m".join(map(str, stale))
     yield from waiting.all_open()
-    yield f"Remedy: --messages {len(machine.cores) + 1} or more, one above the number of cores" + \
-          (". By a seed, stale recalls may fill any number of places (docs/ENDING.md)." if stale else ".")
+    if machine.o.messages > len(machine.cores):
+        yield "Remedy: more --messages, or another seed: recalls of this kind may fill any number of places " \
+              "(docs/ENDING.md)."
+    else:
+        yield f"Remedy: --messages {len(machine.cores) + 1} or more, one above the number of cores."
 
 
 def is_stale(machine, m):
@@ -166,7 +169,8 @@ def too_few_turns(run, limit):
 def told(run, end, options):
     """The lines on a run that didn't end all done."""
     machine = run.machine
-    yield f"end {end}: {len(machine.records)} operations of {machine.issued} issued are completed after turn {run.turns}"
+    done, issued = len(machine.records), machine.issued
+    yield f"end {end}: {done} operations of {issued} issued are completed after turn {run.turns}"
     if end == "exhausted":
         yield f"Cause: a sum of times doesn't fit 64 bits ({Teller(machine).event(run.made[-1][0])})."
     elif end == "stalled" or len(machine.flight) >= machine.o.messages and goes_on_fairly(run) is None:

@@ -68,9 +68,11 @@ RUNS = [
     (LIVELOCK.format("--fair "), 0, ["nothing is wrong, all is done"]),
     (LIVELOCK.format("--fair --limit 11 "), 1, [
         "end limit: 2 operations of 3 issued are completed after turn 11", "Cause: too few turns.",
-        "the last in turn 9", "  core 2 waits for line 0x0 of bank 0 since turn 1 (R 0x0)", "Remedy: a greater --limit"]),
+        "the last in turn 9", "  core 2 waits for line 0x0 of bank 0 since turn 1 (R 0x0)",
+        "Remedy: a greater --limit"]),
     ("litmus --messages 2 examples/litmus/SB.litmus", 1, [
-        "end stalled: 0 operations of 2 issued are completed after turn 2", "Cause: the network is too small. All 2 places",
+        "end stalled: 0 operations of 2 issued are completed after turn 2",
+        "Cause: the network is too small. All 2 places",
         "  in flight: 2 ExReq", "  core 0 waits for line 0x0 of bank 0 since turn 1 (W 0x0 1): its request is m0",
         "  core 1 waits for line 0x8 of bank 0 since turn 1 (W 0x8 1): its request is m1", "Remedy: --messages 3"]),
     ("litmus --messages 1 examples/litmus/SB.litmus", 1, [

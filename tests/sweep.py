@@ -170,7 +170,8 @@ def fair(tester):
     """By fair rounds a trace ends that else goes on until its limit."""
     trace = str(TOP / "examples/traces/LIVELOCK.trace")
     rows = tester.sweep("--csv", "fair.csv", "--counts", "--player", tester.player, "--fair", "both",
-                        "--bank-sets", "1", "--bank-ways", "1", "--limit", "500", trace, status=1, made=2, rows=2, cut=1, table="fair.csv")
+                        "--bank-sets", "1", "--bank-ways", "1", "--limit", "500", trace, status=1, made=2, rows=2, cut=1,
+                        table="fair.csv")
     got = [(row["fair"], row["end"], row["completed"], row["turns"]) for row in rows]
     tester.expect(got == [("no", "limit", "1", "500"), ("yes", "all-done", "3", "12")], f"fair: {got}")
     tester.refused("--fair needs --schedule round", "--fair", "both", "--schedule", "both", trace)

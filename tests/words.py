@@ -1,7 +1,8 @@
 #!/usr/bin/env python3
 """Gives the program the command lines of tests/words.table: tests/words.py PROGRAM.
 
-The first lines of the table say how to read it. The second program must refuse bad configurations, too.
+The first lines of the table say how to read it. The second program must refuse bad configurations and unfair schedules,
+too.
 The last line is `N tried, M wrong`.
 """
 import os
@@ -46,7 +47,7 @@ def answers():
             answer = "\n".join(named.get(line, line) for line in answer.split("\n"))
             error = answer + (MORE if answer.startswith("error: ") else "\n")
             yield from ((line, (status, "", error)) for line in words)
-            if "bad configuration" in answer:
+            if "bad configuration" in answer or "'--fair' needs" in answer:
                 by_oracle = [subprocess.run(["reference/oracle.py", *line], capture_output=True) for line in words]
                 yield from ((line, (status, "", error), ran) for line, ran in zip(words, by_oracle))
 

@@ -83,6 +83,10 @@ BY_HAND = {
                   "dram-loads 1 0 1"),
     # The request has no room for the message to DRAM that would follow from it.
     "a network of one message": ("0 W 0x0 1\n", "--messages 1", "stalled 2 5", "ExReq 1 1 1; ExReq-delivered 0 0 0"),
+    # The bank's one place goes to the requests in their order.
+    "fair rounds": ("0 R 0x0\n1 R 0x8\n2 R 0x0\n", "--fair --bank-sets 1 --bank-ways 1", "all-done 12 64",
+                    "loads 3 1 1 1; misses 3 1 1 1; last-time 20 0 10 20; evicted-entries 2 2; ShReq 3 1 1 1 3; "
+                    "ShRep 3 1 1 1 3; DramLd 3 0 0 0 3; DramLdRep 3 0 0 0 3"),
     "a run that is cut": ("0 W 0x0 1\n", "--limit 3", "limit 3 9", f"ExReq 1 1 1; ExReq-delivered 0 0 0; {LOAD}"),
     # docs/SCHEDULES.md has these events. The fourth turn makes none.
     "a test by a seed": ("SB", "--schedule seed --seed 4 --limit 9", "limit 8 8",
@@ -153,7 +157,8 @@ def random_trace(generator):
                "--messages": few([4, 4096]), "--limit": few([5, 100, 5000, 5000]),
                "--seed": generator.randrange(2 ** 64), "--schedule": few(["round", "seed"])}
     words = [str(word) for option in options.items() for word in option]
-    return "\n".join(["trace 2", *lines]) + "\n", words + ["--private-write"] * few([0, 1])
+    words += ["--private-write"] * few([0, 1]) + ["--fair"] * (options["--schedule"] == "round" and few([0, 1]))
+    return "\n".join(["trace 2", *lines]) + "\n", words
 
 
 def same(tester, path, options):

@@ -47,6 +47,8 @@ CASES = {
                        {"0x0": "x", "0x8": "y", "0x10": "z"}),
     "a renewal": (["examples/litmus/RENEW.litmus"], "machine cores 2 with 0x0 4",
                   ["R 0x0; R 0x8; W 0x8 9; R 0x0", "R 0x0; R 0x8"], "rounds 100", {"0x0": "x", "0x8": "y"}),
+    "fair rounds": (["--fair", "--bank-sets", "1", "--bank-ways", "1", "examples/traces/LIVELOCK.trace"],
+                    "machine cores 3 bank-sets 1 bank-ways 1", ["R 0x0", "R 0x8", "R 0x0"], "fair-rounds 100", {}),
     "evictions": (["--schedule", "seed", "--seed", "3", "--sets", "1", "--ways", "1", "--banks", "2", "--bank-sets",
                    "1", "--bank-ways", "1", "examples/traces/SEED-EVICTIONS.trace"],
                   "machine cores 3 sets 1 ways 1 banks 2 bank-sets 1 bank-ways 1",

@@ -143,13 +143,13 @@ static void runs(void) {
     MUST(trace("0 R 0x0\n", &options, 1000) == TARDIS_NOT_DONE && has(""));
     MUST(trace("", &options, 1000) == TARDIS_DONE && has(""));
     MUST(litmus(TEST, &options, 1000) == TARDIS_NOT_DONE);
-    memset(buffer, '~', sizeof buffer);
     tardis_defaults(&options);
     options.bank_sets = options.bank_ways = 1; /* three loads want one place: only fair rounds end, the twelfth */
     options.limit = 12;
     MUST(trace("0 R 0x0\n1 R 0x8\n2 R 0x0\n", &options, 1000) == TARDIS_NOT_DONE);
     options.fair = 4294967296;
     MUST(trace("0 R 0x0\n1 R 0x8\n2 R 0x0\n", &options, 1000) == TARDIS_DONE);
+    memset(buffer, '~', sizeof buffer);
     tardis_defaults(&options);
     options.runs = 0;
     MUST(litmus(TEST, &options, 1000) == TARDIS_DONE);

@@ -1,7 +1,7 @@
 -- What came of a call is told; and the schedules of C's options take no threads.
 use Rattle.std.proofs.Common.{ℕ, ◌≢◌, Bool, true, false, cond, List, Result, Ok, Err, IfOk, IfErr, None, inl, inr}
 use Rattle.report.specs.declared.outputs.Report.{Report}
-use Rattle.run_options.specs.declared.options.Schedule.TheVariants.{Round, Seed}
+use Rattle.run_options.specs.declared.options.Schedule.TheVariants.{Round, FairRound, Seed}
 use Rattle.run_results.specs.declared.results.RunError.{RunError}
 use Rattle.worker_driver.specs.SetUp.{policy_by}
 use Rattle.tardis_c.specs.Answers.{CameTo, IsTold}
@@ -13,6 +13,8 @@ told IsReport HasNone (Ok report) old new long number is none came =
     inl (report.all_done, report.text.items, is, came.0, came.1)
 told IsReport HasNone (Err e) old new long number is none came = inr (e, none, came.0, came.1)
 
-pub follows_a_policy : (by_seed : Bool) (seed : ℕ) → policy_by (cond by_seed Seed Round) seed ≢ None
-follows_a_policy true seed = λ e. absurd cc
-follows_a_policy false seed = λ e. absurd cc
+pub follows_a_policy : (by_seed fair : Bool) (seed : ℕ) →
+    policy_by (cond by_seed Seed (cond fair FairRound Round)) seed ≢ None
+follows_a_policy true fair seed = λ e. absurd cc
+follows_a_policy false true seed = λ e. absurd cc
+follows_a_policy false false seed = λ e. absurd cc

@@ -10,7 +10,7 @@ use Rattle.tardis_c.proofs.texts.tardis_c_litmus.Goals as goal
 pub litmus_report-came-requires : goal.litmus_report-came-requires
 litmus_report-came-requires c =
     subst (λ (options : LitmusOptions). policy_of options.run ≢ None) (sym c.litmus_options.ensures)
-    (follows_a_policy (is_set c.args.options.now.by_seed) c.args.options.now.seed)
+    (follows_a_policy (is_set c.args.options.now.by_seed) (is_set c.args.options.now.fair) c.args.options.now.seed)
 
 pub returns : goal.returns
 returns c =

@@ -6,10 +6,9 @@
     tools/explain.py TEST|TRACE       the fault of a text, with its cell, its cause and what is often meant; of a test
                                         that has none, what can't be meant: names in the condition that no
                                         instruction changes, addresses that none uses, values that nothing sets
-                                      around it in the order by time and number
-    tools/explain.py -- COMMAND ..    a run by a command line of tardis, as `-- trace --line-words 8 my.trace`, that
-                                      ended stalled or at its limit: the cores that wait, for which lines, and the
-                                      cause (docs/ENDING.md). The second program makes the run again
+    tools/explain.py -- COMMAND ..      a run by a command line of tardis, as `-- trace --line-words 8 my.trace`, that
+                                        ended stalled or at its limit: the cores that wait, for which lines, and the
+                                        cause (docs/ENDING.md). The second program makes the run again
 
 A text is a litmus test if its name ends in .litmus, or if it has a brace and no name that ends in .trace. Verdicts and
 faults are the program's: what TARDIS names, else the one that ./tardis built, else reference/oracle.py.

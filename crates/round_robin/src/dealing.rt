@@ -5,8 +5,12 @@ ghost use Rattle.round_robin.specs.Dealing.{HaveRoom, IsDealtInTurn, total_lengt
 
 use std::alloc::{AllocError, Global};
 
-/// `hands` empty hands, each with room for its share of `items` items and no more. AllocError if memory for them can't be
-/// allocated.
+// A hand has room for so many items more than its share. Nothing fills it: so what two hands have lies on different
+// lines of a cache, if an item has 16 bytes or more.
+const ROOM_BETWEEN: usize = 8;
+
+/// `hands` empty hands, each with room for its share of `items` items and for eight more. AllocError if memory for them
+/// can't be allocated.
 pub fn empty_hands<T: Drop>(
     alloc: Global,
     hands: usize,
@@ -16,9 +20,9 @@ pub fn empty_hands<T: Drop>(
     ensures long { IfOk result (λ r. length r.items ≡ hands) }
     ensures room { IfOk result (λ r. HaveRoom items r.items) }
     ensures capacity { IfOk result (λ r. hands ≤ vec_capacity r) }
-    ensures exact { IfOk result (λ r. All (λ v. vec_capacity v ≡ items / hands + 1) r.items) }
+    ensures exact { IfOk result (λ r. All (λ v. vec_capacity v ≡ items / hands + 9) r.items) }
 {
-    let Some(room) = (items / hands).checked_add(1) else {
+    let Some(room) = (items / hands).checked_add(1 + ROOM_BETWEEN) else {
         return Err(AllocError);
     };
     roomy_hands(alloc, hands, room)

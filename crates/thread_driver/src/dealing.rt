@@ -113,6 +113,7 @@ pub(crate) fn form<P: Drop>(
             programs: programs.unwrap(),
             banks: banks.unwrap(),
             told: QUIET,
+            room: [0; 16],
         };
         let stored = team.insert(0, worker);
         stored.unwrap();

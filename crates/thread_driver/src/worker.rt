@@ -13,6 +13,8 @@ pub struct Worker<P: Drop> {
     pub banks: Vec<BankSeat>,
     /// What all turns of its seats reported.
     pub told: Told,
+    /// Nothing: what follows lies on another line of the cache, and is another worker's.
+    pub room: [u64; 16],
 }
 
 /// How far workers go: the number of all programs, and the most turns of each seat.

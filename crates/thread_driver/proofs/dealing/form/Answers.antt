@@ -1,5 +1,6 @@
 use Rattle.std.proofs.Common.{◌≤◌, [], ◌∷◌, ◌++◌, length, map, sym, ap, ◌∙◌, subst, append_assoc, arith}
 use Rattle.std.proofs.Common.{length-append}
+use Rattle.std.specs.Prelude.{replicate}
 use Rattle.thread_driver.specs.declared.worker.Worker.{Worker}
 use Rattle.thread_driver.specs.declared.worker.Hands.{Hands}
 use Rattle.thread_driver.specs.Given.{quiet}
@@ -20,6 +21,7 @@ loop-signaler-preserved g c =
       programs = c.unwrap-in-Some.result;
       banks = c.unwrap-in-Some-2.result;
       told = quiet;
+      room = replicate 16 0;
     } in
     let signalers = c.in-Some.ensures.items in
     let cores = popped old.cores.items new.cores.items c.pop-cores.result w.cores c.pop-cores.ensures.items

@@ -92,37 +92,46 @@ SEAT_RUNS = [
      "take 2=none taken", (None, LAST), 0),
 ]
 
-# Two cores each store to a word of their own and then load the other's, by seats 0 and 1 and the bank's, 2. Passes:
-# 1 both ask for their line, and the bank takes the request of line 0. 2, 3 line 0 comes from DRAM. 4 it is granted.
-# 5 the grant is put, and the request of line 1 taken. 6 core 0 takes the grant; 6, 7 line 1 comes from DRAM. 7 core 0
-# stores. 8 it asks for line 1, which is granted. 9 that grant is put, and core 0's request taken, so that line 1 is
-# recalled. 10 core 1 takes the grant. 11 it stores, and serves the recall. 12 it asks for line 0, and the bank takes
-# the line that was written back. 13 core 0's request is answered. 14 that is put, and core 1's request taken, so that
-# line 0 is recalled. 15 core 0 takes its answer. 16 it loads, and serves the recall. 17 the bank takes what was written
-# back. 18 core 1's request is answered, 19 that is put, 20 taken, and 21 core 1 loads.
+# Two cores each store to a word of their own and then load the other's, by seats 0 and 1 and the bank's, 2. A core that
+# waits has one turn, and one more after each that made progress. Passes:
+# 1 both ask for their line. The bank takes the request of line 0, which comes from DRAM in its turns 2 and 3, is granted
+# in the fourth and put in the fifth, which takes the request of line 1: that is put in the ninth. The tenth does nothing.
+# 2 each core takes its grant, stores, and asks for the other's line. The bank takes core 0's request, 11, and recalls
+# line 1; it takes core 1's, 12, recalls line 0, and puts both recalls, 12 and 13. In turn 14 both requests are held.
+# 3 each core serves the recall and puts its line. The bank takes line 0, 15, answers core 1, 16, puts that and takes
+# line 1, 17, answers core 0, 18, and puts that, 19.
+# 4 each core takes its answer and loads, core 0 first.
 BUFFERING = "0 W 0x0 1; 0 R 0x8; 1 W 0x8 1; 1 R 0x0"
 BUFFERED = ["0 0 W 0x0 1 1 0", "1 0 W 0x8 1 1 1", "0 1 R 0x8 1 1 2", "1 1 R 0x0 1 1 3"]
 
-# A first operation takes 7 passes: asked for and taken, from DRAM in 2, granted, put, taken, done.
+# A first operation takes 2 passes: asked for, and in 5 turns of the bank taken, from DRAM in 2, granted, put; then taken
+# and done.
 # Tried, and refused by these runs: banks before cores, an attempt more after NoRoom, a bank that serves between
 # eviction and turn, a turn more, a pass that goes on after a stop, and turns used where all is done.
+LOADS = 14  # and one more: with the turn that takes the line, 16
+LOADED = [f"0 {place} R 0x0 0 0 {place}" for place in range(LOADS + 1)]
 # What a run by one worker shows, its options, its trace, its end, its passes, its records, and counts that aren't 0.
 WORKER_RUNS = [
-    ("store buffering", {}, BUFFERING, "all-done", 21, BUFFERED, {"write-backs": 2}),
-    ("its last turn wasn't too much", {"limit": 21}, BUFFERING, "all-done", 21, BUFFERED, {"write-backs": 2}),
-    ("one turn less", {"limit": 20}, BUFFERING, "limit", 20, BUFFERED[:3], {"write-backs": 2}),
+    ("store buffering", {}, BUFFERING, "all-done", 4, BUFFERED, {"write-backs": 2}),
+    ("its last turn wasn't too much", {"limit": 19}, BUFFERING, "all-done", 4, BUFFERED, {"write-backs": 2}),
+    # Core 0's answer isn't put. The core had 9 turns in 3 passes, and waits in 9 more.
+    ("one turn less", {"limit": 18}, BUFFERING, "limit", 12, [*BUFFERED[:2], "1 1 R 0x0 1 1 2"], {"write-backs": 2}),
     ("no operation needs no turn", {}, "", "all-done", 0, [], {}),
-    ("an advance takes the core's turn", {}, "trace 2; 0 A; 0 R 0x0", "all-done", 8, ["0 0 R 0x0 0 1 0"], {}),
-    # In pass 8 the copy of line 0 leaves, and in pass 9 line 1 is asked for.
+    ("an advance takes the core's turn", {}, "trace 2; 0 A; 0 R 0x0", "all-done", 2, ["0 0 R 0x0 0 1 0"], {}),
+    # In pass 2 the core takes its line in one turn, and each turn after it completes a load, up to 16 turns.
+    ("a seat goes on", {}, LOADS * "0 R 0x0; " + "0 R 0x0", "all-done", 2, LOADED, {}),
+    ("no more than 16 turns in a row", {}, LOADS * "0 R 0x0; " + "0 R 0x0; 0 R 0x0", "all-done", 3,
+     [*LOADED, f"0 {LOADS + 1} R 0x0 0 0 {LOADS + 1}"], {}),
+    # In pass 2 the copy of line 0 leaves, and in pass 3 line 1 is asked for.
     ("a copy leaves, and the attempt comes in the next turn", {"sets": 1, "ways": 1}, "0 R 0x0; 0 R 0x8", "all-done",
-     15, ["0 0 R 0x0 0 0 0", "0 1 R 0x8 0 0 1"], {}),
-    # In pass 8 the request of line 1 is held. In pass 9 line 0 leaves the bank, which raises the memory time to its
+     4, ["0 0 R 0x0 0 0 0", "0 1 R 0x8 0 0 1"], {}),
+    # In pass 2 the request of line 1 is held. In pass 3 line 0 leaves the bank, which raises the memory time to its
     # lease's end, 10, and line 1 is asked of DRAM.
-    ("a line leaves the bank before the turn", {"bank_sets": 1, "bank_ways": 1}, "0 R 0x0; 0 R 0x8", "all-done", 15,
+    ("a line leaves the bank before the turn", {"bank_sets": 1, "bank_ways": 1}, "0 R 0x0; 0 R 0x8", "all-done", 4,
      ["0 0 R 0x0 0 0 0", "0 1 R 0x8 0 10 1"], {}),
-    ("a core's time ends in its attempt", {"time": LAST}, "0 W 0x0 1", "exhausted", 7, [], {}),
-    # Pass 4: the bank's lease passes the last time. Core 1's line would have been asked for in pass 5.
-    ("a bank's time ends in its turn", {"time": LAST}, "0 R 0x0; 1 R 0x8", "exhausted", 4, [], {}),
+    ("a core's time ends in its attempt", {"time": LAST}, "0 W 0x0 1", "exhausted", 2, [], {}),
+    # The bank's fourth turn: its lease passes the last time. Core 1's line would have been asked for in the fifth.
+    ("a bank's time ends in its turn", {"time": LAST}, "0 R 0x0; 1 R 0x8", "exhausted", 1, [], {}),
 ]
 # A seat that stops ends the pass, so that core 1 isn't issued anything, unless it stands in front of the seat.
 ISSUED = [("trace 2; 0 A; 1 R 0x0", "exhausted", [0, 0]), ("trace 2; 0 R 0x0; 1 A", "exhausted", [1, 0])]
@@ -193,7 +202,7 @@ def drive_worker(steps, options):
 
 def test_worker(shows, options, steps, wanted, passes, records, counts):
     run, end = drive_worker(steps, options)
-    assert (end, run.turns) == (wanted, passes), f"{shows}: {end} after {run.turns} passes"
+    assert (end, run.passes) == (wanted, passes), f"{shows}: {end} after {run.passes} passes"
     made = [record_line(record) for record in run.machine.records]
     assert made == records, f"{shows}: {made}"
     totals = run.machine.totals()
@@ -203,7 +212,7 @@ def test_worker(shows, options, steps, wanted, passes, records, counts):
 def test_stop(steps, wanted, issued):
     run, end = drive_worker(steps, {"time": LAST})
     made = [len(operations) for operations in run.issued()]
-    assert (end, run.turns, made) == (wanted, 1, issued), f"{steps}: {end} after {run.turns} passes, issued {made}"
+    assert (end, run.passes, made) == (wanted, 1, issued), f"{steps}: {end} after {run.passes} passes, issued {made}"
 
 
 def test_machine():

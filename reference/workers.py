@@ -10,6 +10,8 @@ from reference.schedules import ADVANCE
 from reference.seats import REFUSALS, Seats
 
 
+IN_A_ROW = 16  # the most turns of a seat before the next seat has its own
+MOVED = ("delivered", "dropped", "started")
 NO_ROOM = f"refused {REFUSALS['NoRoom']}"
 
 
@@ -33,11 +35,17 @@ class SharedMachine(Seats):
 
 
 class WorkerRun:
-    """A machine's seats and its programs. `turns` counts the passes, in which each seat has one turn. `tell` is given
-    each call of a seat, with its pass and its answer."""
+    """A machine's seats and its programs. `passes` counts the passes, and `had` the turns of each seat. `tell` is given
+    each call of a seat, with the number of the seat's turn and its answer."""
 
     def __init__(self, machine, programs, tell=None):
-        self.machine, self.programs, self.tell, self.turns = machine, programs, tell, 0
+        self.machine, self.programs, self.tell = machine, programs, tell
+        self.passes, self.had = 0, [0] * len(machine.seats)
+
+    @property
+    def turns(self):
+        """The most turns that a seat has had."""
+        return max(self.had)
 
     def issued(self):
         """The operations that each core was issued."""
@@ -46,7 +54,7 @@ class WorkerRun:
     def call(self, *call):
         answer = self.machine.call(*call)
         if self.tell:
-            self.tell(self.turns, words_of(*call), answer)
+            self.tell(self.had[call[1]], words_of(*call), answer)
         return answer
 
     def is_open(self, core):
@@ -57,47 +65,62 @@ class WorkerRun:
 
     def drive(self, limit):
         """The end of the run. Each seat may have `limit` turns."""
-        while self.turns < limit and not self.is_done() and not self.machine.has_stopped():
-            self.turns += 1
-            self.make_pass()
+        while min(self.had) < limit and not self.is_done() and not self.machine.has_stopped():
+            self.passes += 1
+            self.make_pass(limit)
         if self.is_done():
             return "all-done"
         return "exhausted" if self.machine.has_stopped() else "limit"
 
-    def make_pass(self):
-        """A turn for each seat, the cores first. A seat that stops ends the pass."""
+    def make_pass(self, limit):
+        """Turns for each seat, the cores first. A seat that stops ends the pass."""
         for number, seat in enumerate(self.machine.seats):
-            if number < len(self.programs):
-                self.begin_core(number)
-            else:
-                self.begin_bank(number)
-            self.call("turn", number)
+            self.make_row(number, limit)
             if seat.stopped:
                 return
 
+    def make_row(self, number, limit):
+        """Turns of a seat in a row, as long as each makes progress and there are turns left."""
+        for _ in range(min(IN_A_ROW, limit - self.had[number])):
+            self.had[number] += 1
+            if not self.make_turn(number) or self.machine.seats[number].stopped:
+                return
+
+    def make_turn(self, number):
+        """Whether the turn made progress: a step of the program was done, or messages were put or served."""
+        is_core = number < len(self.programs)
+        is_done = self.begin_core(number) if is_core else self.begin_bank(number)
+        put, _, served = self.call("turn", number).partition(" ")
+        return is_done or put not in ("0", "refused") or served in MOVED
+
     def begin_core(self, core):
-        """The program's next step if no operation is open, and an attempt of the one that is open then."""
+        """The program's next step if no operation is open, and an attempt of the one that is open then; whether a step
+        was done."""
         step = None if self.is_open(core) else self.programs[core].next()
         if step == ADVANCE:
-            if self.call("advance", core) == "done":
-                self.programs[core].done(None)
-        elif step:
+            if self.call("advance", core) != "done":
+                return False
+            self.programs[core].done(None)
+            return True
+        if step:
             self.call("issue", core, step)
-        if self.is_open(core):
-            self.attempt(core)
+        return self.is_open(core) and self.attempt(core)
 
     def attempt(self, core):
         answer = self.call("attempt", core)
-        if answer == "Completed":
-            self.programs[core].done(self.machine.records[-1].received)
         if answer == NO_ROOM:
             self.call("evict", core, self.machine.victim(core, self.machine.line_at(core)))
+        if answer != "Completed":
+            return False
+        self.programs[core].done(self.machine.records[-1].received)
+        return True
 
     def begin_bank(self, number):
-        """The line leaves that makes room for the oldest held request that waits for it."""
+        """The line leaves that makes room for the oldest held request that waits for it. That is no step."""
         line = self.machine.make_room(number)
         if line is not None:
             self.call("evict", number, line)
+        return False
 
 
 def by_one_worker(options, programs, memory, tell=None):

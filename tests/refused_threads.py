@@ -47,14 +47,10 @@ class OneAfterTheOther(WorkerRun):
     def drive_all(self, first):
         for worker in (first, 1 - first):
             for _ in range(PASSES):
-                self.make_pass_of(worker)
+                for number in range(worker, len(self.machine.seats), WORKERS):
+                    self.make_row(number, MOST_TURNS)
         assert not self.is_done() and not self.machine.has_stopped()
         return "limit"
-
-    def make_pass_of(self, worker):
-        for number in range(worker, len(self.machine.seats), WORKERS):
-            (self.begin_core if number < len(self.programs) else self.begin_bank)(number)
-            self.call("turn", number)
 
 
 def by_one_thread(options, programs, memory, tell):
@@ -247,13 +243,15 @@ def lets_others_run(tester):
 
 
 def yields_where_due(tester, folder):
-    """A core advances in each of its 1,024 turns. Of several workers, those that don't have it make 1,024 passes that
-    come to nothing, with the bank, with another core, with both, or without seats: another thread is due after each
-    256th of them. In the third trace core 0 advances 300 times first, so its worker makes 724 such passes."""
+    """A core advances in each of its 1,024 turns, 16 in a pass: 64 passes. A seat that waits has one turn in a pass, so
+    that its worker makes passes that come to nothing, until it has had 1,024 turns, too: another thread is due after
+    each 256th of them. A single worker makes 960. Of several workers, those that don't have the core make 1,024, with
+    the bank, with another core, or with both; one without seats makes none. In the third trace core 0 advances 300
+    times first, in 301 turns and 19 passes: its worker makes 1,005 more with the bank, and 723 without it."""
     steps = Path(folder, "advances.trace")
-    for zeros, ones, two, three in ((2000, 0, 4, 8), (0, 2000, 4, 8), (300, 2000, 2, 6)):
+    for zeros, ones, *all_yields in ((2000, 0, 3, 4, 4), (0, 2000, 3, 4, 8), (300, 2000, 3, 3, 6)):
         steps.write_text("trace 2\n" + zeros * "0 A\n" + ones * "1 A\n")
-        for workers, yields in ((1, 0), (2, two), (3, three)):
+        for workers, yields in enumerate(all_yields, 1):
             ran = tester.run(["trace", *SCHEDULE[:2], "--workers", workers, "--limit", 1024, steps], yields=1)
             good = (ran.status, ran.yields) == (1, yields)
             tester.expect(good, f"{zeros} and {ones} advances, {workers} workers: {ran.yields} yields")

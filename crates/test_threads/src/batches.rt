@@ -162,7 +162,8 @@ fn a_run_by_threads_passes_the_gate(rt: HostRuntime) -> Result<(), Fail> {
 }
 
 // Each run gives two cores and a bank one turn each, or two, and isn't made again. At the last time no store fits: core
-// 0 stops in its seventh turn, where it would be done, so core 1 and the bank have six.
+// 0 stops in its fourth turn, where it would be done. Before, core 1 had two turns, and the bank ten: four that load and
+// grant a line, twice, one that puts the last grant, and one that does nothing.
 #[test]
 fn all_runs_by_threads_pass_the_gate(rt: HostRuntime) -> Result<(), Fail> {
     for (time, limit, workers, turns) in [
@@ -171,7 +172,7 @@ fn all_runs_by_threads_pass_the_gate(rt: HostRuntime) -> Result<(), Fail> {
         (0, 1, 3, 3),
         (0, 2, 1, 6),
         (0, 2, 3, 6),
-        (18_446_744_073_709_551_615, 1_000, 1, 19),
+        (18_446_744_073_709_551_615, 1_000, 1, 16),
     ] {
         for count in [1u64, 2, 3] {
             let gate = Calls::new(workers);

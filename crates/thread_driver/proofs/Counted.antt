@@ -12,7 +12,7 @@ use Rattle.programs.specs.Acts.{Acts}
 use Rattle.programs.specs.Performs.{Performs, rests, advances, does}
 use Rattle.thread_driver.specs.declared.told.Told.{Told}
 use Rattle.thread_driver.specs.Given.{IsCoreTurn}
-use Rattle.thread_driver.specs.Teams.{PassGiven, ends, goes_on, is_over, over_in}
+use Rattle.thread_driver.specs.Teams.{InARow, PassGiven, ends, follows, goes_on, is_over, is_used, over_in, stops}
 use Rattle.thread_driver.proofs.Lists.{both_none, none_some, some_is}
 
 -- one that may come to be counted
@@ -92,10 +92,17 @@ module _ {P : Type 0} (acts : Acts P) where
         let next : acts.next y.1 ≡ None = ap (λ b. acts.next b) (does_nothing none.1 turn.plays.performs) ∙ none.1 in
         ap₂ (λ o n. is_none o && is_none n) (opens_nothing y.0.part.core.open_op y.1 turn.plays.ahead next) next
 
-    pub over_rises : {k : ℕ} {xs ys : List (CoreSeat × P)} {told : Told} →
-        PassGiven (IsCoreTurn acts m) k xs told ys → over_in acts xs ≤ over_in acts ys
+    over_still : {most n k : ℕ} {x y : CoreSeat × P} {told : Told} → InARow (IsCoreTurn acts m) most n x k told y →
+        is_over acts x ≡ true → is_over acts y ≡ true
+    over_still (is_used le) is = is
+    over_still (stops {told = told} {x = x} {y = y} lt turn last) is = over_stays x told y turn is
+    over_still (follows {told = told} {x = x} {y = y} lt turn on rest) is =
+        over_still rest (over_stays x told y turn is)
+
+    pub over_rises : {limit k : ℕ} {ns ms : List ℕ} {xs ys : List (CoreSeat × P)} {told : Told} →
+        PassGiven (IsCoreTurn acts m) limit k ns xs told ms ys → over_in acts xs ≤ over_in acts ys
     over_rises ends = omega arith
-    over_rises (goes_on {told = told} {x = x} {y = y} turn last rest) =
-        let a = counted_still (is_over acts x) (is_over acts y) (over_stays x told y turn) in
+    over_rises (goes_on {x = x} {y = y} row last rest) =
+        let a = counted_still (is_over acts x) (is_over acts y) (over_still row) in
         let b = over_rises rest in
         omega arith

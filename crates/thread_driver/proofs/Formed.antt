@@ -72,10 +72,14 @@ module _ {P : Type 0} where
 
     -- and so are all that were in them
     pub total_to : AreSplit all left ws → AreHands 0 left →
-        total_length (core_hands ws) ≡ total_length (cores_in all)
-    total_to s none =
-        ap total_length
-        (sym (s.cores ∙ ap (λ vs. map (λ v. v.items) vs ++ core_hands ws) (nil_from_length left.cores.items none.cores)))
+        (total_length (core_hands ws) ≡ total_length (cores_in all))
+        × (total_length (bank_hands ws) ≡ total_length (banks_in all))
+    total_to s none = (
+      ap total_length (sym (s.cores
+          ∙ ap (λ vs. map (λ v. v.items) vs ++ core_hands ws) (nil_from_length left.cores.items none.cores))),
+      ap total_length (sym (s.banks
+          ∙ ap (λ vs. map (λ v. v.items) vs ++ bank_hands ws) (nil_from_length left.banks.items none.banks))),
+    )
 
   -- one worker's hands are back
   pub back_more : (all old new : List (Worker P)) (w : Worker P) (h h' : Hands P) → AreBack all old h →

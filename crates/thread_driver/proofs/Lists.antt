@@ -24,6 +24,12 @@ module _ {A : Type 0} where
   there (x ∷ xs) zero lt = (x, refl)
   there (x ∷ xs) (suc i) lt = there xs i (omega arith)
 
+  -- the value that is read at an index is there
+  pub read_there : (xs : List A) (i : ℕ) (other : A) → i < length xs → slice_get xs i ≡ Some (slice_index_or xs i other)
+  read_there [] i other lt = absurd (omega arith)
+  read_there (x ∷ xs) zero other lt = refl
+  read_there (x ∷ xs) (suc i) other lt = read_there xs i other (omega arith)
+
   -- a value that was read at an index is there
   pub here : (xs : List A) (i : ℕ) (x : A) → i < length xs → x ≡ slice_index_or xs i x → slice_get xs i ≡ Some x
   here xs i x lt e = slice_get_read xs (length xs) i x refl lt e

@@ -1,23 +1,39 @@
 -- Turns that all of a list were given: one pass more, what is at each place, and lists that were dealt to hands.
-use Rattle.std.proofs.Common.{◌≡◌, inl, inr, ℕ, zero, suc, ◌+◌, ◌*◌, ◌/◌, ◌%◌, ◌<◌, Bool, true, false, ◌||◌}
+use Rattle.std.proofs.Common.{◌≡◌, inl, inr, ⊎_elim, ℕ, zero, suc, ◌+◌, ◌*◌, ◌/◌, ◌%◌, ◌<◌, ◌≤◌, Bool, true, false, ◌||◌}
 use Rattle.std.proofs.Common.{List, [], ◌∷◌}
 use Rattle.std.proofs.Common.{length, Some, get_or, refl, sym, ap, ap₂, subst, ◌∙◌, arith, true≢false}
-use Rattle.std.specs.Prelude.{slice_get}
+use Rattle.std.specs.Prelude.{replicate, slice_get}
 use Rattle.std.specs.List.{list_any}
-use Rattle.std.proofs.lemmas.Bool.{or_cases, or_left, or_right}
+use Rattle.std.proofs.lemmas.Bool.{cases_lt, or_cases, or_left, or_right}
 use Rattle.std.proofs.lemmas.Nat.{mod_below}
 use Rattle.round_robin.specs.Dealing.{IsDealtInTurn, hand_of}
 use Rattle.round_robin.proofs.Lemmas.{item_at, lengths_of, same_place, split_place, turn_of}
 use Rattle.thread_driver.specs.declared.told.Told.{Told}
 use Rattle.thread_driver.specs.Given.{AllGiven, TurnsGiven, quiet, told_by_both}
-use Rattle.thread_driver.specs.Given.{more, none, one_more, rests}
-use Rattle.thread_driver.specs.Teams.{PassGiven, ends, goes_on}
+use Rattle.thread_driver.specs.Given.{none, one_more, rests}
+use Rattle.thread_driver.specs.Teams.{AreUsed, PassGiven, ends, goes_on, row_end}
 use Rattle.thread_driver.proofs.Lists.{none_some, some_is}
+use Rattle.thread_driver.proofs.Passes.{given_row, row_gives, row_rises, row_within}
 use Rattle.thread_driver.proofs.Sums.{same_bool, told_quiet, told_swap}
 
 -- one was given turns, so many, that told this
 abbrev IsGiven : {X : Type 0} → (X → Told → X → Type 0) → (ℕ → Type 0) → X → Told → X → Type 0
 IsGiven Turn Many x told y = (n : ℕ) × Many n × TurnsGiven Turn x n told y
+
+-- Each of a list was given its number of turns, which lies within these bounds, and is at the same place in the other
+-- list; and what all of these turns reported together.
+pub data CountedGiven {X : Type 0} (Turn : X → Told → X → Type 0) (least most : ℕ) : List ℕ → List X → Told → List X →
+    Type 0 where
+  no_more : {ns : List ℕ} → CountedGiven Turn least most ns [] quiet []
+  counted : {n : ℕ} {ns : List ℕ} {told all : Told} {x y : X} {xs ys : List X} → least ≤ n → n ≤ most →
+      TurnsGiven Turn x n told y → CountedGiven Turn least most ns xs all ys →
+      CountedGiven Turn least most (n ∷ ns) (x ∷ xs) (told_by_both told all) (y ∷ ys)
+
+-- one turn more than the least number, whether or not it had fewer than there may be
+one_higher : (least most n m : ℕ) → least < most → least ≤ n → (n < row_end most n → n < m) → n ≤ m → least + 1 ≤ m
+one_higher least most n m lt low gives rises =
+    ⊎_elim (λ (below : n < most). let g = gives (omega arith) in omega arith) (λ (le : most ≤ n). omega arith)
+    (cases_lt n most)
 
 module _ {X : Type 0} {Turn : X → Told → X → Type 0} where
   -- no turns
@@ -25,35 +41,65 @@ module _ {X : Type 0} {Turn : X → Told → X → Type 0} where
   none_given Many is [] = none
   none_given Many is (x ∷ xs) = one_more {n = zero} is rests (none_given Many is xs)
 
-  -- as many turns, said otherwise
-  pub given_within : {Many Most : ℕ → Type 0} {xs ys : List X} {all : Told} → ((n : ℕ) → Many n → Most n) →
-      AllGiven Turn Many xs all ys → AllGiven Turn Most xs all ys
-  given_within within none = none
-  given_within within (one_more {n = n} many given rest) =
-      one_more {n = n} (within n many) given (given_within within rest)
+  -- so many turns each, by their numbers
+  pub none_counted : (most k : ℕ) (xs : List X) → length xs ≤ k →
+      CountedGiven Turn 0 most (replicate k 0) xs quiet xs
+  none_counted most k [] le = no_more
+  none_counted most zero (x ∷ xs) le = absurd (omega (arith, le))
+  none_counted most (suc k) (x ∷ xs) le =
+      counted {n = zero} (omega arith) (omega arith) rests (none_counted most k xs (omega (arith, le)))
 
-  -- a pass more, of which some have a turn
-  pub given_on : {Many Most : ℕ → Type 0} {k : ℕ} {xs ys zs : List X} {all told : Told} →
-      ((n : ℕ) → Many n → Most n) → ((n : ℕ) → Many n → Most (suc n)) → AllGiven Turn Many xs all ys →
-      PassGiven Turn k ys told zs → AllGiven Turn Most xs (told_by_both all told) zs
-  given_on {Most = Most} {xs = xs} {ys = ys} {all = all} within grows given ends =
-      subst (λ t. AllGiven Turn Most xs t ys) (sym (told_quiet all)) (given_within within given)
-  given_on {Most = Most} within grows (one_more {n = n} {told = a} {all = c} {x = x} {xs = xs} many given rest)
-      (goes_on {told = b} {all = d} {y = z} {ys = zs} turn last others) =
-      subst (λ t. AllGiven Turn Most (x ∷ xs) t (z ∷ zs)) (told_swap a b c d)
-      (one_more {n = suc n} (grows n many) (more given turn) (given_on within grows rest others))
+  pub given_within : {least most : ℕ} {Many : ℕ → Type 0} {ns : List ℕ} {xs ys : List X} {all : Told} →
+      ((n : ℕ) → least ≤ n → n ≤ most → Many n) → CountedGiven Turn least most ns xs all ys →
+      AllGiven Turn Many xs all ys
+  given_within within no_more = none
+  given_within within (counted {n = n} low high given rest) =
+      one_more {n = n} (within n low high) given (given_within within rest)
 
-  -- a pass more, of which all have a turn
-  pub given_whole : {Many Most : ℕ → Type 0} {k : ℕ} {xs ys zs : List X} {all told : Told} →
-      ((n : ℕ) → Many n → Most (suc n)) → AllGiven Turn Many xs all ys → PassGiven Turn k ys told zs →
-      k ≡ length ys → AllGiven Turn Most xs (told_by_both all told) zs
-  given_whole grows none ends whole = none
-  given_whole grows (one_more many given rest) ends whole = absurd (omega (arith, whole))
-  given_whole {Most = Most} grows (one_more {n = n} {told = a} {all = c} {x = x} {xs = xs} many given rest)
-      (goes_on {k = k} {told = b} {all = d} {y = z} {ys = zs} turn last others) whole =
-      subst (λ t. AllGiven Turn Most (x ∷ xs) t (z ∷ zs)) (told_swap a b c d)
-      (one_more {n = suc n} (grows n many) (more given turn)
-      (given_whole {k = k} grows rest others (omega (arith, whole))))
+  pub counted_long : {least most : ℕ} {ns : List ℕ} {xs ys : List X} {all : Told} →
+      CountedGiven Turn least most ns xs all ys → length ys ≡ length xs
+  counted_long no_more = refl
+  counted_long (counted low high given rest) = ap suc (counted_long rest)
+
+  -- all turns were used
+  pub counted_used : {least most : ℕ} {ns : List ℕ} {xs ys : List X} {all : Told} →
+      CountedGiven Turn least most ns xs all ys → AreUsed most (length xs) ns → CountedGiven Turn most most ns xs all ys
+  counted_used no_more used = no_more
+  counted_used (counted {n = n} low high given rest) used =
+      counted (used zero n (omega arith) refl) high given
+      (counted_used rest (λ i k lt at. used (suc i) k (omega (arith, lt)) at))
+
+  -- a pass more, of which some have turns
+  pub given_on : {least most k : ℕ} {ns ms : List ℕ} {xs ys zs : List X} {all told : Told} →
+      CountedGiven Turn least most ns xs all ys → PassGiven Turn most k ns ys told ms zs →
+      CountedGiven Turn least most ms xs (told_by_both all told) zs
+  given_on {least = least} {most = most} {ns = ns} {xs = xs} {ys = ys} {all = all} given ends =
+      subst (λ t. CountedGiven Turn least most ns xs t ys) (sym (told_quiet all)) given
+  given_on {least = least} {most = most} (counted {n = n} {told = a} {all = c} {x = x} {xs = xs} low high given rest)
+      (goes_on {m = m} {ms = ms} {told = b} {all = d} {y = z} {ys = zs} row last others) =
+      let r = given_row given row in
+      let same : r.0 ≡ m = let e = r.1 in omega arith in
+      let rises = row_rises row in
+      subst (λ t. CountedGiven Turn least most (m ∷ ms) (x ∷ xs) t (z ∷ zs)) (told_swap a b c d)
+      (counted (omega arith) (row_within most (omega arith) high row)
+      (subst (λ j. TurnsGiven Turn x j (told_by_both a b) z) same r.2) (given_on rest others))
+
+  -- a pass more, of which all have turns
+  pub given_whole : {least most k : ℕ} {ns ms : List ℕ} {xs ys zs : List X} {all told : Told} → least < most →
+      CountedGiven Turn least most ns xs all ys → PassGiven Turn most k ns ys told ms zs → k ≡ length ys →
+      CountedGiven Turn (least + 1) most ms xs (told_by_both all told) zs
+  given_whole lt no_more ends whole = no_more
+  given_whole lt (counted low high given rest) ends whole = absurd (omega (arith, whole))
+  given_whole {least = least} {most = most} lt
+      (counted {n = n} {told = a} {all = c} {x = x} {xs = xs} low high given rest)
+      (goes_on {k = k} {m = m} {ms = ms} {told = b} {all = d} {y = z} {ys = zs} row last others) whole =
+      let r = given_row given row in
+      let same : r.0 ≡ m = let e = r.1 in omega arith in
+      let more_had : least + 1 ≤ m = one_higher least most n m lt low (λ below. row_gives below row) (row_rises row) in
+      subst (λ t. CountedGiven Turn (least + 1) most (m ∷ ms) (x ∷ xs) t (z ∷ zs)) (told_swap a b c d)
+      (counted more_had (row_within most (omega arith) high row)
+      (subst (λ j. TurnsGiven Turn x j (told_by_both a b) z) same r.2)
+      (given_whole {k = k} lt rest others (omega (arith, whole))))
 
   -- the lists are as long
   pub given_long : {Many : ℕ → Type 0} {xs ys : List X} {all : Told} → AllGiven Turn Many xs all ys →

@@ -1,5 +1,5 @@
 -- What is done first in a turn of a core's seat.
-use Rattle.std.proofs.Common.{◌≡◌, ◌≢◌, None, Option, Result, Ok, refl}
+use Rattle.std.proofs.Common.{◌≡◌, ◌≢◌, None, Ok, refl}
 use Rattle.physiological_order.specs.declared.operation.Record.{Record}
 use Rattle.machine_table.specs.declared.event.Answer.{Answer}
 use Rattle.machine_table.specs.declared.event.Answer.TheVariants as answer

@@ -75,12 +75,12 @@ all_or K (w ∷ ws) (v ∷ vs) each =
     inr
     (each zero w v refl refl)
 
--- the cores of a worker, and those of a team that keeps their number
-pub cores_few : {P : Type 0} (ws : List (Worker P)) (i : ℕ) (w : Worker P) → slice_get ws i ≡ Some w →
-    length w.cores.items ≤ total_length (core_hands ws)
-cores_few [] i w at = none_some at
-cores_few (v ∷ ws) zero w at = let same = ap (λ x. length x.cores.items) (some_is at) in omega arith
-cores_few (v ∷ ws) (suc i) w at = let rest = cores_few ws i w at in omega arith
+-- what a worker has of what all have, and the cores of a team that keeps their number
+pub share_few : {P X : Type 0} (items : Worker P → List X) (ws : List (Worker P)) (i : ℕ) (w : Worker P) →
+    slice_get ws i ≡ Some w → length (items w) ≤ total_length (map items ws)
+share_few items [] i w at = none_some at
+share_few items (v ∷ ws) zero w at = let same = ap (λ x. length (items x)) (some_is at) in omega arith
+share_few items (v ∷ ws) (suc i) w at = let rest = share_few items ws i w at in omega arith
 
 same_totals : {P : Type 0} (ws vs : List (Worker P)) → length vs ≡ length ws →
     ((i : ℕ) (w v : Worker P) → slice_get ws i ≡ Some w → slice_get vs i ≡ Some v →

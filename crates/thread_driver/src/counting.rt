@@ -1,8 +1,8 @@
-//! Counts the cores that are done.
-ghost use Rattle.std.specs.Prelude.{◌≡◌, true, length};
+//! Counts the cores that are done, and finds whether all turns were used.
+ghost use Rattle.std.specs.Prelude.{◌≡◌, ◌≤◌, true, length};
 ghost use Rattle.std.specs.List.{zip};
 ghost use Rattle.thread_driver.specs.Shifts.{AreOver};
-ghost use Rattle.thread_driver.specs.Teams.{over_in};
+ghost use Rattle.thread_driver.specs.Teams.{AreUsed, over_in};
 
 use crate::core_turns::is_over;
 use mailboxes::CoreSeat;
@@ -32,4 +32,32 @@ pub(crate) fn over_count<P: Program>(cores: &[CoreSeat], programs: &[P]) -> u64
         count += u64::from(is_over(&cores[i], &programs[i]));
     }
     count
+}
+
+/// Whether each seat had as many turns as it may: of the first `cores` and the first `banks` of these numbers.
+pub(crate) fn all_used(
+    cores_had: &[u32],
+    cores: usize,
+    banks_had: &[u32],
+    banks: usize,
+    limit: u32,
+) -> bool
+    requires { (cores ≤ length cores_had.now) × (banks ≤ length banks_had.now) }
+    ensures { result ≡ true →
+        AreUsed limit cores cores_had.now × AreUsed limit banks banks_had.now }
+{
+    are_used(cores_had, cores, limit) && are_used(banks_had, banks, limit)
+}
+
+// The same of seats of one kind.
+fn are_used(had: &[u32], seats: usize, limit: u32) -> bool
+    requires { seats ≤ length had.now }
+    ensures { result ≡ true → AreUsed limit seats had.now }
+{
+    for i in 0..seats {
+        if had[i] < limit {
+            return false;
+        }
+    }
+    true
 }

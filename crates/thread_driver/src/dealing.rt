@@ -40,7 +40,8 @@ pub(crate) fn deal_all<P: Drop>(shift: &mut Shift<P>, hands: &mut Hands<P>)
     ensures dealt { AreDealt (length hands.old.cores.items)
         shift.old.cores.items shift.old.programs.items shift.old.banks.items
         (cores_in hands.new) (programs_in hands.new) (banks_in hands.new) }
-    ensures total { total_length (cores_in hands.new) ≡ length shift.old.cores.items }
+    ensures total { (total_length (cores_in hands.new) ≡ length shift.old.cores.items) ×
+        (total_length (banks_in hands.new) ≡ length shift.old.banks.items) }
     ensures empty { (shift.new.cores.items ≡ []) × (shift.new.programs.items ≡ []) ×
         (shift.new.banks.items ≡ []) }
     ensures capacity { (vec_capacity shift.new.cores ≡ vec_capacity shift.old.cores) ×

@@ -1,5 +1,5 @@
 //! Seats that workers drive, and the result.
-ghost use Rattle.std.specs.Prelude.{◌≡◌, ◌≢◌, ◌⊎◌, ◌<◌, ◌≤◌, ◌^◌, true, false, IfOk, OnErr, length};
+ghost use Rattle.std.specs.Prelude.{◌≡◌, ◌≢◌, ◌⊎◌, ◌<◌, ◌≤◌, true, false, IfOk, OnErr, length};
 ghost use Rattle.std.specs.List.{list_any};
 ghost use Rattle.programs.specs.declared.ends.End.TheVariants as end;
 ghost use Rattle.mailboxes.specs.Seats.{AllBankSeats, AllCoreSeats, AreAll};
@@ -19,6 +19,7 @@ use crate::worker::{Rota, Worker};
 use mailboxes::{BankSeat, CoreSeat, Machine};
 use programs::End;
 use programs::program::Program;
+use seat_rule::laws::seats_are_few;
 use seat_rule::parts::records_of_seats_are_counted;
 use shared_jobs::Gate;
 use std::alloc::{AllocError, Global};
@@ -67,6 +68,7 @@ pub fn drive_threads<R: Threads + Sync, P: Program + Send + Drop, G: Gate + Sync
         result.cores.items result.banks.items result.programs.items result.end }
 {
     records_of_seats_are_counted();
+    seats_are_few();
     let mut shift = Shift {
         end: End::TurnsUsed,
         cores,
@@ -99,7 +101,7 @@ fn drive_shift<R: Threads + Sync, P: Program + Send + Drop, G: Gate + Sync>(
     requires cores { AllCoreSeats machine.now shift.old.cores.items }
     requires banks { AllBankSeats machine.now shift.old.banks.items }
     requires ahead { AreAhead P.acts shift.old.cores.items shift.old.programs.items }
-    requires few { length shift.old.cores.items < 2 ^ 32 }
+    requires few { (length shift.old.cores.items ≤ 72) × (length shift.old.banks.items ≤ 72) }
     requires workers { (0 < workers) × (workers ≤ 16) }
     ensures worked { IfOk result (λ told. SeatsGiven P.acts machine.now (AtMost turn_limit)
         shift.old.cores.items shift.old.banks.items shift.old.programs.items told

@@ -1,10 +1,10 @@
-//! A pass: each seat of a worker has a turn.
-ghost use Rattle.std.specs.Prelude.{◌≡◌, ℕ, length};
+//! A pass: the seats of a worker have turns, one seat after the other.
+ghost use Rattle.std.specs.Prelude.{◌≡◌, ℕ, ◌≤◌, length};
 ghost use Rattle.std.specs.List.{zip};
-ghost use Rattle.mailboxes.specs.Seats.{AllBankSeats, AllCoreSeats};
+ghost use Rattle.mailboxes.specs.Seats.{AllBankSeats, AllCoreSeats, IsBankSeat, IsCoreSeat};
 ghost use Rattle.thread_driver.specs.Given.{IsBankTurn, IsCoreTurn};
-ghost use Rattle.thread_driver.specs.Teams.{IsWhole, PassGiven, ends_all};
-ghost use Rattle.thread_driver.specs.Playing.{AreAhead};
+ghost use Rattle.thread_driver.specs.Teams.{InARow, IsWhole, PassGiven, ends_all, is_followed, row_end};
+ghost use Rattle.thread_driver.specs.Playing.{AreAhead, IsAhead};
 
 use crate::bank_turns::bank_turn;
 use crate::core_turns::core_turn;
@@ -13,6 +13,9 @@ use mailboxes::{BankSeat, CoreSeat, Machine};
 use programs::program::Program;
 use shared_jobs::{Gate, begin, end};
 
+// The most turns of a seat in a row.
+const IN_A_ROW: u32 = 16;
+
 /// Whether no worker goes on after this.
 pub(crate) fn ends_all(told: &Told) -> bool
     ensures { result ≡ ends_all told.now }
@@ -20,22 +23,69 @@ pub(crate) fn ends_all(told: &Told) -> bool
     told.no_memory || told.is_exhausted
 }
 
-/// The turns of cores' seats, in order, each between the calls of the gate. After one that ends all there is no other.
+// Whether a seat has another turn at once: this one made progress, and didn't end all.
+fn is_followed(told: &Told) -> bool
+    ensures { result ≡ is_followed told.now }
+{
+    told.has_progressed && !ends_all(told)
+}
+
+// How many turns a seat has had at most, after `had` of them, before the next seat has its own.
+fn row_end(had: u32, limit: u32) -> u32
+    ensures { result ≡ row_end limit had }
+{
+    had.saturating_add(IN_A_ROW).min(limit)
+}
+
+// The turns of a core's seat in a row, each between the calls of the gate, and how many it has had then.
+fn core_row<P: Program, G: Gate>(
+    machine: &Machine,
+    gate: &G,
+    seat: &mut CoreSeat,
+    program: &mut P,
+    had: u32,
+    limit: u32,
+) -> (Told, u32)
+    requires seat { IsCoreSeat machine.now seat.old }
+    requires ahead { IsAhead P.acts seat.old program.old }
+    ensures { InARow (IsCoreTurn P.acts machine.now) (row_end limit had)
+        had (seat.old, program.old) result.1 result.0 (seat.new, program.new) }
+{
+    let most = row_end(had, limit);
+    let mut all = QUIET;
+    let mut has = had;
+    for turn in had..most {
+        let begun = begin(gate, u64::from(seat.number()), u64::from(turn));
+        let told = core_turn(machine, &begun, seat, program);
+        end(gate, begun);
+        all = both(all, told);
+        has = turn + 1;
+        if !is_followed(&told) {
+            return (all, has);
+        }
+    }
+    (all, has)
+}
+
+/// The turns of cores' seats, seat after seat, in a row of each. The list says how many each has had, of at most
+/// `limit`. After one that ends all there is no other.
 pub(crate) fn core_pass<P: Program, G: Gate>(
     machine: &Machine,
     gate: &G,
     cores: &mut Vec<CoreSeat>,
     programs: &mut Vec<P>,
-    turn: u32,
+    had: &mut [u32],
+    limit: u32,
 ) -> Told
     requires seats { AllCoreSeats machine.now cores.old.items }
     requires ahead { AreAhead P.acts cores.old.items programs.old.items }
+    requires counts { length cores.old.items ≤ length had.old }
     ensures seats { AllCoreSeats machine.now cores.new.items }
     ensures ahead { AreAhead P.acts cores.new.items programs.new.items }
     ensures long { length cores.new.items ≡ length cores.old.items }
     ensures turns { (turns : ℕ) × IsWhole turns cores.old.items result ×
-        PassGiven (IsCoreTurn P.acts machine.now) turns
-        (zip cores.old.items programs.old.items) result
+        PassGiven (IsCoreTurn P.acts machine.now) limit turns had.old
+        (zip cores.old.items programs.old.items) result had.new
         (zip cores.new.items programs.new.items) }
 {
     let mut all = QUIET;
@@ -43,34 +93,73 @@ pub(crate) fn core_pass<P: Program, G: Gate>(
         if ends_all(&all) {
             break;
         }
-        let begun = begin(gate, u64::from(cores[i].number()), u64::from(turn));
-        let told = core_turn(machine, &begun, &mut cores[i], &mut programs[i]);
-        end(gate, begun);
+        let before = had[i];
+        let (told, has) = core_row(
+            machine,
+            gate,
+            &mut cores[i],
+            &mut programs[i],
+            before,
+            limit,
+        );
+        had[i] = has;
         all = both(all, told);
     }
     all
 }
 
-/// The turns of banks' seats, in order, each between the calls of the gate. After one that ends all there is no other.
+// The turns of a bank's seat in a row, likewise.
+fn bank_row<G: Gate>(
+    machine: &Machine,
+    gate: &G,
+    seat: &mut BankSeat,
+    had: u32,
+    limit: u32,
+) -> (Told, u32)
+    requires { IsBankSeat machine.now seat.old }
+    ensures { InARow (IsBankTurn machine.now) (row_end limit had)
+        had seat.old result.1 result.0 seat.new }
+{
+    let most = row_end(had, limit);
+    let mut all = QUIET;
+    let mut has = had;
+    for turn in had..most {
+        let number = u64::from(seat.number());
+        let begun = begin(gate, number, u64::from(turn));
+        let told = bank_turn(machine, &begun, seat);
+        end(gate, begun);
+        all = both(all, told);
+        has = turn + 1;
+        if !is_followed(&told) {
+            return (all, has);
+        }
+    }
+    (all, has)
+}
+
+/// The turns of banks' seats, likewise.
 pub(crate) fn bank_pass<G: Gate>(
     machine: &Machine,
     gate: &G,
     banks: &mut Vec<BankSeat>,
-    turn: u32,
+    had: &mut [u32],
+    limit: u32,
 ) -> Told
     requires seats { AllBankSeats machine.now banks.old.items }
+    requires counts { length banks.old.items ≤ length had.old }
     ensures seats { AllBankSeats machine.now banks.new.items }
     ensures turns { (turns : ℕ) × IsWhole turns banks.old.items result ×
-        PassGiven (IsBankTurn machine.now) turns banks.old.items result banks.new.items }
+        PassGiven (IsBankTurn machine.now) limit turns had.old banks.old.items result had.new
+        banks.new.items }
 {
     let mut all = QUIET;
     for i in 0..banks.len() {
         if ends_all(&all) {
             break;
         }
-        let begun = begin(gate, u64::from(banks[i].number()), u64::from(turn));
-        let told = bank_turn(machine, &begun, &mut banks[i]);
-        end(gate, begun);
+        let before = had[i];
+        let (told, has) = bank_row(machine, gate, &mut banks[i], before, limit);
+        had[i] = has;
         all = both(all, told);
     }
     all

@@ -1,13 +1,14 @@
 //! What a worker does: it gives its seats turns until there is nothing left to do.
-ghost use Rattle.std.specs.Prelude.{◌≡◌, ◌≤◌, ◌<◌, ◌^◌, None, IfSome, length};
+ghost use Rattle.std.specs.Prelude.{◌≡◌, ◌⊎◌, ◌≤◌, ◌<◌, ◌^◌, None, IfSome, length};
 ghost use Rattle.std.specs.List.{zip};
 ghost use Rattle.mailboxes.specs.Seats.{AllBankSeats, AllCoreSeats};
 ghost use Rattle.stop_flags.specs.Signalers.{IsSignalerOf, last_look, number_of};
 ghost use Rattle.thread_driver.specs.Given.{told_by_both};
 ghost use Rattle.thread_driver.specs.Playing.{AreAhead};
-ghost use Rattle.thread_driver.specs.Teams.{FoundEnd, FoundNoEnd, IsReady, SeatsPassed, Works, over_in, rested};
+ghost use Rattle.thread_driver.specs.Teams.{FoundEnd, FoundNoEnd, HasCounts, HasUsedAll, IsReady, SeatsPassed, Works};
+ghost use Rattle.thread_driver.specs.Teams.{over_in, rested};
 
-use crate::counting::over_count;
+use crate::counting::{all_used, over_count};
 use crate::pass::{bank_pass, core_pass, ends_all};
 use crate::told::{QUIET, Told, both};
 use crate::worker::{Rota, Worker};
@@ -16,6 +17,9 @@ use programs::program::Program;
 use shared_jobs::Gate;
 use std::thread;
 use stop_flags::{Signaler, Signals};
+
+// The most seats of a machine.
+const SEATS: usize = 72;
 
 /// Gives the worker's seats turns, one pass after the other, until all programs are done, its seats had their most
 /// turns, or some seat lacked memory or stopped. Then it has signaled a stop exactly if that was a seat of its own.
@@ -31,9 +35,20 @@ pub(crate) fn work<P: Program + Drop, G: Gate>(
     ensures works { Works P.acts machine.now rota worker.old worker.new }
 {
     worker.told = QUIET;
+    let mut cores_had = [0; SEATS];
+    let mut banks_had = [0; SEATS];
     let mut idle = 0;
-    for turn in 0..rota.turns {
-        let Some(told) = pass(machine, signals, gate, rota, worker, turn) else {
+    for _ in 0..rota.turns {
+        let passed = pass(
+            machine,
+            signals,
+            gate,
+            rota,
+            worker,
+            &mut cores_had,
+            &mut banks_had,
+        );
+        let Some(told) = passed else {
             return;
         };
         let (all, passes, is_due) = after_pass(worker.told, idle, told);
@@ -69,17 +84,20 @@ fn after_pass(all: Told, idle: u8, told: Told) -> (Told, u8, bool)
     (all, idle, idle == 0)
 }
 
-// Tells which programs are finished, and looks. If that finds no end, each seat of the worker has a turn.
+// Tells which programs are finished, and looks. If that finds no end, and turns are left, each seat of the worker has
+// turns. The lists say how many turns each core's seat and each bank's has had.
 fn pass<P: Program + Drop, G: Gate>(
     machine: &Machine,
     signals: &Signals,
     gate: &G,
     rota: Rota,
     worker: &mut Worker<P>,
-    turn: u32,
+    cores_had: &mut [u32],
+    banks_had: &mut [u32],
 ) -> Option<Told>
     requires signaler { IsSignalerOf signals.now worker.old.signaler }
-    requires few { length worker.old.cores.items < 2 ^ 32 }
+    requires few { (length worker.old.cores.items ≤ 72) × (length worker.old.banks.items ≤ 72) }
+    requires counts { (length cores_had.old ≡ 72) × (length banks_had.old ≡ 72) }
     requires finished { worker.old.signaler.said.finished ≤
         over_in P.acts (zip worker.old.cores.items worker.old.programs.items) }
     requires cores { AllCoreSeats machine.now worker.old.cores.items }
@@ -94,12 +112,15 @@ fn pass<P: Program + Drop, G: Gate>(
     ensures kept { (number_of worker.new.signaler ≡ number_of worker.old.signaler) ×
         (worker.new.signaler.said.stops ≡ worker.old.signaler.said.stops) ×
         (worker.new.told ≡ worker.old.told) }
-    ensures ended { result ≡ None → FoundEnd rota (last_look worker.new.signaler) ×
+    ensures ended { result ≡ None → (FoundEnd rota (last_look worker.new.signaler)
+        ⊎ HasUsedAll rota worker.old cores_had.old banks_had.old) ×
         (worker.new ≡ record worker.old { signaler = worker.new.signaler }) }
     ensures goes { IfSome result (λ told. FoundNoEnd rota (last_look worker.new.signaler)) }
-    ensures passed { IfSome result (λ told. SeatsPassed P.acts machine.now
+    ensures passed { IfSome result (λ told. (passed : SeatsPassed P.acts machine.now
         worker.old.cores.items worker.old.banks.items worker.old.programs.items told
-        worker.new.cores.items worker.new.banks.items worker.new.programs.items) }
+        worker.new.cores.items worker.new.banks.items worker.new.programs.items) ×
+        HasCounts P.acts rota.turns cores_had.old banks_had.old cores_had.new banks_had.new
+        passed) }
 {
     tell(
         signals,
@@ -111,11 +132,17 @@ fn pass<P: Program + Drop, G: Gate>(
     if look.is_stopped || look.finished >= rota.programs {
         return None;
     }
-    let told = core_pass(machine, gate, &mut worker.cores, &mut worker.programs, turn);
+    let (cores, banks) = (worker.cores.len(), worker.banks.len());
+    if all_used(cores_had, cores, banks_had, banks, rota.turns) {
+        return None;
+    }
+    let (cores, programs) = (&mut worker.cores, &mut worker.programs);
+    let told = core_pass(machine, gate, cores, programs, cores_had, rota.turns);
     if ends_all(&told) {
         return Some(told);
     }
-    Some(both(told, bank_pass(machine, gate, &mut worker.banks, turn)))
+    let banks = bank_pass(machine, gate, &mut worker.banks, banks_had, rota.turns);
+    Some(both(told, banks))
 }
 
 // Tells of each program that was finished since: then so many are told as are over.

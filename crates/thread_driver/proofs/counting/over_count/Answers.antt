@@ -1,4 +1,4 @@
-use Rattle.std.proofs.Common.{◌≡◌, ℕ, ◌+◌, length, sym, subst, arith}
+use Rattle.std.proofs.Common.{◌≡◌, ℕ, ◌+◌, sym, subst, arith}
 use Rattle.std.specs.List.{zip}
 use Rattle.thread_driver.specs.Teams.{over_in}
 use Rattle.thread_driver.proofs.Counted.{all_counted, counts_one, one_counted, over_from}

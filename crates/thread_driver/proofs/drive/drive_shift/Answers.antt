@@ -14,7 +14,7 @@ use Rattle.thread_driver.specs.Hands.{HaveHandRoom}
 use Rattle.thread_driver.proofs.Formed.{dealt_back, dealt_to, lengths_back, total_to}
 use Rattle.thread_driver.proofs.Dealt.{ahead_of, all_gave, all_worked, banks_of, cores_of, lengths_after, value_of}
 use Rattle.thread_driver.proofs.Dealt.{vs_count}
-use Rattle.thread_driver.proofs.Used.{all_are_over, all_back, all_used, cores_few, same_total, tells}
+use Rattle.thread_driver.proofs.Used.{all_are_over, all_back, all_used, same_total, share_few, tells}
 use Rattle.thread_driver.proofs.drive.drive_shift.Goals as goal
 
 pub drive_team-requires-clause-ready : goal.drive_team-requires-clause-ready
@@ -37,9 +37,11 @@ drive_team-requires-clause-ready g c κs bounds i w at =
     ∙ value_of (λ (x : Worker g.row.P.Denot). x.signaler) ws i w w.signaler at in
     let one : IsNewSignaler signals i w.signaler = subst (IsNewSignaler signals i) it (made.2 i w.signaler lt) in
     let total = total_to n s.cores.items s.programs.items s.banks.items c.deal_all.new.hands c.form.new.hands ws
-    c.form.ensures.split c.form.ensures.empty ∙ c.deal_all.ensures.total in
-    let share = cores_few ws i w at in
-    let few = c.requires.few in (
+    c.form.ensures.split c.form.ensures.empty in
+    let share = share_few (λ (v : Worker g.row.P.Denot). v.cores.items) ws i w at in
+    let bank_share = share_few (λ (v : Worker g.row.P.Denot). v.banks.items) ws i w at in
+    let few = c.requires.few in
+    let dealt_total = c.deal_all.ensures.total in (
       record {
         signaler = one.0;
         cores = cores_of a m n s.cores.items s.programs.items s.banks.items ws dealt c.requires.cores
@@ -50,6 +52,7 @@ drive_team-requires-clause-ready g c κs bounds i w at =
       ahead_of a m n s.cores.items s.programs.items s.banks.items ws dealt c.requires.cores c.requires.banks
           c.requires.ahead i w at,
       one.2,
+      omega arith,
       omega arith,
     )
 
@@ -170,8 +173,8 @@ returns-clause-used g c goes =
     let none = or_parts c.told_by_team-told.result.no_memory c.told_by_team-told.result.is_exhausted goes in
     let heard = subst AllHeard c.disband.ensures.signalers c.close.ensures in
     let total = same_total a m signals rota ws vs work
-    ∙ total_to n s.cores.items s.programs.items s.banks.items c.deal_all.new.hands c.form.new.hands ws
-    c.form.ensures.split c.form.ensures.empty ∙ c.deal_all.ensures.total in
+    ∙ (total_to n s.cores.items s.programs.items s.banks.items c.deal_all.new.hands c.form.new.hands ws
+    c.form.ensures.split c.form.ensures.empty).0 ∙ c.deal_all.ensures.total.0 in
     let count = c.len-cores.ensures ∙ s.cores.ok.0 in
     ⊎_elim
     (λ all.

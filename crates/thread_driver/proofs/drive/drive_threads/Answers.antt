@@ -20,6 +20,14 @@ drive_shift-requires-clause-ahead g c κs bounds =
     ahead_at_first c.args.machine.now g.P.Program.acts c.args.cores.items c.args.programs.items c.requires.cores.1
     c.requires.programs
 
+pub drive_shift-requires-clause-few : goal.drive_shift-requires-clause-few
+drive_shift-requires-clause-few g c κs bounds =
+    let m = c.args.machine.now in
+    let few = c.seats_are_few.ensures m.set_up m.good in
+    let cores = c.requires.cores.0.long in
+    let banks = c.requires.banks.long in
+    (omega arith, omega arith)
+
 pub returns-in-Err : goal.returns-in-Err
 returns-in-Err g c =
     let acts = g.P.Program.acts in

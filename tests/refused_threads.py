@@ -245,11 +245,11 @@ def lets_others_run(tester):
 def yields_where_due(tester, folder):
     """A core advances in each of its 1,024 turns, 16 in a pass: 64 passes. A seat that waits has one turn in a pass, so
     that its worker makes passes that come to nothing, until it has had 1,024 turns, too: another thread is due after
-    each 256th of them. A single worker makes 960. Of several workers, those that don't have the core make 1,024, with
+    each fourth of them. A single worker makes 960. Of several workers, those that don't have the core make 1,024, with
     the bank, with another core, or with both; one without seats makes none. In the third trace core 0 advances 300
     times first, in 301 turns and 19 passes: its worker makes 1,005 more with the bank, and 723 without it."""
     steps = Path(folder, "advances.trace")
-    for zeros, ones, *all_yields in ((2000, 0, 3, 4, 4), (0, 2000, 3, 4, 8), (300, 2000, 3, 3, 6)):
+    for zeros, ones, *all_yields in ((2000, 0, 240, 256, 256), (0, 2000, 240, 256, 512), (300, 2000, 240, 251, 436)):
         steps.write_text("trace 2\n" + zeros * "0 A\n" + ones * "1 A\n")
         for workers, yields in enumerate(all_yields, 1):
             ran = tester.run(["trace", *SCHEDULE[:2], "--workers", workers, "--limit", 1024, steps], yields=1)

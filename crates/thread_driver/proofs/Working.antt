@@ -27,12 +27,12 @@ use Rattle.thread_driver.proofs.Worked.{SeatsCounted, counted_within, given_all,
 -- If no pass brought anything on so far, as many came to nothing as there were.
 pub idle_passes : (all told both : Told) (idle passes turn : ℕ) (is_due : Bool) → both ≡ told_by_both all told →
     (passes, is_due) ≡ rested idle told.has_progressed →
-    (all.has_progressed ≡ false → idle ≡ turn % 256) → both.has_progressed ≡ false → passes ≡ (turn + 1) % 256
+    (all.has_progressed ≡ false → idle ≡ turn % 4) → both.has_progressed ≡ false → passes ≡ (turn + 1) % 4
 idle_passes all told both idle passes turn is_due told_is rests was none =
     let parts = or_parts all.has_progressed told.has_progressed
     (sym (ap (λ (t : Told). t.has_progressed) told_is) ∙ none) in
     let before = was parts.0 in
-    let now : passes ≡ (idle + 1) % 256 = ap (λ (p : ℕ × Bool). p.0) (rests ∙ ap (rested idle) parts.1) in
+    let now : passes ≡ (idle + 1) % 4 = ap (λ (p : ℕ × Bool). p.0) (rests ∙ ap (rested idle) parts.1) in
     omega arith
 
 module _ {P : Type 0} (acts : Acts P) (m : Machine) (signals : Signals) where

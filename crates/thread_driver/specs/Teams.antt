@@ -64,11 +64,11 @@ AreUsed limit k ns = (i n : ℕ) → i < k → slice_get ns i ≡ Some n → lim
 abbrev pub IsWhole : {X : Type 0} → ℕ → List X → Told → Type 0
 IsWhole n xs told = ends_all told ≡ false → n ≡ length xs
 
--- How many passes in a row came to nothing, modulo 256, after one more; and whether another thread is due: after each
--- 256th of them.
+-- How many passes in a row came to nothing, modulo 4, after one more; and whether another thread is due: after each
+-- fourth of them.
 abbrev pub rested : ℕ → Bool → ℕ × Bool
 rested idle true = (0, false)
-rested idle false = let n = (idle + 1) % 256 in (n, nat_eq n 0)
+rested idle false = let n = (idle + 1) % 4 in (n, nat_eq n 0)
 
 module _ {P : Type 0} (acts : Acts P) where
   -- whether a core has no open operation, and its program no next step

@@ -89,11 +89,11 @@ pub fn no_bank_has_a_turn_after_one_that_ends_all<P: Program>()
         banks' ≡ banks }
 {}
 
-/// When a worker lets another thread run: after each 256th pass in a row in which no turn of its seats made progress.
+/// When a worker lets another thread run: after each fourth pass in a row in which no turn of its seats made progress.
 pub fn waiting_workers_let_others_run()
     ensures progress { (idle : ℕ) → rested idle true ≡ (0, false) }
-    ensures waits { (idle : ℕ) → idle < 255 → rested idle false ≡ (idle + 1, false) }
-    ensures due { rested 255 false ≡ (0, true) }
+    ensures waits { (idle : ℕ) → idle < 3 → rested idle false ≡ (idle + 1, false) }
+    ensures due { rested 3 false ≡ (0, true) }
 {}
 
 /// Turns end AllDone exactly if no core has an open operation and no program a next step. Else they end NoMemory

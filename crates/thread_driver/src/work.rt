@@ -71,7 +71,7 @@ pub(crate) fn work<P: Program + Drop, G: Gate>(
 }
 
 // What a worker keeps after a pass: what all its turns reported, and how many passes in a row came to nothing. And
-// whether another thread is due at the processor: after each 256th of these.
+// whether another thread is due at the processor: after each fourth of these.
 fn after_pass(all: Told, idle: u8, told: Told) -> (Told, u8, bool)
     ensures told { result.0 ≡ told_by_both all told }
     ensures idle { (result.1, result.2) ≡ rested idle told.has_progressed }
@@ -80,7 +80,7 @@ fn after_pass(all: Told, idle: u8, told: Told) -> (Told, u8, bool)
     if told.has_progressed {
         return (all, 0, false);
     }
-    let idle = idle.wrapping_add(1);
+    let idle = idle.wrapping_add(1) % 4;
     (all, idle, idle == 0)
 }
 

@@ -21,9 +21,9 @@ pub fn remainder(number: u64, by: u64) -> u64
     requires { 0 < by }
     ensures { result ≡ number % by }
 {
-    let power = by.trailing_zeros() % 64;
-    if by == 1 << power {
-        return number & (by - 1);
+    let mask = by - 1;
+    if by & mask == 0 {
+        return number & mask;
     }
     number % by
 }

@@ -7,6 +7,7 @@ use Rattle.std.specs.List.{flat_map, range_with_len}
 use Rattle.std.proofs.Math.Nat.{mod-lt}
 use Rattle.std.proofs.Common.{inl, inr, set, get_or-set_same, get_or-set_other}
 use Rattle.std.proofs.lemmas.Bool.{cases_eq}
+use Rattle.std.proofs.lemmas.Bool.{false≢true}
 use Rattle.std.proofs.lemmas.List.{length-map, length-append, get_or_append_left, get_or-append-add, get_or-map}
 use Rattle.std.proofs.lemmas.List.{get_or_past}
 use Rattle.std.proofs.lemmas.List.FromFn.{get_or-map-range_with_len, length-map-range_with_len}
@@ -90,16 +91,6 @@ module _ (eviction : ℕ → ℕ → Event) (lines : ℕ → List ℕ) where
       is_eviction (choice_at (line_events eviction lines n) b) ≡ true
   line_is_there n b some =
       entry_is (range_with_len 0 n) (b % length (line_events eviction lines n)) (mod-lt b some)
-
--- a list of counts, after that of one more holder was written
-pub one_count_more : (counts : List ℕ) (lengths : ℕ → ℕ) (n count : ℕ) → n < length counts → count ≡ lengths n →
-    ((i : ℕ) → i < n → get_or counts i 0 ≡ lengths i) →
-    (i : ℕ) → i < n + 1 → get_or (set counts n count) i 0 ≡ lengths i
-one_count_more counts lengths n count within is each i below = elim (cases_eq i n) [
-  | inl e ↦ ap (λ k. get_or (set counts n count) k 0) e ∙ get_or-set_same counts n count 0 within ∙ is
-      ∙ ap lengths (sym e)
-  | inr other ↦ get_or-set_other counts n i count 0 other ∙ each i (omega (arith, other, below))
-]
 
 -- a core does at most one thing next
 one_step : (core : ℕ) (o : Option (Op × Bool)) (next : Option Step) → 0 < length (core_step core o next) →

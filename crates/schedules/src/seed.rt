@@ -172,34 +172,27 @@ fn advance<P: Program>(
     make(system, programs, log, &Event::Advance(b % cores))
 }
 
-// How many lines each holder has, and all together.
-fn line_count<H: Holder>(system: &System, counts: &mut [usize]) -> u128
-    requires place_each { H.holders system.now ≤ length counts.old }
-    ensures each { (holder : ℕ) → holder < H.holders system.now →
-        slice_get counts.new holder ≡ Some (length (H.lines system.now holder)) }
-    ensures total { result ≡ length (line_events H.eviction (H.lines system.now)
+// How many lines all holders have together.
+fn line_count<H: Holder>(system: &System) -> u128
+    ensures { result ≡ length (line_events H.eviction (H.lines system.now)
         (H.holders system.now)) }
 {
     let mut total = 0;
     for holder in 0..H::holders(system) {
-        let count = H::count(system, holder);
-        counts[holder as usize] = count;
-        total += count as u128;
+        total += H::count(system, holder) as u128;
     }
     total
 }
 
-// A line that is drawn, with its holder. Each holder is asked once how many it has; there are at most 64 cores and
-// eight banks. From the first time on the machine keeps lines in rising order, so that a line is found without a list
-// of them.
+// A line that is drawn, with its holder. Each holder is asked how many it has, and those up to the line's once more:
+// that costs less than a list of the counts, which would first be set to zeros. From the first time on the machine
+// keeps lines in rising order, so that a line is found without a list of them.
 fn drawn_line<H: Holder>(system: &mut System, b: u32) -> Result<Option<(u32, LineNo)>, AllocError>
     ensures machine { system.new ≡ system.old }
     ensures found { IsLine H.eviction (choice_at
         (line_events H.eviction (H.lines system.old) (H.holders system.old)) b) result }
 {
-    let holders = H::holders(system);
-    let mut counts = [0; 64];
-    let total = line_count::<H>(system, &mut counts);
+    let total = line_count::<H>(system);
     if total == 0 {
         return Ok(None);
     }
@@ -207,8 +200,8 @@ fn drawn_line<H: Holder>(system: &mut System, b: u32) -> Result<Option<(u32, Lin
         return Err(error);
     }
     let mut at = place_in(b, total) as usize;
-    for holder in 0..holders {
-        let count = counts[holder as usize];
+    for holder in 0..H::holders(system) {
+        let count = H::count(system, holder);
         if at < count {
             return match H::line(system, holder, at) {
                 Ok(line) => Ok(Some((holder, line))),

@@ -1,4 +1,4 @@
-use Rattle.std.proofs.Common.{◌≡◌, ◌≤◌, ◌<◌, ◌*◌, ◌^◌, ℕ, get_or, length}
+use Rattle.std.proofs.Common.{◌≡◌, ◌≤◌, ◌*◌, ◌^◌, length}
 use Rattle.schedules.specs.SeedSchedule.{line_events}
 use Rattle.schedules.proofs.seed.line_count.Given as goal
 
@@ -6,6 +6,4 @@ abbrev pub invariant-loop-holder : goal.invariant-loop-holder
 invariant-loop-holder g l = record {
   counted : l.total ≡ length (line_events g.H.Holder.eviction (g.H.Holder.lines l.system) l.holder);
   bounded : l.total ≤ l.holder * 2 ^ 64;
-  long : length l.counts ≡ length l.fn.counts;
-  each : (i : ℕ) → i < l.holder → get_or l.counts i 0 ≡ length (g.H.Holder.lines l.system i);
 }

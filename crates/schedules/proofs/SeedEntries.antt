@@ -1,13 +1,13 @@
 -- The entry of a seeded turn's list that is made.
 use Rattle.std.proofs.Common.{◌≡◌, ◌+◌, ◌%◌, ◌<◌, ℕ, zero, suc, Bool, true, false, List, [], ◌∷◌, ◌++◌}
-use Rattle.std.proofs.Common.{length, map, get_or, Some, refl, sym, ap, ◌∙◌, ◌-◌, ◌≤◌, arith}
+use Rattle.std.proofs.Common.{inl, inr, ◌^◌, length, map, get_or, Some, refl, sym, ap, ◌∙◌, ◌-◌, ◌≤◌, arith}
 use Rattle.std.proofs.Common.{◌≢◌}
 use Rattle.std.specs.Prelude.{slice_get, is_some, Option, None}
 use Rattle.std.specs.List.{flat_map, range_with_len}
 use Rattle.std.proofs.Math.Nat.{mod-lt}
-use Rattle.std.proofs.Common.{inl, inr, set, get_or-set_same, get_or-set_other}
-use Rattle.std.proofs.lemmas.Bool.{cases_eq}
-use Rattle.std.proofs.lemmas.Bool.{false≢true}
+use Rattle.std.proofs.lemmas.Bool.{cases_eq, cases_lt}
+use Rattle.std.proofs.lemmas.Nat.Bits.{bit_at-trailing_zeros, bit_at-zero}
+use Rattle.std.specs.Int.{bit_at, trailing_zeros, w64}
 use Rattle.std.proofs.lemmas.List.{length-map, length-append, get_or_append_left, get_or-append-add, get_or-map}
 use Rattle.std.proofs.lemmas.List.{get_or_past}
 use Rattle.std.proofs.lemmas.List.FromFn.{get_or-map-range_with_len, length-map-range_with_len}
@@ -137,6 +137,103 @@ module _ {P : Type 0} (acts : Acts P) (m : Machine) (programs : List P) where
             ∙ ap Some (ap (λ k. get_or (core_steps acts m programs cores) k Nothing) (sym same)
             ∙ at_piece step_of cores core 0 Nothing below some ∙ ap (λ xs. get_or xs 0 Nothing) one.1),
       )
+
+  -- the bits that are left once so many were cleared: those of the cores from one on, before which so many do something
+  pub record Left (cores ready left skipped : ℕ) : Type 0 where
+    pub from : ℕ
+    pub within : from ≤ cores
+    pub counted : length (core_steps acts m programs from) ≡ skipped
+    pub none : (i : ℕ) → i < from → bit_at left i ≡ 0
+    pub same : (i : ℕ) → from ≤ i → bit_at left i ≡ bit_at ready i
+
+  pub first_left : (cores ready : ℕ) → Left cores ready ready 0
+  first_left cores ready = record {
+    from = 0;
+    within = omega arith;
+    counted = refl;
+    none = λ i below. absurd (omega (arith, below));
+    same = λ i past. refl;
+  }
+
+  -- cores that do nothing aren't counted
+  none_between : (low k : ℕ) → ((i : ℕ) → low ≤ i → i < low + k → length (step_of i) ≡ 0) →
+      length (core_steps acts m programs (low + k)) ≡ length (core_steps acts m programs low)
+  none_between low zero none = ap (λ n. length (core_steps acts m programs n)) (omega arith)
+  none_between low (suc k) none =
+      let more = one_core_more (low + k) in
+      let later = none_between low k (λ i past below. none i past (omega (arith, below))) in
+      let here = none (low + k) (omega arith) (omega arith) in
+      let next : low + suc k ≡ low + k + 1 = omega arith in
+      ap (λ n. length (core_steps acts m programs n)) next ∙ omega (arith, more, later, here)
+
+  module _ (cores ready left skipped : ℕ) (is : Left cores ready left skipped)
+      (each : (core : ℕ) → core < cores → bit_at ready core ≡ length (step_of core)) where
+    up_to : (high : ℕ) → is.from ≤ high → high ≤ cores → ((i : ℕ) → i < high → bit_at left i ≡ 0) →
+        length (core_steps acts m programs high) ≡ skipped
+    up_to high past within none =
+        let sum : is.from + (high - is.from) ≡ high = omega (arith, past) in
+        ap (λ n. length (core_steps acts m programs n)) (sym sum)
+        ∙ none_between is.from (high - is.from) (λ i low below.
+        sym (each i (omega (arith, below, within, past))) ∙ sym (is.same i low)
+        ∙ none i (omega (arith, below, past)))
+        ∙ is.counted
+
+    -- the lowest bit that is left is that of the core that does something after so many others
+    pub record Lowest (at : ℕ) : Type 0 where
+      pub below : at < cores
+      pub small : at < 64
+      pub past : is.from ≤ at
+      pub one : bit_at left at ≡ 1
+      pub none : (i : ℕ) → i < at → bit_at left i ≡ 0
+      pub counted : length (core_steps acts m programs at) ≡ skipped
+      pub some : 0 < length (step_of at)
+
+    lowest_at : (at : ℕ) → skipped < length (core_steps acts m programs cores) → at < 64 → bit_at left at ≡ 1 →
+        ((i : ℕ) → i < at → bit_at left i ≡ 0) → Lowest at
+    lowest_at at inside small one none =
+        let past : is.from ≤ at = elim (cases_lt at is.from) [
+          | inl before ↦ absurd (let gone = is.none at before in omega (arith, gone, one))
+          | inr after ↦ after
+        ] in
+        let below : at < cores = elim (cases_lt at cores) [
+          | inl here ↦ here
+          | inr beyond ↦ absurd (let all = up_to cores is.within (omega arith)
+              (λ i lt. none i (omega (arith, lt, beyond))) in omega (arith, all, inside))
+        ] in
+        let same = is.same at past in let has = each at below in record {
+          below = below;
+          small = small;
+          past = past;
+          one = one;
+          none = none;
+          counted = up_to at past (omega (arith, below)) none;
+          some = omega (arith, same, has, one);
+        }
+
+    pub lowest : left < 2 ^ 64 → skipped < length (core_steps acts m programs cores) →
+        Lowest (trailing_zeros w64 left)
+    lowest fits inside = elim (cases_eq left 0) [
+      | inl empty ↦ absurd (let all = up_to cores is.within (omega arith)
+          (λ i lt. ap (λ n. bit_at n i) empty ∙ bit_at-zero i) in omega (arith, all, inside))
+      | inr some ↦
+          let low = bit_at-trailing_zeros w64 left (omega (arith, some)) fits in
+          lowest_at (trailing_zeros w64 left) inside low.0 low.1 low.2
+    ]
+
+    -- once it is cleared, those of the cores behind it are left
+    pub next_left : (at after : ℕ) → Lowest at → bit_at after at ≡ 0 →
+        ((i : ℕ) → i ≢ at → bit_at after i ≡ bit_at left i) → Left cores ready after (skipped + 1)
+    next_left at after low gone others = record {
+      from = at + 1;
+      within = omega (arith, low.below);
+      counted = let more = one_core_more at in let has = each at low.below in let same = is.same at low.past in
+          omega (arith, more, low.counted, has, same, low.one);
+      none = λ i below. elim (cases_eq i at) [
+        | inl e ↦ ap (bit_at after) e ∙ gone
+        | inr other ↦ others i other ∙ low.none i (omega (arith, other, below))
+      ];
+      same = λ i past. others i (λ e. absurd (omega (arith, e, past))) ∙ is.same i (omega (arith, past, low.past));
+    }
 
 pub steps_count : {P : Type 0} (acts : Acts P) (m : Machine) (programs : List P) → length (steps acts m programs) ≡
     length (core_steps acts m programs m.config.cores) + length m.mail.messages

@@ -260,24 +260,22 @@ fn ready_cores<P: Program>(system: &System, programs: &[P]) -> u64
     system.trying_cores() | issuing(system, programs)
 }
 
-// The core that does something after so many others that do.
-fn core_at<P: Program>(system: &System, _programs: &[P], ready: u64, place: u32) -> u32
-    requires inside { place < length (core_steps P.acts system.now _programs.now
-        system.now.config.cores) }
-    requires each { (core : ℕ) → core < system.now.config.cores → bit_at ready core ≡ length
-        (core_step core (open_op system.now core) (next_in P.acts _programs.now core)) }
-    ensures { (next : _) × (core_step result (open_op system.now result)
+// The core that does something after so many others that do: the lowest one, once these are left out.
+#[inline(always)]
+fn core_at<P: Program>(_system: &System, _programs: &[P], ready: u64, place: u32) -> u32
+    requires inside { place < length (core_steps P.acts _system.now _programs.now
+        _system.now.config.cores) }
+    requires each { (core : ℕ) → core < _system.now.config.cores → bit_at ready core ≡ length
+        (core_step core (open_op _system.now core) (next_in P.acts _programs.now core)) }
+    ensures { (next : _) × (core_step result (open_op _system.now result)
         (next_in P.acts _programs.now result) ≡ next ∷ []) × (slice_get
-        (core_steps P.acts system.now _programs.now system.now.config.cores) place ≡ Some next) }
+        (core_steps P.acts _system.now _programs.now _system.now.config.cores) place ≡ Some next) }
 {
-    let mut count = 0;
-    for core in 0..system.cores() {
-        count += (ready >> core & 1) as u32;
-        if count > place {
-            return core;
-        }
+    let mut left = ready;
+    for _skipped in 0..place {
+        left = with_bit(left, left.trailing_zeros(), false);
     }
-    unreachable!()
+    left.trailing_zeros()
 }
 
 // A core does what it does next, which is something.

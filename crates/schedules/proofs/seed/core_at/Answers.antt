@@ -1,30 +1,40 @@
-use Rattle.std.proofs.Common.{◌<◌, arith}
-use Rattle.std.proofs.lemmas.Nat.Bits.{bit_at-lt, shr_and_one}
-use Rattle.schedules.proofs.SeedEntries.{one_core_more, step_found}
+use Rattle.std.proofs.Common.{arith, refl}
+use Rattle.std.specs.Int.{trailing_zeros, w64}
+use Rattle.schedules.proofs.SeedEntries.{first_left, lowest, next_left, step_found}
 use Rattle.schedules.proofs.seed.core_at.Goals as goal
 
-pub returns-then-count-place : goal.returns-then-count-place
-returns-then-count-place g c =
-    let l = c.loop-core in
-    let m = c.args.system.now in
-    let bit = shr_and_one c.args.ready l.core in
-    let small = bit_at-lt c.args.ready l.core in
-    let below : l.core < m.config.cores = omega (arith, c.loop-core-test.true, c.cores-core-end.ensures.cores) in
-    let each = c.requires.each l.core below in
-    step_found g.P.Program.acts m c.args._programs.now m.config.cores l.core c.args.place below
-    (omega (arith, bit, each, c.if-count-place.true, l.invariant.few))
-    (omega (arith, bit, small, c.if-count-place.true, l.invariant.few, l.invariant.counted)) c.requires.inside
+pub loop-skipped-init : goal.loop-skipped-init
+loop-skipped-init g c = record {
+  left = first_left g.P.Program.acts c.args._system.now c.args._programs.now c.args._system.now.config.cores c.args.ready;
+  fits = omega arith;
+  few = omega arith;
+}
 
-pub loop-core-preserved : goal.loop-core-preserved
-loop-core-preserved g c =
-    let l = c.loop-core in
-    let m = c.args.system.now in
-    let bit = shr_and_one c.args.ready l.core in
-    let small = bit_at-lt c.args.ready l.core in
-    let each = c.requires.each l.core (omega (arith, c.loop-core-test.true, c.cores-core-end.ensures.cores)) in
-    let more = one_core_more g.P.Program.acts m c.args._programs.now l.core in
+pub with_bit-left-requires : goal.with_bit-left-requires
+with_bit-left-requires g c =
+    let l = c.loop-skipped in
+    let low = lowest g.P.Program.acts c.args._system.now c.args._programs.now _ c.args.ready l.left l._skipped
+    l.invariant.left c.requires.each l.invariant.fits (omega (arith, c.loop-skipped-test.true, c.requires.inside)) in
+    omega (arith, low.small)
+
+pub loop-skipped-preserved : goal.loop-skipped-preserved
+loop-skipped-preserved g c =
+    let l = c.loop-skipped in
+    let low = lowest g.P.Program.acts c.args._system.now c.args._programs.now _ c.args.ready l.left l._skipped
+    l.invariant.left c.requires.each l.invariant.fits (omega (arith, c.loop-skipped-test.true, c.requires.inside)) in
     record {
-      counted = omega (arith, bit, each, more, l.invariant.counted);
-      few = omega (arith, c.if-count-place.false);
-      small = omega (arith, bit, small, l.invariant.small);
+      left = next_left g.P.Program.acts c.args._system.now c.args._programs.now _ c.args.ready l.left l._skipped
+          l.invariant.left c.requires.each (trailing_zeros w64 l.left) c.with_bit-left.result low
+          c.with_bit-left.ensures.here c.with_bit-left.ensures.elsewhere;
+      fits = let less = c.with_bit-left.ensures.less refl in omega (arith, less, l.invariant.fits);
+      few = omega (arith, c.loop-skipped-test.true);
     }
+
+pub returns : goal.returns
+returns g c =
+    let l = c.loop-skipped in
+    let low = lowest g.P.Program.acts c.args._system.now c.args._programs.now _ c.args.ready l.left l._skipped
+    l.invariant.left c.requires.each l.invariant.fits
+    (omega (arith, c.loop-skipped-test.false, l.invariant.few, c.requires.inside)) in
+    step_found g.P.Program.acts c.args._system.now c.args._programs.now c.args._system.now.config.cores _ c.args.place
+    low.below low.some (omega (arith, low.counted, c.loop-skipped-test.false, l.invariant.few)) c.requires.inside

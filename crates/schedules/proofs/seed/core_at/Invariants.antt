@@ -1,10 +1,10 @@
-use Rattle.std.proofs.Common.{◌≡◌, ◌≤◌, length}
-use Rattle.schedules.specs.SeedSchedule.{core_steps}
+use Rattle.std.proofs.Common.{◌<◌, ◌≤◌, ◌^◌}
+use Rattle.schedules.proofs.SeedEntries.{Left}
 use Rattle.schedules.proofs.seed.core_at.Given as goal
 
-abbrev pub invariant-loop-core : goal.invariant-loop-core
-invariant-loop-core g l = record {
-  counted : l.count ≡ length (core_steps g.P.Program.acts l.system l._programs l.core);
-  few : l.count ≤ l.place;
-  small : l.count ≤ l.core;
+abbrev pub invariant-loop-skipped : goal.invariant-loop-skipped
+invariant-loop-skipped g l = record {
+  left : Left g.P.Program.acts l._system l._programs l._system.config.cores l.ready l.left l._skipped;
+  fits : l.left < 2 ^ 64;
+  few : l._skipped ≤ l.place;
 }

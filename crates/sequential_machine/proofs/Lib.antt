@@ -8,3 +8,8 @@ mod Outcomes
 mod Steps
 mod NeverBoth
 mod Openings
+mod CellThreads
+mod Points
+mod TurnsAndSteps
+mod TurnsLeft
+pub mod Lemmas

@@ -44,7 +44,7 @@ same_value threads memory s n locations found stand words (Register t r) lt =
 same_value threads memory s n locations found stand words (Location l) lt =
     ap (λ (o : Option ℕ). unwrap_or o 0) (words l lt)
 
-same_values : (f g : Name → ℕ) (P : Name → Type 0) → ((name : Name) → P name → f name ≡ g name) →
+pub same_values : (f g : Name → ℕ) (P : Name → Type 0) → ((name : Name) → P name → f name ≡ g name) →
     (names : List Name) → Each P names → map f names ≡ map g names
 same_values f g P same [] h = refl
 same_values f g P same (name ∷ names) h = ap₂ (λ v vs. v ∷ vs) (same name h.0) (same_values f g P same names h.1)

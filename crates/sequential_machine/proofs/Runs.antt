@@ -24,7 +24,7 @@ pub record Runs (n : ℕ) (s : SequentialState) (m : Memory) (threads : ℕ → 
   pub stand : (t : ℕ) → t < n → ThreadIsAt end t (threads t)
 
 -- another thread's steps leave where a thread stands
-still : (s u : SequentialState) (t : ℕ) (q : Thread) → (u.registers t ≡ s.registers t) × (u.left t ≡ s.left t) →
+pub still : (s u : SequentialState) (t : ℕ) (q : Thread) → (u.registers t ≡ s.registers t) × (u.left t ≡ s.left t) →
     ThreadIsAt s t q → ThreadIsAt u t q
 still s u t q same at =
     record { thread = at.thread; registers = same.0 ∙ at.registers; left = same.1 ∙ at.left; ready = at.ready }
@@ -79,12 +79,12 @@ runs n (r ∷ rs) s q last stand there performed values =
 abbrev pub start : Litmus → ℕ → Thread
 start test t = settled_thread t (registers_opened test t) test.cells
 
-record Opens (test : Litmus) (n : ℕ) : Type 0 where
+pub record Opens (test : Litmus) (n : ℕ) : Type 0 where
   pub runs : Runs n (sequential_opening test) (memory_opened test) (start test)
   pub others : (t : ℕ) → n ≤ t → (runs.end.registers t ≡ registers_opened test t) ×
       (runs.end.left t ≡ cells_of t test.cells)
 
-opens : (test : Litmus) (n : ℕ) → Opens test n
+pub opens : (test : Litmus) (n : ℕ) → Opens test n
 opens test zero = record {
   runs = record {
     end = sequential_opening test;

@@ -57,13 +57,13 @@ goes-behind s t cell rest l go =
     (go new (here s.left t (cells_of t rest))))
 
 -- what an instruction without memory leaves
-local : (i : Instruction) (old new : List ℕ) (m : Memory) → after_local i old ≡ Some new →
+pub local : (i : Instruction) (old new : List ℕ) (m : Memory) → after_local i old ≡ Some new →
     (registers_after i old m ≡ new) × (memory_after i old m ≡ m)
 local (does.Set target value) old new m e = (cc, refl)
 local does.Fence old new m e = (cc, refl)
 local _ old new m e = absurd cc
 
-first_of : (t : ℕ) (cell : Cell) (rest : List Cell) → cell.thread ≡ t →
+pub first_of : (t : ℕ) (cell : Cell) (rest : List Cell) → cell.thread ≡ t →
     cells_of t (cell ∷ rest) ≡ cell ∷ cells_of t rest
 first_of t cell rest is =
     cond-true (eqb cell.thread t) (cell ∷ cells_of t rest) (cells_of t rest) (eq-eqb cell.thread t is)
@@ -107,11 +107,11 @@ settles t (cell ∷ rest) s l =
     (settles t rest) (after_local cell.instruction (s.registers t)) refl)
     (λ e. settles t rest s (l ∙ rw e refl))
 
-same_some : {X : Type 0} (x y : X) → Some x ≡ Some y → x ≡ y
+pub same_some : {X : Type 0} (x y : X) → Some x ≡ Some y → x ≡ y
 same_some x y e = cc
 
 -- what a memory instruction leaves
-on_memory : (i : Instruction) (rs : List ℕ) (x : Op) (m : Memory) → instruction_operation i rs ≡ Some x →
+pub on_memory : (i : Instruction) (rs : List ℕ) (x : Op) (m : Memory) → instruction_operation i rs ≡ Some x →
     (registers_after i rs m ≡ received_by i (flat_received m x) rs) × (memory_after i rs m ≡ flat_after m x)
 on_memory (does.Load target location) rs x m e =
     subst (λ (y : Op). (registers_after (does.Load target location) rs m ≡ received_by (does.Load target location)

@@ -3,3 +3,4 @@ pub mod Performed
 pub mod Example
 pub mod Threads
 pub mod Openings
+pub mod Turns

@@ -14,6 +14,7 @@ ghost use Rattle.sequential_machine.specs.SequentialMachine.{IsOutcome, Step};
 ghost use Rattle.sequential_machine.specs.Threads.{Goes, ThreadIsAt};
 ghost use Rattle.sequential_machine.specs.Performed.{ArePerformed};
 ghost use Rattle.sequential_machine.specs.Openings.{OpensAsSet};
+ghost use Rattle.sequential_machine.specs.Turns.{IsEnd};
 ghost use Rattle.sequential_machine.specs.Example.{store_buffering};
 
 /// A test opens as its text says. A register of a thread holds the number to which the initial
@@ -42,6 +43,14 @@ pub fn programs_are_threads()
         Goes s t (flat_after s.memory op) (done_with program (flat_received s.memory op)) }
     ensures finished { (s : SequentialState) (t : ℕ) (program : Thread)
         → ThreadIsAt s t program → next_operation program ≡ None → s.left t ≡ [] }
+{}
+
+/// The ends of turns are the outcomes of the machine: it matters not at what instructions without memory a thread waits.
+pub fn ends_of_turns_are_outcomes()
+    ensures sound { (text : List ℕ) (test : Litmus) (values : List ℕ) →
+        IsTest text test → IsEnd test values → IsOutcome test values }
+    ensures complete { (text : List ℕ) (test : Litmus) (values : List ℕ) →
+        IsTest text test → IsOutcome test values → IsEnd test values }
 {}
 
 /// A legal history of a test in which each thread was performed to its end is a run of the

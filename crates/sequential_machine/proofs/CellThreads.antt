@@ -1,0 +1,130 @@
+-- Each instruction of a test is that of a thread which is there.
+use Rattle.std.proofs.Common.{◌≡◌, ℕ, zero, suc, ◌+◌, ◌<◌, ◌≤◌, Bool, true, false, List, [], ◌∷◌, ◌++◌}
+use Rattle.std.proofs.Common.{None, refl, arith}
+use Rattle.std.specs.List.{AllByRecursion as Each}
+use Rattle.litmus_lexer.specs.declared.limits.TheConstants.{MOST_ROWS}
+use Rattle.litmus_lexer.specs.declared.errors.Kind.TheVariants.{TooLarge}
+use Rattle.litmus_parser.specs.Names.{address_of}
+use Rattle.litmus_parser.specs.Header.{text_pieces, preamble}
+use Rattle.litmus_parser.specs.Verdicts.{Bases}
+use Rattle.litmus_parser.specs.Block.{block}
+use Rattle.litmus_parser.specs.Table.{Rows, header, filled, cell, column, row, counted_row, row_or_condition, rows, table}
+use Rattle.litmus_parser.specs.Condition.{condition}
+use Rattle.litmus_parser.specs.declared.syntax.Cell.{Cell}
+use Rattle.litmus_parser.specs.declared.syntax.Item.{Item}
+use Rattle.piece_forms.specs.Forms.{Gives, InOrder, one, either, turn, until, refused}
+use Rattle.piece_forms.proofs.Lemmas.{Leads, leads-given, leads-then, Onto, leads-until, leads-refused}
+use Rattle.litmus_reader.specs.Litmus.{Litmus}
+use Rattle.litmus_reader.specs.Grammar.{whole_test, IsTest}
+use Rattle.sequential_machine.proofs.Names.{all-lead}
+
+abbrev pub AreBelow : ℕ → List Cell → Type 0
+AreBelow threads cells = Each (λ (c : Cell). c.thread < threads) cells
+
+below_behind : (threads : ℕ) (cells : List Cell) (c : Cell) → AreBelow threads cells → c.thread < threads →
+    AreBelow threads (cells ++ c ∷ [])
+below_behind threads [] c h lt = (lt, tt)
+below_behind threads (x ∷ cells) c h lt = (h.0, below_behind threads cells c h.1 lt)
+
+module _ (bases : Bases) (threads : ℕ) where
+  abbrev Below : Rows → Type 0
+  Below r = AreBelow threads r.0
+
+  filled_below : (t end : ℕ) (r : Rows) → t < threads → Below r → Leads (filled bases t end r) Below
+  unfolding filled
+  filled_below t end r lt h =
+      leads-then {P = λ f. Unit {0}} (all-lead _) (λ f _. leads-then {P = λ i. Unit {0}} (all-lead _) (λ i _.
+      leads-given _ (below_behind threads r.0 _ h lt)))
+
+  cell_below : (t end : ℕ) (r : Rows) → t < threads → Below r → Leads (cell bases t end r) Below
+  unfolding cell
+  cell_below t end r lt h = leads-then {P = λ b. Unit {0}} (all-lead _) (λ b _. on b)
+    where
+      on : (b : Bool) → Leads (either (Gives r) (filled bases t end r) b) Below
+      on true = leads-given r h
+      on false = filled_below t end r lt h
+
+  -- the column goes on by one
+  abbrev Next : ℕ → ℕ × Rows → Type 0
+  Next t c = (c.0 ≡ t + 1) × Below c.1
+
+  column_below : (c : ℕ × Rows) → c.0 < threads → Below c.1 → Leads (column bases threads c) (Next c.0)
+  unfolding column
+  column_below c lt h = leads-then (cell_below c.0 _ c.1 lt h) (λ r k. leads-given (c.0 + 1, r) (refl, k))
+
+  -- and so many more columns have a thread
+  abbrev Turned : ℕ → Bool × (ℕ × Rows) → Type 0
+  Turned k r = (r.1.0 + k ≤ threads) × Below r.1.1
+
+  abbrev Columns : ℕ → ℕ × Rows → Type 0
+  Columns k c = Leads (until Gives (turn (λ d. Gives true) (column bases threads)) k c) (λ d. Below d.1)
+
+  one_column : (k : ℕ) (c : ℕ × Rows) → c.0 + suc k ≤ threads → Below c.1 →
+      Leads (turn (λ d. Gives true) (column bases threads) c) (Turned k)
+  one_column k c le h = leads-then {P = λ b. b ≡ true} (leads-given true refl) by
+    where
+      by : (b : Bool) → b ≡ true → Leads (either (InOrder (column bases threads c) (λ y. Gives (true, y)))
+          (Gives (false, c)) b) (Turned k)
+      by true e = leads-then (column_below c (omega (arith, le)) h) (λ y n.
+          leads-given (true, y) (omega (arith, le, n.0), n.1))
+      by false e = absurd cc
+
+  columns_below : (k : ℕ) (c : ℕ × Rows) → c.0 + k ≤ threads → Below c.1 → Columns k c
+  unfolding until
+  columns_below zero c le h = leads-given c h
+  columns_below (suc k) c le h =
+      leads-then {P = Turned k} (one_column k c le h) (then (λ d. columns_below k d))
+    where
+      then : ((d : ℕ × Rows) → d.0 + k ≤ threads → Below d.1 → Columns k d) → (r : Bool × (ℕ × Rows)) → Turned k r →
+          Leads (either (until Gives (turn (λ d. Gives true) (column bases threads)) k r.1) (Gives r.1) r.0)
+          (λ d. Below d.1)
+      then on (true, d) t = on d t.0 t.1
+      then on (false, d) t = leads-given d t.1
+
+  row_below : (r : Rows) → Below r → Leads (row bases threads r) Below
+  unfolding row
+  row_below r h =
+      leads-then {P = λ u. Unit {0}} (all-lead _) (λ u _.
+      leads-then (columns_below threads (0, r) (omega arith) h) (λ c k.
+      leads-then {P = λ u. Unit {0}} (all-lead _) (λ v _. leads-given c.1 k)))
+
+  abbrev Counted : ℕ × Rows → Type 0
+  Counted t = Below t.1
+
+  counted_below : (t : ℕ × Rows) → Counted t → Leads (counted_row bases threads t) Counted
+  unfolding counted_row
+  counted_below t h = leads-then (row_below t.1 h) (λ r k. leads-given (t.0 + 1, r) k)
+
+  rows_below : Leads (rows bases threads) (AreBelow threads)
+  unfolding rows
+  rows_below =
+      leads-then (leads-until (refused TooLarge) (turn (λ t. one (row_or_condition t.0)) (counted_row bases threads))
+      Counted Counted goes (λ t h. leads-refused TooLarge t) (MOST_ROWS + 1) (0, ([], None)) tt)
+      (λ t h. leads-given t.1.0 h)
+    where
+      goes : (t : ℕ × Rows) → Counted t → Leads (turn (λ t. one (row_or_condition t.0)) (counted_row bases threads) t)
+          (Onto Counted Counted)
+      goes t h = leads-then {P = λ b. Unit {0}} (all-lead _) (λ b _. on b)
+        where
+          on : (b : Bool) → Leads (either (InOrder (counted_row bases threads t) (λ y. Gives (true, y)))
+              (Gives (false, t)) b) (Onto Counted Counted)
+          on true = leads-then (counted_below t h) (λ y k. leads-given (true, y) k)
+          on false = leads-given (false, t) h
+
+table_below : (items : List Item) → Leads (table items) (λ (t : ℕ × List Cell). AreBelow t.0 t.1)
+unfolding table
+table_below items =
+    leads-then {P = λ n. Unit {0}} (all-lead header) (λ threads _.
+    leads-then {P = λ u. Unit {0}} (all-lead _) (λ u _.
+    leads-then (rows_below (address_of items) threads) (λ cells h. leads-given (threads, cells) h)))
+
+test_below : Leads whole_test (λ (test : Litmus). AreBelow test.threads test.cells)
+unfolding whole_test
+test_below =
+    leads-then {P = λ n. Unit {0}} (all-lead preamble) (λ n _.
+    leads-then {P = λ b. Unit {0}} (all-lead (block [])) (λ b _.
+    leads-then (table_below b.0) (λ t h.
+    leads-then {P = λ c. Unit {0}} (all-lead (condition (address_of b.0) t.0 b.1)) (λ c _. leads-given _ h))))
+
+pub cells_below : (text : List ℕ) (test : Litmus) → IsTest text test → AreBelow test.threads test.cells
+cells_below text test h = test_below.stands 1 (text_pieces text []) test h.last h.end h.stands

@@ -1,0 +1,60 @@
+-- The ends of all layers, in any order, are the ends of the test.
+use Rattle.std.proofs.Common.{◌≡◌, ℕ, suc, ◌*◌, ◌<◌, ◌≤◌, List, [], ◌∷◌, length, map, Contains, refl, sym, ap, ◌∙◌}
+use Rattle.std.proofs.Common.{subst, arith, ⊎_elim}
+use Rattle.std.specs.List.{list_any, AllByRecursion as Each}
+use Rattle.std.specs.List.Sorted.{IsPermutation}
+use Rattle.std.specs.Str.{bytes_eq}
+use Rattle.std.proofs.lemmas.List.{length-map}
+use Rattle.std.proofs.lemmas.List.Sorted.{All-permutation, IsPermutation-sym}
+use Rattle.std.proofs.lemmas.List.Elements.{All-from_recursion, All-contains, All-contains_itself}
+use Rattle.std.proofs.lemmas.Slice.Eq.{bytes_eq-Decides}
+use Rattle.indexmap.proofs.CallerLemmas.{Contains-list_any}
+use Rattle.litmus_reader.specs.Litmus.{Litmus}
+use Rattle.sequential_machine.specs.Turns.{Point, Reached, IsEnd}
+use Rattle.sequential_machine.proofs.Lemmas.{turns_few}
+use Rattle.sequential_ends.specs.Packed.{packed}
+use Rattle.sequential_ends.specs.Layers.{layer, ends_before, kept_at}
+use Rattle.sequential_ends.proofs.LayerPoints.{sound, ends_sound, every_end, empty_from, is_before}
+
+first_few : (test : Litmus) (k : ℕ) (points : List Point) → Each (Reached test k) points → 0 < length points →
+    k ≤ test.threads * length test.cells
+first_few test k [] h lt = absurd (omega (arith, lt))
+first_few test k (p ∷ points) h lt = turns_few test k p h.0
+
+-- a layer that has points is one of so many
+pub layer_few : (test : Litmus) (k : ℕ) (rows : List (List ℕ)) → rows ≡ map packed (layer test k) → 0 < length rows →
+    k ≤ test.threads * length test.cells
+layer_few test k rows is lt =
+    let long = ap length is ∙ length-map (layer test k) packed in
+    first_few test k (layer test k) (sound test k) (omega (arith, lt, long))
+
+no_points : (points : List Point) → length points ≤ 0 → points ≡ []
+no_points [] le = refl
+no_points (p ∷ points) le = absurd (omega (arith, le))
+
+pub layer_empty : (test : Litmus) (k : ℕ) (rows : List (List ℕ)) → rows ≡ map packed (layer test k) → length rows ≤ 0 →
+    layer test k ≡ []
+layer_empty test k rows is le =
+    let long = ap length is ∙ length-map (layer test k) packed in no_points (layer test k) (omega (arith, le, long))
+
+module _ (test : Litmus) (k : ℕ) (none : layer test k ≡ []) (rows sorted : List (List ℕ))
+    (are : rows ≡ ends_before test k) (same : IsPermutation rows sorted) where
+  pub each_is_end : (values : List ℕ) → Contains sorted values → IsEnd test values
+  each_is_end values there =
+      All-contains (IsEnd test) sorted values (All-permutation (IsEnd test) rows sorted same
+      (All-from_recursion (IsEnd test) rows (subst (Each (IsEnd test)) (sym are) (ends_sound test k)))) there
+
+  pub each_end_is : (values : List ℕ) → IsEnd test values → Contains sorted values
+  each_end_is values e =
+      let there : Contains rows values =
+      Contains-list_any bytes_eq (λ x y h. (bytes_eq-Decides x y).0 h) rows values
+      (ap (list_any (bytes_eq values)) are ∙ every_end test k values none e) in
+      All-contains (Contains sorted) rows values
+      (All-permutation (Contains sorted) sorted rows (IsPermutation-sym rows sorted same) (All-contains_itself sorted)) there
+
+  pub few_kept : (most : ℕ) → ((j : ℕ) → j < k → kept_at test j ≤ most) → (j : ℕ) → kept_at test j ≤ most
+  few_kept most few j =
+      ⊎_elim (few j) (λ (le : k ≤ j).
+      let here = ap length (empty_from test k j none le) in
+      let next = ap length (empty_from test k (suc j) none (omega (arith, le))) in omega (arith, here, next))
+      (is_before j k)

@@ -1,0 +1,5 @@
+mod WordLists
+mod Packing
+mod LayerPoints
+mod RowLists
+mod EveryEnd

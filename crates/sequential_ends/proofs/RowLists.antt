@@ -1,0 +1,54 @@
+-- The rows that an indexed set keeps.
+use Rattle.std.proofs.Common.{◌≡◌, Bool, true, false, ◌||◌, if◌then◌else◌, List, [], ◌∷◌, ◌++◌, ℕ, ◌+◌, map, refl, ap, ◌∙◌, arith}
+use Rattle.std.specs.List.{list_any, IsDistinct, AllByRecursion as Each}
+use Rattle.std.specs.Str.{bytes_eq}
+use Rattle.std.specs.Global.{Vec}
+use Rattle.std.specs.List.Sorted.{IsSorted}
+use Rattle.std.specs.Ordering.{nat_cmp}
+use Rattle.std.specs.Cmp.Lexicographic.{slice_cmp}
+use Rattle.std.proofs.lemmas.List.{get_or-map, length-map}
+use Rattle.sequential_ends.specs.Rows.{with_row}
+
+abbrev pub rows_of : List (Vec ℕ) → List (List ℕ)
+rows_of = map (λ row. row.items)
+
+any_of : (row : List ℕ) (keys : List (Vec ℕ)) → list_any (λ key. bytes_eq row key.items) keys ≡
+    list_any (λ other. bytes_eq row other) (rows_of keys)
+any_of row [] = refl
+any_of row (key ∷ keys) = ap (λ (b : Bool). bytes_eq row key.items || b) (any_of row keys)
+
+rows_behind : (keys : List (Vec ℕ)) (row : Vec ℕ) → rows_of (keys ++ row ∷ []) ≡ rows_of keys ++ row.items ∷ []
+rows_behind [] row = refl
+rows_behind (key ∷ keys) row = ap (λ (rows : List (List ℕ)). key.items ∷ rows) (rows_behind keys row)
+
+either_row : (keys : List (Vec ℕ)) (row : Vec ℕ) (b : Bool) → rows_of (if b then keys else keys ++ row ∷ []) ≡
+    (if b then rows_of keys else rows_of keys ++ row.items ∷ [])
+either_row keys row true = refl
+either_row keys row false = rows_behind keys row
+
+pub row_added : (keys new : List (Vec ℕ)) (row : Vec ℕ) →
+    new ≡ (if list_any (λ key. bytes_eq row.items key.items) keys then keys else keys ++ row ∷ []) →
+    rows_of new ≡ with_row (rows_of keys) row.items
+row_added keys new row e =
+    ap rows_of e ∙ either_row keys row (list_any (λ key. bytes_eq row.items key.items) keys)
+    ∙ ap (λ (b : Bool). if b then rows_of keys else rows_of keys ++ row.items ∷ []) (any_of row.items keys)
+
+apart : (row : Vec ℕ) (keys : List (Vec ℕ)) → Each (λ (key : Vec ℕ). bytes_eq row.items key.items ≡ false) keys →
+    Each (λ (other : List ℕ). bytes_eq row.items other ≡ false) (rows_of keys)
+apart row [] h = tt
+apart row (key ∷ keys) h = (h.0, apart row keys h.1)
+
+pub rows_once : (keys : List (Vec ℕ)) → IsDistinct (λ (a b : Vec ℕ). bytes_eq a.items b.items) keys →
+    IsDistinct bytes_eq (rows_of keys)
+unfolding IsDistinct
+rows_once [] h = tt
+rows_once (key ∷ keys) h = (apart key keys h.0, rows_once keys h.1)
+
+pub rows_sorted : (keys : List (Vec ℕ)) → IsSorted (λ (a b : Vec ℕ). slice_cmp nat_cmp a.items b.items) keys →
+    IsSorted (slice_cmp nat_cmp) (rows_of keys)
+rows_sorted [] h = λ k d low high. absurd (omega (arith, high))
+rows_sorted (key ∷ keys) h = λ k d low high.
+    let long = length-map (key ∷ keys) (λ (row : Vec ℕ). row.items) in
+    let above = get_or-map (λ (row : Vec ℕ). row.items) (key ∷ keys) (k + 1) key d (omega (arith, high, long)) in
+    let below = get_or-map (λ (row : Vec ℕ). row.items) (key ∷ keys) k key d (omega (arith, high, long)) in
+    rw (above, below) (h k key low (omega (arith, high, long)))

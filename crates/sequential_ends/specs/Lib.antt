@@ -1,0 +1,4 @@
+pub mod Rows
+pub mod Packed
+pub mod Layers
+pub mod Every

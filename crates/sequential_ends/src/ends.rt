@@ -1,0 +1,101 @@
+//! Every end of a test.
+
+ghost use Rattle.std.specs.Prelude.{◌≡◌, ◌≤◌, ℕ, List, length, slice_get, option_map, Err, IfOk};
+ghost use Rattle.std.specs.List.{Contains, IsDistinct};
+ghost use Rattle.std.specs.List.Sorted.{IsSorted};
+ghost use Rattle.std.specs.Ordering.{nat_cmp};
+ghost use Rattle.std.specs.Cmp.Lexicographic.{slice_cmp};
+ghost use Rattle.std.specs.Str.{bytes_eq};
+ghost use Rattle.litmus_reader.specs.Grammar.{IsTest};
+ghost use Rattle.litmus_reader.specs.TestViews.{test_of};
+ghost use Rattle.sequential_machine.specs.SequentialMachine.{IsOutcome};
+ghost use Rattle.sequential_ends.specs.Every.{CountsStates, IsTooMany};
+ghost use Rattle.sequential_ends.specs.Layers.{kept_at};
+
+use crate::error::EndsError;
+use crate::layers::next_layer;
+use crate::points::opening_row;
+use crate::rows::Rows;
+use litmus_reader::Test;
+use sequential_machine::laws::ends_of_turns_are_outcomes;
+use std::alloc::Global;
+use std::marker::Model;
+
+/// How many states are kept at once at most, unless a caller asks for another number.
+pub const MOST_STATES: usize = 4_194_304;
+
+/// Every end of a test: the values of the names in its condition, in the order of `Test::seen`.
+#[derive(Drop)]
+pub struct Ends {
+    rows: Rows,
+    states: u64,
+}
+
+impl Model for Ends {
+    ghost use Rattle.sequential_ends.specs.Every.{Every};
+
+    ghost Value = { Every };
+
+    ghost view = { λ e. record { values = e.rows; states = e.states } };
+}
+
+impl Ends {
+    /// How many ends there are.
+    pub fn len(&self) -> usize
+        ensures { result ≡ length self.now.values }
+    {
+        self.rows.len()
+    }
+
+    /// The values of the end of this number, if there is one; ends are numbered from 0.
+    pub fn values(&self, number: usize) -> Option<&[u64]>
+        ensures { option_map (λ values. values.now) result ≡ slice_get self.now.values number }
+    {
+        self.rows.row(number)
+    }
+
+    /// How many states were met, each counted once; 2^64 - 1 stands for more.
+    pub fn states(&self) -> u64
+        ensures { result ≡ self.now.states }
+    {
+        self.states
+    }
+}
+
+/// Every end of a test on the sequential machine. A state is what each thread has received and the memory. The states
+/// with the same number of operations done are a layer. A layer and the next are kept at once, at most `most_states`.
+pub fn list_ends(alloc: Global, test: &Test, most_states: usize) -> Result<Ends, EndsError>
+    // An end is listed exactly if it is an outcome of the test.
+    ensures outcomes { IfOk result (λ every. (text values : List ℕ) → IsTest text (test_of test.now) →
+        Contains every.values values → IsOutcome (test_of test.now) values) }
+    ensures all { IfOk result (λ every. (text values : List ℕ) → IsTest text (test_of test.now) →
+        IsOutcome (test_of test.now) values → Contains every.values values) }
+    // The ends rise, each once.
+    ensures rising { IfOk result (λ every. IsSorted (slice_cmp nat_cmp) every.values) }
+    ensures once { IfOk result (λ every. IsDistinct bytes_eq every.values) }
+    ensures states { IfOk result (λ every. CountsStates (test_of test.now) every.states) }
+    // It is TooMany exactly if more states would be kept at once.
+    ensures many { result ≡ Err EndsError.TooMany → IsTooMany (test_of test.now) most_states }
+    ensures few { IfOk result (λ every. (k : ℕ) → kept_at (test_of test.now) k ≤ most_states) }
+{
+    ends_of_turns_are_outcomes();
+    if most_states == 0 {
+        return Err(EndsError::TooMany);
+    }
+    let mut layer = Rows::new(alloc);
+    layer.add(opening_row(alloc, test)?)?;
+    let mut rows = Rows::new(alloc);
+    let mut states: u64 = 0;
+    let mut turns: u128 = 0;
+    while layer.len() > 0 {
+        states = states.saturating_add(layer.len() as u64);
+        let room = most_states - layer.len();
+        layer = match next_layer(alloc, test, &layer, &mut rows, room) {
+            Ok(next) => next,
+            Err(error) => return Err(error),
+        };
+        turns += 1;
+    }
+    rows.sort()?;
+    Ok(Ends { rows, states })
+}

@@ -1,12 +1,17 @@
 #!/usr/bin/env python3
 """Lists all ends of a litmus test under sequential consistency, by plain enumeration of its interleavings.
 
-    reference/sequential.py TEST ..
+    reference/sequential.py [--states N] [--orders] TEST ..
 
 One flat memory, no caches and no times: in each step some thread does its next memory instruction. The script prints
-for each test the ends, each with a star if the condition's expression holds in it, and then the verdict on the
-condition over all of them. It shares the reading of texts with reference/oracle.py, and nothing else.
+for each test the verdict on the condition over all ends, and then the ends, each with a star if the condition's
+expression holds in it. With --orders each end has an order of the threads' memory instructions behind it that leads
+there: P0:2 is the second of thread 0. It goes depth first, and keeps each state that it has seen, at most N of them
+(--states N, by default 4194304). It shares the reading of texts with reference/oracle.py, and nothing else.
+
+Exit status: 0 done, 1 a test has more states than N, 2 bad words.
 """
+import argparse
 import copy
 import sys
 from pathlib import Path
@@ -30,25 +35,39 @@ def state_of(threads, memory):
             tuple(sorted(memory.items())))
 
 
-def ends_of(test):
-    """The set of all ends, each as the values of the condition's names."""
-    ends, seen, left = set(), set(), [(test.programs(), dict(test.memory))]
+MOST_STATES = 4194304
+
+
+class TooManyStates(Exception):
+    """More states were seen than may be kept."""
+
+
+def orders_of(test, most=MOST_STATES):
+    """For each end, as the values of the condition's names, the threads in one order of steps that leads there."""
+    ends, seen, left = {}, set(), [(test.programs(), dict(test.memory), ())]
     while left:
-        threads, memory = left.pop()
+        threads, memory, order = left.pop()
         ready = [number for number, thread in enumerate(threads) if thread.next()]
         state = state_of(threads, memory)
         if state in seen:
             continue
+        if len(seen) >= most:
+            raise TooManyStates
         seen.add(state)
         if not ready:
-            ends.add(test.end_values(threads, memory))
+            ends.setdefault(test.end_values(threads, memory), order)
         for number in ready:
             after, words = list(threads), dict(memory)
             after[number] = copy.copy(threads[number])
             after[number].registers = dict(threads[number].registers)
             perform(after[number], words)
-            left.append((after, words))
+            left.append((after, words, (*order, number)))
     return ends
+
+
+def ends_of(test):
+    """The set of all ends, each as the values of the condition's names."""
+    return set(orders_of(test))
 
 
 def answer(test, ends):
@@ -63,16 +82,31 @@ def text_of(end):
     return " ".join(f"{name}={value}" for name, value in end)
 
 
-def main(paths):
-    paths = [path for path in paths if path not in ("-h", "--help")]
-    if not paths:
-        return print(__doc__)
-    for path in paths:
+def steps_text(order):
+    """An order of steps: of each its thread, and which of this thread's it is."""
+    return " ".join(f"P{thread}:{order[:at + 1].count(thread)}" for at, thread in enumerate(order))
+
+
+def words_of(words):
+    parser = argparse.ArgumentParser(description=__doc__, formatter_class=argparse.RawDescriptionHelpFormatter)
+    parser.add_argument("--states", metavar="N", type=int, default=MOST_STATES)
+    parser.add_argument("--orders", action="store_true")
+    parser.add_argument("tests", metavar="TEST", nargs="+")
+    return parser.parse_args(words)
+
+
+def main(words):
+    asked = words_of(words)
+    for path in asked.tests:
         test = litmus_test(path, contents(path))
-        ends = ends_of(test)
+        try:
+            ends = orders_of(test, asked.states)
+        except TooManyStates:
+            sys.exit(f"sequential.py: {path}: more than {asked.states} states; --states N allows more")
         print(f"{test.name}: {len(ends)} ends, {test.kind}: {answer(test, ends)} by sequential consistency")
-        for end in sorted(ends):
-            print(f"{'*' if test.holds(end) else ' '} {text_of(end)}")
+        for end, order in sorted(ends.items()):
+            steps = f" : {steps_text(order)}" if asked.orders else ""
+            print(f"{'*' if test.holds(end) else ' '} {text_of(end)}{steps}")
     return 0
 
 

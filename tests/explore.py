@@ -1,0 +1,258 @@
+#!/usr/bin/env python3
+"""Tries tools/explore.py: tests/explore.py [--long]
+
+It must find each wrong rule of tests/explored_rules.py by a shortest list of events, which the replay on a whole
+machine shows, too; and explore each right one to its end. Its reductions are compared with whole machines, transition
+by transition. Counts of small searches were worked out by hand. --long compares more, in some minutes. The last line
+is `N tried, M wrong`.
+"""
+import importlib.util
+import shutil
+import subprocess
+import sys
+import tempfile
+from pathlib import Path
+from types import SimpleNamespace
+
+TOP = Path(__file__).resolve().parent.parent
+sys.path.insert(0, str(TOP))
+from reference.given import NUMBERS  # noqa: E402
+from reference.traces import Trace  # noqa: E402
+from tests.explored_rules import RIGHT, SB, STUCK, TWO_STORES, WIDE, WRONG  # noqa: E402
+from tools.explored.frozen import Elsewhere, Unread  # noqa: E402
+from tools.explored.parts import Parts  # noqa: E402
+from tools.explored.reports import Report  # noqa: E402
+from tools.explored.search import Search  # noqa: E402
+from tools.explored.whole import Whole  # noqa: E402
+
+EXPLORE, MACHINE = TOP / "tools/explore.py", TOP / "reference/machine.py"
+SMALL = {"sets": 1, "ways": 1, "bank_sets": 1, "bank_ways": 1}
+
+
+def module_of(folder, changes):
+    """The machine's module with these changes, and the lines that they made."""
+    text = MACHINE.read_text(encoding="utf-8")
+    lines = set()
+    for old, new in changes:
+        assert text.count(old) == 1, f"{old!r} stands {text.count(old)} times in machine.py"
+        first = text[:text.index(old)].count("\n") + 1
+        text = text.replace(old, new)
+        was = old.split("\n")
+        lines |= {first + at for at, line in enumerate(new.split("\n")) if line.strip() and line not in was}
+    path = Path(folder, f"machine_{len(list(Path(folder).iterdir()))}.py")
+    path.write_text(text, encoding="utf-8")
+    spec = importlib.util.spec_from_file_location(path.stem, path)
+    module = importlib.util.module_from_spec(spec)
+    spec.loader.exec_module(module)
+    return module, lines
+
+
+def subject_of(text):
+    trace = Trace(text.encode())
+    return SimpleNamespace(test=None, trace=trace, kind="trace", memory={}, cores=trace.cores, names={0: "0x0"})
+
+
+def system_of(module, text, given, keeps=(), kind=Parts):
+    """The states of a trace on a machine of one place everywhere, or as given."""
+    subject = subject_of(text)
+    usual = {name.replace("-", "_"): number for name, (number, _) in NUMBERS.items()}
+    of = usual | SMALL | {"private_write": False, "evict": "demand", "advances": 0, "cores": subject.cores} | given
+    how = SimpleNamespace(evict=of["evict"], advances=of["advances"])
+    return kind(module, SimpleNamespace(**of), subject, how, keeps)
+
+
+def searched(module, text, given, keeps=(), is_first=False):
+    """A search to its end, or to the first fault; and what it kept."""
+    try:
+        search = Search(system_of(module, text, given, keeps, Whole if "whole" in keeps else Parts))
+        is_all = search.run(10 ** 6, is_first)
+    except Unread as of:
+        return searched(module, text, given, (*keeps, "last" if str(of) == "last" else "fields"), is_first)
+    except Elsewhere:
+        return searched(module, text, given, ("whole",), is_first)
+    assert is_all or is_first
+    return search, keeps
+
+
+def wrong_rule(folder, name, kind, most, text, given, changes):
+    """Faults in how a wrong rule is found."""
+    module, lines = module_of(folder, changes)
+    search, _ = searched(module, text, given, is_first=True)
+    report = Report(search, False, name)
+    found = {report.kind(fault): len(search.path(at)) + 1 for fault, (at, _) in search.faults.items()}
+    if search.stuck:
+        found[STUCK] = len(search.path(search.stuck[0]))
+    if found != {kind: most}:
+        yield f"{name}: {found}, not {kind} after {most}"
+        return
+    texts = report.texts()
+    yield from (f"{name}: line {line} didn't run" for line in lines & set(search.system.maker.lines.never(module)))
+    marked = [line for of in texts for line in of if "# here: " in line or "has no case" in line]
+    if len(texts) != 1 + bool(report.lost and kind != STUCK) and kind != STUCK or not marked:
+        yield f"{name}: {texts}"
+    events = [line for line in texts[0][2:] if not line.startswith(("check", "owners"))]
+    at = next(number for number, line in enumerate(events, 1) if line in marked)
+    if at != most or kind != STUCK and len(events) != most:
+        yield f"{name}: event {at} is marked, of {len(events)}"
+
+
+def right_rule(folder, name, text, given, changes):
+    module, lines = module_of(folder, changes)
+    search, _ = searched(module, text, given)
+    report = Report(search, True, name)
+    if not report.is_good or report.texts():
+        yield f"{name}: {list(report.lines())}"
+    yield from (f"{name}: line {line} didn't run" for line in lines & set(search.system.maker.lines.never(module)))
+
+
+def compared(module, text, given):
+    """Faults in the reductions: each transition of each whole state must be one of the state that stands for it, and
+    the other way round; and what is said of the states must be the same."""
+    search, _ = searched(module, text, given)
+    long, _ = searched(module, text, given, ("whole",))
+    parts, whole = search.system, long.system
+    stands = [whole.project(state, parts) for state in long.states]
+    if set(stands) != set(search.states):
+        yield f"{text!r} {given}: {len(set(stands))} states, not {len(search.states)}"
+    for at, state in enumerate(long.states):
+        wanted = {(after and whole.project(after, parts), kind_of(whole, fault))
+                  for _, after, fault in whole.successors(state)} - {(stands[at], None)}
+        came = {(after, kind_of(parts, fault)) for _, after, fault in parts.successors(stands[at])}
+        if wanted != came:
+            yield f"{text!r} {given}: state {at} goes to {came}, not {wanted}"
+            return
+        if whole.is_done(state) != parts.is_done(stands[at]) or whole.in_flight(state) != parts.in_flight(stands[at]):
+            yield f"{text!r} {given}: state {at} isn't what it stands for"
+    lost = {stands[at] for at in long.lost()}, {stands[at] for at in long.stuck}
+    if lost != ({search.states[at] for at in search.lost()}, {search.states[at] for at in search.stuck}):
+        yield f"{text!r} {given}: other lost or stuck states"
+    if set(search.ends) != set(long.ends) or parts.rows.seen != whole.rows.seen:
+        yield f"{text!r} {given}: other ends or rows"
+
+
+def kind_of(system, fault):
+    return system.faults.values[fault - 1] if fault else None
+
+
+COMPARED = [
+    (SB, {"evict": "demand"}, []), (TWO_STORES, {"evict": "any"}, []),
+    ("0 W 0x0 1\n0 W 0x0 2\n", {"evict": "any", "messages": 2}, []),
+    ("trace 2\n0 S 0x0 1\n0 A\n0 R 0x0\n1 R 0x0\n", {"advances": 1, "lease": 1, "ways": 2}, []),
+    ("0 W 0x0 1\n0 W 0x0 2\n1 R 0x0\n", {"private_write": True, "messages": 3}, []),
+    ("0 W 0x0 1\n1 S 0x8 2\n", {"line_words": 8}, []), ("0 W 0x0 1\n1 R 0x8\n", {"banks": 2, "evict": "any"}, []),
+    ("0 R 0x0\n0 W 0x0 1\n", {"time": 2 ** 64 - 11}, []),
+    *((text, given, changes) for _, kind, most, text, given, changes in WRONG if most < 16)]
+LONG = [(SB, {"evict": "any"}, []), *((text, given, changes) for _, _, _, text, given, changes in WRONG),
+        *((text, given, changes) for _, text, given, changes in RIGHT)]
+
+
+def counts(folder):
+    """Faults in searches whose states can be counted by hand. One store on caches that have room goes through 9 states
+    one after the other, two messages at most in flight: the request and what it waits for. Two on two banks go through
+    each pair of them."""
+    module, _ = module_of(folder, [])
+    for text, given, wanted in [("0 W 0x0 1\n", {}, (9, 8, 8, 1, 2)),
+                                ("0 W 0x0 1\n1 W 0x8 2\n", {"banks": 2}, (81, 144, 16, 1, 4))]:
+        search, _ = searched(module, text, given)
+        came = len(search.states), search.made, search.depth, len(search.done), search.most
+        if came != wanted:
+            yield f"{text!r}: {came}, not {wanted}"
+
+
+def wide(folder, name, keeps, changes):
+    """Faults in what a search keeps of a rule that looks further."""
+    module, _ = module_of(folder, changes)
+    text = "trace 2\n0 W 0x0 1\n0 R 0x8\n1 R 0x0\n1 A\n1 A\n1 R 0x0\n"
+    _, kept = searched(module, text, {"lease": 1, "ways": 2, "bank_ways": 2})
+    if kept != keeps:
+        yield f"{name}: {kept} were kept, not {keeps}"
+
+
+# The command line.
+def ran(*words, to=None):
+    return subprocess.run([EXPLORE, *map(str, words)], capture_output=True, text=True, timeout=120, check=False,
+                          cwd=TOP, input=to)
+
+
+def command_line(folder):
+    """Faults in words, files, statuses and texts."""
+    test, stuck = TOP / "examples/litmus/SB.litmus", Path(folder, "stuck.trace")
+    stuck.write_text("0 W 0x0 1\n0 W 0x0 2\n")
+    found = Path(folder, "found.events")
+    done = ran("--small", "--evict", "any", "--messages", 2, "--found", found, "--player", "reference/play.py", stuck)
+    if done.returncode != 1 or "stuck 1, after 16 events\n" not in done.stdout or "\nplayer " not in done.stdout:
+        yield f"stuck: {done}"
+    played = subprocess.run([TOP / "reference/play.py", found], capture_output=True, text=True, check=False)
+    if played.returncode or ": 2 examples" not in played.stdout:
+        yield f"found: {played}"
+    both = ran("--jobs", 2, test, stuck)
+    if both.returncode or both.stdout.count("explored all") != 2 or "ends 3 of 3 in a seq" not in both.stdout:
+        yield f"two files: {both}"
+    yield from kept_in_files(folder, test)
+    yield from refused(folder, test)
+
+
+def kept_in_files(folder, test):
+    """Faults in a search that is saved and gone on with."""
+    kept = Path(folder, "kept")
+    once, cut = ran("--small", test), ran("--small", "--states", 700, "--save", kept, test)
+    if cut.returncode != 3 or "explored all" in cut.stdout:
+        yield f"cut: {cut}"
+    if ran("--small", "--resume", kept, test).stdout != once.stdout:
+        yield "a search that was saved ends otherwise"
+    if ran("--resume", kept, test).returncode != 2:
+        yield "a search goes on with other words"
+
+
+def refused(folder, test):
+    nothing, bad = Path(folder, "none.trace"), Path(folder, "bad.trace")
+    bad.write_text("0 X 0x0\n")
+    for words in ([nothing], [bad], [], ["--ways", 0, test], ["--states", 0, test], ["--evict", "all", test],
+                  ["--resume", bad, test], ["--player", nothing, test], ["--save", nothing, test, test]):
+        done = ran(*words)
+        if (done.returncode, done.stdout) != (2, "") or done.stderr.count("\n") != 1:
+            yield f"{words}: {done}"
+    cut = subprocess.run(f"'{EXPLORE}' '{test}' | head -n 1", shell=True, capture_output=True, text=True, check=False)
+    if cut.stderr or cut.stdout != "subject SB\n":
+        yield f"a closed pipe: {cut}"
+
+
+def copied(folder):
+    """Faults in a changed copy, as docs/CHANGING-A-RULE.md makes one: in what it finds, which its own player plays;
+    and in how it refuses a rule that reads how many messages were sent."""
+    mine, trace = Path(folder, "mine"), Path(folder, "stores.trace")
+    for name in ("reference", "tools"):
+        shutil.copytree(TOP / name, mine / name, ignore=shutil.ignore_patterns("__pycache__"))
+    trace.write_text(TWO_STORES)
+    name, _, most, _, _, changes = WRONG[0]
+    for changes, status, says in [(changes, 1, f"fault two owners of line 0, after {most} events"),
+                                  ([("        if core.out:\n", "        if core.out and self.sent > 500:\n")], 2, "")]:
+        text = MACHINE.read_text(encoding="utf-8")
+        for old, new in changes:
+            text = text.replace(old, new)
+        (mine / "reference/machine.py").write_text(text, encoding="utf-8")
+        done = subprocess.run([mine / "tools/explore.py", "--found", mine / "found", trace], capture_output=True,
+                              text=True, timeout=120, check=False)
+        if done.returncode != status or says not in done.stdout or (status == 2) != (done.stderr.count("\n") == 1):
+            yield f"{name}, in a copy: {done}"
+        player = [mine / "reference/play.py", mine / "found"]
+        played = subprocess.run(player, capture_output=True, text=True, check=False)
+        if status == 1 and (played.returncode or ": 1 examples" not in played.stdout):
+            yield f"{name}, in a copy: {played}"
+
+
+def main():
+    wrong = []
+    with tempfile.TemporaryDirectory() as folder:
+        tries = [*(wrong_rule(folder, *of) for of in WRONG), *(right_rule(folder, *of) for of in RIGHT),
+                 *(wide(folder, *of) for of in WIDE), counts(folder), command_line(folder), copied(folder),
+                 *(compared(module_of(folder, changes)[0], text, given)
+                   for text, given, changes in [*COMPARED, *(LONG if "--long" in sys.argv else [])])]
+        for faults in tries:
+            wrong += faults
+    print("\n".join([*wrong, f"{len(tries)} tried, {len(wrong)} wrong"]))
+    return int(bool(wrong))
+
+
+if __name__ == "__main__":
+    sys.exit(main())

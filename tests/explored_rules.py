@@ -1,0 +1,84 @@
+"""Changed rules for tests/explore.py: what stands in reference/machine.py, with what takes its place.
+
+How many events a wrong rule needs was worked out by hand, or found by the first sketch of an explorer.
+"""
+VALUE, ORDER, OWNERS, FAILS, STUCK = "wrong value", "out of program order", "two owners", "fails", "stuck"
+TWO_STORES = "0 W 0x0 1\n1 W 0x0 2\n"
+STORE_AND_LOAD = "0 W 0x0 1\n1 R 0x0\n"
+OWN_LOAD = "trace 2\n0 W 0x0 1\n0 A\n0 A\n0 R 0x0\n1 W 0x0 2\n"
+SB = "0 W 0x0 1\n0 R 0x8\n1 W 0x8 1\n1 R 0x0\n"
+ANY = {"evict": "any"}
+RECALLS = '''        if e.state == "Exclusive":
+            until = fit(m.pts + lease) if load else None
+            self.start("WbReq" if load else "FlushReq", line, e.owner, rts=until)
+            e.state = "Recalling"
+            return "Started"
+'''
+OPEN = "        if self.line_at(m.core) == m.line:\n            return"
+MEMORY_TIME = "        self.mts[bank] = max(self.mts[bank], e.rts)\n"
+LEASED = "        if load:\n            e.rts = max(e.rts, fit(e.wts"
+OWNS = """if load and e.rts == e.wts and not same:
+            load, e.state, e.owner = False, "Exclusive", m.core
+        elif load:"""
+TIMES = "copy.wts, copy.rts, copy.words[index], copy.written = time, time, value, True"
+
+# What is wrong, how it shows, after how many events, in which trace on which machine, and the change.
+WRONG = [
+    ("a line that is owned is granted again", OWNERS, 9, TWO_STORES, {}, [
+        (RECALLS, '        if e.state == "Exclusive" and not load:\n            e.state = "Shared"\n')]),
+    ("an upgrade forgets the leases of others", VALUE, 20, "0 R 0x0\n0 W 0x0 1\n1 R 0x0\n",
+     {"lease": 1, "advances": 2}, [
+         ("            copy.rts = m.rts\n", '            copy.rts = m.rts if m.kind == "RenewRep" else copy.rts\n')]),
+    ("an eviction leaves the memory time", VALUE, 18, STORE_AND_LOAD, ANY | {"advances": 2}, [
+        (MEMORY_TIME, "        pass\n")]),
+    ("an eviction raises the memory time to the version", VALUE, 18, STORE_AND_LOAD, ANY | {"advances": 2}, [
+        (MEMORY_TIME, MEMORY_TIME.replace("rts)", "wts)"))]),
+    ("any version is renewed", VALUE, 20, STORE_AND_LOAD, ANY | {"lease": 1, "advances": 2}, [
+        ("        same = m.version == e.wts\n", "        same = m.version is not None\n")]),
+    ("a recall that overtakes its grant is dropped", STUCK, 12, TWO_STORES, {}, [
+        (OPEN, OPEN.replace("m.line:", 'm.line and copy and copy.state == "Exclusive":'))]),
+    ("the bank forgets the owner's lease", VALUE, 20, OWN_LOAD, {}, [
+        ("e.wts, e.rts, e.dirty = m.wts, m.rts, True", "e.wts, e.rts, e.dirty = m.wts, m.wts, True")]),
+    # New ones.
+    ("an owner's load doesn't extend the lease", VALUE, 20, OWN_LOAD, {}, [
+        ("                copy.rts = max(copy.rts, time)\n", "                pass\n")]),
+    ("no copy has version 0", FAILS, 7, "0 W 0x0 1\n", {}, [
+        ("version=copy and copy.wts", "version=copy.wts if copy else 0")]),
+    ("a dirty line leaves the bank without a store", VALUE, 19, STORE_AND_LOAD, ANY, [
+        ("        if e.dirty:\n", "        if False:\n")]),
+    ("a copy to read is read past its lease", VALUE, 15, STORE_AND_LOAD, {"lease": 1, "advances": 2}, [
+        ('kind == "load" and core.pts <= copy.rts', 'kind == "load"')]),
+    ("a request that waits is dropped", STUCK, 9, TWO_STORES, {}, [
+        ('        if e.state != "Shared":\n            return "Held"\n',
+         '        if e.state != "Shared":\n            return "Dropped"\n')]),
+    ("a load's time is the version's", ORDER, 16, "0 W 0x0 1\n0 R 0x8\n", {"ways": 2, "bank_ways": 2}, [
+        ("            time = max(core.pts, copy.wts)\n", "            time = copy.wts\n")]),
+    ("a swap receives what it stores", VALUE, 8, "0 S 0x0 1\n", {}, [
+        ('received = copy.words[index] if kind != "store" else None',
+         'received = dict(load=copy.words[index], swap=value, store=None)[kind]')]),
+]
+# Rules that only differ, with a trace and a machine on which the change runs.
+RIGHT = [
+    ("the rules as they are", SB, ANY, []),
+    ("a load of an unleased line owns it", SB, {}, [(LEASED, LEASED.replace("if load:", OWNS))]),
+    ("a store takes a later time than it must", SB, {}, [("fit(copy.rts + 1)", "fit(copy.rts + 2)")]),
+    ("an owner leases only as far as it is asked", STORE_AND_LOAD + "1 W 0x0 2\n", ANY, [
+        ("copy.rts = max(copy.rts, fit(copy.wts + self.o.lease), m.rts)", "copy.rts = max(copy.rts, m.rts)")]),
+    ("a store leases its line at once", STORE_AND_LOAD + "1 W 0x0 2\n", ANY, [
+        (TIMES, TIMES.replace("time, time, value", "time, fit(time + self.o.lease), value"))]),
+]
+# Rules for which states must have more, with what a search then keeps.
+WIDE = [
+    ("a renewal's version is read", ("fields",), [
+        ("            copy.rts = m.rts\n", "            copy.rts = max(m.rts, m.wts)\n")]),
+    ("a core's time falls", ("last",), [
+        ("            time = max(core.pts, copy.wts)\n", "            time = copy.wts\n")]),
+    ("a bank reads a core's time", ("whole",), [
+        ('        if e.state == "Exclusive":\n            until',
+         '        if e.state == "Exclusive" and self.cores[m.core].pts >= 0:\n            until')]),
+    ("a core looks at all messages", ("whole",), [
+        ('        if core.out:\n            return "Waiting"',
+         '        if core.out and len(list(self.flight.values())) >= 0:\n            return "Waiting"')]),
+    ("a machine has more", ("whole",), [
+        ("        self.stopped = False\n", "        self.stopped, self.grants = False, 0\n")]),
+]

@@ -1,0 +1,91 @@
+"""All states that are reached, breadth first, and what is wrong with them.
+
+A system has `start()`, `successors(state)`, a list of (event, the state after it or None, a fault or 0), `is_done`,
+`end` and `in_flight` of a state. States are numbered in the order in which they are first met, so the first state of a
+kind is one of those with the fewest events.
+"""
+from array import array
+
+
+class Search:
+    def __init__(self, system):
+        self.system = system
+        start = system.start()
+        self.states, self.seen = [start], {start: 0}
+        self.parents, self.events = array("I", [0]), array("I", [0])
+        self.afters, self.begins = array("I"), array("Q")  # the states after each state, one after the other
+        self.next, self.levels = 0, [0]  # the first state that isn't looked at yet; each level's first state
+        self.made, self.done_count, self.most = 0, 0, 0
+        self.ends = {}        # by end: the first state that shows it
+        self.faults = {}      # by fault: the state before it and its event
+        self.faulty, self.done, self.stuck = set(), set(), []
+
+    def run(self, limit, is_first=False):
+        """Looks at states until none is left, as many as `limit` were met, or there is a fault and `is_first`.
+        Whether none is left."""
+        successors, seen, states = self.system.successors, self.seen, self.states
+        parents, events, afters = self.parents, self.events, self.afters
+        at = self.next
+        while at < len(states) and len(states) < limit:
+            if at == self.levels[-1]:
+                self.levels.append(len(states))
+            state = states[at]
+            self.begins.append(len(afters))
+            found = successors(state)
+            for event, after, fault in found:
+                if after is None:
+                    self.faults.setdefault(fault, (at, event))
+                    self.faulty.add(at)
+                    continue
+                number = seen.get(after)
+                if number is None:
+                    number = seen[after] = len(states)
+                    states.append(after)
+                    parents.append(at)
+                    events.append(event)
+                afters.append(number)
+            self.made += len(found)
+            self.look(at, state, found)
+            at += 1
+            if is_first and (self.faults or self.stuck):
+                break
+        self.next = at
+        return at == len(states)
+
+    def look(self, at, state, found):
+        """Notes what kind of state it is."""
+        self.most = max(self.most, self.system.in_flight(state))
+        if self.system.is_done(state):
+            self.done.add(at)
+            self.ends.setdefault(self.system.end(state), at)
+        elif not found:
+            self.stuck.append(at)
+
+    @property
+    def depth(self):
+        """The most events to a state, as far as all were met."""
+        return len(self.levels) - 2 if self.next == len(self.states) else len(self.levels) - 1
+
+    def path(self, at):
+        """The events to a state."""
+        path = []
+        while at:
+            path.append(self.events[at])
+            at = self.parents[at]
+        return path[::-1]
+
+    def lost(self):
+        """The states that aren't stuck, and from which no end is reached, and no fault, and none that wasn't looked
+        at. Most edges go to later states, so a few sweeps from the last state to the first find all."""
+        leads = bytearray(len(self.states))
+        for at in [*self.done, *self.faulty, *range(self.next, len(self.states))]:
+            leads[at] = 1
+        ends = [*self.begins[1:], len(self.afters)]
+        is_changed = True
+        while is_changed:
+            is_changed = False
+            for at in range(self.next - 1, -1, -1):
+                if not leads[at] and any(leads[after] for after in self.afters[self.begins[at]:ends[at]]):
+                    leads[at] = is_changed = 1
+        stuck = set(self.stuck)
+        return [at for at in range(self.next) if not leads[at] and at not in stuck]

@@ -1,10 +1,11 @@
 #!/usr/bin/env python3
-"""Tries tools/explore.py: tests/explore.py [--long]
+"""Tries tools/explore.py: tests/explore.py [--long] [PLAYER]
 
 It must find each wrong rule of tests/explored_rules.py by a shortest list of events, which the replay on a whole
 machine shows, too; and explore each right one to its end. Its reductions are compared with whole machines, transition
-by transition. Counts of small searches were worked out by hand. --long compares more, in some minutes. The last line
-is `N tried, M wrong`.
+by transition. Counts of small searches were worked out by hand. PLAYER plays texts of events, by default
+reference/play.py; the gate has the proved one play. --long compares more, in some minutes. The last line is
+`N tried, M wrong`.
 """
 import importlib.util
 import shutil
@@ -174,20 +175,23 @@ def ran(*words, to=None):
                           cwd=TOP, input=to)
 
 
-def command_line(folder):
+def command_line(folder, player):
     """Faults in words, files, statuses and texts."""
     test, stuck = TOP / "examples/litmus/SB.litmus", Path(folder, "stuck.trace")
     stuck.write_text("0 W 0x0 1\n0 W 0x0 2\n")
     found = Path(folder, "found.events")
-    done = ran("--small", "--evict", "any", "--messages", 2, "--found", found, "--player", "reference/play.py", stuck)
+    done = ran("--small", "--evict", "any", "--messages", 2, "--found", found, "--player", player, stuck)
     if done.returncode != 1 or "stuck 1, after 16 events\n" not in done.stdout or "\nplayer " not in done.stdout:
         yield f"stuck: {done}"
-    played = subprocess.run([TOP / "reference/play.py", found], capture_output=True, text=True, check=False)
+    played = subprocess.run([player, found], capture_output=True, text=True, check=False)
     if played.returncode or ": 2 examples" not in played.stdout:
         yield f"found: {played}"
     both = ran("--jobs", 2, test, stuck)
     if both.returncode or both.stdout.count("explored all") != 2 or "ends 3 of 3 in a seq" not in both.stdout:
         yield f"two files: {both}"
+    all_played = ran("--small", "--evict", "any", "--player", player, test)
+    if all_played.returncode or "player 6 examples, 227 answers\n" not in all_played.stdout:
+        yield f"played: {all_played}"
     yield from kept_in_files(folder, test)
     yield from refused(folder, test)
 
@@ -242,10 +246,11 @@ def copied(folder):
 
 
 def main():
-    wrong = []
+    wrong, named = [], [word for word in sys.argv[1:] if not word.startswith("-")]
+    player = Path(named[0]).resolve() if named else TOP / "reference/play.py"
     with tempfile.TemporaryDirectory() as folder:
         tries = [*(wrong_rule(folder, *of) for of in WRONG), *(right_rule(folder, *of) for of in RIGHT),
-                 *(wide(folder, *of) for of in WIDE), counts(folder), command_line(folder), copied(folder),
+                 *(wide(folder, *of) for of in WIDE), counts(folder), command_line(folder, player), copied(folder),
                  *(compared(module_of(folder, changes)[0], text, given)
                    for text, given, changes in [*COMPARED, *(LONG if "--long" in sys.argv else [])])]
         for faults in tries:

@@ -29,7 +29,7 @@ import sys
 from concurrent.futures import ProcessPoolExecutor
 from hashlib import sha256
 from pathlib import Path
-from time import monotonic
+from time import process_time
 from types import SimpleNamespace
 
 sys.path.insert(0, str(Path(__file__).resolve().parent.parent))
@@ -152,9 +152,9 @@ def of_file(options, path):
     subject = Subject(path)
     if subject.cores > MOST_CORES:
         raise Bad(f"{path} has {subject.cores} cores, and {MOST_CORES} is the most")
-    began = monotonic()
+    began = process_time()
     search, is_all, keeps, said = explored(options, subject)
-    took = monotonic() - began
+    took = process_time() - began
     report = Report(search, is_all, Path(path).name)
     texts = report.texts()
     lines = [*report.lines(), *said]
@@ -165,7 +165,8 @@ def of_file(options, path):
         status = status if is_same else WRONG
     if options.save and not is_all:
         save(options, search, keeps)
-    speed = f"{path}: {len(search.states)} states in {took:.2f} s, {len(search.states) / took:,.0f} a second\n"
+    speed = f"{path}: {len(search.states)} states in {took:.2f} s of one processor, " \
+        f"{len(search.states) / took:,.0f} a second\n"
     return lines, texts, speed, status
 
 
@@ -189,7 +190,7 @@ def job(options, path):
 
 
 def results(options):
-    """What came of each file, in their order."""
+    """The results of the files, in their order."""
     if options.jobs == 1 or len(options.FILE) == 1:
         yield from (of_file(options, path) for path in options.FILE)
         return

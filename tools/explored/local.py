@@ -193,7 +193,7 @@ class Maker:
         return frozen(machine.dram)
 
     def step(self, part, value, event, message=None, count=1):
-        """What comes of an event: the answer or the failure, the part after it, the messages that were sent, whether
+        """The result of an event: the answer or the failure, the part after it, the messages that were sent, whether
         the delivered one was taken, and a record; and whether the count of messages in flight was asked for."""
         once, again = (self.step_from(part, value, event, message, count, first) for first in (0, 1000))
         if once != again:

@@ -2,8 +2,8 @@
 
 A state is one number: for each core, each bank, DRAM, the histories of words (history.py) and the bag of messages in
 flight it has the number of that part's value, 24 bits each. An event changes one core, bank or DRAM, and the bag; a
-completion changes the history, too. What comes of it depends on these alone (local.py raises `Elsewhere` if not), so
-each step of a part is made once, on the machine's own code, and kept as what it adds to a state.
+completion changes the history, too. The result depends on these alone (local.py raises `Elsewhere` if not), so each
+step of a part is made once, on the machine's own code, and kept as what it adds to a state.
 
 States are the same if they differ only in numbers of messages, in values that no rule reads (frozen.py), and in what
 no later record can tell (history.py). tests/explore.py compares that with whole machines, transition by transition.
@@ -43,7 +43,7 @@ class Bags:
         number = self.table.id(messages)
         if number == len(self.count):
             self.count.append(len(messages))
-            self.distinct.append(tuple(dict.fromkeys(messages)))
+            self.distinct.append(messages if len(set(messages)) == len(messages) else tuple(dict.fromkeys(messages)))
             self.moved.append({})
         return number
 

@@ -30,7 +30,7 @@ class Report:
         yield f"events {search.made}"
         yield f"depth {search.depth}"
         yield f"in-flight {search.most}"
-        yield f"end-states {len(search.done)}"
+        yield f"done {len(search.done)}"
         yield from self.ends()
         yield f"stuck {len(search.stuck)}" + self.after(search.stuck)
         yield f"lost {len(self.lost)}" + self.after(self.lost)

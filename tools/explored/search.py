@@ -13,7 +13,7 @@ class Search:
         start = system.start()
         self.states, self.seen = [start], {start: 0}
         self.parents, self.events = array("I", [0]), array("I", [0])
-        self.afters, self.begins = array("I"), array("Q")  # the states after each state, one after the other
+        self.afters, self.begins = array("I"), array("I")  # the states after each state, one after the other
         self.next, self.levels = 0, [0]  # the first state that isn't looked at yet; each level's first state
         self.made, self.done_count, self.most = 0, 0, 0
         self.ends = {}        # by end: the first state that shows it

@@ -41,7 +41,7 @@ class Replay:
             self.event(self.numbered(self.system.events.values[name]), "" if left else note)
 
     def numbered(self, event):
-        """An event with the number of its message, the first one that is as wanted."""
+        """An event with the number of its message, the first one with the value of that message."""
         if event[0] == "Advance":
             return event[:2]
         if event[0] != "Deliver":

@@ -107,7 +107,7 @@ def explored(options, subject):
             name = str(of)
             keeps += ("last",) if name == "last" else ("fields",)
             said.append("note a core's time falls, so the states have more" if name == "last" else
-                        f"note a rule reads {name} where PROTOCOL has none, so the states have all values")
+                        f"note a rule reads {name}, which is left out where it can, so the states have all values")
         except Numbered as cause:
             raise Bad(f"{cause}, so that states aren't the same without it") from None
         except Elsewhere as cause:

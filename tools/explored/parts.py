@@ -80,6 +80,7 @@ class Parts:
         self.bags = Bags(self.line_owned)
         self.own = [{} for _ in self.parts]        # by part and its value: the events that it begins itself
         self.delivered = [{} for _ in self.parts]  # by part, and its value with a message: what a delivery does
+        self.makes_room = set()                    # events that evict an entry for a message
         self.later = {}                            # by history and record: what is added to it, or a fault
         self.owned, self.is_end = [[] for _ in self.parts], [[] for _ in range(self.cores)]
         self.begins = [(place, self.at[place], self.own[place]) for place in range(self.cores)]
@@ -253,6 +254,7 @@ class Parts:
                 evict, made = self.step(place, number, ("EvictBank", place - self.cores, line), None, count)
                 asked |= made.asked
                 found += [evict] if evict else []
+                self.makes_room |= {evict[0]} if evict else set()
         return tuple(found), asked
 
     def keep(self, kept, key, count, made):
@@ -288,7 +290,7 @@ class Parts:
             if steps is None:
                 steps = self.keep(kept, key, count, self.delivery(place, number, message, count))
             for step in steps:
-                if len(steps) > 1 and step is steps[-1]:  # one eviction makes room for several
+                if step[0] in self.makes_room:  # for several messages, maybe
                     if step[0] in evicted:
                         continue
                     evicted.add(step[0])

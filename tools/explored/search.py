@@ -77,15 +77,17 @@ class Search:
     def lost(self):
         """The states that aren't stuck, and from which no end is reached, and no fault, and none that wasn't looked
         at. Most edges go to later states, so a few sweeps from the last state to the first find all."""
-        leads = bytearray(len(self.states))
-        for at in [*self.done, *self.faulty, *range(self.next, len(self.states))]:
-            leads[at] = 1
-        ends = [*self.begins[1:], len(self.afters)]
+        leads = bytearray(self.next) + b"\1" * (len(self.states) - self.next)
+        for of in (self.done, self.faulty):
+            for at in of:
+                leads[at] = 1
         is_changed = True
         while is_changed:
-            is_changed = False
+            is_changed, end = False, len(self.afters)
             for at in range(self.next - 1, -1, -1):
-                if not leads[at] and any(leads[after] for after in self.afters[self.begins[at]:ends[at]]):
+                begin = self.begins[at]
+                if not leads[at] and any(leads[after] for after in self.afters[begin:end]):
                     leads[at] = is_changed = 1
+                end = begin
         stuck = set(self.stuck)
         return [at for at in range(self.next) if not leads[at] and at not in stuck]

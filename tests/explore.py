@@ -239,10 +239,15 @@ def copied(folder):
                               text=True, timeout=120, check=False)
         if done.returncode != status or says not in done.stdout or (status == 2) != (done.stderr.count("\n") == 1):
             yield f"{name}, in a copy: {done}"
-        player = [mine / "reference/play.py", mine / "found"]
-        played = subprocess.run(player, capture_output=True, text=True, check=False)
-        if status == 1 and (played.returncode or ": 1 examples" not in played.stdout):
+        if status == 2:
+            continue
+        played, page = (subprocess.run(words, capture_output=True, text=True, check=False) for words in (
+            [mine / "reference/play.py", mine / "found"],
+            [mine / "tools/page.py", "--player", mine / "reference/play.py", mine / "found"]))
+        if played.returncode or ": 1 examples" not in played.stdout:
             yield f"{name}, in a copy: {played}"
+        if page.returncode or "(here: two owners of line 0)" not in page.stdout or page.stderr:
+            yield f"{name}, as a page: {page.stderr}"
 
 
 def main():

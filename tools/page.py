@@ -12,6 +12,9 @@ address follows the event: run.html#12 opens at event 12, run.html#stale at the 
 
 Of a litmus test the page shows the question, the registers as they fill, and at the end the verdict.
 
+FILE may also be a text of events, as tools/explore.py writes it: its first example is shown. A comment behind an event
+stands in its headline, and the machine is that of the text.
+
 The status is 1 if the run isn't all done; the page then shows it as far as it went, and says how it ended. It is 1,
 too, if the history isn't legal, as a changed rule may make it; the page then marks the first wrong record.
 """
@@ -29,12 +32,13 @@ from reference.schedules import ADVANCE  # noqa: E402
 from tools.shown.played import SECOND, Played, Player, player_of  # noqa: E402
 from tools.shown.questions import question  # noqa: E402
 from tools.shown.rules import Rules  # noqa: E402
+from tools.shown.texts import PlayedText, Text, is_text  # noqa: E402
 
 
 PARTS = Path(__file__).resolve().parent / "shown"
 ENDS = {"all-done": "All operations are done.", "stalled": "The run stalled: a round in which nothing went on.",
         "limit": "The run was cut: its rounds or turns are used up.", "memory": "Allocation failed.",
-        "exhausted": "The run ended: a time doesn't fit 64 bits."}
+        "exhausted": "The run ended: a time doesn't fit 64 bits.", "events": "The text has no more events."}
 MARKS = {"completed": "c", "RenewRep": "r", "FlushReq": "l", "WbReq": "l", "evicted": "e", "recalled": "e"}
 
 
@@ -68,7 +72,7 @@ class Places:
     program count as done once the operation after them is issued."""
 
     def __init__(self, run):
-        self.programs, self.by_rounds = run.programs, run.options.schedule == "round"
+        self.programs, self.by_rounds = run.programs, run.options.schedule != "seed"
         self.at = [0] * len(run.programs)
 
     def after(self, step):
@@ -95,8 +99,10 @@ def steps(run):
     """The events, each with its description, what changed, and what it is."""
     rules, places, before, waits = Rules(run), Places(run), run.opening, set()
     shown = dict(before)
-    for step in run.steps:
+    for number, step in enumerate(run.steps):
         said = rules.told(step, before)
+        if note := run.notes.get(number):
+            said = [f"{said[0]} ({note})", *said[1:]]
         places.after(step)
         if step.answer in ("started", "held"):
             waits.add(step.call.split(" ")[1])
@@ -136,8 +142,8 @@ def cores_shown(run, options):
 
 
 def how(options):
-    order = f"seed {options.seed}" if options.schedule == "seed" else "by fair rounds" if options.fair else "by rounds"
-    words = [f"lease {options.lease}", order]
+    by = {"round": "by fair rounds" if options.fair else "by rounds", "events": "events of a text"}
+    words = [f"lease {options.lease}", by.get(options.schedule, f"seed {options.seed}")]
     words += ["private writes"] * options.private_write
     words += [f"lines of {options.line_words} words"] * (options.line_words > 1)
     return ", ".join(words)
@@ -157,19 +163,21 @@ def main(given):
     words.run_options()
     words.player_option()
     options = words.parse_args(given)
-    subject = Subject(options.FILE)
+    of_text = is_text(options.FILE)
+    subject = Text(options.FILE) if of_text else Subject(options.FILE)
     subject.chosen(options)
     command, made_by = player_of(options)
-    run = Played(Player(command), subject, options)
-    sys.stdout.write(page(run, options, made_by))
+    run = (PlayedText if of_text else Played)(Player(command), subject, options)
+    sys.stdout.write(page(run, run.options, made_by))
     if made_by == SECOND and not options.player:
         print(f"page.py: {SECOND} played, since ./play isn't built from these sources. This builds it, in many "
               "minutes: ./play crates/play_events/data/pages.events", file=sys.stderr)
-    if run.end != "all-done":
+    is_good = run.end in ("all-done", "events")
+    if not is_good:
         print(f"page.py: {options.FILE}: {ENDS[run.end]}", file=sys.stderr)
     if run.verdict != "legal":
         print(f"page.py: {options.FILE}: by timestamp the history is wrong: {run.verdict}", file=sys.stderr)
-    return int(run.end != "all-done" or run.verdict != "legal")
+    return int(not is_good or run.verdict != "legal")
 
 
 if __name__ == "__main__":

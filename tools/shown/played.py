@@ -53,13 +53,14 @@ class Player:
 class Played:
     """A run: its `end`, its `records`, the numbers of them in the order of times (`arranged`), those that are stale
     hits, and `steps`, the events. A step has the call, its answer, its line and the `view` after it; `opening` is the
-    first view.
+    first view. `notes` has comments on steps, by their numbers.
 
     A view says what there is, by name: as `core 0`, `copy 0 0x8`, `bank 0`, `entry 0x8`, `dram 0x8`, `m3`.
     """
 
     def __init__(self, player, subject, options):
         self.player, self.subject, self.options = player, subject, options
+        self.notes = getattr(subject, "notes", {})
         self.machine = machine_call(options, subject.cores, subject.memory)
         self.programs = self.drive()
         self.step_by_step()

@@ -6,6 +6,7 @@ the tree, which isn't changed, judges what is wrong with its records. In rules t
 nothing wrong. What each may lead to, and the most operations and advances that its history needs, was worked out by
 hand. The last line is `N tried, M wrong`.
 """
+import re
 import shutil
 import subprocess
 import sys
@@ -83,8 +84,22 @@ def ran(changes, *words):
         done = subprocess.run([copy / "tools/try_rule.py", *words], capture_output=True, text=True, timeout=120)
         again = None
         if done.returncode == 1:
-            again = subprocess.run(done.stdout.splitlines()[-1], shell=True, capture_output=True, text=True, timeout=60)
+            again = subprocess.run(command_of(done.stdout.splitlines()), shell=True, capture_output=True, text=True,
+                                   timeout=60)
         return done.returncode, done.stdout + done.stderr, again
+
+
+def command_of(lines):
+    """The command that prints the run event by event."""
+    return lines[lines.index("Event by event:") + 1]
+
+
+def shortest(lines):
+    """Faults in the shortest list of events, whose last event is marked."""
+    behind = lines[lines.index(command_of(lines)) + 1:]
+    if not behind or not behind[0].startswith("The shortest way to a fault, of ") or \
+            sum("# here: " in line or "has no case" in line for line in behind) != 1:
+        yield f"the shortest list is {behind}"
 
 
 def faults(may_be, most, status, out, again):
@@ -95,7 +110,7 @@ def faults(may_be, most, status, out, again):
         return
     middle = lines.index("The run's records, as far as it got:")
     trace = Trace("\n".join(lines[1:middle]).encode())
-    records = read_records("\n".join(lines[middle + 1:-2]).encode())
+    records = read_records("\n".join(lines[middle + 1:lines.index("Event by event:")]).encode())
     verdict = check({}, trace.issued(), records)
     if may_be == VALUE and not lines[0].startswith(f"{verdict}: "):
         yield f"{lines[0]}, and its records are {verdict}"
@@ -103,7 +118,8 @@ def faults(may_be, most, status, out, again):
         yield f"{sum(map(len, trace.steps))} steps, and {most} are enough: {lines[1:middle]}"
     told = again.stderr + again.stdout
     if may_be == VALUE and f"order {verdict}" not in told or may_be == FAILS and "Traceback" not in told or not told:
-        yield f"{lines[-1]} doesn't show it: {told[-200:]}"
+        yield f"{command_of(lines)} doesn't show it: {told[-200:]}"
+    yield from shortest(lines)
 
 
 def refusals():
@@ -114,6 +130,9 @@ def refusals():
         done = subprocess.run([script, *words], capture_output=True, text=True, timeout=60)
         if (done.returncode, done.stdout, done.stderr.count("\n")) != (2, "", 1):
             yield f"{words}: {done.returncode} {done.stdout} {done.stderr}"
+    done = subprocess.run([script, "--stuck", "--tries", "300"], capture_output=True, text=True, timeout=60)
+    if done.returncode != 1 or not done.stdout.startswith(STUCK) or "NetworkFull" not in done.stdout:
+        yield f"--stuck: {done.stdout} {done.stderr}"
     names = [str(TOP / "examples" / name) for name in ("litmus/SB.litmus", "traces/PAST.trace")]
     done = subprocess.run([script, "--tries", "40", *names], capture_output=True, text=True, timeout=60)
     if done.returncode or not done.stdout.startswith("40 tries: all legal"):
@@ -122,7 +141,7 @@ def refusals():
 
 # What drawn trials must have, each value in some of the first 300.
 DRAWN = {"schedule": {"seed", "round", "threads"}, "private_write": {False, True}, "lease": {1, 2, 10}, "banks": {1, 2},
-         "line_words": {1, 8}, "ways": {1, 2}, "bank_ways": {1, 2}}
+         "line_words": {1, 8}, "ways": {1, 2}, "bank_ways": {1, 2}, "messages": {3, 4, 5, 4096}}
 
 
 def draws():
@@ -131,6 +150,11 @@ def draws():
     for name, values in DRAWN.items():
         if {getattr(trial.options, name) for trial in trials} != values:
             yield f"drawn trials don't have each of {values} for {name}"
+    if any(trial.options.messages <= len(trial.steps) for trial in trials):
+        yield "a drawn machine has no place more than cores"
+    few = [try_rule.trial_of(number, [], True) for number in range(300)]
+    if {trial.options.messages - len(trial.steps) for trial in few} - set(range(4090, 4096)) != {-1, 0, 1, 2}:
+        yield "--stuck doesn't draw fewer places"
     steps = {step[0] for trial in trials for of in trial.steps for step in of}
     if steps != {"load", "store", "swap", "advance"} or {len(trial.steps) for trial in trials} != {2, 3}:
         yield f"drawn programs have {steps}"
@@ -147,9 +171,9 @@ def main():
         if "-v" in sys.argv:
             print(f"== {name}\n{of[1]}")
     for (name, _), (status, out, _) in zip(SOUND, pool.map(lambda rule: ran(rule[1], "--tries", "300"), SOUND)):
-        if status or not out.startswith("300 tries: all legal"):
+        if status or not re.match(r"300 tries: all legal.*\n\d+ machines, \d+ of \d+ rows", out):
             wrong.append(f"{name}: {status} {out}")
-    print("\n".join([*wrong, f"{12 + len(DRAWN) + len(WRONG) + len(SOUND)} tried, {len(wrong)} wrong"]))
+    print("\n".join([*wrong, f"{13 + len(DRAWN) + len(WRONG) + len(SOUND)} tried, {len(wrong)} wrong"]))
     return int(bool(wrong))
 
 

@@ -1,14 +1,19 @@
 #!/usr/bin/env python3
 """Tries a rule: plays short random traces on the machine of this folder, and shrinks the first wrong history.
 
-    tools/try_rule.py [--tries N] [--first N] [TEST|TRACE ..]
+    tools/try_rule.py [--tries N] [--first N] [--stuck] [TEST|TRACE ..]
 
 The script makes N tries, 10,000 if it isn't given, from number 0 on, or from --first. Each draws a trace of a few
 operations and advances, a machine with small caches, and a schedule; its number alone decides what is drawn. If files
 are named, the script plays their programs in place of drawn ones. It looks for records that aren't legal, two owners
 of a line, a message that the machine can't take, and a round that makes no progress; a seeded run that reaches its
 limit goes on by rounds. Then the script cuts the trace as far as one of 120 runs still shows the fault, and prints it
-with its records and the command that prints its run event by event.
+with its records and the command that prints its run event by event. Last it explores that machine (tools/explore.py)
+for a shortest list of events with a fault, in which the last event is marked.
+
+A machine has places for one message more than cores, or for more. With fewer it may be stuck by the rules as they are
+(docs/EXPLORING.md), and old recalls may fill it; --stuck draws fewer, too, and tells of runs that end so. If nothing is
+found, the script says how many different machines it tried, and how many rows of docs/PROTOCOL.md's tables it met.
 
 Change a rule in a copy of examples/ (docs/CHANGING-A-RULE.md). The status is 0 if nothing was found, 1 if something
 was, and 2 for a bad file or word, which standard error names in one line. The script writes nothing but what it
@@ -17,23 +22,30 @@ prints.
 import argparse
 import shlex
 import sys
+from itertools import product
 from os.path import relpath
 from pathlib import Path
 from types import SimpleNamespace
 
 sys.path.insert(0, str(Path(__file__).resolve().parent.parent))
+from reference import machine  # noqa: E402
 from reference.given import NUMBERS  # noqa: E402
 from reference.litmus import Test  # noqa: E402
 from reference.order import check  # noqa: E402
 from reference.reports import drive  # noqa: E402
 from reference.schedules import ADVANCE, Pcg32, Run, by_rounds  # noqa: E402
 from reference.traces import LETTERS, Fault, Steps, Trace, record_line  # noqa: E402
-
+from tools.explored.frozen import Elsewhere, Unread  # noqa: E402
+from tools.explored.parts import Parts  # noqa: E402
+from tools.explored.reports import Report  # noqa: E402
+from tools.explored.rows import ROWS, Rows  # noqa: E402
+from tools.explored.search import Search  # noqa: E402
 
 OWNING = ("ExRep", "UpgradeRep", "FlushRep", "WbRep")
 DEFAULTS = {name.replace("-", "_"): usual for name, (usual, _) in NUMBERS.items()}
 FAILURES = (AssertionError, AttributeError, IndexError, KeyError, TypeError)
 ROUNDS, TURNS, RUNS = 300, 500, 60
+STATES = 60000  # the most states that are explored for a shortest list of events
 LETTER_OF = {kind: letter.decode() for letter, kind in LETTERS.items()}
 
 
@@ -46,13 +58,19 @@ class Broken(Exception):
 
 
 class Watched(Run):
-    """A run whose events are watched: at most one right to a line, and no message that can't be taken."""
+    """A run whose events are watched: at most one right to a line, and no message that can't be taken. `rows` notes the
+    rows of tables that all runs met."""
+
+    rows = Rows()
 
     def make(self, *event):
+        row, sent = self.rows.look(self.machine, event, event[1]), self.machine.sent
         try:
             answer = super().make(*event)
         except FAILURES as error:
             raise Broken(self, f"the machine fails at {self.machine.about(event)} ({type(error).__name__})") from error
+        new = [self.machine.flight[number].kind for number in range(sent, self.machine.sent)]
+        self.rows.met(row, answer, new, None)
         if event[0] == "Deliver":
             for line in self.lines_owned_twice():
                 raise Broken(self, f"two owners of line {line}")
@@ -87,16 +105,22 @@ class Trial:
             return str(broken) + after, broken.run.machine.records
         except FAILURES as error:
             return f"the machine fails ({type(error).__name__})", []
-        if verdict == "legal" and end == "stalled":
+        if verdict == "legal" and end == "stalled" and self.is_at_fault(run):
             verdict = "a round without progress"
         return None if verdict == "legal" else verdict + after, run.machine.records
+
+    def is_at_fault(self, run):
+        """Whether a run's rules are at fault for its last round: not if a message found no place, unless that is
+        looked for."""
+        return self.options.stuck or not any(answer == "NetworkFull" for _, answer in run.made[-ROUNDS:])
 
     def runs(self):
         """Trials of the same steps, by other seeds, and on other machines."""
         for seed in range(RUNS):
             yield Trial(self.steps, SimpleNamespace(**{**vars(self.options), "seed": seed}))
         for number in range(RUNS):
-            yield Trial(self.steps, options_of(Draws(number)))
+            options = with_messages(options_of(Draws(number)), number, len(self.steps), self.options.stuck)
+            yield Trial(self.steps, options)
 
     def smaller(self):
         """The trials without a core that has no steps, without one core's steps, and those with one step less."""
@@ -115,6 +139,11 @@ class Trial:
             return self
         found = next((run for trial in self.smaller() for run in trial.runs() if run.fault()[0]), None)
         return found.smallest() if found else self
+
+    def machine(self):
+        """What is different between machines."""
+        return tuple(value for name, value in sorted(vars(self.options).items())
+                     if name not in ("seed", "limit", "schedule", "stuck"))
 
     def words(self):
         """The options, as words of the command line; defaults are left out."""
@@ -175,14 +204,26 @@ def steps_of(draws, number):
     return steps
 
 
-def trial_of(number, programs):
+def with_messages(options, number, cores, stuck):
+    """The options with places for messages, drawn from a generator of their own: many, or few more than cores; if stuck
+    runs are looked for, also fewer."""
+    few = [cores, cores, max(1, cores - 1)] if stuck else []
+    options.messages = Draws(2 ** 64 - 1 - number).one_of(4096, 4096, cores + 1, cores + 2, *few)
+    options.stuck = stuck
+    return options
+
+
+def trial_of(number, programs, stuck=False):
     """The trial of a number: of drawn programs, or of those that were named, in turn."""
     draws = Draws(number)
     options = options_of(draws)
     if not programs:
-        return Trial(steps_of(draws, number), options)
+        steps = steps_of(draws, number)
+        return Trial(steps, with_messages(options, number, len(steps), stuck))
     program = programs[number % len(programs)]
-    return Trial([], options, program) if isinstance(program, Test) else Trial(program.steps, options)
+    if isinstance(program, Test):
+        return Trial([], with_messages(options, number, len(program.threads), stuck), program)
+    return Trial(program.steps, with_messages(options, number, program.cores, stuck))
 
 
 def told(number, trial, name):
@@ -201,6 +242,35 @@ def told(number, trial, name):
     else:
         text = "\\n".join([*trial.lines(), ""])
         yield f"    printf '{text}' | {oracle} trace {words} /dev/stdin"
+    yield from shortest(trial)
+
+
+def shortest(trial):
+    """A shortest list of events with a fault on the trial's machine, if there is one among few states."""
+    steps = trial.steps
+    cores = len(trial.test.threads) if trial.test else len(steps)
+    subject = SimpleNamespace(test=trial.test, trace=SimpleNamespace(steps=steps), cores=cores,
+                              memory=trial.test.memory if trial.test else {})
+    options = SimpleNamespace(**{**vars(trial.options), "cores": cores})
+    for advances, evict in product(range(4), ("demand", "any")):
+        report = explored(options, subject, SimpleNamespace(evict=evict, advances=advances))
+        if report and not report.is_good:
+            yield f"The shortest way to a fault, of {len(report.search.states)} states:"
+            yield from report.texts()[0]
+            return
+
+
+def explored(options, subject, how):
+    """The report of a search; None if it looks at more than parts have, or has too many states."""
+    for keeps in ((), ("fields",), ("fields", "last")):
+        try:
+            search = Search(Parts(machine, options, subject, how, keeps))
+            return Report(search, search.run(STATES, is_first=True), "this machine")
+        except Unread:
+            continue
+        except Elsewhere:
+            break
+    return None
 
 
 def program_of(path):
@@ -227,18 +297,23 @@ def main():
     parser = argparse.ArgumentParser(allow_abbrev=False, description=__doc__.split("\n")[0])
     parser.add_argument("--tries", type=int, default=10000, metavar="N", help="how many tries are made (10000)")
     parser.add_argument("--first", type=int, default=0, metavar="N", help="the number of the first try (0)")
+    parser.add_argument("--stuck", action="store_true", help="look for runs that are stuck for want of places, too")
     parser.add_argument("FILE", nargs="*", help="tests and traces to play in place of drawn ones")
     parser.error = lambda said: fail(f"{said} (--help tells all)")
     options = parser.parse_args()
     if options.tries < 1 or not 0 <= options.first < 2 ** 64:
         fail("--tries is 1 or more, and --first goes from 0 to 2^64 - 1")
-    programs = [program_of(path) for path in options.FILE]
+    programs, machines = [program_of(path) for path in options.FILE], set()
     for number in range(options.first, options.first + options.tries):
-        trial = trial_of(number, programs)
+        trial = trial_of(number, programs, options.stuck)
+        machines.add(trial.machine())
         if trial.fault()[0]:
             print("\n".join(told(number, trial, options.FILE[number % len(programs)] if programs else None)))
             return 1
+    rows = Watched.rows
     print(f"{options.tries} tries: all legal, one owner at most, and none stuck")
+    print(f"{len(machines)} machines, {rows.count()} of {len(ROWS)} rows of the tables")
+    print("\n".join(f"never {section}: {words}" for section, words in rows.never()), end="\n" * bool(rows.never()))
     return 0
 
 

@@ -44,6 +44,8 @@ WRONG = [
         ("                copy.rts = max(copy.rts, time)\n", "                pass\n")]),
     ("no copy has version 0", FAILS, 7, "0 W 0x0 1\n", {}, [
         ("version=copy and copy.wts", "version=copy.wts if copy else 0")]),
+    ("a grant looks for an owner where none was", FAILS, 6, "0 W 0x0 1\n", {}, [
+        ("        same = m.version == e.wts\n", "        same = m.version == e.wts or e.owner == m.core\n")]),
     ("a dirty line leaves the bank without a store", VALUE, 19, STORE_AND_LOAD, ANY, [
         ("        if e.dirty:\n", "        if False:\n")]),
     ("a copy to read is read past its lease", VALUE, 15, STORE_AND_LOAD, {"lease": 1, "advances": 2}, [

@@ -21,7 +21,6 @@ tools/ (docs/CHANGING-A-RULE.md). docs/EXPLORING.md says which states count as t
 The status is 0 if all was explored and nothing is wrong, 1 if something is, 2 for a bad file or word, and 3 if states
 are left that weren't looked at (--states), though nothing is wrong with the others.
 """
-import os
 import pickle
 import shlex
 import subprocess
@@ -111,6 +110,8 @@ def explored(options, subject):
         except Numbered as cause:
             raise Bad(f"{cause}, so that states aren't the same without it") from None
         except Elsewhere as cause:
+            if "whole" in keeps:
+                raise Bad(f"{cause}, and states have none of these") from None
             keeps += ("whole",)
             said.append(f"note {cause}, so whole machines were explored, which is slower")
         except Full as cause:
@@ -217,18 +218,5 @@ def main(of):
     return worst
 
 
-def guarded(of):
-    """The status; none of a closed pipe or an interrupt is a traceback."""
-    try:
-        status = main(of)
-        sys.stdout.flush()
-        return status
-    except BrokenPipeError:
-        os.dup2(os.open(os.devnull, os.O_WRONLY), sys.stdout.fileno())
-        return GOOD
-    except KeyboardInterrupt:
-        return 130
-
-
 if __name__ == "__main__":
-    tool(guarded)
+    tool(main)

@@ -29,7 +29,7 @@ from types import SimpleNamespace
 
 sys.path.insert(0, str(Path(__file__).resolve().parent.parent))
 from reference import machine  # noqa: E402
-from reference.given import NUMBERS  # noqa: E402
+from reference.given import NUMBERS, tool  # noqa: E402
 from reference.litmus import Test  # noqa: E402
 from reference.order import check  # noqa: E402
 from reference.reports import drive  # noqa: E402
@@ -293,14 +293,14 @@ def fail(said):
     sys.exit(2)
 
 
-def main():
+def main(given):
     parser = argparse.ArgumentParser(allow_abbrev=False, description=__doc__.split("\n")[0])
     parser.add_argument("--tries", type=int, default=10000, metavar="N", help="how many tries are made (10000)")
     parser.add_argument("--first", type=int, default=0, metavar="N", help="the number of the first try (0)")
     parser.add_argument("--stuck", action="store_true", help="look for runs that are stuck for want of places, too")
     parser.add_argument("FILE", nargs="*", help="tests and traces to play in place of drawn ones")
     parser.error = lambda said: fail(f"{said} (--help tells all)")
-    options = parser.parse_args()
+    options = parser.parse_args(given)
     if options.tries < 1 or not 0 <= options.first < 2 ** 64:
         fail("--tries is 1 or more, and --first goes from 0 to 2^64 - 1")
     programs, machines = [program_of(path) for path in options.FILE], set()
@@ -311,11 +311,11 @@ def main():
             print("\n".join(told(number, trial, options.FILE[number % len(programs)] if programs else None)))
             return 1
     rows = Watched.rows
-    print(f"{options.tries} tries: all legal, one owner at most, and none stuck")
-    print(f"{len(machines)} machines, {rows.count()} of {len(ROWS)} rows of the tables")
-    print("\n".join(f"never {section}: {words}" for section, words in rows.never()), end="\n" * bool(rows.never()))
+    print("\n".join([f"{options.tries} tries: all legal, one owner at most, and none stuck",
+                     f"{len(machines)} machines, {rows.count()} of {len(ROWS)} rows of the tables",
+                     *(f"never {section}: {words}" for section, words in rows.never())]))
     return 0
 
 
 if __name__ == "__main__":
-    sys.exit(main())
+    tool(main)

@@ -31,7 +31,7 @@ class Gathered(tuple):
 
 
 class Holder(SimpleNamespace):
-    """A copy, an entry or a message."""
+    """A copy, an entry or a message, of which values may be left out."""
 
     def __getattr__(self, name):
         if name in MAY_BE_LEFT_OUT:
@@ -74,16 +74,16 @@ def holder(of, left_out=()):
     return tuple(sorted((name, frozen(value)) for name, value in vars(of).items() if name not in left_out))
 
 
-def held(value):
-    return Holder(**{name: thawed(one) for name, one in value})
-
-
 class Shapes:
     """Which values are left out. `keeps` says that none is."""
 
     def __init__(self, private_write, keeps):
         self.keeps = keeps
         self.of_copies = () if keeps or private_write else ("written",)
+
+    def held(self, value):
+        """A copy, an entry or a message of a value."""
+        return (SimpleNamespace if self.keeps else Holder)(**{name: thawed(one) for name, one in value})
 
     def message(self, m):
         return holder(m, () if self.keeps else OF_MESSAGES.get(m.kind, ()))

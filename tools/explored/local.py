@@ -9,7 +9,7 @@ import sys
 from dis import findlinestarts
 from types import SimpleNamespace
 
-from tools.explored.frozen import Elsewhere, Numbered, Unread, frozen, held, thawed
+from tools.explored.frozen import Elsewhere, Numbered, Unread, frozen, thawed
 
 KNOWN = {"o", "cores", "mts", "bank_sets", "dram", "flight", "sent", "records", "counts", "stopped"}
 # What a core has beside what a rule may read: its sets, and the operations that it was issued, which only grow.
@@ -163,7 +163,7 @@ class Maker:
     def sets_of(self, value):
         sets = Sets()
         for number, places in value:
-            sets[number] = list(map(held, places))
+            sets[number] = list(map(self.shapes.held, places))
         return sets
 
     # A machine with one part.
@@ -181,7 +181,7 @@ class Maker:
             machine.bank_sets = Only(o.banks, at[0], self.sets_of(value[1]))
         else:
             machine.dram = thawed(value)
-        machine.flight = Flight({} if message is None else {first: held(message)}, count)
+        machine.flight = Flight({} if message is None else {first: self.shapes.held(message)}, count)
         machine.records, machine.counts = Added(first), dict.fromkeys(self.module.COUNTED, first)
         return machine
 

@@ -4,7 +4,7 @@ It is for rules that look at more than one part, at a tenth of the speed; and te
 it. A state has every value of every part, all records in the order in which they were completed, and the messages in
 flight as a bag.
 """
-from tools.explored.frozen import Shapes, frozen, held, thawed
+from tools.explored.frozen import Shapes, frozen, thawed
 from tools.explored.history import with_record
 from tools.explored.local import KNOWN, Lines, Maker, Tables
 from tools.explored.parts import OWNING
@@ -47,7 +47,7 @@ class Whole:
         machine.mts = [thawed(mts) for mts, _ in banks]
         machine.bank_sets = [self.maker.sets_of(sets) for _, sets in banks]
         machine.dram = thawed(dram)
-        machine.flight, machine.sent = dict(enumerate(map(held, flight))), len(flight)
+        machine.flight, machine.sent = dict(enumerate(map(self.shapes.held, flight))), len(flight)
         machine.records = [self.module.Record(*record) for record in records]
         machine.counts = dict.fromkeys(self.module.COUNTED, 0)
         for name, value in more:

@@ -23,10 +23,12 @@ from tests.explored_rules import RIGHT, SB, STUCK, TWO_STORES, WIDE, WRONG  # no
 from tools.explored.frozen import Elsewhere, Unread  # noqa: E402
 from tools.explored.parts import Parts  # noqa: E402
 from tools.explored.reports import Report  # noqa: E402
+from tools.explored.rows import ROWS  # noqa: E402
 from tools.explored.search import Search  # noqa: E402
 from tools.explored.whole import Whole  # noqa: E402
 
 EXPLORE, MACHINE = TOP / "tools/explore.py", TOP / "reference/machine.py"
+MET = set()  # the rows of all searches
 SMALL = {"sets": 1, "ways": 1, "bank_sets": 1, "bank_ways": 1}
 
 
@@ -72,6 +74,7 @@ def searched(module, text, given, keeps=(), is_first=False):
     except Elsewhere:
         return searched(module, text, given, ("whole",), is_first)
     assert is_all or is_first
+    MET.update(search.system.rows.seen)
     return search, keeps
 
 
@@ -199,11 +202,12 @@ def command_line(folder, player):
 def kept_in_files(folder, test):
     """Faults in a search that is saved and gone on with."""
     kept = Path(folder, "kept")
-    once, cut = ran("--small", test), ran("--small", "--states", 700, "--save", kept, test)
-    if cut.returncode != 3 or "explored all" in cut.stdout:
-        yield f"cut: {cut}"
-    if ran("--small", "--resume", kept, test).stdout != once.stdout:
-        yield "a search that was saved ends otherwise"
+    for words in (["--small"], ["--whole"]):
+        once, cut = ran(*words, test), ran(*words, "--states", 300, "--save", kept, test)
+        if cut.returncode != 3 or "explored all" in cut.stdout:
+            yield f"cut: {cut}"
+        if ran(*words, "--resume", kept, test).stdout != once.stdout:
+            yield f"a search that was saved ends otherwise, with {words}"
     if ran("--resume", kept, test).returncode != 2:
         yield "a search goes on with other words"
 
@@ -260,6 +264,7 @@ def main():
                    for text, given, changes in [*COMPARED, *(LONG if "--long" in sys.argv else [])])]
         for faults in tries:
             wrong += faults
+    wrong += [f"no search met a row: {section}: {words}" for section, words, key in ROWS if key not in MET]
     print("\n".join([*wrong, f"{len(tries)} tried, {len(wrong)} wrong"]))
     return int(bool(wrong))
 

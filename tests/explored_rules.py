@@ -62,6 +62,7 @@ WRONG = [
 # Rules that only differ, with a trace and a machine on which the change runs.
 RIGHT = [
     ("the rules as they are", SB, ANY, []),
+    ("the same, and a recall that was meant for an earlier ownership", "0 W 0x0 1\n0 W 0x0 2\n1 R 0x0\n", ANY, []),
     ("a load of an unleased line owns it", SB, {}, [(LEASED, LEASED.replace("if load:", OWNS))]),
     ("a store takes a later time than it must", SB, {}, [("fit(copy.rts + 1)", "fit(copy.rts + 2)")]),
     ("an owner leases only as far as it is asked", STORE_AND_LOAD + "1 W 0x0 2\n", ANY, [

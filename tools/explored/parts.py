@@ -13,6 +13,7 @@ from tools.explored.history import memory_of, with_record
 from tools.explored.local import KNOWN, Maker, Tables
 from tools.explored.programs import end_of, programs_of
 from tools.explored.rows import Rows
+from tools.explored.search import Saved
 from reference.schedules import ADVANCE
 
 BITS = 24
@@ -20,10 +21,6 @@ MASK = (1 << BITS) - 1
 OWNING = ("ExRep", "UpgradeRep", "FlushRep", "WbRep")
 TO_CORE = ("ShRep", "ExRep", "RenewRep", "UpgradeRep", "FlushReq", "WbReq")
 TO_DRAM = ("DramLd", "DramSt")
-
-# What isn't saved with a search.
-GIVEN = ("module", "options", "subject", "how", "shapes", "rows", "maker", "programs")
-
 
 class Full(Exception):
     """A part has more values than a state has numbers for."""
@@ -60,7 +57,7 @@ class Bags:
         return sum(self.line_owned[message] == line for message in self.table.values[bag])
 
 
-class Parts:
+class Parts(Saved):
     """The states of a subject on a machine. `how` has evict ("demand" or "any"), advances, and what is kept."""
 
     def __init__(self, module, options, subject, how, keeps=()):
@@ -328,18 +325,6 @@ class Parts:
     def owners(self, state, line):
         return self.bags.owners(state & MASK, line) + sum(
             line in self.owned[place][state >> self.at[place] & MASK] for place in range(self.cores))
-
-    # Searches in files.
-    def __getstate__(self):
-        """Without what is made anew from the options."""
-        kept = {name: value for name, value in vars(self).items() if name not in GIVEN}
-        return kept | {"seen": self.rows.seen, "ran": self.maker.lines.ran}
-
-    def attach(self, other):
-        """Takes what isn't saved from another one."""
-        for name in GIVEN:
-            setattr(self, name, getattr(other, name))
-        self.rows.seen, self.maker.lines.ran = vars(self).pop("seen"), vars(self).pop("ran")
 
     # What a state is.
     def is_done(self, state):

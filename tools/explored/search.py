@@ -7,6 +7,22 @@ kind is one of those with the fewest events.
 from array import array
 
 
+class Saved:
+    """A system that can be kept in a file: without what is made anew from the options."""
+
+    GIVEN = ("module", "options", "subject", "how", "shapes", "rows", "maker", "programs")
+
+    def __getstate__(self):
+        kept = {name: value for name, value in vars(self).items() if name not in self.GIVEN}
+        return kept | {"seen": self.rows.seen, "ran": self.maker.lines.ran}
+
+    def attach(self, other):
+        """Takes what isn't saved from another one."""
+        for name in self.GIVEN:
+            setattr(self, name, getattr(other, name))
+        self.rows.seen, self.maker.lines.ran = vars(self).pop("seen"), vars(self).pop("ran")
+
+
 class Search:
     def __init__(self, system):
         self.system = system

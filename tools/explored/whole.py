@@ -6,22 +6,22 @@ flight as a bag.
 """
 from tools.explored.frozen import Shapes, frozen, thawed
 from tools.explored.history import with_record
-from tools.explored.local import KNOWN, Lines, Maker, Tables
+from tools.explored.local import KNOWN, Maker, Tables
 from tools.explored.parts import OWNING
 from tools.explored.programs import end_of, programs_of
 from tools.explored.rows import Rows
+from tools.explored.search import Saved
 from reference import order
 from reference.schedules import ADVANCE
 
 
-class Whole:
+class Whole(Saved):
     """The states of a subject on a machine, as `Parts` has them, each as a tuple."""
 
     def __init__(self, module, options, subject, how, keeps=()):
         self.module, self.options, self.subject, self.how = module, options, subject, how
         self.shapes, self.rows = Shapes(True, True), Rows()
         self.maker = Maker(module, options, self.shapes, self.rows)
-        self.lines = self.maker.lines = Lines(module)
         self.programs = programs_of(subject)
         self.events, self.faults = Tables(), Tables()
         self.messages = Tables()
@@ -115,7 +115,7 @@ class Whole:
         row = self.rows.look(machine, event, event[1])
         sent = machine.sent
         try:
-            answer = self.lines.traced(machine.step, event[:2] if event[0] == "Advance" else event)
+            answer = self.maker.lines.traced(machine.step, event[:2] if event[0] == "Advance" else event)
         except Exception as error:
             return "fails", type(error).__name__
         self.rows.met(row, answer, [m.kind for number, m in machine.flight.items() if number >= sent], None)

@@ -8,6 +8,7 @@ reference/play.py; the gate has the proved one play. --long compares more, in so
 `N tried, M wrong`.
 """
 import importlib.util
+import random
 import shutil
 import subprocess
 import sys
@@ -134,6 +135,33 @@ def compared(module, text, given):
         yield f"{text!r} {given}: other ends or rows"
 
 
+def drawn(number):
+    """A trace, a machine and a rule to compare, by a number."""
+    draw = random.Random(number)
+    lines, value, cores = ["trace 2"], 0, draw.choice([1, 2, 2, 2, 3])
+    for core in range(cores):
+        for _ in range(draw.randint(1, 3 if cores < 3 else 1)):
+            letter, word = draw.choice("RRWWSA"), 8 * draw.choice([0, 0, 1])
+            value += 1
+            lines.append(f"{core} A" if letter == "A" else f"{core} {letter} {word:#x}" + f" {value}" * (letter != "R"))
+    given = {"evict": draw.choice(["demand", "any"]), "advances": draw.choice([0, 0, 1]), "lease": draw.choice([1, 2]),
+             "ways": draw.choice([1, 2]), "bank_ways": draw.choice([1, 1, 2]), "banks": draw.choice([1, 1, 2]),
+             "line_words": draw.choice([1, 1, 8]), "messages": draw.choice([1, 2, 3, 4, 4096]),
+             "private_write": draw.random() < 0.5}
+    changes = draw.choice([[], [], *(rule[-1] for rule in WRONG)])
+    return "\n".join(lines) + "\n", given, changes
+
+
+def compared_if_small(module, text, given):
+    """As `compared`, of what has few states as parts."""
+    try:
+        is_small = Search(system_of(module, text, given)).run(1500)
+    except (Unread, Elsewhere):
+        return
+    if is_small:
+        yield from compared(module, text, given)
+
+
 def kind_of(system, fault):
     return system.faults.values[fault - 1] if fault else None
 
@@ -255,13 +283,16 @@ def copied(folder):
 
 
 def main():
+    is_long = "--long" in sys.argv
     wrong, named = [], [word for word in sys.argv[1:] if not word.startswith("-")]
     player = Path(named[0]).resolve() if named else TOP / "reference/play.py"
     with tempfile.TemporaryDirectory() as folder:
         tries = [*(wrong_rule(folder, *of) for of in WRONG), *(right_rule(folder, *of) for of in RIGHT),
                  *(wide(folder, *of) for of in WIDE), counts(folder), command_line(folder, player), copied(folder),
                  *(compared(module_of(folder, changes)[0], text, given)
-                   for text, given, changes in [*COMPARED, *(LONG if "--long" in sys.argv else [])])]
+                   for text, given, changes in [*COMPARED, *(LONG if is_long else [])]),
+                 *(compared_if_small(module_of(folder, changes)[0], text, given)
+                   for text, given, changes in map(drawn, range(300 if is_long else 6)))]
         for faults in tries:
             wrong += faults
     wrong += [f"no search met a row: {section}: {words}" for section, words, key in ROWS if key not in MET]

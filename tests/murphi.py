@@ -23,9 +23,11 @@ SAME = [
     ("SB", ROOMY, []),
     ("MP", {"TEST": 1, "LEASE": 1, "ADVANCES": 1}, ["--small", "--lease", "1", "--advances", "1"]),
     ("LB", {"TEST": 2}, ["--small"]),
+    ("WRC", {"TEST": 3, "CORES": 3}, ["--small"]),
     ("3.SB", RING, []),
 ]
 LONG = [
+    ("WRC", {"TEST": 3, "CORES": 3} | ROOMY, []),
     ("SB", {}, ["--small"]), ("SB", ROOMY | ANY, ["--evict", "any"]), ("MP", {"TEST": 1} | ROOMY, []),
     ("LB", {"TEST": 2} | ROOMY, []), ("LB", {"TEST": 2} | ANY, ["--small", "--evict", "any"]),
     ("3.LB", {"TEST": 2} | RING, []), ("3.SB", {"CORES": 3, "LINES": 3}, ["--small"]),

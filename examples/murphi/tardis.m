@@ -7,10 +7,10 @@
 -- Not in the model: private writes, several banks, lines of eight words, numbers of messages, times that don't fit.
 
 const
-  TEST: 0;           -- 0: store buffering, 1: message passing, 2: load buffering
-  CORES: 2;          -- 2, or 3 for a ring of three stores or loads
-  LINES: 2;          -- as many as cores
-  STEPS: 2;          -- operations of a core
+  TEST: 0;           -- 0: store buffering, 1: message passing, 2: load buffering, 3: a write seen by two (3 cores)
+  CORES: 2;          -- 2; 3 in test 3, and for a ring of three in tests 0 and 2
+  LINES: 2;          -- 2, or 3 in a ring
+  STEPS: 2;          -- operations of a core, at most
   LEASE: 10;
   PLACES: 1;         -- copies in a cache: 1, or LINES if each line has a set of its own
   BANK_PLACES: 1;    -- entries in the bank, likewise
@@ -62,8 +62,15 @@ var
 
 -- The test.
 
+function length(c: Core): 0 .. STEPS;
+begin
+  if TEST = 3 & c = 0 then return 1; endif;
+  return STEPS;
+end;
+
 function is_load(c: Core; s: 0 .. STEPS - 1): boolean;
 begin
+  if TEST = 3 then return c = CORES - 1 | c = 1 & s = 0; endif;
   if TEST = 1 then return c = 1; endif;
   if TEST = 2 then return s = 0; endif;
   return s = 1;
@@ -71,8 +78,8 @@ end;
 
 function line_of(c: Core; s: 0 .. STEPS - 1): Line;
 begin
-  if TEST = 1 & c = 1 then return 1 - s; endif;
-  if TEST = 1 then return s; endif;
+  if TEST = 1 & c = 1 | TEST = 3 & c = CORES - 1 then return 1 - s; endif;
+  if TEST = 1 | TEST = 3 then return s; endif;
   return (c + s) % LINES;
 end;
 
@@ -368,7 +375,7 @@ begin
 end;
 
 ruleset c: Core do
-  rule "issue" !open[c] & step[c] < STEPS ==> begin open[c] := true; end;
+  rule "issue" !open[c] & step[c] < length(c) ==> begin open[c] := true; end;
   rule "complete" hits(c) ==> begin complete(c); end;
   rule "request" may_ask(c) ==> begin ask(c); end;
   rule "advance" advanced[c] < ADVANCES ==> begin advanced[c] := advanced[c] + 1; pts[c] := pts[c] + 1; end;
@@ -533,7 +540,7 @@ ruleset l: Line do
 end;
 
 -- So that a state in which all is done isn't taken for a deadlock.
-rule "all done" forall c: Core do step[c] = STEPS end ==> begin end;
+rule "all done" forall c: Core do step[c] = length(c) end ==> begin end;
 
 startstate
 begin
@@ -591,20 +598,24 @@ function received(c: Core): Value;
 begin
   if TEST = 1 then return register[1][c % STEPS]; endif;
   if TEST = 2 then return register[c][0]; endif;
+  if TEST = 3 & c = 0 then return register[1][0]; endif;
+  if TEST = 3 then return register[CORES - 1][c - 1]; endif;
   return register[c][1];
 end;
 
 function is_done(): boolean;
 begin
-  return forall c: Core do step[c] = STEPS end;
+  return forall c: Core do step[c] = length(c) end;
 end;
 
 -- Store buffering: some store comes last, and the load behind it sees the store before. Message passing: the second
--- store isn't seen without the first. Load buffering: some load comes first.
+-- store isn't seen without the first. Load buffering: some load comes first. Test 3: core 1 stores after it has seen a
+-- write, and who sees that store and then loads sees the write.
 function is_forbidden(a: Value; b: Value; last: Value): boolean;
 begin
   if TEST = 1 then return a = 1 & b = 0; endif;
   if TEST = 2 then return a = 1 & b = 1 & (CORES = 2 | last = 1); endif;
+  if TEST = 3 then return a = 1 & b = 1 & last = 0; endif;
   return a = 0 & b = 0 & (CORES = 2 | last = 0);
 end;
 

@@ -31,7 +31,7 @@ class Search:
         self.parents, self.events = array("I", [0]), array("I", [0])
         self.afters, self.begins = array("I"), array("I")  # the states after each state, one after the other
         self.next, self.levels = 0, [0]  # the first state that isn't looked at yet; each level's first state
-        self.made, self.done_count, self.most = 0, 0, 0
+        self.made, self.most = 0, 0
         self.ends = {}        # by end: the first state that shows it
         self.faults = {}      # by fault: the state before it and its event
         self.faulty, self.done, self.stuck = set(), set(), []

@@ -1,8 +1,9 @@
 """What tools/explore.py prints of a search."""
-from tools.explored.texts import fault_name, machine_words, of_fault, of_lost, of_path, of_stuck
+from reference.schedules import Pcg32
 from reference.sequential import ends_of
+from tools.explored.texts import fault_name, machine_words, of_fault, of_lost, of_path, of_stuck
 
-EACH = 1000  # of so many states, the path to one is replayed on a player
+EACH = 1000  # for one state of this many, paths are replayed on a player
 
 
 class Report:
@@ -80,12 +81,26 @@ class Report:
         return texts
 
     def samples(self):
-        """The paths to one state of each 1,000, and to those without a state after them, as texts."""
-        subject, options = self.system.subject, self.system.options
-        words = (max(subject.names, default=0) // options.line_words + 1) * options.line_words
+        """For one state of each 1,000 the path to it, and a random walk from the start, as texts."""
         for at in range(len(self.search.states) - 1, -1, -EACH):
             path = self.search.path(at)
-            yield of_path(self.system, path, f"state {at}, after {len(path)} events", words)
+            yield self.sample(path, f"state {at}, after {len(path)} events")
+            walk = list(self.walk(Pcg32.of_seed(at)))
+            yield self.sample(walk, f"walk {at}, of {len(walk)} events")
+
+    def sample(self, path, title):
+        subject, size = self.system.subject, self.system.options.line_words
+        return of_path(self.system, path, title, (max(subject.names, default=0) // size + 1) * size)
+
+    def walk(self, generator):
+        """Random events from the start, up to twice the depth, or until none changes anything or there is a fault."""
+        state = self.search.states[0]
+        for _ in range(2 * self.search.depth):
+            found = [step for step in self.system.successors(state) if step[1] is not None]
+            if not found:
+                return
+            event, state, _ = found[generator.draw() % len(found)]
+            yield event
 
 
 def ranges(numbers):

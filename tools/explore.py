@@ -65,7 +65,7 @@ def words():
     parser.add_argument("--resume", metavar="FILE", help="go on with a search that was saved with the same words")
     parser.add_argument("--player", metavar="COMMAND",
                         help="play what is wrong on a player of events, such as crates/play_events/out/play_events; "
-                        "and for one of each 1,000 states the way to it, and a random walk. The answers must be the same")
+                        "and for one of each 1,000 states the way to it, and a random walk: with the same answers")
     parser.add_argument("--jobs", type=int, default=1, metavar="N", help="how many processes explore (1)")
     parser.add_argument("--speed", action="store_true", help="say on standard error how fast it was")
     return parser

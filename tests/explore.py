@@ -21,9 +21,9 @@ TOP = Path(__file__).resolve().parent.parent
 sys.path.insert(0, str(TOP))
 from reference.given import NUMBERS  # noqa: E402
 from reference.traces import Trace  # noqa: E402
-from tests.explored_rules import RIGHT, SB, STUCK, TWO_STORES, WIDE, WRONG  # noqa: E402
+from tests.explored_rules import ANY, RIGHT, SB, STORE_AND_LOAD, STUCK, TWO_STORES, WIDE, WRONG  # noqa: E402
 from tools.explored.frozen import Elsewhere, Unread  # noqa: E402
-from tools.explored.parts import Parts  # noqa: E402
+from tools.explored.parts import MASK, Parts  # noqa: E402
 from tools.explored.reports import Report  # noqa: E402
 from tools.explored.rows import ROWS  # noqa: E402
 from tools.explored.search import Search  # noqa: E402
@@ -192,6 +192,53 @@ def counts(folder):
             yield f"{text!r}: {came}, not {wanted}"
 
 
+def beside_what_is_proved(folder):
+    """Faults of searches against docs/PROMISES.md: where two more messages may be in flight, at most 35 events
+    complete any open operation. So in stuck and lost states there is one place at most."""
+    module, _ = module_of(folder, [])
+    for text, places in [(SB, 4), (TWO_STORES, 3), ("0 W 0x0 1\n0 W 0x0 2\n0 W 0x0 3\n", 3), (STORE_AND_LOAD, 4096)]:
+        search, _ = searched(module, text, ANY | {"messages": places})
+        system = search.system
+        left = [places - system.in_flight(state) for state in search.states]
+        if any(left[at] > 1 for at in [*search.lost(), *search.stuck]):
+            yield f"{text!r}, {places} places: a state with two places is lost"
+        for core in range(system.cores):
+            steps = to_complete(search, core)
+            most = max(steps.get(at, 99) for at, state in enumerate(search.states)
+                       if left[at] > 1 and is_open(system, core, state))
+            if most > 35:
+                yield f"{text!r}, {places} places: {most} events complete an operation of core {core}"
+
+
+def core_fields(system, core, state):
+    value = system.tables[core].values[state >> system.at[core] & MASK]
+    return dict(value[0][0])
+
+
+def is_open(system, core, state):
+    return core_fields(system, core, state)["op"] is not None
+
+
+def to_complete(search, core):
+    """By state, the fewest events that complete the core's open operation, without an issue or an advance."""
+    system, before, steps = search.system, {}, {}
+    done = [core_fields(system, core, state)["done"] for state in search.states]
+    for at, state in enumerate(search.states):
+        for event, after, _ in system.successors(state):
+            after = search.seen[after]
+            if done[after] > done[at]:
+                steps[at] = 1
+            elif system.events.values[event][0] not in ("Issue", "Advance"):
+                before.setdefault(after, []).append(at)
+    left = list(steps)
+    for after in left:  # grows
+        for at in before.get(after, ()):
+            if at not in steps:
+                steps[at] = steps[after] + 1
+                left.append(at)
+    return steps
+
+
 def wide(folder, name, keeps, changes):
     """Faults in what a search keeps of a rule that looks further."""
     module, _ = module_of(folder, changes)
@@ -290,11 +337,12 @@ def main():
     player = Path(named[0]).resolve() if named else TOP / "reference/play.py"
     with tempfile.TemporaryDirectory() as folder:
         tries = [*(wrong_rule(folder, *of) for of in WRONG), *(right_rule(folder, *of) for of in RIGHT),
-                 *(wide(folder, *of) for of in WIDE), counts(folder), command_line(folder, player), copied(folder),
+                 *(wide(folder, *of) for of in WIDE), counts(folder), beside_what_is_proved(folder),
+                 command_line(folder, player), copied(folder),
                  *(compared(module_of(folder, changes)[0], text, given)
                    for text, given, changes in [*COMPARED, *(LONG if is_long else [])]),
                  *(compared_if_small(module_of(folder, changes)[0], text, given)
-                   for text, given, changes in map(drawn, range(300 if is_long else 6)))]
+                   for text, given, changes in map(drawn, range(100 if is_long else 6)))]
         for faults in tries:
             wrong += faults
     wrong += [f"no search met a row: {section}: {words}" for section, words, key in ROWS if key not in MET]

@@ -1,0 +1,483 @@
+#!/usr/bin/env python3
+"""Tries tools/order.py: tests/order.py PROGRAM [--histories N] [--large].
+
+It draws small histories, half of them without an order, and must get the answer that listing all orders gives: here
+all interleavings of the cores, or of cores with store buffers, are made one by one. PROGRAM must call each order that
+is found legal, and facts that are printed are looked at one by one. Then come texts, refusals, sizes and the histories
+of examples/. --histories (300) says how many are drawn, and --large adds the sizes that take a minute. The last line
+is `N tried, M wrong`.
+"""
+import argparse
+import os
+import random
+import re
+import sys
+import tempfile
+import time
+from decimal import Decimal
+from pathlib import Path
+
+sys.path.insert(0, str(Path(__file__).resolve().parent.parent))
+from reference import tso  # noqa: E402
+from reference.traces import read_records  # noqa: E402
+from tests.texts import TOP, Tester  # noqa: E402
+from tools.orders import solver, witness  # noqa: E402
+from tools.orders.answer import answer  # noqa: E402
+from tools.orders.forced import Forced, NoOrder  # noqa: E402
+from tools.orders.history import Operation, read_history, words_of  # noqa: E402
+from tools.orders.problem import Problem  # noqa: E402
+
+TOOL = TOP / "tools/order.py"
+EXAMPLES = TOP / "examples/histories"
+SECONDS = 20
+
+
+def programs_of(operations):
+    cores = {}
+    for place, operation in enumerate(operations):
+        cores.setdefault(operation.core, []).append(place)
+    return list(cores.values())
+
+
+def has_listed_order(operations, real_time=False):
+    """By all interleavings of the cores on one memory, up to the first value that doesn't fit."""
+    cores = programs_of(operations)
+
+    def ends_before(place, done):
+        start = operations[place].start
+        return real_time and start is not None and any(
+            other.end is not None and other.end < start and at not in done for at, other in enumerate(operations))
+
+    def goes_on(at, memory, done):
+        if len(done) == len(operations):
+            return True
+        for number, places in enumerate(cores):
+            if at[number] == len(places) or ends_before(places[at[number]], done):
+                continue
+            place = places[at[number]]
+            operation, after = operations[place], memory
+            if operation.received not in (None, memory.get(operation.address, 0)):
+                continue
+            if operation.written is not None:
+                after = {**memory, operation.address: operation.written}
+            if goes_on((*at[:number], at[number] + 1, *at[number + 1:]), after, done | {place}):
+                return True
+        return False
+    return goes_on((0,) * len(cores), {}, frozenset())
+
+
+def has_buffered_order(operations):
+    """By all runs of cores with a store buffer each, on one memory."""
+    cores, seen = programs_of(operations), set()
+
+    def goes_on(at, buffers, memory):
+        state = at, buffers, tuple(sorted(memory.items()))
+        if state in seen:
+            return False
+        seen.add(state)
+        return all(at[number] == len(places) for number, places in enumerate(cores)) or any(
+            goes_on(*after) for number in range(len(cores)) for after in steps(number, at, buffers, memory))
+
+    def steps(number, at, buffers, memory):
+        own = buffers[number]
+        if own:
+            yield at, put(buffers, number, own[1:]), {**memory, own[0][0]: own[0][1]}
+        if at[number] == len(cores[number]):
+            return
+        operation, after = operations[cores[number][at[number]]], put(at, number, at[number] + 1)
+        seen_there = next((value for address, value in reversed(own) if address == operation.address),
+                          memory.get(operation.address, 0))
+        if operation.kind == "W":
+            yield after, put(buffers, number, (*own, (operation.address, operation.written))), memory
+        elif operation.kind == "R":
+            if seen_there == operation.received:
+                yield after, buffers, memory
+        elif not own and operation.kind == "F":
+            yield after, buffers, memory
+        elif not own and seen_there == operation.received:
+            yield after, buffers, {**memory, operation.address: operation.written}
+
+    def put(items, number, item):
+        return (*items[:number], item, *items[number + 1:])
+    return goes_on((0,) * len(cores), ((),) * len(cores), {})
+
+
+def drawn_history(draw, fences=False):
+    """At most 12 operations: an interleaving, with some values received changed."""
+    count, cores, words, values = draw.randint(1, 12), draw.randint(1, 4), draw.randint(1, 3), draw.randint(1, 4)
+    operations, memory, now = [], {}, 0
+    for line in range(1, count + 1):
+        core, address = draw.randrange(cores), 8 * draw.randrange(words)
+        kind = draw.choice("RRRWWS" + "F" * fences)
+        value = draw.randint(1, values) if draw.random() < 0.7 else 10 + line
+        operation = Operation(line, core, kind) if kind == "F" else Operation(
+            line, core, kind, address, None if kind == "R" else value, None if kind == "W" else memory.get(address, 0))
+        if operation.written is not None:
+            memory[address] = value
+        operation.start, operation.end = Decimal(max(0, now - draw.randint(0, 20))), Decimal(now + draw.randint(0, 9))
+        now += draw.randint(0, 5)
+        operations.append(operation)
+    for operation in operations:
+        if operation.received is not None and draw.random() < 0.3:
+            written = [other.written for other in operations if other.address == operation.address]
+            operation.received = draw.choice([0, *(value for value in written if value is not None)])
+    return operations
+
+
+def text_of(operations):
+    return "; ".join(operation.told() for operation in operations)
+
+
+class Orders(Tester):
+    def __init__(self, program, folder):
+        super().__init__(str(TOOL))
+        self.program_file, self.folder = program, Path(folder)
+
+    def agrees(self, operations, has_order, **settings):
+        """The answer is this one; an order is confirmed, and facts are right."""
+        found = answer(operations, SECONDS, **settings)
+        self.expect(found.is_known and (found.order is not None) == has_order,
+                    f"{settings}: {has_order} by listing, not by the search: {text_of(operations)}")
+        if found.order is not None:
+            self.confirms(operations, found.order, settings.get("model", "sc"))
+        elif settings.get("model") != "tso" and not settings.get("real_time"):
+            self.expect(facts_hold(operations, found.lines), f"facts: {found.lines} of {text_of(operations)}")
+
+    def confirms(self, operations, order, model="sc"):
+        words = words_of(operations)
+        trace, records = self.folder / "a.trace", self.folder / "a.records"
+        witness.write(trace, witness.trace_lines(operations, words, model == "tso"))
+        witness.write(records, witness.record_lines(operations, words, order))
+        if model == "tso":
+            said = tso.verdict(*tso.read_trace(trace.read_bytes()), read_records(records.read_bytes()))
+        else:
+            said = Tester(self.program_file).run("check", str(trace), str(records))[1].strip()
+        self.expect(said == "legal", f"{model}: {said} is said of the order {order} of {text_of(operations)}")
+
+
+# A fact, and what it cites. Each has its own test in `fact_holds`.
+FACT = re.compile(r"  (\d+): (.*?)(?:, by ([\d, ]+))?")
+ORDERED = r"line (\d+) before line (\d+): "
+
+
+def facts_hold(operations, lines):
+    """Each fact printed is right, from those that it names alone, and the ring's neighbours are facts. A set without
+    facts must have no order by listing, and must have one without any operation that may be left out."""
+    if lines[0].startswith("not consistent: no order of these"):
+        return set_holds(operations, lines)
+    by_line, facts = {operation.line: operation for operation in operations}, {}
+    found = [FACT.fullmatch(line) for line in lines]
+    for match in filter(None, found):
+        cited = [facts.get(int(number)) for number in (match[3] or "").split(", ") if number]
+        if None in cited or not fact_holds(by_line, match[2], cited):
+            return False
+        facts[int(match[1])] = match[2]
+    if "nothing" in lines[0]:
+        return read_holds(operations, lines[0], facts.values())
+    ring = [int(re.match(r"  line (\d+)", line)[1]) for line in lines if line.startswith("  line")]
+    ordered = {tuple(map(int, match.groups())) for fact in facts.values() if (match := re.match(ORDERED, fact))}
+    return len(ring) > 0 and all(pair in ordered for pair in zip(ring, [*ring[1:], ring[0]]))
+
+
+def written_by(by_line, line, read):
+    """This line wrote what the read received, and no other did."""
+    return [other.line for other in by_line.values() if other is not read and other.kind != "F"
+            and (other.address, other.written) == (read.address, read.received)] == [line] and read.received != 0
+
+
+def is_source(by_line, read, line, cited):
+    """The read's source is this line: it alone wrote the value, or a cited fact says so."""
+    return written_by(by_line, line, read) or any(
+        fact.startswith(f"line {read.line} received what line {line} wrote: no other") for fact in cited)
+
+
+def goes(cited, one, other):
+    """The cited facts lead from one line to the other."""
+    steps = [tuple(map(int, match.groups())) for fact in cited if (match := re.match(ORDERED, fact))]
+    reached = {one}
+    while True:
+        more = {end for start, end in steps if start in reached} - reached
+        if not more:
+            return other in reached
+        reached |= more
+
+
+def fact_holds(by_line, fact, cited):
+    """By the rules of tools/orders/reasons.py, each looked at on its own."""
+    match = re.fullmatch(ORDERED + "(.*)", fact)
+    if not match:
+        return source_holds(by_line, fact, cited)
+    one, other, why = by_line[int(match[1])], by_line[int(match[2])], match[3]
+    numbers = list(map(int, re.findall(r"line (\d+)", why)))
+    if why.startswith("program order"):
+        return one.core == other.core and one.line < other.line
+    if "opening value" in why:
+        opened = one.received == 0 and not any(
+            each.written == 0 and each.address == one.address and each is not one for each in by_line.values())
+        told = any(fact.startswith(f"line {one.line} received the opening value: no other") for fact in cited)
+        return numbers == [one.line] and (opened or told) and other.written is not None and \
+            one.address == other.address
+    read = by_line[numbers[0]]
+    if "behind" in why:
+        _, write, source = numbers
+        return (write, source) == (one.line, other.line) and is_source(by_line, read, source, cited) and \
+            goes(cited, write, read.line) and by_line[write].address == read.address and one.written is not None
+    if "before" in why:
+        _, source, write = numbers
+        return (read, write) == (one, other.line) and is_source(by_line, read, source, cited) and \
+            goes(cited, source, write) and other.address == read.address and other.written is not None
+    return numbers == [other.line, one.line] and is_source(by_line, other, one.line, cited)
+
+
+def source_holds(by_line, fact, cited):
+    """Facts about where a value comes from."""
+    numbers = list(map(int, re.findall(r"line (\d+)", fact)))
+    read = by_line[numbers[0]]
+    if "no other" in fact:
+        others = {each.line for each in by_line.values() if each is not read and each.written == read.received
+                  and each.address == read.address} | ({"opening"} if read.received == 0 else set())
+        out = {"opening" if "opening" in each else int(re.findall(r"line (\d+)", each)[1]) for each in cited
+               if each.startswith(f"line {read.line} received nothing from")
+               or each.startswith(f"line {read.line} didn't")}
+        return others - out == {"opening" if "opening" in fact else numbers[1]}
+    if "which is later" in fact:
+        return goes(cited, read.line, numbers[1])
+    write = by_line[numbers[-1]]
+    is_write = write.written is not None and write.address == read.address and goes(cited, write.line, read.line)
+    return is_write and ("didn't" in fact or goes(cited, numbers[1], write.line))
+
+
+def read_holds(operations, first, facts):
+    """A read that nothing explains: each operation that wrote the value is ruled out by a fact."""
+    by_line = {operation.line: operation for operation in operations}
+    read = by_line[int(re.search(r"line (\d+)", first)[1])]
+    ruled_out = {"opening" if "opening" in fact else int(re.findall(r"line (\d+)", fact)[1]) for fact in facts
+                 if fact.startswith((f"line {read.line} received nothing", f"line {read.line} didn't"))}
+    meant = {other.line for other in operations if other is not read and other.written == read.received
+             and other.address == read.address} | ({"opening"} if read.received == 0 else set())
+    return ruled_out == meant
+
+
+def set_holds(operations, lines):
+    kept = {int(re.match(r"  line (\d+)", line)[1]) for line in lines[1:]}
+    part = [operation for operation in operations if operation.line in kept]
+    received = {(operation.address, operation.received) for operation in part}
+    may_go = [one for one in part if one.written is None or not any(
+        other is not one and (other.address, other.received) == (one.address, one.written) for other in part)]
+    return "none can be left out" in lines[0] and not has_listed_order(part) and len(received) > 0 and all(
+        has_listed_order([other for other in part if other is not one]) for one in may_go)
+
+
+def draws(tester, count):
+    """Half of the histories of each kind have an order, as far as drawing goes."""
+    for real_time, model in ((False, "sc"), (True, "sc"), (False, "tso")):
+        draw, left = random.Random(f"{real_time} {model}"), {True: count // 2, False: count - count // 2}
+        while any(left.values()):
+            operations = drawn_history(draw, model == "tso")
+            has_order = has_buffered_order(operations) if model == "tso" else has_listed_order(operations, real_time)
+            if left[has_order]:
+                left[has_order] -= 1
+                tester.agrees(operations, has_order, model=model, real_time=real_time)
+                if solver.is_installed() and count <= 1000:
+                    asks(tester, operations, has_order, model, real_time)
+
+
+def asks(tester, operations, has_order, model, real_time):
+    """z3, if it is there, knows the same."""
+    problem = Problem(operations, model, real_time)
+    try:
+        found = solver.ask(problem, Forced(problem), SECONDS)
+    except NoOrder:
+        return
+    tester.expect(found is not None and (found is not False) == has_order, f"z3: {found} of {text_of(operations)}")
+    if found:
+        tester.confirms(operations, found, model)
+
+
+# Texts with the answer's first words; those of Axe's form as its users write them.
+TEXTS = [
+    ("", "consistent"),
+    ("# nothing\n\n", "consistent"),
+    ("0: M[1] := 1\n1: M[1] == 0\n", "consistent"),
+    ("0: M[1]:=1\n0: sync\n1 : M[ 1 ]==1 @ 10:20\n1: M[1] == 0 @ 30:\n", "not consistent"),
+    ("0: { M[0] == 0; M[0] := 1 }\n1: {M[0]==0;M[0]:=2} @ :5\n", "not consistent"),
+    ("0: { M[0] == 0; M[0] := 1 }\n1: { M[0] == 1; M[0] := 2 }\n", "consistent"),
+    ("0: M[3] := 1 # a comment\n1: M[3] == 1\n1: M[0xA] == 0\n", "consistent"),
+    ("0: M[0] == 1\n", "not consistent: line 1 (core 0's load of M[0], which received 1), and nothing wrote that"),
+    ("0: M[0] := 0\n0: M[1] == 1\n1: M[1] := 1\n1: M[0] == 0\n", "consistent"),
+    ("0: M[0] := 1\n0: M[0] := 1\n1: M[0] == 1\n1: M[0] == 0\n", "not consistent"),
+    ("63 R 0x8 0\r\n", "consistent"),
+    ("0 W 0x4 1\n1 R 0x4 1\n1 R 0x5 0 @ 1 2.5\n", "consistent"),
+    ("0 W 0x0 1 @ 0 10\n1 R 0x0 0 @ 11 12\n", "consistent"),
+    ("0 S 0x0 18446744073709551615 0\n1 R 0x0 18446744073709551615\n0 F\n", "consistent"),
+    # Repeated values: the first load must have seen line 3, the second line 1, and the third none of them.
+    ("0 W 0x0 1\n0 W 0x0 2\n0 W 0x0 1\n1 R 0x0 2\n1 R 0x0 1\n1 R 0x0 2\n", "not consistent"),
+]
+# Texts that are refused, with the line and the cause.
+BAD = [
+    ("0 R 0x0 0\n1 R 0x0\n", "line 2: behind `R` stands an address and a value, and here `0x0`"),
+    ("0 X 0x0 0\n", "line 1: `X` is no operation"), ("0\n", "line 1: `` is no operation"),
+    ("R 0x0 0\n", "line 1: `R 0x0 0` doesn't begin with a core"),
+    ("64 R 0x0 0\n", "line 1: the core 64 is greater than 63"),
+    ("0 S 0x0 1\n", "line 1: behind `S` stands an address, the value written and the value received"),
+    ("0 W 0x0 -1\n", "line 1: `-1` isn't a number"), ("0 F 1\n", "line 1: behind `F` stands nothing"),
+    (f"0 W 0x0 {2 ** 64}\n", f"line 1: the value {2 ** 64} is greater than"),
+    ("\n\n0 R 0x0 0 @\n", "line 3: behind `@` stand one or two times"),
+    ("0 R 0x0 0 @ 5 4\n", "line 1: the operation ends at 4, before it starts at 5"),
+    ("0 R 0x0 0 @ 1 2 3\n", "line 1: behind `@` stand one or two times, and here `1 2 3`"),
+    ("0 R 0x0 \xe9\n", "line 1: a byte that isn't ASCII"), ("0 R\r0x0 0\n", "line 1: a byte that isn't ASCII"),
+    ("0: M[0] := 1\n0: M[1] = 1\n", "line 2: `M[1] = 1` is no operation"),
+    ("0: M[0] := 1\n0 R 0x0 1\n", "line 2: `0 R 0x0 1` isn't a core, a colon and an operation"),
+    ("0: { M[0] == 0; M[1] := 1 }\n", "line 1: the two parts of a swap name two variables"),
+    ("0: sync @ 9:8\n", "line 1: the operation ends at 8, before it starts at 9"),
+    (f"0: M[{2 ** 61}] := 1\n", f"line 1: the variable {2 ** 61} is greater than"),
+    ("64: sync\n", "line 1: the core 64 is greater than 63"), ("0: M[0] := x\n", "line 1: `M[0] := x` is no operation"),
+]
+BUFFERS = "0: M[0] := 1\n0:{} M[1] == 0\n1: M[1] := 1\n1:{} M[0] == 0\n"
+
+
+def texts(tester):
+    history = tester.folder / "text.history"
+    for text, wanted in TEXTS:
+        history.write_text(text)
+        status, out, error = tester.run("--out", tester.folder, history)
+        good = (status, error) == (int(wanted.startswith("not")), "") and out.startswith(wanted)
+        tester.expect(good, f"{text!r}: {status} {out} {error}")
+        if not wanted.startswith("not"):
+            tester.expect(out.splitlines()[0] == "consistent: proved by tardis check", f"{text!r}: {out}")
+            check = Tester(tester.program_file).run("check", *out.splitlines()[1:])
+            tester.expect(check == (0, "legal\n", ""), f"{text!r}: the program says {check}")
+    for text, wanted in BAD:
+        history.write_bytes(text.encode("latin-1"))
+        status, out, error = tester.run("--out", tester.folder, history)
+        good = (status, out) == (2, "") and error.startswith(f"order.py: {history}: {wanted}")
+        tester.expect(good and error.count("\n") == 1, f"{text!r}: {status} {out} {error}, wanted {wanted}")
+
+
+def settings(tester):
+    """Real time and stores that are delayed change the answer; a witness under the latter has a checker of its own."""
+    history = tester.folder / "buffers.axe"
+    late = "0 W 0x0 1 @ 0 10\n1 R 0x0 0 @ 11 12\n"
+    fenced = BUFFERS.format(" sync\n0:", " sync\n1:")
+    for text, words, wanted in ((late, [], "consistent"), (late, ["--real-time"], "not consistent"),
+                                (late.replace("11 12", "10 12"), ["--real-time"], "consistent"),
+                                (BUFFERS.format("", ""), [], "not consistent"),
+                                (BUFFERS.format("", ""), ["--model", "tso"], "consistent: checked by reference/tso.py"),
+                                (fenced, ["--model", "tso"], "not consistent")):
+        history.write_text(text)
+        status, out, error = tester.run(*words, "--out", tester.folder, history)
+        tester.expect((status, error) == (int(wanted[0] == "n"), "") and out.startswith(wanted),
+                      f"{words} {text!r}: {status} {out} {error}")
+        if "tso" in words:
+            tester.expect(all(line.endswith(tso.NOT_PROVED) for line in out.splitlines()), f"{out}: not marked")
+    history.write_text("0 W 0x0 1\n0 R 0x0 1\n")
+    for words in (["--real-time", "--model", "tso", history], ["none.history"], [tester.folder], [], ["--seconds", "0"],
+                  ["--model", "pso", history], [history, "--out", history]):
+        status, out, error = tester.run(*words)
+        tester.expect((status, out, error.count("\n")) == (2, "", 1), f"{words}: {status} {out} {error}")
+    os.environ["TARDIS"] = str(TOP / "reference/oracle.py")
+    out = tester.run("--out", tester.folder, history)[1]
+    os.environ["TARDIS"] = tester.program_file
+    tester.expect(out.startswith("consistent: checked by reference/oracle.py (not proved"), out)
+
+
+def orders_of_buffers(tester):
+    """What reference/tso.py says of orders by hand. Core 0 stores to 0x0 and loads 0x8, core 1 the other way round."""
+    trace, fenced = b"0 W 0x0 1\n0 R 0x8\n1 W 0x8 1\n1 R 0x0\n", b"0 W 0x0 1\n0 F\n0 R 0x8\n1 W 0x8 1\n1 R 0x0\n"
+    early = b"0 1 R 0x8 0 0 0\n1 1 R 0x0 0 0 1\n0 0 W 0x0 1 0 2\n1 0 W 0x8 1 0 3\n"
+    own = b"0 W 0x0 1\n0 W 0x0 2\n0 R 0x0\n"
+    for text, records, wanted in (
+            (trace, early, "legal"), (fenced, early, "out of program order 0"),
+            (trace, early.replace(b"0x0 0 0 1", b"0x0 1 0 1"), "wrong value 1"),
+            (trace, early.replace(b"1 0 3", b"1 0 4"), "bad number 3"),
+            (trace, early.replace(b"1 1 R", b"1 2 R"), "no such operation 1"),
+            (trace, early[:-16], "no record of operation 0 of core 1"),
+            (own, b"0 2 R 0x0 2 0 0\n0 0 W 0x0 1 0 1\n0 1 W 0x0 2 0 2\n", "legal"),
+            (own, b"0 2 R 0x0 1 0 0\n0 0 W 0x0 1 0 1\n0 1 W 0x0 2 0 2\n", "wrong value 0"),
+            (own, b"0 2 R 0x0 2 0 0\n0 1 W 0x0 2 0 1\n0 0 W 0x0 1 0 2\n", "out of program order 1"),
+            (b"0 R 0x0\n0 W 0x0 1\n", b"0 1 W 0x0 1 0 0\n0 0 R 0x0 1 0 1\n", "out of program order 0"),
+            (b"0 S 0x0 1\n0 R 0x8\n", b"0 1 R 0x8 0 0 0\n0 0 S 0x0 1 0 0 1\n", "out of program order 0"),
+            (b"0 W 0x8 1\n0 S 0x0 1\n", b"0 1 S 0x0 1 0 0 0\n0 0 W 0x8 1 0 1\n", "out of program order 0")):
+        said = tso.verdict(*tso.read_trace(text), read_records(records))
+        tester.expect(said == wanted, f"tso.py: {text} {records}: {said}, wanted {wanted}")
+
+
+def drawn_text(count, cores, words, values, seed, wrong=0):
+    """An interleaving of `count` operations, one core's lines after the other's; 0 values: each is new."""
+    draw, memory, lines = random.Random(seed), {}, []
+    for number in range(1, count + 1):
+        core, address, kind = draw.randrange(cores), 8 * draw.randrange(words), draw.choice("RRRRRWWWWS")
+        value, received = draw.randint(1, values) if values else number, memory.get(address, 0)
+        if kind != "R":
+            memory[address] = value
+        lines.append((core, kind, address, {"R": [received], "W": [value], "S": [value, received]}[kind]))
+    for _ in range(wrong):
+        core, kind, address, _ = changed = draw.choice([line for line in lines if line[1] == "R"])
+        value = draw.choice([line[3][0] for line in lines if line[1] != "R" and line[2] == address])
+        lines[lines.index(changed)] = core, kind, address, [value]
+    return "".join(f"{core} {kind} {address:#x} {' '.join(map(str, values))}\n"
+                   for core, kind, address, values in sorted(lines, key=lambda line: line[0])).encode()
+
+
+def sizes(tester, is_large):
+    """With an order and, where a value is changed, without: the answer in the time that is promised."""
+    rows = [(2000, 4, 64, 0, 0, 10), (600, 3, 4, 3, 0, 5), (2000, 4, 16, 0, 3, 10)]
+    if is_large:
+        rows += [(20000, 4, 64, 0, 0, 60), (20000, 4, 64, 0, 1, 60)]
+        rows += [(600, 3, words, values, 0, 1) for words in (2, 4, 8) for values in (2, 3, 8)]
+    for count, cores, words, values, wrong, seconds in rows:
+        operations = read_history(drawn_text(count, cores, words, values, 1, wrong))
+        start = time.process_time()
+        found = answer(operations, 600)
+        taken = time.process_time() - start
+        tester.expect(found.is_known and (found.order is None) == (wrong > 0) and taken <= seconds,
+                      f"{count} of {cores} on {words}, {values} values, {wrong} wrong: {taken:.1f} s, {found.lines[:1]}")
+        if found.order:
+            tester.confirms(operations, found.order)
+    hard = tester.folder / "hard.history"
+    hard.write_bytes(drawn_text(2000, 8, 8, 4, 1))
+    status, out, error = tester.run("--seconds", "1", "--out", tester.folder, hard)
+    tester.expect((status, error) == (3, "") and re.match(r"not decided after 1 s: \d+ of 2000 operations", out),
+                  f"the time is up: {status} {out} {error}")
+
+
+def examples(tester):
+    """The runs of examples/: those of a correct machine have an order, though completion cycles are none."""
+    os.environ["TARDIS"] = tester.program_file
+    for path in sorted(EXAMPLES.iterdir()):
+        early, lost = path.name.startswith("early"), path.name.startswith("lost")
+        status, out, error = tester.run("--out", tester.folder, path)
+        wanted = "not consistent" if lost or path.name == "buffers.axe" else "consistent: proved by tardis check"
+        tester.expect(out.startswith(wanted) and error == "", f"{path.name}: {status} {out} {error}")
+        if early or lost:
+            words = path.read_text().splitlines()[0].split()[2:]
+            made = Tester(str(TOP / "tools/mesi.py")).run(*words)[1]
+            tester.expect(path.read_text().partition("\n")[2] == made, f"{path.name}: tools/mesi.py makes another one")
+            status, out, error = Tester(str(TOP / "tools/number.py")).run("--out", str(tester.folder), str(path))
+            tester.expect(status == 1 and out.startswith("wrong value ") and error == "", f"{path.name}: {out} {error}")
+    for path in sorted(EXAMPLES.glob("lost*")):
+        operations = read_history(path.read_bytes())
+        tester.expect(facts_hold(operations, answer(operations, SECONDS).lines), f"{path.name}: facts")
+
+
+def main():
+    words = argparse.ArgumentParser(description=__doc__, formatter_class=argparse.RawDescriptionHelpFormatter)
+    words.add_argument("program", metavar="PROGRAM")
+    words.add_argument("--histories", type=int, default=300, metavar="N")
+    words.add_argument("--large", action="store_true")
+    given = words.parse_args()
+    os.environ["TARDIS"] = os.path.abspath(given.program)
+    with tempfile.TemporaryDirectory() as folder:
+        tester = Orders(os.environ["TARDIS"], folder)
+        draws(tester, given.histories)
+        texts(tester)
+        settings(tester)
+        orders_of_buffers(tester)
+        sizes(tester, given.large)
+        examples(tester)
+    print(f"{tester.tried} tried, {tester.wrong} wrong")
+    return int(tester.wrong > 0)
+
+
+if __name__ == "__main__":
+    sys.exit(main())

@@ -1,0 +1,85 @@
+#!/usr/bin/env python3
+"""Turns a history with your own times into a trace and records, checks these, and answers in your own terms.
+
+    tools/number.py [--out FOLDER] HISTORY
+
+HISTORY has one operation a line, each core's in program order, with the time at which it took effect behind an @:
+`0 R 0x8 5 @ 1042` (docs/ORDER.md, Histories without an order). Times are cycles with gaps, seconds with a fraction, or
+anything else that rises; equal times are ordered by line. The operation of the n-th time gets the number n - 1.
+
+NAME.trace, NAME.records and NAME.map are written to FOLDER. A line of the map has a record's number, its time and its
+line. Then `tardis check` is asked, and the verdict printed, with the time, the line and the operation that it means.
+
+The status is 0 if the history is legal, 1 if it isn't, and 2 if the text or a file is refused, in one line on standard
+error.
+"""
+import argparse
+import signal
+import sys
+from pathlib import Path
+
+sys.path.insert(0, str(Path(__file__).resolve().parent.parent))
+from tools import program  # noqa: E402
+from tools.orders import witness  # noqa: E402
+from tools.orders.history import FENCE, Fault, read_history, words_of  # noqa: E402
+
+
+def words():
+    about = argparse.ArgumentParser(description=__doc__, allow_abbrev=False,
+                                    formatter_class=argparse.RawDescriptionHelpFormatter)
+    about.error = lambda message: program.fail(f"{message} (--help tells all)")
+    about.add_argument("HISTORY", help="the text; /dev/stdin is standard input")
+    about.add_argument("--out", metavar="FOLDER", type=Path, default=Path("."), help="where files are written (here)")
+    return about
+
+
+def numbered(operations):
+    """The places of the operations in the text, in the order of their times."""
+    for operation in operations:
+        if operation.kind == FENCE:
+            continue
+        if operation.start is None or operation.start != operation.end:
+            raise Fault(operation.line, "one time is needed behind an @: when the operation took effect")
+    nodes = [node for node, operation in enumerate(operations) if operation.kind != FENCE]
+    return sorted(nodes, key=lambda node: operations[node].start)
+
+
+def write(options, operations, order):
+    """The paths of the trace and the records."""
+    of_word, stem = words_of(operations), Path(options.HISTORY).stem
+    trace, records, mapped = (options.out / f"{stem}.{ending}" for ending in ("trace", "records", "map"))
+    try:
+        options.out.mkdir(parents=True, exist_ok=True)
+        witness.write(trace, witness.trace_lines(operations, of_word, False))
+        witness.write(records, witness.record_lines(operations, of_word, order))
+        witness.write(mapped, (f"{number} {operations[node].start} {operations[node].line}"
+                               for number, node in enumerate(order)))
+    except OSError as error:
+        program.fail(f"{error.filename}: {error.strerror}")
+    return trace, records
+
+
+def main():
+    options = words().parse_args()
+    try:
+        operations = read_history(program.text_of(options.HISTORY))
+        order = numbered(operations)
+        paths = write(options, operations, order)
+        verdict = program.run("check", *paths).strip()
+    except (Fault, program.Refused) as cause:
+        program.fail(f"{options.HISTORY}: {cause}")
+    print(verdict)
+    if verdict == "legal":
+        return 0
+    operation = operations[order[int(verdict.rpartition(" ")[2])]]
+    print(f"at {operation.start}, {operation.told()}")
+    print("This order doesn't explain it; another may: tools/order.py finds one, if there is one.")
+    return 1
+
+
+if __name__ == "__main__":
+    signal.signal(signal.SIGPIPE, signal.SIG_DFL)
+    try:
+        sys.exit(main())
+    except KeyboardInterrupt:
+        sys.exit(130)

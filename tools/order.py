@@ -1,0 +1,115 @@
+#!/usr/bin/env python3
+"""Finds an order of a history that has none, and has `tardis check` confirm it.
+
+    tools/order.py [--out FOLDER] [--real-time] [--seconds N] [--model tso] HISTORY
+
+HISTORY has one operation a line, each core's in program order (docs/ORDER.md, Histories without an order): records
+without times, such as `0 R 0x8 5`, or Axe's text, such as `0: M[1] == 5`. The first line printed is one of
+
+    consistent: proved by tardis check    NAME.order.trace and NAME.order.records in FOLDER are the order found
+    not consistent: ..                    operations that no order joins, each with its line, and why
+    not decided: ..                       the time is up, and how far the search came
+
+Nobody needs to trust the search: the checker confirms an order, and facts that a person can check show that there is
+none. Only a set of operations without such facts is the search's own word. Where the program isn't built,
+reference/oracle.py checks the order, which isn't proved; the line says so. Under --model tso reference/tso.py does.
+
+The status is 0 if the history is consistent, 1 if it isn't, 2 if the text or a file is refused, in one line on standard
+error, and 3 if the answer isn't known.
+"""
+import argparse
+import signal
+import sys
+from pathlib import Path
+
+sys.path.insert(0, str(Path(__file__).resolve().parent.parent))
+from reference import tso  # noqa: E402
+from reference.traces import read_records  # noqa: E402
+from tools import program  # noqa: E402
+from tools.orders import witness  # noqa: E402
+from tools.orders.answer import answer  # noqa: E402
+from tools.orders.history import Fault, read_history, words_of  # noqa: E402
+
+NOT_CONSISTENT, NOT_DECIDED = 1, 3
+
+
+def words():
+    about = argparse.ArgumentParser(description=__doc__, allow_abbrev=False,
+                                    formatter_class=argparse.RawDescriptionHelpFormatter)
+    about.error = lambda message: program.fail(f"{message} (--help tells all)")
+    about.add_argument("HISTORY", help="the text; /dev/stdin is standard input")
+    about.add_argument("--out", metavar="FOLDER", type=Path, default=Path("."),
+                       help="where the two files of an order are written (here)")
+    about.add_argument("--real-time", action="store_true",
+                       help="an operation that ended before another started precedes it")
+    about.add_argument("--seconds", type=program.number(1, 10 ** 6), default=60, metavar="N",
+                       help="how long to search (60)")
+    about.add_argument("--model", choices=["sc", "tso"], default="sc",
+                       help="sc: sequential consistency; tso: each core's stores may take effect later")
+    return about
+
+
+def said_of_text(options):
+    """The operations, or one line and status 2."""
+    try:
+        return read_history(program.text_of(options.HISTORY))
+    except Fault as fault:
+        program.fail(f"{options.HISTORY}: {fault}")
+
+
+def write_order(options, operations, order):
+    """The paths of the trace and the records."""
+    stem, of_word = Path(options.HISTORY).stem, words_of(operations)
+    trace, records = (options.out / f"{stem}.order.{ending}" for ending in ("trace", "records"))
+    try:
+        options.out.mkdir(parents=True, exist_ok=True)
+        witness.write(trace, witness.trace_lines(operations, of_word, options.model == "tso"))
+        witness.write(records, witness.record_lines(operations, of_word, order))
+    except OSError as error:
+        program.fail(f"{error.filename}: {error.strerror}")
+    return trace, records
+
+
+def confirmed(options, *paths):
+    """Who confirms the order, in words; the script ends if nobody does."""
+    if options.model == "tso":
+        trace, records = map(program.text_of, paths)
+        said = tso.verdict(*tso.read_trace(trace), read_records(records))
+        if said != "legal":
+            program.fail(f"reference/tso.py says of the order found: {said}")
+        return "checked by reference/tso.py"
+    said = program.run("check", *paths).strip()
+    if said != "legal":
+        program.fail(f"check says of the order found: {said}")
+    is_proved = Path(program.program()).name != "oracle.py"
+    return "proved by tardis check" if is_proved else \
+        "checked by reference/oracle.py (not proved: ./tardis isn't built)"
+
+
+def marked(options, lines):
+    """Under total store order, each line says that nothing of it is proved."""
+    return [f"{line} {tso.NOT_PROVED}" for line in lines] if options.model == "tso" else list(lines)
+
+
+def main():
+    options = words().parse_args()
+    if options.model == "tso" and options.real_time:
+        program.fail("--real-time is of sequential consistency alone: when a delayed store ends isn't known")
+    operations = said_of_text(options)
+    found = answer(operations, options.seconds, options.model, options.real_time)
+    if found.order is None:
+        print("\n".join(marked(options, found.lines)))
+        return NOT_CONSISTENT if found.is_known else NOT_DECIDED
+    paths = write_order(options, operations, found.order)
+    print("\n".join(marked(options, [f"consistent: {confirmed(options, *paths)}", *map(str, paths)])))
+    return 0
+
+
+if __name__ == "__main__":
+    signal.signal(signal.SIGPIPE, signal.SIG_DFL)
+    try:
+        sys.exit(main())
+    except program.Refused as refused:
+        program.fail(str(refused))
+    except KeyboardInterrupt:
+        sys.exit(130)

@@ -1,0 +1,67 @@
+"""The answer on a history: an order; why there is none; or how far the search came."""
+import time
+
+from tools.orders import reasons, solver
+from tools.orders.forced import Forced, NoOrder, TimeUp
+from tools.orders.least import Least
+from tools.orders.problem import Problem
+from tools.orders.search import Search
+
+FIRST_SHARE = 4  # the search has a quarter of the time before z3 is asked, and at most
+FIRST_SECONDS = 5
+
+
+class Answer:
+    """`order`: the places in `operations`, in order, or None; `lines`: what to say where there is none; `is_known`."""
+
+    def __init__(self, order=None, lines=(), is_known=True):
+        self.order, self.lines, self.is_known = order, list(lines), is_known
+
+
+def answer(operations, seconds, model="sc", real_time=False, opening=None):
+    """The answer that is found within these seconds."""
+    start = time.monotonic()
+    settings = {"model": model, "real_time": real_time, "opening": opening}
+    problem = Problem(operations, **settings)
+    try:
+        forced = Forced(problem, start + seconds)
+        order = find(problem, forced, start, seconds)
+    except NoOrder as none:
+        return Answer(lines=lines_of(problem, none))
+    except TimeUp as up:
+        return Answer(lines=[f"not decided after {seconds:g} s: {up.reached}"], is_known=False)
+    if order is None:
+        return Answer(lines=least(operations, settings, start + seconds))
+    return Answer(order=order)
+
+
+def find(problem, forced, start, seconds):
+    """An order or None; the search first, then z3 if it is installed, then the search again."""
+    now = time.monotonic()
+    search = Search(problem, forced, now + min(FIRST_SECONDS, (start + seconds - now) / FIRST_SHARE))
+    try:
+        return search.run()
+    except TimeUp:
+        if solver.is_installed():
+            found = solver.ask(problem, forced, (start + seconds - time.monotonic()) * 2 / 3)
+            if found is not None:
+                return found or None
+        search.deadline = start + seconds
+        return search.run()
+
+
+def lines_of(problem, none):
+    if none.read is not None:
+        return reasons.lines_of_read(problem, none.forced, none.read)
+    return reasons.lines_of_ring(problem, none.forced, none.ring)
+
+
+def least(operations, settings, deadline):
+    """What to say of a history of which only a search knows that it has no order."""
+    found = Least(operations, settings, deadline)
+    problem = Problem([operations[node] for node in found.nodes], **settings)
+    try:
+        Forced(problem)
+    except NoOrder as none:
+        return lines_of(problem, none)
+    return reasons.lines_of_set(problem, problem.nodes, found.is_least)

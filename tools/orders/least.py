@@ -1,0 +1,55 @@
+"""The least part of a history without an order that has none itself.
+
+A load can always be left out: an order of all operations is one of the others, too. So can a write whose value no
+operation that is kept received there. A fence can under any model. What is left out shows nothing then, and what is
+kept has no order because of itself alone.
+"""
+import time
+
+from tools.orders.forced import Forced, NoOrder, TimeUp
+from tools.orders.problem import Problem
+from tools.orders.search import Search
+
+
+class Least:
+    """`nodes`: the places in `operations` of those that are kept; `is_least`: none of them can be left out."""
+
+    def __init__(self, operations, settings, deadline):
+        self.operations, self.settings, self.deadline = operations, settings, deadline
+        self.nodes, self.is_least = list(range(len(operations))), False
+        try:
+            self.leave_out()
+        except TimeUp:
+            pass
+
+    def can_go(self, going, kept):
+        """No operation that stays received what one that goes wrote there."""
+        received = {(self.operations[node].address, self.operations[node].received) for node in kept}
+        return all(self.operations[node].written is None or
+                   (self.operations[node].address, self.operations[node].written) not in received for node in going)
+
+    def has_order(self, nodes):
+        if time.monotonic() > self.deadline:
+            raise TimeUp("")
+        problem = Problem([self.operations[node] for node in nodes], **self.settings)
+        try:
+            forced = Forced(problem, self.deadline)
+        except NoOrder:
+            return False
+        return Search(problem, forced, self.deadline).run() is not None
+
+    def leave_out(self):
+        """Leaves out halves, quarters and so on from the end, and at last single ones until none can go."""
+        size = max(1, len(self.nodes) // 2)
+        while True:
+            before, at = len(self.nodes), len(self.nodes)
+            while at > 0:
+                first = max(0, at - size)
+                kept = self.nodes[:first] + self.nodes[at:]
+                if self.can_go(self.nodes[first:at], kept) and not self.has_order(kept):
+                    self.nodes = kept
+                at = first
+            if size == 1 and len(self.nodes) == before:
+                self.is_least = True
+                return
+            size = max(1, size // 2)

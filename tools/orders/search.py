@@ -1,0 +1,201 @@
+"""The search for an order: operations are performed one after the other on a flat memory, depth first.
+
+A load that can be performed is performed at once: that takes nothing from what follows. So is a write that every
+order performs first of those of its word that are left. Otherwise the writes of one word are tried in turn, if one of
+these must come next there and all can; else all that can. States from which no way led to the end aren't tried again.
+"""
+import time
+from array import array
+from bisect import bisect_left
+
+from tools.orders.forced import TimeUp
+from tools.orders.history import FENCE
+
+
+class Search:
+    """`run` returns an order, as a list of nodes, or None if there is none."""
+
+    def __init__(self, problem, forced, deadline=float("inf")):
+        self.problem, self.forced, self.deadline = problem, forced, deadline
+        self.at = [0] * len(problem.chains)
+        self.words = {address: word for word, address in enumerate(
+            sorted({one.address for one in problem.operations if one.kind != FENCE}))}
+        self.values, self.memory, self.loads, self.reads, self.stores = {}, [], [], [], []
+        self.word, self.written, self.received = [None] * len(problem.operations), *(
+            [None] * len(problem.operations) for _ in range(2))
+        self.number_values()
+        self.writes = [[] for _ in self.words]
+        for address, chains in problem.writes.items():
+            self.writes[self.words[address]] = list(chains.items())
+        self.needs = [[(problem.chain[one], problem.place[one]) for one in into] for into in forced.into]
+        self.rank = ranks(problem, forced)
+        self.order, self.undo, self.frames = [], [], []  # frames: how much was performed, and what is to be tried there
+        self.dead, self.states, self.most = set(), 0, 0
+
+    def number_values(self):
+        """Numbers for the pairs of a word and a value, and how many loads, reads and writes of each are left."""
+        problem = self.problem
+        for word, address in enumerate(self.words):
+            self.memory.append(self.value_number(word, problem.opening.get(address, 0)))
+        for node in problem.nodes:
+            operation = problem.operations[node]
+            if operation.kind == FENCE:
+                continue
+            word = self.word[node] = self.words[operation.address]
+            if operation.written is not None:
+                self.written[node] = self.value_number(word, operation.written)
+                self.stores[self.written[node]] += 1
+            if operation.received is not None:
+                self.received[node] = self.value_number(word, operation.received)
+                self.reads[self.received[node]] += 1
+                self.loads[self.received[node]] += operation.written is None
+
+    def value_number(self, word, value):
+        number = self.values.setdefault((word, value), len(self.values))
+        if number == len(self.loads):
+            for counts in (self.loads, self.reads, self.stores):
+                counts.append(0)
+        return number
+
+    def is_ready(self, node):
+        """All that comes before it has been performed."""
+        at = self.at
+        for chain, place in self.needs[node]:
+            if at[chain] <= place:
+                return False
+        return True
+
+    def fits(self, node):
+        """What it received is what it would receive now."""
+        received = self.received[node]
+        if received is None:
+            return True
+        own = self.problem.own[node]
+        if own is not None and self.at[self.problem.chain[own]] <= self.problem.place[own]:
+            return self.written[own] == received
+        return self.memory[self.word[node]] == received
+
+    def loses(self, write):
+        """It would overwrite a value that is still to be received, and nothing would write it again."""
+        value, written, received = self.memory[self.word[write]], self.written[write], self.received[write]
+        return value != written and self.reads[value] > (received == value) and self.stores[value] == 0
+
+    def perform(self, node):
+        self.order.append(node)
+        self.at[self.problem.chain[node]] += 1
+        received, written = self.received[node], self.written[node]
+        if received is not None:
+            self.reads[received] -= 1
+            self.loads[received] -= written is None
+        if written is not None:
+            self.undo.append(self.memory[self.word[node]])
+            self.memory[self.word[node]] = written
+            self.stores[written] -= 1
+
+    def take_back(self, length):
+        """Undoes what was performed beyond the first `length` operations."""
+        while len(self.order) > length:
+            node = self.order.pop()
+            self.at[self.problem.chain[node]] -= 1
+            received, written = self.received[node], self.written[node]
+            if received is not None:
+                self.reads[received] += 1
+                self.loads[received] += written is None
+            if written is not None:
+                self.memory[self.word[node]] = self.undo.pop()
+                self.stores[written] += 1
+
+    def perform_loads(self):
+        """Performs loads and fences while there are some; the ready writes that stand next are returned."""
+        chains, at, writes, before = self.problem.chains, self.at, [], -1
+        while len(self.order) > before:
+            before = len(self.order)
+            for chain, nodes in enumerate(chains):
+                while at[chain] < len(nodes):
+                    node = nodes[at[chain]]
+                    if self.written[node] is not None or not self.is_ready(node) or not self.fits(node):
+                        break
+                    self.perform(node)
+        for chain, nodes in enumerate(chains):
+            if at[chain] < len(nodes):
+                node = nodes[at[chain]]
+                if self.written[node] is not None and self.is_ready(node) and self.fits(node):
+                    writes.append(node)
+        return writes
+
+    def first_writes(self, word):
+        """The writes of a word of which one must be performed next there, if no load receives what it has now."""
+        problem, before, at, found = self.problem, self.forced.before, self.at, []
+        for chain, places in self.writes[word]:
+            index = bisect_left(places, at[chain])
+            if index < len(places):
+                found.append(problem.chains[chain][places[index]])
+        return [node for node in found if not any(
+            before[node][problem.chain[other]] > problem.place[other] for other in found if other != node)
+            and (self.received[node] is None or self.received[node] == self.memory[word])]
+
+    def choices(self, writes):
+        """Of the writes that can be performed now, those that must be tried."""
+        best, able = None, {node for node in writes if not self.loses(node)}
+        for word in {self.word[node] for node in writes}:
+            if self.loads[self.memory[word]]:
+                continue
+            first = self.first_writes(word)
+            if all(node in writes for node in first):
+                first = [node for node in first if node in able]
+                if len(first) < 2:
+                    return first
+                if best is None or len(first) < len(best):
+                    best = first
+        return sorted(able if best is None else best, key=self.rank.__getitem__)
+
+    def state(self):
+        """What all that follows depends on: a value that nobody is to receive is as good as any other."""
+        memory = [value if self.reads[value] else 0xffffffff for value in self.memory]
+        return array("I", self.at).tobytes() + array("I", memory).tobytes()
+
+    def run(self):
+        """After `TimeUp` it can be called again, with a later deadline, and goes on."""
+        count, frames = len(self.problem.nodes), self.frames
+        while True:
+            self.look_at_clock()
+            choices = self.choices(self.perform_loads())
+            self.most = max(self.most, len(self.order))
+            if len(self.order) == count:
+                return self.order
+            if len(choices) > 1:
+                self.states += 1
+                if self.dead and self.state() in self.dead:
+                    choices = []
+                else:
+                    frames.append((len(self.order), choices[::-1]))
+            if len(choices) == 1:
+                self.perform(choices[0])
+                continue
+            while frames and not frames[-1][1]:
+                self.take_back(frames.pop()[0])
+                self.dead.add(self.state())
+            if not frames:
+                return None
+            length, left = frames[-1]
+            self.take_back(length)
+            self.perform(left.pop())
+
+    def look_at_clock(self):
+        if time.monotonic() > self.deadline:
+            raise TimeUp(f"{self.most} of {len(self.problem.nodes)} operations could be put in an order, after "
+                         f"{self.states} branches")
+
+
+def ranks(problem, forced):
+    """Which writes to try first: by lines, if nine of ten edges go down the text, else by the longest way to each."""
+    down = [problem.operations[one].line < problem.operations[other].line
+            for one in problem.nodes for other in forced.edges[one]]
+    if sum(down) * 10 >= len(down) * 9:
+        return {node: problem.operations[node].line for node in problem.nodes}
+    level = {}
+    for node in forced.order:
+        place, nodes = problem.place[node], problem.chains[problem.chain[node]]
+        earlier = [*forced.into[node], *nodes[max(0, place - 1):place]]
+        level[node] = 1 + max((level[one] for one in earlier), default=0)
+    return {node: (level[node], problem.operations[node].line) for node in problem.nodes}

@@ -3,9 +3,9 @@
 
 It draws small histories, half of them without an order, and must get the answer that listing all orders gives: here
 all interleavings of the cores, or of cores with store buffers, are made one by one. PROGRAM must call each order that
-is found legal, and facts that are printed are looked at one by one. Then come texts, refusals, sizes and the histories
-of examples/. --histories (300) says how many are drawn, and --large adds the sizes that take a minute. The last line
-is `N tried, M wrong`.
+is found legal, and facts that are printed are looked at one by one. Then come texts, refusals, sizes, times
+(tools/number.py) and the histories of examples/ and tools/mesi.py. --histories (300) says how many are drawn of each
+kind, and --large adds the sizes that take a minute. The last line is `N tried, M wrong`.
 """
 import argparse
 import os
@@ -21,6 +21,8 @@ sys.path.insert(0, str(Path(__file__).resolve().parent.parent))
 from reference import tso  # noqa: E402
 from reference.traces import read_records  # noqa: E402
 from tests.texts import TOP, Tester  # noqa: E402
+from tools.mesi import Machine  # noqa: E402
+from tools.number import numbered  # noqa: E402
 from tools.orders import solver, witness  # noqa: E402
 from tools.orders.answer import answer  # noqa: E402
 from tools.orders.forced import Forced, NoOrder  # noqa: E402
@@ -460,6 +462,51 @@ def examples(tester):
         tester.expect(facts_hold(operations, answer(operations, SECONDS).lines), f"{path.name}: facts")
 
 
+# Histories with times, by hand: what tools/number.py prints behind `number.py: FILE: ` or as the verdict, and the map.
+NUMBERED = [
+    ("0 W 0x0 1 @ 100\n1 R 0x0 1 @ 2000\n", "legal\n", "0 100 1\n1 2000 2\n"),
+    ("1 R 0x0 1 @ 1.75\n0 W 0x0 1 @ 1.5\n", "legal\n", "0 1.5 2\n1 1.75 1\n"),
+    ("0 W 0x0 1 @ 7e3\n0 F\n1 R 0x0 0 @ 6999.5 6999.5\n", "legal\n", "0 6999.5 3\n1 7E+3 1\n"),
+    ("1 R 0x4 0 @ 3\n0 W 0x4 1 @ 3\n", "legal\n", "0 3 1\n1 3 2\n"),
+    ("0 W 0x0 1 @ 3\n1 R 0x0 0 @ 3\n", "wrong value 1\nat 3, line 2 (core 1's load of 0x0, which received 0)\n",
+     "0 3 1\n1 3 2\n"),
+    ("0 W 0x0 1 @ 30\n0 R 0x0 1 @ 20\n", "out of program order 0\nat 20, line 2 (core 0's load of",
+     "0 20 2\n1 30 1\n"),
+    ("0: M[0] := 1 @ 4:4\n", "legal\n", "0 4 1\n"),
+    ("0 W 0x0 1 @ 1\n0 R 0x0 1\n", "line 2: one time is needed behind an @", None),
+    ("0 W 0x0 1 @ 1 2\n", "line 1: one time is needed behind an @", None),
+    ("0 W 0x0 1 @ x\n", "line 1: behind `@` stand one or two times", None),
+]
+MESI_RUNS = 25
+
+
+def numbers(tester):
+    numberer, history = Tester(str(TOP / "tools/number.py")), tester.folder / "timed.history"
+    for text, wanted, mapped in NUMBERED:
+        history.write_text(text)
+        status, out, error = numberer.run("--out", str(tester.folder), str(history))
+        if mapped is None:
+            good = (status, out) == (2, "") and error.startswith(f"number.py: {history}: {wanted}")
+        else:
+            good = (status, error) == (int(wanted != "legal\n"), "") and out.startswith(wanted) and \
+                (tester.folder / "timed.map").read_text() == mapped
+        tester.expect(good, f"number.py: {text!r}: {status} {out} {error}, wanted {wanted}")
+
+
+def directories(tester):
+    """Runs of a correct machine are legal by their cycles of effect; by completion some aren't, and have an order."""
+    for stamp, blocking in (("effect", False), ("completion", True), ("completion", False)):
+        for seed in range(MESI_RUNS):
+            options = argparse.Namespace(stamp=stamp, blocking=blocking, lost=0, seed=seed, cores=3, operations=60,
+                                         words=2)
+            operations = read_history("\n".join(Machine(options).run()).encode())
+            order = numbered(operations)
+            if (stamp, blocking) == ("completion", False):
+                order = answer(operations, SECONDS).order
+            tester.expect(order is not None and len(order) == 180, f"mesi.py, seed {seed}: no order")
+            tester.confirms(operations, order)
+
+
 def main():
     words = argparse.ArgumentParser(description=__doc__, formatter_class=argparse.RawDescriptionHelpFormatter)
     words.add_argument("program", metavar="PROGRAM")
@@ -474,6 +521,8 @@ def main():
         settings(tester)
         orders_of_buffers(tester)
         sizes(tester, given.large)
+        numbers(tester)
+        directories(tester)
         examples(tester)
     print(f"{tester.tried} tried, {tester.wrong} wrong")
     return int(tester.wrong > 0)

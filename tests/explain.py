@@ -48,6 +48,15 @@ TWICE = ("0 W 0x0 1\n0 W 0x0 2\n1 R 0x0\n", "0 0 W 0x0 1 1 0\n0 1 W 0x0 2 2 1\n1
     "wrong value 2", "received 1 instead of 2:", "  line 2: 0 1 W 0x0 2 2 1 wrote that",
     "1 is what line 1: 0 0 W 0x0 1 1 0 wrote; it is overwritten by line 2.", "  line 2: 0 1 W 0x0 2 2 1",
     "> line 3: 1 0 R 0x0 1 3 2"])
+# Times that are all equal. Core 1 keeps what it read at line 1, as after a lost invalidation, and no order explains it.
+# In the second it hadn't read it before, and another order does.
+EQUAL = [("0 W 0x0 1\n0 W 0x8 1\n1 R 0x0\n1 R 0x8\n1 R 0x0\n",
+          "1 0 R 0x0 0 0 0\n0 0 W 0x0 1 0 1\n0 1 W 0x8 1 0 2\n1 1 R 0x8 1 0 3\n1 2 R 0x0 0 0 4\n", [
+              "wrong value 4", "Core 1 received a value that 1 later write had replaced, as after a lost invalidation.",
+              "It last touched the word at line 1.", "and no order explains these records: tools/order.py RECORDS says"]),
+         ("0 W 0x0 1\n0 W 0x0 2\n1 R 0x0\n", "0 0 W 0x0 1 0 0\n0 1 W 0x0 2 0 1\n1 0 R 0x0 0 0 2\n", [
+             "wrong value 2", "Core 1 received a value that 2 later writes had replaced, as when an invalidation",
+             "It hadn't touched the word before.", "and another order explains these records: tools/order.py RECORDS"])]
 # The same by swaps, in a trace with advances: a swap writes, and it receives.
 SWAPS = ("trace 2\n0 A\n0 S 0x0 1\n0 A\n0 S 0x0 2\n1 R 0x0\n", [
     ("0 0 S 0x0 1 0 1 0\n0 1 S 0x0 2 0 2 1\n1 0 R 0x0 2 2 2\n", [
@@ -185,6 +194,8 @@ def verdicts(tester):
         out = tester.tells([verdict], *map(of_printf, texts.split("|")), is_good=verdict == "legal")
         tester.expect(out.splitlines()[0] == verdict, f"{texts}: {out}, wanted {verdict}")
     tester.tells(TWICE[2], TWICE[0].encode(), TWICE[1].encode())
+    for trace, records, wanted in EQUAL:
+        tester.tells(wanted, trace.encode(), records.encode())
     for records, wanted in SWAPS[1]:
         tester.tells(wanted, SWAPS[0].encode(), records.encode())
     for line, record, wanted in RECORDS:
@@ -274,6 +285,12 @@ def others(tester):
     records = [f"0 {k} R 0x0 {int(k == 20)} 0 {k}" for k in range(40)]
     out = tester.tells(["wrong value 20"], b"0 R 0x0\n" * 40, "\n".join(records).encode())
     tester.expect([out.count(f"line {k}:") for k in (17, 18, 24, 25)] == [0, 2, 2, 0], f"three around it: {out}")
+    for told, first, value in (("Another order of the 61 records around it, lines 72 to 132, explains", 100, 0),
+                               ("No other order of the 61 records around it, lines 72 to 132, explains", 60, 0)):
+        lines = [f"0 {k} R 0x0 {0 if k < first else 1} 0 {k}" for k in range(first)] + [f"1 0 W 0x0 1 0 {first}"]
+        lines += [f"0 {k} R 0x0 {int(k != 100)} 0 {k + 1}" for k in range(first, 160)]
+        tester.tells(["another may: tools/order.py RECORDS", told],
+                     b"0 R 0x0\n" * 160 + b"1 W 0x0 1\n", "\n".join(lines).encode())
     many, start = [f"0 {k} R 0x0 0 0 {k + (k == 29999)}" for k in range(30000)], time.monotonic()
     tester.tells(["bad number 29999", "No number stands twice"], b"0 R 0x0\n" * 30000, "\n".join(many).encode())
     tester.expect(time.monotonic() - start < 20, "30,000 records take too long")

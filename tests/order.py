@@ -312,6 +312,9 @@ TEXTS = [
     ("0 W 0x4 1\n1 R 0x4 1\n1 R 0x5 0 @ 1 2.5\n", "consistent"),
     ("0 W 0x0 1 @ 0 10\n1 R 0x0 0 @ 11 12\n", "consistent"),
     ("0 S 0x0 18446744073709551615 0\n1 R 0x0 18446744073709551615\n0 F\n", "consistent"),
+    # Records of docs/TEXTS.md, in any order: the places count, and no times or numbers.
+    ("1 1 R 0x0 1 0 0\n1 0 R 0x8 1 0 1\n0 1 W 0x8 1 0 2\n0 0 W 0x0 1 0 3\n", "consistent"),
+    ("1 1 R 0x0 0 0 0\n1 0 R 0x8 1 0 1\n0 1 W 0x8 1 0 2\n0 0 W 0x0 1 0 3\n", "not consistent"),
     # Repeated values: the first load must have seen line 3, the second line 1, and the third none of them.
     ("0 W 0x0 1\n0 W 0x0 2\n0 W 0x0 1\n1 R 0x0 2\n1 R 0x0 1\n1 R 0x0 2\n", "not consistent"),
 ]
@@ -333,6 +336,10 @@ BAD = [
     ("0: { M[0] == 0; M[1] := 1 }\n", "line 1: the two parts of a swap name two variables"),
     ("0: sync @ 9:8\n", "line 1: the operation ends at 8, before it starts at 9"),
     (f"0: M[{2 ** 61}] := 1\n", f"line 1: the variable {2 ** 61} is greater than"),
+    ("0 0 W 0x0 1 0 0\n0 2 R 0x0 1 0 1\n", "line 2: core 0's place 1 is missing"),
+    ("0 0 W 0x0 1 0 0\n0 0 R 0x0 1 0 1\n", "line 2: core 0 has this place twice"),
+    ("0 0 W 0x0 1 0 0\n0 1 R 0x0 1 0\n", "line 2: behind `R` stands an address and a value, and here `0x0`"),
+    ("0 0 W 0x0 1 0 0\n0 1 R 0x0 1 0 x\n", "line 2: `0 1 R 0x0 1 0 x` is no record"),
     ("64: sync\n", "line 1: the core 64 is greater than 63"), ("0: M[0] := x\n", "line 1: `M[0] := x` is no operation"),
 ]
 BUFFERS = "0: M[0] := 1\n0:{} M[1] == 0\n1: M[1] := 1\n1:{} M[0] == 0\n"

@@ -22,6 +22,7 @@ from pathlib import Path
 sys.path.insert(0, str(Path(__file__).resolve().parent.parent))
 from reference.given import tool  # noqa: E402
 from tools import litmus_hints, program  # noqa: E402
+from tools.explained_orders import another_order, seen  # noqa: E402
 from tools.explained_runs import explained_run  # noqa: E402
 from tools.explained_texts import explained_text  # noqa: E402
 from tools.program import Refused, fail, text_of  # noqa: E402
@@ -98,6 +99,7 @@ def wrong_value(history, at):
     yield f"Core {record.core}'s {what} received {record.received} instead of {wanted}:"
     yield f"  {before[-1].told()} wrote that" if before else "  no record before it wrote the word, which opens as 0"
     yield from source_of(record.received, of_word, place)
+    yield from seen(of_word, place)
     yield from around(f"The operations on {record.word:#x} around it, in order:", of_word, place)
 
 
@@ -180,6 +182,8 @@ def explained_records(paths, texts):
     yield f"{paths[1]}, {history.records[at].told()}"
     yield from {"wrong value": wrong_value, "out of program order": out_of_order}[what](history, at)
     yield from around("The records around it, by time and number:", history.records, at)
+    if what == "wrong value" and history.records[0].key[0] == history.records[-1].key[0]:
+        yield from another_order(history.records, at)
 
 
 def fault_of(path, is_test):

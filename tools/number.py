@@ -73,7 +73,7 @@ def main():
         return 0
     operation = operations[order[int(verdict.rpartition(" ")[2])]]
     print(f"at {operation.start}, {operation.told()}")
-    print("This order doesn't explain it; another may: tools/order.py finds one, if there is one.")
+    print("This order doesn't explain it; another may: tools/order.py looks for it.")
     return 1
 
 

@@ -4,7 +4,8 @@
     tools/order.py [--out FOLDER] [--real-time] [--seconds N] [--model tso] HISTORY
 
 HISTORY has one operation a line, each core's in program order (docs/ORDER.md, Histories without an order): records
-without times, such as `0 R 0x8 5`, or Axe's text, such as `0: M[1] == 5`. The first line printed is one of
+without times, such as `0 R 0x8 5`, or Axe's text, such as `0: M[1] == 5`. It may also have records with times and
+numbers (docs/TEXTS.md), which don't count then. The first line printed is one of
 
     consistent: proved by tardis check    NAME.order.trace and NAME.order.records in FOLDER are the order found
     not consistent: ..                    operations that no order joins, each with its line, and why

@@ -1,9 +1,11 @@
-"""Histories without an order, as texts: records without times, and Axe's form (docs/ORDER.md has both).
+"""Histories without an order, as texts: records without times, Axe's form (docs/ORDER.md has both), and records as
+docs/TEXTS.md has them, of which only the places count.
 
-A history is a list of operations in the order of the text, which gives each core's program order.
+A history is a list of operations, each core's in its program order: that of the text, or by places.
 """
 import re
 from decimal import Decimal
+from functools import partial
 
 LOAD, STORE, SWAP, FENCE = "R", "W", "S", "F"
 MOST = 2 ** 64 - 1
@@ -122,9 +124,33 @@ def record_operation(line, text):
     return operation
 
 
+def placed_operation(line, text, places):
+    """`1 0 R 0x8 5 3 17`, a record: its place is kept, its time and its number aren't."""
+    fields = text.split()
+    if len(fields) < 6 or not all(re.fullmatch("[0-9]+", field) for field in (*fields[:2], *fields[-2:])):
+        raise Fault(line, f"`{text}` is no record: core, place, operation, time and number")
+    operation = record_operation(line, " ".join([fields[0], *fields[2:-2]]))
+    if operation.kind == FENCE:
+        raise Fault(line, "a fence has no record")
+    places[line] = int(fields[1])
+    return operation
+
+
+def by_places(operations, places):
+    """In the order of places, of which each core has those from 0 on once."""
+    count = {}
+    for operation in sorted(operations, key=lambda operation: places[operation.line]):
+        place = count.get(operation.core, 0)
+        if places[operation.line] != place:
+            raise Fault(operation.line, f"core {operation.core}'s place {place} is missing" if
+                        places[operation.line] > place else f"core {operation.core} has this place twice")
+        count[operation.core] = place + 1
+        yield operation
+
+
 def read_history(text):
-    """The operations of a text of bytes, in its order. `Fault` says what is wrong with it."""
-    operations, is_axe = [], None
+    """The operations of a text of bytes. `Fault` says what is wrong with it."""
+    operations, places, read = [], {}, None
     for line, raw in enumerate(text.split(b"\n"), 1):
         said = raw.partition(b"#")[0].strip()
         if not said:
@@ -132,10 +158,12 @@ def read_history(text):
         if any(byte < 32 and byte != 9 or byte > 126 for byte in said):
             raise Fault(line, "a byte that isn't ASCII")
         said = said.decode("ascii")
-        if is_axe is None:
-            is_axe = re.match(r"[0-9]+\s*:", said) is not None
-        operations.append(axe_operation(line, said) if is_axe else record_operation(line, said))
-    return operations
+        if read is None:
+            read = axe_operation if re.match(r"[0-9]+\s*:", said) else record_operation
+            if re.match(r"[0-9]+\s+[0-9]+\s", said):
+                read = partial(placed_operation, places=places)
+        operations.append(read(line, said))
+    return list(by_places(operations, places)) if places else operations
 
 
 def words_of(operations):

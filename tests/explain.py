@@ -53,10 +53,10 @@ TWICE = ("0 W 0x0 1\n0 W 0x0 2\n1 R 0x0\n", "0 0 W 0x0 1 1 0\n0 1 W 0x0 2 2 1\n1
 EQUAL = [("0 W 0x0 1\n0 W 0x8 1\n1 R 0x0\n1 R 0x8\n1 R 0x0\n",
           "1 0 R 0x0 0 0 0\n0 0 W 0x0 1 0 1\n0 1 W 0x8 1 0 2\n1 1 R 0x8 1 0 3\n1 2 R 0x0 0 0 4\n", [
               "wrong value 4", "Core 1 received a value that 1 later write had replaced, as after a lost invalidation.",
-              "It last touched the word at line 1.", "and no order explains these records: tools/order.py RECORDS says"]),
+              "It last touched the word at line 1.", "no order explains these records: tools/order.py RECORDS says"]),
          ("0 W 0x0 1\n0 W 0x0 2\n1 R 0x0\n", "0 0 W 0x0 1 0 0\n0 1 W 0x0 2 0 1\n1 0 R 0x0 0 0 2\n", [
              "wrong value 2", "Core 1 received a value that 2 later writes had replaced, as when an invalidation",
-             "It hadn't touched the word before.", "and another order explains these records: tools/order.py RECORDS"])]
+             "It hadn't touched the word before.", "another order explains these records: tools/order.py RECORDS"])]
 # The same by swaps, in a trace with advances: a swap writes, and it receives.
 SWAPS = ("trace 2\n0 A\n0 S 0x0 1\n0 A\n0 S 0x0 2\n1 R 0x0\n", [
     ("0 0 S 0x0 1 0 1 0\n0 1 S 0x0 2 0 2 1\n1 0 R 0x0 2 2 2\n", [

@@ -379,6 +379,19 @@ def settings(tester):
                       f"{words} {text!r}: {status} {out} {error}")
         if "tso" in words:
             tester.expect(all(line.endswith(tso.NOT_PROVED) for line in out.splitlines()), f"{out}: not marked")
+    opening = tester.folder / "opening"
+    for first, text, wanted in (("0x0 5\n", "0 R 0x0 5\n1 W 0x0 1\n1 R 0x8 0\n", "consistent: proved"),
+                                ("M[1] := 5 # a comment\n", "0: M[1] == 5\n1: M[1] := 1\n", "consistent: proved"),
+                                ("0x0 5\n", "0 R 0x0 0\n", "not consistent"), ("0x0 0\n", "0 R 0x0 0\n", "consistent")):
+        opening.write_text(first)
+        history.write_text(text)
+        status, out, error = tester.run("--opening", opening, "--out", tester.folder, history)
+        tester.expect((status, error) == (int(wanted[0] == "n"), "") and out.startswith(wanted),
+                      f"{first} {text!r}: {status} {out} {error}")
+    for first, wanted in (("0x0\n", "line 1: `0x0` isn't"), ("0 1\n0x0 2\n", "line 2: 0x0 is opened twice")):
+        opening.write_text(first)
+        status, out, error = tester.run("--opening", opening, "--out", tester.folder, history)
+        tester.expect((status, out) == (2, "") and wanted in error, f"{first!r}: {status} {out} {error}")
     history.write_text("0 W 0x0 1\n0 R 0x0 1\n")
     for words in (["--real-time", "--model", "tso", history], ["none.history"], [tester.folder], [], ["--seconds", "0"],
                   ["--model", "pso", history], [history, "--out", history]):
@@ -440,7 +453,7 @@ def sizes(tester, is_large):
         found = answer(operations, 600)
         taken = time.process_time() - start
         tester.expect(found.is_known and (found.order is None) == (wrong > 0) and taken <= seconds,
-                      f"{count} of {cores} on {words}, {values} values, {wrong} wrong: {taken:.1f} s, {found.lines[:1]}")
+                      f"{count} of {cores} on {words}, {values} values, {wrong} wrong: {taken:.1f} s, {found.lines}")
         if found.order:
             tester.confirms(operations, found.order)
     hard = tester.folder / "hard.history"
@@ -498,6 +511,12 @@ def numbers(tester):
             good = (status, error) == (int(wanted != "legal\n"), "") and out.startswith(wanted) and \
                 (tester.folder / "timed.map").read_text() == mapped
         tester.expect(good, f"number.py: {text!r}: {status} {out} {error}, wanted {wanted}")
+    opening = tester.folder / "opening"
+    opening.write_text("0x8 5\n0x0 0\n")
+    history.write_text("0 R 0x8 5 @ 7\n63 R 0x0 0 @ 8\n")
+    ran = numberer.run("--opening", str(opening), "--out", str(tester.folder), str(history))
+    tester.expect(ran == (0, "legal\n", "") and (tester.folder / "timed.map").read_text() == "1 7 1\n2 8 2\n",
+                  f"number.py --opening: {ran}")
 
 
 def directories(tester):

@@ -1,7 +1,7 @@
 #!/usr/bin/env python3
 """Turns a history with your own times into a trace and records, checks these, and answers in your own terms.
 
-    tools/number.py [--out FOLDER] HISTORY
+    tools/number.py [--out FOLDER] [--opening FILE] HISTORY
 
 HISTORY has one operation a line, each core's in program order, with the time at which it took effect behind an @:
 `0 R 0x8 5 @ 1042` (docs/ORDER.md, Histories without an order). Times are cycles with gaps, seconds with a fraction, or
@@ -21,7 +21,7 @@ from pathlib import Path
 sys.path.insert(0, str(Path(__file__).resolve().parent.parent))
 from tools import program  # noqa: E402
 from tools.orders import witness  # noqa: E402
-from tools.orders.history import FENCE, Fault, read_history, words_of  # noqa: E402
+from tools.orders.history import FENCE, MOST_CORE, Fault, read_history, read_opening, words_of  # noqa: E402
 
 
 def words():
@@ -29,6 +29,8 @@ def words():
                                     formatter_class=argparse.RawDescriptionHelpFormatter)
     about.error = lambda message: program.fail(f"{message} (--help tells all)")
     about.add_argument("HISTORY", help="the text; /dev/stdin is standard input")
+    about.add_argument("--opening", metavar="FILE",
+                       help="addresses and their first values, one a line as `0x8 5`; else 0")
     about.add_argument("--out", metavar="FOLDER", type=Path, default=Path("."), help="where files are written (here)")
     return about
 
@@ -53,7 +55,7 @@ def write(options, operations, order):
         witness.write(trace, witness.trace_lines(operations, of_word, False))
         witness.write(records, witness.record_lines(operations, of_word, order))
         witness.write(mapped, (f"{number} {operations[node].start} {operations[node].line}"
-                               for number, node in enumerate(order)))
+                               for number, node in enumerate(order) if operations[node].line is not None))
     except OSError as error:
         program.fail(f"{error.filename}: {error.strerror}")
     return trace, records
@@ -63,7 +65,11 @@ def main():
     options = words().parse_args()
     try:
         operations = read_history(program.text_of(options.HISTORY))
-        order = numbered(operations)
+        opening = read_opening(program.text_of(options.opening)) if options.opening else {}
+        whole = witness.with_opening(operations, numbered(operations), opening)
+        if whole is None:
+            raise Fault(1, f"all {MOST_CORE + 1} cores have operations, and one is to store the opening")
+        operations, order = whole
         paths = write(options, operations, order)
         verdict = program.run("check", *paths).strip()
     except (Fault, program.Refused) as cause:

@@ -1,7 +1,7 @@
 #!/usr/bin/env python3
 """Finds an order of a history that has none, and has `tardis check` confirm it.
 
-    tools/order.py [--out FOLDER] [--real-time] [--seconds N] [--model tso] HISTORY
+    tools/order.py [--out FOLDER] [--real-time] [--opening FILE] [--seconds N] [--model tso] HISTORY
 
 HISTORY has one operation a line, each core's in program order (docs/ORDER.md, Histories without an order): records
 without times, such as `0 R 0x8 5`, or Axe's text, such as `0: M[1] == 5`. It may also have records with times and
@@ -29,7 +29,7 @@ from reference.traces import read_records  # noqa: E402
 from tools import program  # noqa: E402
 from tools.orders import witness  # noqa: E402
 from tools.orders.answer import answer  # noqa: E402
-from tools.orders.history import Fault, read_history, words_of  # noqa: E402
+from tools.orders.history import MOST_CORE, Fault, read_history, read_opening, words_of  # noqa: E402
 
 NOT_CONSISTENT, NOT_DECIDED = 1, 3
 
@@ -45,17 +45,19 @@ def words():
                        help="an operation that ended before another started precedes it")
     about.add_argument("--seconds", type=program.number(1, 10 ** 6), default=60, metavar="N",
                        help="how long to search (60)")
+    about.add_argument("--opening", metavar="FILE",
+                       help="addresses and their first values, one a line as `0x8 5` or `M[1] := 5`; else 0")
     about.add_argument("--model", choices=["sc", "tso"], default="sc",
                        help="sc: sequential consistency; tso: each core's stores may take effect later")
     return about
 
 
-def said_of_text(options):
-    """The operations, or one line and status 2."""
+def read(path, reader):
+    """What a file says, or one line and status 2."""
     try:
-        return read_history(program.text_of(options.HISTORY))
+        return reader(program.text_of(path))
     except Fault as fault:
-        program.fail(f"{options.HISTORY}: {fault}")
+        program.fail(f"{path}: {fault}")
 
 
 def write_order(options, operations, order):
@@ -96,12 +98,16 @@ def main():
     options = words().parse_args()
     if options.model == "tso" and options.real_time:
         program.fail("--real-time is of sequential consistency alone: when a delayed store ends isn't known")
-    operations = said_of_text(options)
-    found = answer(operations, options.seconds, options.model, options.real_time)
+    operations = read(options.HISTORY, read_history)
+    opening = read(options.opening, read_opening) if options.opening else {}
+    found = answer(operations, options.seconds, options.model, options.real_time, opening)
     if found.order is None:
         print("\n".join(marked(options, found.lines)))
         return NOT_CONSISTENT if found.is_known else NOT_DECIDED
-    paths = write_order(options, operations, found.order)
+    whole = witness.with_opening(operations, found.order, opening)
+    if whole is None:
+        program.fail(f"{options.HISTORY}: all {MOST_CORE + 1} cores have operations, and one is to store the opening")
+    paths = write_order(options, *whole)
     print("\n".join(marked(options, [f"consistent: {confirmed(options, *paths)}", *map(str, paths)])))
     return 0
 

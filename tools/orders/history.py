@@ -166,6 +166,24 @@ def read_history(text):
     return list(by_places(operations, places)) if places else operations
 
 
+def read_opening(text):
+    """The value that each address of a text has at first. A line has both, as `0x8 5` or `M[1] := 5`."""
+    opening = {}
+    for line, raw in enumerate(text.split(b"\n"), 1):
+        said = raw.partition(b"#")[0].decode("ascii", "replace").strip()
+        if not said:
+            continue
+        found = re.fullmatch(rf"({NUMBER})\s+({NUMBER})", said) or AXE[STORE].fullmatch(said)
+        if not found:
+            raise Fault(line, f"`{said}` isn't an address and a value")
+        is_axe = said.startswith("M")
+        address = number_of(line, found[1], MOST // 8 if is_axe else MOST, "the address") * (8 if is_axe else 1)
+        if address in opening:
+            raise Fault(line, f"{found[1]} is opened twice")
+        opening[address] = number_of(line, found[2], MOST, "the value")
+    return opening
+
+
 def words_of(operations):
     """The byte address in a trace of each address: itself if all are multiples of 8, else 8 times its rank."""
     addresses = sorted({operation.address for operation in operations if operation.kind != FENCE})

@@ -29,7 +29,8 @@ class Search:
             self.writes[self.words[address]] = list(chains.items())
         self.needs = [[(problem.chain[one], problem.place[one]) for one in into] for into in forced.into]
         self.rank = ranks(problem, forced)
-        self.order, self.undo, self.frames = [], [], []  # frames: how much was performed, and what is to be tried there
+        # Of each branch on the way: how much was performed, what is to be tried yet, and the state.
+        self.order, self.undo, self.frames = [], [], []
         self.dead, self.states, self.most = set(), 0, 0
 
     def number_values(self):
@@ -107,20 +108,20 @@ class Search:
 
     def perform_loads(self):
         """Performs loads and fences while there are some; the ready writes that stand next are returned."""
-        chains, at, writes, before = self.problem.chains, self.at, [], -1
-        while len(self.order) > before:
-            before = len(self.order)
-            for chain, nodes in enumerate(chains):
-                while at[chain] < len(nodes):
-                    node = nodes[at[chain]]
-                    if self.written[node] is not None or not self.is_ready(node) or not self.fits(node):
+        at, written, is_ready, fits, is_more = self.at, self.written, self.is_ready, self.fits, True
+        while is_more:
+            is_more, writes = False, []
+            for chain, nodes in enumerate(self.problem.chains):
+                place = at[chain]
+                while place < len(nodes):
+                    node = nodes[place]
+                    if not fits(node) or not is_ready(node):
+                        break
+                    if written[node] is not None:
+                        writes.append(node)
                         break
                     self.perform(node)
-        for chain, nodes in enumerate(chains):
-            if at[chain] < len(nodes):
-                node = nodes[at[chain]]
-                if self.written[node] is not None and self.is_ready(node) and self.fits(node):
-                    writes.append(node)
+                    is_more, place = True, place + 1
         return writes
 
     def first_writes(self, word):
@@ -136,6 +137,8 @@ class Search:
 
     def choices(self, writes):
         """Of the writes that can be performed now, those that must be tried."""
+        if not writes:
+            return writes
         best, able = None, {node for node in writes if not self.loses(node)}
         for word in {self.word[node] for node in writes}:
             if self.loads[self.memory[word]]:
@@ -165,19 +168,19 @@ class Search:
                 return self.order
             if len(choices) > 1:
                 self.states += 1
-                if self.dead and self.state() in self.dead:
+                state = self.state()
+                if state in self.dead:
                     choices = []
                 else:
-                    frames.append((len(self.order), choices[::-1]))
+                    frames.append((len(self.order), choices[::-1], state))
             if len(choices) == 1:
                 self.perform(choices[0])
                 continue
             while frames and not frames[-1][1]:
-                self.take_back(frames.pop()[0])
-                self.dead.add(self.state())
+                self.dead.add(frames.pop()[2])
             if not frames:
                 return None
-            length, left = frames[-1]
+            length, left, _ = frames[-1]
             self.take_back(length)
             self.perform(left.pop())
 

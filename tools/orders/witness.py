@@ -1,7 +1,18 @@
 """An order as a trace and records (docs/TEXTS.md). Each record has time 0, so its number is its place in the order."""
-from tools.orders.history import FENCE, LOAD, STORE
+from tools.orders.history import FENCE, LOAD, MOST_CORE, STORE, Operation
 
 FORM_1_CORES = 16
+
+
+def with_opening(operations, order, opening):
+    """The operations and the order, with stores by a core that has no others before all: so the memory opens with
+    zeros. None if all cores have operations."""
+    core = next((core for core in range(MOST_CORE + 1) if all(one.core != core for one in operations)), None)
+    values = {address: value for address, value in opening.items() if value}
+    if core is None and values:
+        return None
+    stores = [Operation(None, core, STORE, address, value) for address, value in values.items()]
+    return stores + operations, [*range(len(stores)), *(node + len(stores) for node in order)]
 
 
 def operation_text(operation, words, received):
@@ -40,7 +51,7 @@ def record_lines(operations, words, order):
     for number, node in enumerate(node for node in order if node in places):
         operation = operations[node]
         said = f"{operation.core} {places[node]} {operation_text(operation, words, True)} 0 {number}"
-        yield f"{said} # line {operation.line}"
+        yield f"{said} # {'opening' if operation.line is None else f'line {operation.line}'}"
 
 
 def write(path, lines):

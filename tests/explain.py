@@ -196,6 +196,10 @@ def verdicts(tester):
     tester.tells(TWICE[2], TWICE[0].encode(), TWICE[1].encode())
     for trace, records, wanted in EQUAL:
         tester.tells(wanted, trace.encode(), records.encode())
+    left = "2 operations of the trace have no record; the first is line 2, 0 W 0x8 1."
+    tester.tells(["legal\n" + left], MP.encode(), b"0 0 W 0x0 1 1 0\n1 0 R 0x8 0 0 1\n", is_good=True)
+    out = tester.tells(["legal"], MP.encode(), "\n".join(GOOD).encode(), is_good=True)
+    tester.expect(out == "legal", f"all records are there: {out}")
     for records, wanted in SWAPS[1]:
         tester.tells(wanted, SWAPS[0].encode(), records.encode())
     for line, record, wanted in RECORDS:

@@ -17,6 +17,7 @@ says so in one line.
 """
 import re
 import sys
+from collections import Counter
 from pathlib import Path
 
 sys.path.insert(0, str(Path(__file__).resolve().parent.parent))
@@ -164,11 +165,30 @@ def next_to(by_number, number):
     return by_number[max(0, above - AROUND):above + AROUND]
 
 
+def missing(history):
+    """The operations of the trace without a record, of legal records: the last ones of their cores."""
+    count = Counter(record.core for record in history.records)
+    listed = ((int(fields[0]), line, fields) for line, fields in lines_with_fields(history.trace)
+              if fields[0] != b"trace" and fields[1] != b"A")
+    left = [(line, fields) for core, line, fields in listed if not take(count, core)]
+    if left:
+        line, fields = left[0]
+        yield f"{len(left)} operations of the trace have no record; the first is line {line}, " \
+              f"{b' '.join(fields).decode()}."
+
+
+def take(count, core):
+    """Whether there is one more record of a core, which is then counted off."""
+    count[core] -= 1
+    return count[core] >= 0
+
+
 def explained_records(paths, texts):
     """The lines that explain the verdict."""
     verdict = program.run("check", *paths).strip()
     if verdict == "legal":
         yield verdict
+        yield from missing(History(*texts))
         return
     if not re.fullmatch(r"(bad number|wrong value|out of program order) \d+", verdict):
         fail(f"{program.program()} answers no verdict")
@@ -209,7 +229,7 @@ def explained(paths):
         lines = list(explained_records(paths, texts))
     except Refused as refused:
         return explained_text(paths[1], texts[1], str(refused), "records"), True
-    return lines, lines != ["legal"]
+    return lines, lines[0] != "legal"
 
 
 def main(paths):

@@ -1,14 +1,13 @@
 """The answer on a history: an order; why there is none; or how far the search came."""
 import time
 
-from tools.orders import reasons, solver
+from tools.orders import reasons
+from tools.orders.find import find
 from tools.orders.forced import Forced, NoOrder, TimeUp
 from tools.orders.least import Least
 from tools.orders.problem import Problem
-from tools.orders.search import Search
 
-FIRST_SHARE = 4  # the search has a quarter of the time before z3 is asked, and at most
-FIRST_SECONDS = 5
+LEAST_SECONDS = 5  # for leaving out operations, even if the search took all its time
 
 
 class Answer:
@@ -25,29 +24,14 @@ def answer(operations, seconds, model="sc", real_time=False, opening=None):
     problem = Problem(operations, **settings)
     try:
         forced = Forced(problem, start + seconds)
-        order = find(problem, forced, start, seconds)
+        order = find(problem, forced, start + seconds)
     except NoOrder as none:
         return Answer(lines=lines_of(problem, none))
     except TimeUp as up:
         return Answer(lines=[f"not decided after {seconds:g} s: {up.reached}"], is_known=False)
     if order is None:
-        return Answer(lines=least(operations, settings, start + seconds))
+        return Answer(lines=least(operations, settings, max(start + seconds, time.monotonic() + LEAST_SECONDS)))
     return Answer(order=order)
-
-
-def find(problem, forced, start, seconds):
-    """An order or None; the search first, then z3 if it is installed, then the search again."""
-    now = time.monotonic()
-    search = Search(problem, forced, now + min(FIRST_SECONDS, (start + seconds - now) / FIRST_SHARE))
-    try:
-        return search.run()
-    except TimeUp:
-        if solver.is_installed():
-            found = solver.ask(problem, forced, (start + seconds - time.monotonic()) * 2 / 3)
-            if found is not None:
-                return found or None
-        search.deadline = start + seconds
-        return search.run()
 
 
 def lines_of(problem, none):

@@ -6,9 +6,11 @@ kept has no order because of itself alone.
 """
 import time
 
+from tools.orders.find import find
 from tools.orders.forced import Forced, NoOrder, TimeUp
 from tools.orders.problem import Problem
-from tools.orders.search import Search
+
+FIRST_SECONDS, PART_SECONDS = 0.5, 3  # for the search on a part before z3 is asked, and for the part in all
 
 
 class Least:
@@ -16,7 +18,7 @@ class Least:
 
     def __init__(self, operations, settings, deadline):
         self.operations, self.settings, self.deadline = operations, settings, deadline
-        self.nodes, self.is_least = list(range(len(operations))), False
+        self.nodes, self.is_least, self.is_sure = list(range(len(operations))), False, True
         try:
             self.leave_out()
         except TimeUp:
@@ -29,19 +31,25 @@ class Least:
                    (self.operations[node].address, self.operations[node].written) not in received for node in going)
 
     def has_order(self, nodes):
-        if time.monotonic() > self.deadline:
+        """Whether a part has an order, or whether that isn't known soon."""
+        now = time.monotonic()
+        if now > self.deadline:
             raise TimeUp("")
+        until = min(self.deadline, now + PART_SECONDS)
         problem = Problem([self.operations[node] for node in nodes], **self.settings)
         try:
-            forced = Forced(problem, self.deadline)
+            return find(problem, Forced(problem, until), until, FIRST_SECONDS) is not None
         except NoOrder:
             return False
-        return Search(problem, forced, self.deadline).run() is not None
+        except TimeUp:
+            self.is_sure = False
+            return True
 
     def leave_out(self):
         """Leaves out halves, quarters and so on from the end, and at last single ones until none can go."""
         size = max(1, len(self.nodes) // 2)
         while True:
+            self.is_sure = True
             before, at = len(self.nodes), len(self.nodes)
             while at > 0:
                 first = max(0, at - size)
@@ -50,6 +58,6 @@ class Least:
                     self.nodes = kept
                 at = first
             if size == 1 and len(self.nodes) == before:
-                self.is_least = True
+                self.is_least = self.is_sure
                 return
             size = max(1, size // 2)

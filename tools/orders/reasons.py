@@ -1,5 +1,4 @@
 """Why a history has no order, in lines that a person can check: facts, each from those that it names."""
-from tools.orders.history import FENCE
 from tools.orders.problem import OPENING
 
 # What the edges' rules say, of the lines r (a read), s (its source) and w (another write of the word).
@@ -11,6 +10,8 @@ RULES = {
     "earlier": "line {r} is behind line {w}, and received what line {s} wrote",
     "overwrites": "line {r} received what line {s} wrote, before line {w} overwrote it",
 }
+
+MOST_TOLD = 100  # operations of a set
 
 
 class Proof:
@@ -147,5 +148,6 @@ def lines_of_set(problem, nodes, is_least):
     yield (f"not consistent: no order of these {len(nodes)} operations explains what they received"
            + (", and none can be left out:" if is_least else "; perhaps fewer would do:"))
     by_core = sorted(nodes, key=lambda node: (problem.operations[node].core, problem.operations[node].line))
-    yield from (f"  {problem.operations[node].told()}" for node in by_core if
-                problem.operations[node].kind != FENCE or problem.model != "sc")
+    yield from (f"  {problem.operations[node].told()}" for node in by_core[:MOST_TOLD])
+    if len(nodes) > MOST_TOLD:
+        yield f"  and {len(nodes) - MOST_TOLD} more"

@@ -445,7 +445,7 @@ def sizes(tester, is_large):
     """With an order and, where a value is changed, without: the answer in the time that is promised."""
     rows = [(2000, 4, 64, 0, 0, 10), (600, 3, 4, 3, 0, 5), (2000, 4, 16, 0, 3, 10)]
     if is_large:
-        rows += [(20000, 4, 64, 0, 0, 60), (20000, 4, 64, 0, 1, 60)]
+        rows += [(20000, 4, 64, 0, 0, 60), (20000, 4, 64, 0, 1, 60), (20000, 8, 64, 0, 0, 60)]
         rows += [(600, 3, words, values, 0, 1) for words in (2, 4, 8) for values in (2, 3, 8)]
     for count, cores, words, values, wrong, seconds in rows:
         operations = read_history(drawn_text(count, cores, words, values, 1, wrong))

@@ -124,27 +124,33 @@ class Search:
                     is_more, place = True, place + 1
         return writes
 
-    def first_writes(self, word):
-        """The writes of a word of which one must be performed next there, if no load receives what it has now."""
-        problem, before, at, found = self.problem, self.forced.before, self.at, []
+    def first_writes(self, word, writes):
+        """The ready writes of a word, if one of these must be performed next there; else None. No load must receive
+        what the word has now. Each other write that could be next must come behind a ready one."""
+        problem, at, ready, others = self.problem, self.at, [], []
         for chain, places in self.writes[word]:
             index = bisect_left(places, at[chain])
             if index < len(places):
-                found.append(problem.chains[chain][places[index]])
-        return [node for node in found if not any(
-            before[node][problem.chain[other]] > problem.place[other] for other in found if other != node)
-            and (self.received[node] is None or self.received[node] == self.memory[word])]
+                node = problem.chains[chain][places[index]]
+                if node in writes:
+                    ready.append(node)
+                elif self.received[node] is None or self.received[node] == self.memory[word]:
+                    others.append(node)
+        for other in others:
+            before = self.forced.before[other]
+            if not any(before[problem.chain[node]] > problem.place[node] for node in ready):
+                return None
+        return ready
 
     def choices(self, writes):
         """Of the writes that can be performed now, those that must be tried."""
-        if not writes:
-            return writes
-        best, able = None, {node for node in writes if not self.loses(node)}
+        best, writes = None, set(writes)
+        able = {node for node in writes if not self.loses(node)}
         for word in {self.word[node] for node in writes}:
             if self.loads[self.memory[word]]:
                 continue
-            first = self.first_writes(word)
-            if all(node in writes for node in first):
+            first = self.first_writes(word, writes)
+            if first is not None:
                 first = [node for node in first if node in able]
                 if len(first) < 2:
                     return first

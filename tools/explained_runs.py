@@ -13,7 +13,7 @@ from reference.told import Teller, operation
 from reference.traces import Fault
 from tools.program import fail
 
-# In so many rounds without anything done nothing ever will be: by fair rounds something is done in at most sixteen.
+# A run is taken to starve after so many rounds without anything done: fair rounds were seen to take sixteen at most.
 LONG = 100
 REQUESTS, RECALLS = ("ShReq", "ExReq"), ("FlushReq", "WbReq")
 

@@ -32,6 +32,7 @@ from tools.orders.problem import Problem  # noqa: E402
 TOOL = TOP / "tools/order.py"
 EXAMPLES = TOP / "examples/histories"
 SECONDS = 20
+ORDERS = 600  # drawn histories that have an order
 
 
 def programs_of(operations):
@@ -441,12 +442,19 @@ def drawn_text(count, cores, words, values, seed, wrong=0):
                    for core, kind, address, values in sorted(lines, key=lambda line: line[0])).encode()
 
 
+def drawn_orders(tester):
+    """Longer histories of two values each have the order in which they were drawn, so the search must find one."""
+    for seed in range(ORDERS):
+        found = answer(read_history(drawn_text(30, 2 + seed % 3, 2, 2, seed)), SECONDS)
+        tester.expect(found.order is not None, f"30 operations drawn by the seed {seed}: {found.lines}")
+
+
 def sizes(tester, is_large):
     """With an order and, where a value is changed, without: the answer in the time that is promised."""
     rows = [(2000, 4, 64, 0, 0, 10), (600, 3, 4, 3, 0, 5), (2000, 4, 16, 0, 3, 10)]
     if is_large:
         rows += [(20000, 4, 64, 0, 0, 60), (20000, 4, 64, 0, 1, 60), (20000, 8, 64, 0, 0, 60)]
-        rows += [(600, 3, words, values, 0, 1) for words in (2, 4, 8) for values in (2, 3, 8)]
+        rows += [(600, 3, words, values, 0, 3) for words in (2, 4, 8) for values in (2, 3, 8)]
     for count, cores, words, values, wrong, seconds in rows:
         operations = read_history(drawn_text(count, cores, words, values, 1, wrong))
         start = time.process_time()
@@ -546,6 +554,7 @@ def main():
         texts(tester)
         settings(tester)
         orders_of_buffers(tester)
+        drawn_orders(tester)
         sizes(tester, given.large)
         numbers(tester)
         directories(tester)

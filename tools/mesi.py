@@ -15,9 +15,13 @@ The history has a line for each operation as it completes, such as `0 R 0x8 5 @ 
 import argparse
 import heapq
 import random
-import signal
 import sys
 from collections import deque
+from pathlib import Path
+
+sys.path.insert(0, str(Path(__file__).resolve().parent.parent))
+from reference.given import tool  # noqa: E402
+
 
 DELAY, PAUSE = 30, 10  # the most cycles of a message, and between two operations of a core
 
@@ -162,7 +166,7 @@ class Machine:
             self.send(self.free, word)
 
 
-def main():
+def main(given):
     about = argparse.ArgumentParser(description=__doc__, allow_abbrev=False,
                                     formatter_class=argparse.RawDescriptionHelpFormatter)
     for name, usual in (("seed", 0), ("cores", 3), ("operations", 40), ("words", 3), ("lost", 0)):
@@ -170,9 +174,8 @@ def main():
     about.add_argument("--stamp", choices=["completion", "effect"], default="completion",
                        help="which cycle stands behind the @ (completion)")
     about.add_argument("--blocking", action="store_true", help="the directory waits until a load's data has arrived")
-    print("\n".join(Machine(about.parse_args()).run()))
+    print("\n".join(Machine(about.parse_args(given)).run()))
 
 
 if __name__ == "__main__":
-    signal.signal(signal.SIGPIPE, signal.SIG_DFL)
-    sys.exit(main())
+    tool(main)

@@ -14,11 +14,11 @@ The status is 0 if the history is legal, 1 if it isn't, and 2 if the text or a f
 error.
 """
 import argparse
-import signal
 import sys
 from pathlib import Path
 
 sys.path.insert(0, str(Path(__file__).resolve().parent.parent))
+from reference.given import tool  # noqa: E402
 from tools import program  # noqa: E402
 from tools.orders import witness  # noqa: E402
 from tools.orders.history import FENCE, MOST_CORE, Fault, read_history, read_opening, words_of  # noqa: E402
@@ -61,8 +61,8 @@ def write(options, operations, order):
     return trace, records
 
 
-def main():
-    options = words().parse_args()
+def main(given):
+    options = words().parse_args(given)
     try:
         operations = read_history(program.text_of(options.HISTORY))
         opening = read_opening(program.text_of(options.opening)) if options.opening else {}
@@ -84,8 +84,4 @@ def main():
 
 
 if __name__ == "__main__":
-    signal.signal(signal.SIGPIPE, signal.SIG_DFL)
-    try:
-        sys.exit(main())
-    except KeyboardInterrupt:
-        sys.exit(130)
+    tool(main)

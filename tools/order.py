@@ -19,12 +19,12 @@ The status is 0 if the history is consistent, 1 if it isn't, 2 if the text or a 
 error, and 3 if the answer isn't known.
 """
 import argparse
-import signal
 import sys
 from pathlib import Path
 
 sys.path.insert(0, str(Path(__file__).resolve().parent.parent))
 from reference import tso  # noqa: E402
+from reference.given import tool  # noqa: E402
 from reference.traces import read_records  # noqa: E402
 from tools import program  # noqa: E402
 from tools.orders import witness  # noqa: E402
@@ -81,7 +81,10 @@ def confirmed(options, *paths):
         if said != "legal":
             program.fail(f"reference/tso.py says of the order found: {said}")
         return "checked by reference/tso.py"
-    said = program.run("check", *paths).strip()
+    try:
+        said = program.run("check", *paths).strip()
+    except program.Refused as refused:
+        program.fail(str(refused))
     if said != "legal":
         program.fail(f"check says of the order found: {said}")
     is_proved = Path(program.program()).name != "oracle.py"
@@ -94,8 +97,8 @@ def marked(options, lines):
     return [f"{line} {tso.NOT_PROVED}" for line in lines] if options.model == "tso" else list(lines)
 
 
-def main():
-    options = words().parse_args()
+def main(given):
+    options = words().parse_args(given)
     if options.model == "tso" and options.real_time:
         program.fail("--real-time is of sequential consistency alone: when a delayed store ends isn't known")
     operations = read(options.HISTORY, read_history)
@@ -113,10 +116,4 @@ def main():
 
 
 if __name__ == "__main__":
-    signal.signal(signal.SIGPIPE, signal.SIG_DFL)
-    try:
-        sys.exit(main())
-    except program.Refused as refused:
-        program.fail(str(refused))
-    except KeyboardInterrupt:
-        sys.exit(130)
+    tool(main)

@@ -1,3 +1,4 @@
+mod Ends
 mod Message
 mod Opened
 mod Passed

@@ -1,11 +1,24 @@
 //! What the uses of docs/USES.md give, where their contracts don't say it. The values were worked out by hand.
 use crate::compare::renewals;
 use crate::drive::first_store;
+use crate::ends::ends_and_runs;
 use crate::program::pass_message;
 use interleaving_core::{Answer, LineNo, OpenError, System};
+use litmus_reader::read;
 use physiological_order::{Op, Record, WordAddr};
 use programs::Step;
+use report::MachineOptions;
+use sequential_ends::EndsError;
 use std::alloc::{AllocError, Global};
+use worker_driver::config_of;
+
+const STORE_BUFFERING: &[u8] = b"RISCV SB
+{ 0:x5=1; 0:x6=x; 0:x8=y; 1:x5=1; 1:x6=y; 1:x8=x; }
+ P0          | P1          ;
+ sw x5,0(x6) | sw x5,0(x6) ;
+ lw x7,0(x8) | lw x7,0(x8) ;
+exists (0:x7=0 /\\ 1:x7=0)
+";
 
 // A core loads a word, advances 15 times, and loads it again.
 fn steps(alloc: Global) -> Result<Vec<Step>, AllocError> {
@@ -66,9 +79,26 @@ fn is_as_told(alloc: Global) -> Result<bool, OpenError> {
     Ok(are_answered(&answers) && is_stored(&system))
 }
 
+// One thread's load comes behind the other's store: the ends but that with both loads 0, in rising order.
+fn are_ends_of_store_buffering(alloc: Global) -> Result<bool, EndsError> {
+    let Ok(test) = read(alloc, STORE_BUFFERING) else {
+        return Ok(false);
+    };
+    let Some(config) = config_of(&MachineOptions::DEFAULT, test.threads() as u32) else {
+        return Ok(false);
+    };
+    let (ends, runs) = ends_and_runs(alloc, &test, config, 20)?;
+    Ok(ends.len() == 3
+        && ends.values(0) == Some([0, 1].as_slice())
+        && ends.values(1) == Some([1, 0].as_slice())
+        && ends.values(2) == Some([1, 1].as_slice())
+        && runs.len() == 20)
+}
+
 /// Whether all of them give these values.
 pub(crate) fn are_told(alloc: Global) -> bool {
     a_longer_lease_saves_a_renewal(alloc) == Ok(true)
         && is_as_told(alloc) == Ok(true)
         && pass_message(alloc) == Ok(Some(42))
+        && are_ends_of_store_buffering(alloc) == Ok(true)
 }

@@ -35,7 +35,7 @@ module _ (config : Config) (good : is_good config ≡ true) (opening : FinMap na
   of_config = (after_all_same (at_start config opening) events).config
 
   pub served_after : m.is_stopped ≡ false → length m.mail.messages + 2 ≤ config.messages →
-      m.mail.next + 35 < 2 ^ 64 - 1 → (core : ℕ) (op : Op) →
+      m.mail.next + 35 ≤ 2 ^ 64 - 1 → (core : ℕ) (op : Op) →
       operation_of (slice_get m.cores core) ≡ Some op → IsServed 35 core op m
   served_after running room numbers core op opens = by_core (slice_get m.cores core) refl opens
     where

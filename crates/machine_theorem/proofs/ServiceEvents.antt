@@ -127,7 +127,7 @@ pub record IsIn (config : Config) (a : State) (m : Machine) (more : ℕ) : Type 
   pub banks : length m.banks ≡ config.banks
   pub drams : length m.drams ≡ config.banks
   pub rising : IsRising 0 m.mail.messages m.mail.next
-  pub numbers : m.mail.next + more < 2 ^ 64 - 1
+  pub numbers : m.mail.next + more ≤ 2 ^ 64 - 1
 
 pub bag_length : (ms : List (ℕ × Message)) → length (bag_of ms) ≡ length ms
 bag_length [] = refl
@@ -217,7 +217,7 @@ module _ (config : Config) (most : ℕ) (room : most ≤ config.messages) where
           numbers = let z = i.numbers in by_number n;
         })
       where
-        by_number : (n : Option ℕ) → (left m.mail n).next + k < 2 ^ 64 - 1
+        by_number : (n : Option ℕ) → (left m.mail n).next + k ≤ 2 ^ 64 - 1
         by_number n = let z = i.numbers in omega (arith, z)
     step_in put puts p n rest others (Makes did consumes sends part) b to le =
         subst (λ (x : State). IsIn config x (changed m put n (Makes did consumes sends part)).1 k) (sym to)

@@ -84,7 +84,7 @@ pub fn nothing_is_stuck()
     ensures { (config : Config) (opening : FinMap nat_cmp ℕ) (events : List Event) → is_good config ≡ true →
         let m = after_all (at_start config opening) events in
         m.is_stopped ≡ false → length m.mail.messages + 2 ≤ config.messages →
-        m.mail.next + 35 < 2 ^ 64 - 1 → (core : ℕ) (op : Op) →
+        m.mail.next + 35 ≤ 2 ^ 64 - 1 → (core : ℕ) (op : Op) →
         operation_of (slice_get m.cores core) ≡ Some op → IsServed 35 core op m }
 {}
 

@@ -1,6 +1,6 @@
-//! The crates as a caller uses them: a history is checked, a machine driven, a program written, a litmus test run from
-//! a text in memory, its ends listed, and two configurations compared. docs/USES.md quotes each use. The status of the program is 0 if
-//! they give the values that their contracts leave open.
+//! The crates as a caller uses them: a history is checked, a machine driven, a program written, a litmus test run, its
+//! ends listed, and two configurations compared. docs/USES.md quotes each use. The status of the program is 0 if they
+//! give the values that their contracts leave open.
 #![tactic(auto)]
 
 mod check;

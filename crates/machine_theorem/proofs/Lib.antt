@@ -38,7 +38,9 @@ mod Reorderings
 mod Replies
 mod Rooms
 mod Routes
+mod SetSizes
 mod SetUps
+mod Services
 mod ServiceEvents
 mod Ways
 mod Sizes

@@ -48,7 +48,7 @@ use Rattle.machine_theorem.specs.Moves.{completes, with_completion}
 use Rattle.machine_theorem.specs.Moves.{goes_on}
 use Rattle.machine_theorem.specs.View.{body_seen, message_seen, messages_of, core_seen, entry_seen, set_up}
 use Rattle.machine_theorem.specs.View.{line_seen, view, copy_or_none}
-use Rattle.machine_theorem.specs.Unstuck.{a_core}
+use Rattle.machine_theorem.proofs.Services.{a_core}
 use Rattle.machine_theorem.proofs.Bags.{as_many}
 use Rattle.machine_theorem.proofs.Lookups.{put_now, change_now, messages_here}
 use Rattle.machine_theorem.proofs.Consistency.{state_consistent}

@@ -42,10 +42,10 @@ use Rattle.machine_theorem.specs.States.{State}
 use Rattle.machine_theorem.specs.Moves.{with_bank, Move, bank_steps}
 use Rattle.machine_theorem.specs.Moves.{Reached, goes_on}
 use Rattle.machine_theorem.specs.View.{core_seen, set_up}
-use Rattle.machine_theorem.specs.Unstuck.{Serves, nothing, first, IsLate, a_bank}
+use Rattle.machine_theorem.proofs.Services.{Serves, nothing, first, IsLate, a_bank}
 use Rattle.machine_theorem.proofs.Bags.{as_many}
 use Rattle.machine_theorem.proofs.Lookups.{put_now}
-use Rattle.machine_theorem.specs.Sizes.{Fits}
+use Rattle.machine_theorem.proofs.SetSizes.{Fits}
 use Rattle.machine_theorem.proofs.Sizes.{reached_sized, lines_fewer, first_there}
 use Rattle.machine_theorem.proofs.Openings.{fair}
 use Rattle.machine_theorem.proofs.Deliveries.{Found, found, ToBank, to_bank}

@@ -39,9 +39,9 @@ use Rattle.machine_theorem.specs.Bags.{weigh, SameBag, bag_of}
 use Rattle.machine_theorem.specs.States.{State, Same, seen}
 use Rattle.machine_theorem.specs.Moves as moves
 use Rattle.machine_theorem.specs.Moves.{Move, AreBeside, StepsTo, issues, completes, core_steps, bank_steps, dram_steps}
-use Rattle.machine_theorem.specs.Unstuck as unstuck
-use Rattle.machine_theorem.specs.Unstuck.{IsService, Serves, nothing, first, IsLate, a_core, a_bank, EndsWithin}
-use Rattle.machine_theorem.specs.Unstuck.{IsServing, CompletesIn, IsServed}
+use Rattle.machine_theorem.proofs.Services as defined
+use Rattle.machine_theorem.proofs.Services.{IsService, Serves, nothing, first, IsLate, a_core, a_bank, EndsWithin}
+use Rattle.machine_theorem.specs.Unstuck.{IsServing, IsServed}
 use Rattle.machine_theorem.proofs.Bags.{as_many, bag-taken}
 use Rattle.machine_theorem.proofs.PartChanges.{core_put, bank_put, dram_put, completion_put, bag_put, posted_put}
 use Rattle.machine_theorem.proofs.Reorderings.{hit, hit-itself, is_same, is_same-true}
@@ -466,7 +466,7 @@ module _ (config : Config) (most : ℕ) (room : most ≤ config.messages) where
       k = runs_on e.made more a e.after m e.serves
           (let z : services + 1 ≡ e.made + more = (let f = e.few in omega (arith, f)) in subst (IsIn config a m) z i)
 
-      completed : unstuck.Completes c op a e.after → IsServed (services + 1) c op m
+      completed : defined.Completes c op a e.after → IsServed (services + 1) c op m
       completed x = record {
         events = k.events;
         few = let z = k.few in let y = e.few in omega arith;

@@ -54,7 +54,7 @@ use Rattle.machine_theorem.specs.States.{State}
 use Rattle.machine_theorem.specs.Moves as moves
 use Rattle.machine_theorem.specs.Moves.{AreBeside, StepsTo, Move, issues, completes, core_steps, bank_steps, dram_steps}
 use Rattle.machine_theorem.specs.Moves.{Reached, opens, goes_on, same}
-use Rattle.machine_theorem.specs.Sizes.{Fits, IsSized}
+use Rattle.machine_theorem.proofs.SetSizes.{Fits, IsSized}
 use Rattle.machine_table.specs.SetUp.{is_good}
 use Rattle.machine_theorem.proofs.DramOpening.{get_replicate}
 use Rattle.machine_theorem.proofs.Openings.{Fair, fair}

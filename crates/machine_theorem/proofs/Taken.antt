@@ -31,7 +31,7 @@ use Rattle.machine_theorem.specs.Moves.{with_core, Move, core_steps, Reached}
 use Rattle.machine_theorem.specs.Moves.{goes_on}
 use Rattle.machine_theorem.specs.Consistent.{FindsCase}
 use Rattle.machine_theorem.specs.Kept.{IsKept}
-use Rattle.machine_theorem.specs.Unstuck.{IsService}
+use Rattle.machine_theorem.proofs.Services.{IsService}
 use Rattle.machine_theorem.proofs.Bags.{as_many}
 use Rattle.machine_theorem.proofs.Lookups.{put_now, change_now}
 use Rattle.machine_theorem.proofs.ReachedStates.{reached_kept}

@@ -51,12 +51,12 @@ use Rattle.machine_theorem.specs.Moves.{with_core, with_completion, Move, core_s
 use Rattle.machine_theorem.specs.Moves.{goes_on}
 use Rattle.machine_theorem.specs.View.{body_seen, core_seen, messages_of, set_up, view}
 use Rattle.machine_theorem.specs.Kept.{IsKept}
-use Rattle.machine_theorem.specs.Unstuck as unstuck
-use Rattle.machine_theorem.specs.Unstuck.{IsService, Serves, nothing, first, IsLate, a_core, EndsWithin}
+use Rattle.machine_theorem.proofs.Services as defined
+use Rattle.machine_theorem.proofs.Services.{IsService, Serves, nothing, first, IsLate, a_core, EndsWithin}
 use Rattle.machine_theorem.proofs.Lookups.{drop_now}
 use Rattle.machine_theorem.proofs.ReachedStates.{reached_kept}
 use Rattle.machine_theorem.proofs.Openings.{fair}
-use Rattle.machine_theorem.specs.Sizes.{Fits}
+use Rattle.machine_theorem.proofs.SetSizes.{Fits}
 use Rattle.machine_theorem.proofs.Sizes.{reached_sized, first_there}
 use Rattle.machine_theorem.proofs.Deliveries.{and_right, OfLine, found_of}
 use Rattle.machine_theorem.proofs.Deliveries.{serving_attempt, to_bank, to_core, IsReply, Suits}
@@ -115,7 +115,7 @@ module _ (config : Config) (good : is_good config ≡ true) (opening : FinMap na
     after = e.after;
     serves = serves_on most j e.made a b e.after made e.serves;
     ends = ⊎_elim
-        (λ (x : unstuck.Completes c op b e.after). inl (record {
+        (λ (x : defined.Completes c op b e.after). inl (record {
           completion = x.completion;
           its_operation = x.its_operation;
           records = x.records ∙ ap (λ rs. rs ++ x.completion ∷ []) same;

@@ -43,7 +43,7 @@ use Rattle.machine_theorem.specs.Moves.{Reached, goes_on}
 use Rattle.machine_theorem.specs.View.{body_seen, messages_of, core_seen, entry_in, entry_seen, set_up}
 use Rattle.machine_theorem.specs.View.{view}
 use Rattle.machine_theorem.specs.Kept.{IsKept}
-use Rattle.machine_theorem.specs.Unstuck.{IsService, Serves, nothing, first, IsLate}
+use Rattle.machine_theorem.proofs.Services.{IsService, Serves, nothing, first, IsLate}
 use Rattle.machine_theorem.proofs.Bags.{as_many}
 use Rattle.machine_theorem.proofs.Lookups.{IsNow, change_now, drop_now}
 use Rattle.machine_theorem.proofs.ReachedStates.{reached_kept}
@@ -61,8 +61,7 @@ pub record IsRequest (c l : ℕ) (m : Message) : Type 0 where
   pub asks : IsAsk m.body
 
 -- A core stands: K is what is seen of it. w weighs its request for line l, of which need many are out. At most n
--- messages
--- are in flight but for one, which a service may send.
+-- messages are in flight but for one, which a service may send.
 pub record Setting : Type 0 where
   pub config : Config
   pub good : is_good config ≡ true

@@ -12,7 +12,6 @@ pub mod PastWords
 pub mod PrivateWrites
 pub mod Service
 pub mod Shape
-pub mod Sizes
 pub mod StaleHit
 pub mod States
 pub mod Staying

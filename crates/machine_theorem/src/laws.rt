@@ -53,7 +53,7 @@ pub fn renumberings_keep_the_invariant()
 {}
 
 /// Every machine with the invariant is consistent: its records are legal, a line has at most one owner, a word's
-/// coherent value is the one that the records leave, and each word that lines don't have is 0.
+/// coherent value is the one that the records leave, each word that lines don't have is 0, and no recall is lost.
 pub fn machines_with_the_invariant_are_consistent()
     ensures { (m : Machine) → Invariant m → IsConsistent m }
 {}
@@ -62,8 +62,9 @@ pub fn machines_with_the_invariant_are_consistent()
 /// legal history of the opening memory and the lists that the cores were issued; a line has at most one owner, and
 /// grants and returns in flight count; and a word's coherent value is the one that the records leave, one after the
 /// other in the order of their times, on the opening memory. Where lines have one word, the other seven are 0, in every
-/// copy, entry, message and DRAM. And the part that a message in flight goes to has a case for it, with a place for the
-/// line that it brings: its delivery is never answered NoSuch.
+/// copy, entry, message and DRAM. While a bank recalls a line, its owner's return is on the way, or a recall that finds
+/// the owner, now or after its grant. And the part that a message in flight goes to has a case for it, with a place for
+/// the line that it brings: its delivery is never answered NoSuch.
 pub fn every_history_is_legal()
     ensures consistent { (config : Config) (opening : FinMap nat_cmp ℕ) (events : List Event) →
         is_good config ≡ true → IsConsistent (after_all (at_start config opening) events) }
@@ -76,10 +77,10 @@ pub fn every_history_is_legal()
         (transition m (Deliver number)).0 ≢ Refused NoSuch }
 {}
 
-/// Nothing is stuck where two more messages may be in flight, and there are numbers for 35 more. After any list of
-/// events, refused ones included, of a machine that opened with a good set-up and hasn't stopped: at most 35 events
-/// complete the open operation of any core, or a time doesn't fit. None of these events issues an operation or advances
-/// a core's own time. Others may be completed on the way; of this core that operation alone is.
+/// Nothing is stuck where there is room for two more messages, and numbers for 35. After any list of events, refused ones
+/// included, of a machine that opened with a good set-up and hasn't stopped: for each core's open operation there are at
+/// most 35 events that complete it, or that stop the machine, since a time doesn't fit. None of them is an Issue or an
+/// Advance. Operations of other cores may be completed on the way; of this core that one alone is.
 pub fn nothing_is_stuck()
     ensures { (config : Config) (opening : FinMap nat_cmp ℕ) (events : List Event) → is_good config ≡ true →
         let m = after_all (at_start config opening) events in

@@ -54,8 +54,8 @@ pub fn histories_are_reached()
 
 /// Every state that moves reach from the initial state of a machine with a good set-up: its records are a legal
 /// history of the opening memory and of what its cores were issued; a line has at most one owner, where grants and
-/// returns in flight count; a word's coherent value is the one that the records leave; and the part that a message in
-/// flight goes to has a case for it.
+/// returns in flight count; a word's coherent value is the one that the records leave; no recall is lost; and the part
+/// that a message in flight goes to has a case for it.
 pub fn reached_states_are_consistent()
     ensures { (config : Config) (opening : FinMap nat_cmp ℕ) (a : State) → is_good config ≡ true →
         Reached config opening a → Consistent config opening a }

@@ -91,7 +91,7 @@ abbrev pub version_of : Option Copy → Option ℕ
 version_of None = None
 version_of (Some c) = Some c.line.wts
 
--- no copy that has the right of a line
+-- no copy that owns its line
 abbrev pub NotOwned : Option Copy → Type 0
 NotOwned copy = (c : Copy) → copy ≡ Some c → c.exclusive ≡ false
 
@@ -108,7 +108,7 @@ pub data LineTransition (lease : ℕ) (pinned : ℕ → Type 0) : ℕ → Line �
         messages =
             FlushRep c copy.line ∷ x.messages;
       })
-  -- a recall is dropped only where it is stale: its core has no right, and waits for none
+  -- a recall is dropped only where it is stale: its core doesn't own the line, and has no operation open on it
   dropped : {t : ℕ} {x : Line} (c : ℕ) (rest : List Message) → IsPermutation x.messages (FlushReq c ∷ rest) →
       (pinned c → Prim.⊥) → NotOwned (x.copies c) → LineTransition lease pinned t x t (record x { messages = rest })
   wb_dropped : {t : ℕ} {x : Line} (c until : ℕ) (rest : List Message) → IsPermutation x.messages

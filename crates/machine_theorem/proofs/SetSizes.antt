@@ -1,5 +1,5 @@
 -- The sizes of sets: each has at most as many lines as ways, each of its lines belongs there, and none is there twice.
-use Rattle.std.specs.Prelude.{◌≡◌, ℕ, ◌/◌, ◌%◌, ◌≤◌, true, length}
+use Rattle.std.proofs.Common.{◌≡◌, ℕ, ◌/◌, ◌%◌, ◌≤◌, true, length}
 use Rattle.line_sets.specs.Order.{is_there, IsDistinct}
 use Rattle.line_sets.specs.SetTable.{Sets, set_at}
 use Rattle.machine_table.specs.declared.config.Config.{Config}

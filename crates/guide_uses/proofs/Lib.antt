@@ -1,4 +1,4 @@
-mod Ends
+mod Listed
 mod Message
 mod Opened
 mod Passed

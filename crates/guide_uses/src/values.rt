@@ -88,11 +88,13 @@ fn are_ends_of_store_buffering(alloc: Global) -> Result<bool, EndsError> {
         return Ok(false);
     };
     let (ends, runs) = ends_and_runs(alloc, &test, config, 20)?;
-    Ok(ends.len() == 3
-        && ends.values(0) == Some([0, 1].as_slice())
-        && ends.values(1) == Some([1, 0].as_slice())
-        && ends.values(2) == Some([1, 1].as_slice())
-        && runs.len() == 20)
+    Ok(
+        ends.len() == 3
+            && ends.values(0) == Some([0, 1].as_slice())
+            && ends.values(1) == Some([1, 0].as_slice())
+            && ends.values(2) == Some([1, 1].as_slice())
+            && runs.len() == 20,
+    )
 }
 
 /// Whether all of them give these values.

@@ -36,8 +36,8 @@ GROUPS = [
     ("Runs by threads: what a turn is, and each call of a seat that it makes", [
         ("thread_driver", "*", "")]),
     ("Runs and reports: the schedule, the sequential machine, the text, the program", [
-        (name, "*", "") for name in ("byte_streams", "programs", "schedules", "worker_driver", "sequential_machine", "report_text",
-                                     "run_results", "command_line", "tardis")]),
+        (name, "*", "") for name in ("byte_streams", "programs", "schedules", "worker_driver", "sequential_machine",
+                                     "sequential_ends", "report_text", "run_results", "command_line", "tardis")]),
     ("Traces and records: their texts, their runs, and the verdict of a check", [
         (name, "*", "") for name in ("trace_lines", "trace_reader", "trace_texts", "report")]),
     ("Calls from C and C++: their numbers, and what stands in their buffers", [

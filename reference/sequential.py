@@ -7,17 +7,19 @@ One flat memory, no caches and no times: in each step some thread does its next 
 for each test the verdict on the condition over all ends, and then the ends, each with a star if the condition's
 expression holds in it. With --orders each end has an order of the threads' memory instructions behind it that leads
 there: P0:2 is the second of thread 0. It goes depth first, and keeps each state that it has seen, at most N of them
-(--states N, by default 4194304). It shares the reading of texts with reference/oracle.py, and nothing else.
+(--states N, by default 4194304). A state is where each thread is, its registers, and the memory. It shares the reading
+of texts with reference/oracle.py, and nothing else.
 
-Exit status: 0 done, 1 a test has more states than N, 2 bad words.
+Exit status: 0 done, 1 a test has more states than N, 2 bad words or a bad text.
 """
-import argparse
 import copy
 import sys
 from pathlib import Path
 
 sys.path.insert(0, str(Path(__file__).resolve().parent.parent))
-from reference.given import contents, litmus_test, tool  # noqa: E402
+from reference.given import Bad, Words, contents, litmus_test, tool  # noqa: E402
+
+MOST_STATES = 4194304
 
 
 def perform(thread, memory):
@@ -33,9 +35,6 @@ def state_of(threads, memory):
     """What all that follows depends on."""
     return (tuple((thread.at, tuple(sorted(thread.registers.items()))) for thread in threads),
             tuple(sorted(memory.items())))
-
-
-MOST_STATES = 4194304
 
 
 class TooManyStates(Exception):
@@ -88,11 +87,15 @@ def steps_text(order):
 
 
 def words_of(words):
-    parser = argparse.ArgumentParser(description=__doc__, formatter_class=argparse.RawDescriptionHelpFormatter)
-    parser.add_argument("--states", metavar="N", type=int, default=MOST_STATES)
-    parser.add_argument("--orders", action="store_true")
-    parser.add_argument("tests", metavar="TEST", nargs="+")
-    return parser.parse_args(words)
+    parser = Words(__doc__)
+    parser.add_argument("--states", metavar="N", default=str(MOST_STATES), help="the most states that are kept")
+    parser.add_argument("--orders", action="store_true", help="with an order that leads to each end")
+    parser.add_argument("tests", metavar="TEST", nargs="+", help="a litmus test")
+    asked = parser.parse_args(words)
+    if not asked.states.isdecimal() or not int(asked.states):
+        raise Bad("--states: 1 or more")
+    asked.states = int(asked.states)
+    return asked
 
 
 def main(words):
@@ -102,7 +105,7 @@ def main(words):
         try:
             ends = orders_of(test, asked.states)
         except TooManyStates:
-            sys.exit(f"sequential.py: {path}: more than {asked.states} states; --states N allows more")
+            sys.exit(f"sequential.py: {path}: more than {asked.states} states; a higher --states tries on")
         print(f"{test.name}: {len(ends)} ends, {test.kind}: {answer(test, ends)} by sequential consistency")
         for end, order in sorted(ends.items()):
             steps = f" : {steps_text(order)}" if asked.orders else ""

@@ -21,7 +21,7 @@ use sequential_machine::laws::ends_of_turns_are_outcomes;
 use std::alloc::Global;
 use std::marker::Model;
 
-/// How many states are kept at once at most, unless a caller asks for another number.
+/// How many states may be kept at once, for a caller who has no other bound.
 pub const MOST_STATES: usize = 4_194_304;
 
 /// Every end of a test: the values of the names in its condition, in the order of `Test::seen`.
@@ -86,6 +86,7 @@ pub fn list_ends(alloc: Global, test: &Test, most_states: usize) -> Result<Ends,
     layer.add(opening_row(alloc, test)?)?;
     let mut rows = Rows::new(alloc);
     let mut states: u64 = 0;
+    // How many turns lead to the layer. Only the proof asks.
     let mut turns: u128 = 0;
     while layer.len() > 0 {
         states = states.saturating_add(layer.len() as u64);

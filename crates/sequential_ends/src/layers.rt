@@ -15,7 +15,7 @@ use litmus_reader::{Test, ThreadState};
 use physiological_order::Op;
 use std::alloc::{AllocError, Global};
 
-// One more row, of which there are at most so many.
+// Adds a row, unless there are more than `room` then.
 fn add(rows: &mut Rows, row: Vec<u64>, room: usize) -> Result<(), EndsError>
     ensures added { OnOk result (rows.new ≡ with_row rows.old row.items) }
     ensures few { OnOk result (length rows.new ≤ room) }

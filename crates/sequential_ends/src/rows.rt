@@ -60,7 +60,7 @@ impl Rows {
         Ok(())
     }
 
-    /// Sorts the rows: each next to the first word in which it differs.
+    /// Sorts the rows, by the first word in which two of them differ.
     pub(crate) fn sort(&mut self) -> Result<(), AllocError>
         ensures sorted { OnOk result (IsSorted (slice_cmp nat_cmp) self.new) }
         ensures once { OnOk result (IsDistinct bytes_eq self.new) }

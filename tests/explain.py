@@ -56,7 +56,10 @@ EQUAL = [("0 W 0x0 1\n0 W 0x8 1\n1 R 0x0\n1 R 0x8\n1 R 0x0\n",
               "It last touched the word at line 1.", "no order explains these records: tools/order.py RECORDS says"]),
          ("0 W 0x0 1\n0 W 0x0 2\n1 R 0x0\n", "0 0 W 0x0 1 0 0\n0 1 W 0x0 2 0 1\n1 0 R 0x0 0 0 2\n", [
              "wrong value 2", "Core 1 received a value that 2 later writes had replaced, as when an invalidation",
-             "It hadn't touched the word before.", "another order explains these records: tools/order.py RECORDS"])]
+             "It hadn't touched the word before.", "another order explains these records: tools/order.py RECORDS"]),
+         ("0 W 0x0 1\n1 S 0x0 2\n1 R 0x0\n", "0 0 W 0x0 1 0 0\n1 0 S 0x0 2 1 0 1\n1 1 R 0x0 1 0 2\n", [
+             "wrong value 2", "1 later write had replaced, its own at line 2 among them: it lost its own write.",
+             "no order explains these records"])]
 # The same by swaps, in a trace with advances: a swap writes, and it receives.
 SWAPS = ("trace 2\n0 A\n0 S 0x0 1\n0 A\n0 S 0x0 2\n1 R 0x0\n", [
     ("0 0 S 0x0 1 0 1 0\n0 1 S 0x0 2 0 2 1\n1 0 R 0x0 2 2 2\n", [
@@ -295,6 +298,10 @@ def others(tester):
         lines += [f"0 {k} R 0x0 {int(k != 100)} 0 {k + 1}" for k in range(first, 160)]
         tester.tells(["another may: tools/order.py RECORDS", told],
                      b"0 R 0x0\n" * 160 + b"1 W 0x0 1\n", "\n".join(lines).encode())
+    lines = ["0 0 S 0x0 1 0 0 0", *(f"0 {k} R 0x0 1 0 {k}" for k in range(1, 100)), "1 0 W 0x0 2 0 100"]
+    lines += [f"0 {k} R 0x0 {1 + (k > 100)} 0 {k + 1}" for k in range(100, 161)]
+    tester.tells(["wrong value 101", "Another order of the 61 records around it, lines 72 to 132, explains"],
+                 b"0 S 0x0 1\n" + b"0 R 0x0\n" * 160 + b"1 W 0x0 2\n", "\n".join(lines).encode())
     many, start = [f"0 {k} R 0x0 0 0 {k + (k == 29999)}" for k in range(30000)], time.monotonic()
     tester.tells(["bad number 29999", "No number stands twice"], b"0 R 0x0\n" * 30000, "\n".join(many).encode())
     tester.expect(time.monotonic() - start < 20, "30,000 records take too long")

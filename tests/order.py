@@ -8,6 +8,8 @@ is found legal, and facts that are printed are looked at one by one. Then come t
 kind, and --large adds the sizes that take a minute. The last line is `N tried, M wrong`.
 """
 import argparse
+import contextlib
+import io
 import os
 import random
 import re
@@ -23,6 +25,7 @@ from reference.traces import read_records  # noqa: E402
 from tests.texts import TOP, Tester  # noqa: E402
 from tools.mesi import Machine  # noqa: E402
 from tools.number import numbered  # noqa: E402
+from tools.order import confirmed  # noqa: E402
 from tools.orders import solver, witness  # noqa: E402
 from tools.orders.answer import answer  # noqa: E402
 from tools.orders.forced import Forced, NoOrder  # noqa: E402
@@ -175,7 +178,7 @@ def facts_hold(operations, lines):
         if None in cited or not fact_holds(by_line, match[2], cited):
             return False
         facts[int(match[1])] = match[2]
-    if "nothing" in lines[0]:
+    if "nothing" in lines[0] or "ruled out" in lines[0]:
         return read_holds(operations, lines[0], facts.values())
     ring = [int(re.match(r"  line (\d+)", line)[1]) for line in lines if line.startswith("  line")]
     ordered = {tuple(map(int, match.groups())) for fact in facts.values() if (match := re.match(ORDERED, fact))}
@@ -404,6 +407,60 @@ def settings(tester):
     tester.expect(out.startswith("consistent: checked by reference/oracle.py (not proved"), out)
 
 
+def confirmations(tester):
+    """Only the checker's word counts: an order with a wrong value, or without an operation, isn't reported as found."""
+    trace, records = tester.folder / "c.trace", tester.folder / "c.records"
+    trace.write_text("0 W 0x0 1\n1 R 0x0\n")
+    for model in ("sc", "tso"):
+        for text, is_good in (("0 0 W 0x0 1 0 0\n1 0 R 0x0 1 0 1\n", True), ("0 0 W 0x0 1 0 0\n1 0 R 0x0 0 0 1\n", False),
+                              ("0 0 W 0x0 1 0 0\n", False), ("", False)):
+            records.write_text(text)
+            try:
+                with contextlib.redirect_stderr(io.StringIO()) as error:
+                    said = confirmed(argparse.Namespace(model=model), trace, records)
+            except SystemExit as ended:
+                said = ended.code
+            tester.expect(said != 2 if is_good else said == 2 and error.getvalue().count("\n") == 1,
+                          f"{model}, {text!r}: {said}")
+
+
+# Each with its options, and lines of the answer, by hand. A fence has times as others have, and a half of them says
+# nothing of the other half.
+TOLD = [
+    ("0: M[0] := 1 @ 0:10\n1: sync @ 20:30\n1: M[0] == 0\n", ["--real-time"], [
+        "  1: line 1 before line 2: it ended before the other started",
+        "  2: line 2 before line 3: program order of core 1",
+        "  3: line 3 before line 1: line 3 received the word's opening value"]),
+    ("0: M[0] := 1 @ 0:10\n1: sync @ 20:30\n1: M[0] == 1\n", ["--real-time"], ["consistent: proved by tardis check"]),
+    ("0: M[0] := 1 @ 0:\n1: M[0] == 0 @ 11:12\n", ["--real-time"], ["consistent: proved by tardis check"]),
+    ("0: M[0] := 1 @ 0:10\n1: M[0] == 0 @ :12\n", ["--real-time"], ["consistent: proved by tardis check"]),
+    ("0 W 0x0 1\n0 R 0x0 0\n", ["--model", "tso"], [
+        f"  1: line 2 sees line 1, its own core's store before it {tso.NOT_PROVED}",
+        f"  2: line 2 didn't receive the opening value: line 1 had overwritten it, by 1 {tso.NOT_PROVED}"]),
+    ("0 W 0x0 1\n0 R 0x8 6\n1 W 0x8 1\n1 R 0x0 5\n", ["--model", "tso", "--opening", "OPENING"], [
+        f"consistent: checked by reference/tso.py {tso.NOT_PROVED}"]),
+    ("0 W 0x0 1\n0 R 0x8 0\n", ["--model", "tso", "--opening", "OPENING"], [
+        "not consistent: line 2 (core 0's load of 0x8, which received 0), and nothing wrote that there "
+        f"{tso.NOT_PROVED}"]),
+]
+
+
+def told(tester):
+    """What is printed, and where variables are."""
+    history, opening = tester.folder / "told.history", tester.folder / "opening"
+    opening.write_text("0x0 5\n0x8 6\n")
+    for text, words, wanted in TOLD:
+        history.write_text(text)
+        words = [opening if word == "OPENING" else word for word in words]
+        status, out, error = tester.run(*words, "--out", tester.folder, history)
+        tester.expect(error == "" and not set(wanted) - set(out.splitlines()), f"{words} {text!r}: {out} {error}")
+    history.write_text("0: M[1] := 1\n0: M[2] == 7\n")
+    opening.write_text("M[2] := 7\n")
+    tester.run("--opening", opening, "--out", tester.folder, history)
+    trace = (tester.folder / "told.order.trace").read_text()
+    tester.expect(trace == "1 W 0x10 7\n0 W 0x8 1\n0 R 0x10\n", f"M[1] is at 0x8: {trace}")
+
+
 def orders_of_buffers(tester):
     """What reference/tso.py says of orders by hand. Core 0 stores to 0x0 and loads 0x8, core 1 the other way round."""
     trace, fenced = b"0 W 0x0 1\n0 R 0x8\n1 W 0x8 1\n1 R 0x0\n", b"0 W 0x0 1\n0 F\n0 R 0x8\n1 W 0x8 1\n1 R 0x0\n"
@@ -494,13 +551,15 @@ def examples(tester):
 NUMBERED = [
     ("0 W 0x0 1 @ 100\n1 R 0x0 1 @ 2000\n", "legal\n", "0 100 1\n1 2000 2\n"),
     ("1 R 0x0 1 @ 1.75\n0 W 0x0 1 @ 1.5\n", "legal\n", "0 1.5 2\n1 1.75 1\n"),
-    ("0 W 0x0 1 @ 7e3\n0 F\n1 R 0x0 0 @ 6999.5 6999.5\n", "legal\n", "0 6999.5 3\n1 7E+3 1\n"),
+    ("0 W 0x0 1 @ 7e3\n0 F\n1 R 0x0 0 @ 6999.5 6999.5\n", "legal\n", "0 6999.5 3\n1 7e3 1\n"),
     ("1 R 0x4 0 @ 3\n0 W 0x4 1 @ 3\n", "legal\n", "0 3 1\n1 3 2\n"),
     ("0 W 0x0 1 @ 3\n1 R 0x0 0 @ 3\n", "wrong value 1\nat 3, line 2 (core 1's load of 0x0, which received 0)\n",
      "0 3 1\n1 3 2\n"),
     ("0 W 0x0 1 @ 30\n0 R 0x0 1 @ 20\n", "out of program order 0\nat 20, line 2 (core 0's load of",
      "0 20 2\n1 30 1\n"),
     ("0: M[0] := 1 @ 4:4\n", "legal\n", "0 4 1\n"),
+    ("1 R 0x0 1 @ 100000000000000002\n0 W 0x0 1 @ 100000000000000001\n", "legal\n",
+     "0 100000000000000001 2\n1 100000000000000002 1\n"),
     ("0 W 0x0 1 @ 1\n0 R 0x0 1\n", "line 2: one time is needed behind an @", None),
     ("0 W 0x0 1 @ 1 2\n", "line 1: one time is needed behind an @", None),
     ("0 W 0x0 1 @ x\n", "line 1: behind `@` stand one or two times", None),
@@ -525,6 +584,14 @@ def numbers(tester):
     ran = numberer.run("--opening", str(opening), "--out", str(tester.folder), str(history))
     tester.expect(ran == (0, "legal\n", "") and (tester.folder / "timed.map").read_text() == "1 7 1\n2 8 2\n",
                   f"number.py --opening: {ran}")
+    opening.write_text("x 5\n")
+    status, out, error = numberer.run("--opening", str(opening), "--out", str(tester.folder), str(history))
+    tester.expect((status, out) == (2, "") and error.startswith(f"number.py: {opening}: line 1: "), f"opening: {error}")
+    mine = tester.folder / "mine.trace"
+    mine.write_text("0 W 0x0 1 @ 10\n")
+    status, out, error = numberer.run("--out", str(tester.folder), str(mine))
+    tester.expect((status, out) == (2, "") and error.count("\n") == 1 and mine.read_text() == "0 W 0x0 1 @ 10\n",
+                  f"{mine}: {status} {out} {error}")
 
 
 def directories(tester):
@@ -553,6 +620,8 @@ def main():
         draws(tester, given.histories)
         texts(tester)
         settings(tester)
+        confirmations(tester)
+        told(tester)
         orders_of_buffers(tester)
         drawn_orders(tester)
         sizes(tester, given.large)

@@ -21,7 +21,10 @@ def seen(of_word, place):
     touched = [at for at in range(place) if of_word[at].core == record.core]
     what = f"Core {record.core} received a value that {replaced} later write{'s' * (replaced > 1)} had replaced"
     last = of_word[touched[-1]] if touched else None
-    if last and (touched[-1] >= source and record.received in (last.written, last.received)):
+    mine = [at for at in touched if at > source and of_word[at].written is not None]
+    if mine:
+        yield f"{what}, its own at line {of_word[mine[-1]].line} among them: it lost its own write."
+    elif last and (touched[-1] >= source and record.received in (last.written, last.received)):
         yield f"{what}, as after a lost invalidation."
         yield f"It last touched the word at line {last.line}."
     else:
@@ -39,7 +42,9 @@ def another_order(records, at):
     opening = {record.word: record.written for record in records[:first] if record.written is not None}
     window = sorted(records[first:last], key=lambda record: record.place)
     found = answer([operation_of(record) for record in window], SECONDS, opening=opening)
-    if len(window) == len(records) and found.is_known:
+    are_placed = all(placed == place for core in {record.core for record in records} for placed, place in
+                     enumerate(sorted(record.place for record in records if record.core == core)))
+    if len(window) == len(records) and found.is_known and are_placed:
         yield f"All times are equal, and {'no' if found.order is None else 'another'} order explains these records: " \
               f"tools/order.py RECORDS {'says why' if found.order is None else 'writes it'}."
         return

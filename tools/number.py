@@ -20,6 +20,7 @@ from pathlib import Path
 sys.path.insert(0, str(Path(__file__).resolve().parent.parent))
 from reference.given import tool  # noqa: E402
 from tools import program  # noqa: E402
+from tools.order import read  # noqa: E402
 from tools.orders import witness  # noqa: E402
 from tools.orders.history import FENCE, MOST_CORE, Fault, read_history, read_opening, words_of  # noqa: E402
 
@@ -49,12 +50,16 @@ def numbered(operations):
 def write(options, operations, order):
     """The paths of the trace and the records."""
     of_word, stem = words_of(operations), Path(options.HISTORY).stem
-    trace, records, mapped = (options.out / f"{stem}.{ending}" for ending in ("trace", "records", "map"))
+    trace, records, mapped = paths = [options.out / f"{stem}.{ending}" for ending in ("trace", "records", "map")]
+    given = [Path(path).resolve() for path in (options.HISTORY, options.opening) if path]
+    for path in paths:
+        if path.resolve() in given:
+            program.fail(f"{path} would be overwritten; --out names another folder")
     try:
         options.out.mkdir(parents=True, exist_ok=True)
         witness.write(trace, witness.trace_lines(operations, of_word, False))
         witness.write(records, witness.record_lines(operations, of_word, order))
-        witness.write(mapped, (f"{number} {operations[node].start} {operations[node].line}"
+        witness.write(mapped, (f"{number} {operations[node].time} {operations[node].line}"
                                for number, node in enumerate(order) if operations[node].line is not None))
     except OSError as error:
         program.fail(f"{error.filename}: {error.strerror}")
@@ -63,12 +68,12 @@ def write(options, operations, order):
 
 def main(given):
     options = words().parse_args(given)
+    operations = read(options.HISTORY, read_history)
+    opening = read(options.opening, read_opening) if options.opening else {}
     try:
-        operations = read_history(program.text_of(options.HISTORY))
-        opening = read_opening(program.text_of(options.opening)) if options.opening else {}
         whole = witness.with_opening(operations, numbered(operations), opening)
         if whole is None:
-            raise Fault(1, f"all {MOST_CORE + 1} cores have operations, and one is to store the opening")
+            raise program.Refused(f"all {MOST_CORE + 1} cores have operations, and one is to store the opening")
         operations, order = whole
         paths = write(options, operations, order)
         verdict = program.run("check", *paths).strip()
@@ -78,7 +83,7 @@ def main(given):
     if verdict == "legal":
         return 0
     operation = operations[order[int(verdict.rpartition(" ")[2])]]
-    print(f"at {operation.start}, {operation.told()}")
+    print(f"at {operation.time}, {operation.told()}")
     print("This order doesn't explain it; another may: tools/order.py looks for it.")
     return 1
 

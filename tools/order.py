@@ -1,5 +1,5 @@
 #!/usr/bin/env python3
-"""Finds an order of a history that has none, and has `tardis check` confirm it.
+"""Finds an order of a history that comes without one, and has `tardis check` confirm it.
 
     tools/order.py [--out FOLDER] [--real-time] [--opening FILE] [--seconds N] [--model tso] HISTORY
 
@@ -25,7 +25,7 @@ from pathlib import Path
 sys.path.insert(0, str(Path(__file__).resolve().parent.parent))
 from reference import tso  # noqa: E402
 from reference.given import tool  # noqa: E402
-from reference.traces import read_records  # noqa: E402
+from reference.traces import Trace, read_records  # noqa: E402
 from tools import program  # noqa: E402
 from tools.orders import witness  # noqa: E402
 from tools.orders.answer import answer  # noqa: E402
@@ -75,8 +75,8 @@ def write_order(options, operations, order):
 
 def confirmed(options, *paths):
     """Who confirms the order, in words; the script ends if nobody does."""
+    trace, records = map(program.text_of, paths)
     if options.model == "tso":
-        trace, records = map(program.text_of, paths)
         said = tso.verdict(*tso.read_trace(trace), read_records(records))
         if said != "legal":
             program.fail(f"reference/tso.py says of the order found: {said}")
@@ -87,6 +87,8 @@ def confirmed(options, *paths):
         program.fail(str(refused))
     if said != "legal":
         program.fail(f"check says of the order found: {said}")
+    if len(read_records(records)) < sum(map(len, Trace(trace).issued())):  # such a part is legal, too
+        program.fail("the order found lacks operations")
     is_proved = Path(program.program()).name != "oracle.py"
     return "proved by tardis check" if is_proved else \
         "checked by reference/oracle.py (not proved: ./tardis isn't built)"

@@ -31,13 +31,13 @@ class Fault(Exception):
 
 class Operation:
     """A line of a history. `written` and `received` are None if the operation has none; a fence has no address.
-    `name` is what the text calls the address, and `start` and `end` are times or None."""
+    `name` is what the text calls the address, `start` and `end` are times or None, and `time` is the start's text."""
 
-    __slots__ = ("line", "core", "kind", "address", "written", "received", "name", "start", "end")
+    __slots__ = ("line", "core", "kind", "address", "written", "received", "name", "start", "end", "time")
 
     def __init__(self, line, core, kind, address=None, written=None, received=None):
         self.line, self.core, self.kind, self.address = line, core, kind, address
-        self.written, self.received, self.start, self.end = written, received, None, None
+        self.written, self.received, self.start, self.end, self.time = written, received, None, None, None
         self.name = "" if address is None else f"{address:#x}"
 
     def told(self):
@@ -60,7 +60,7 @@ def core_of(line, text):
 
 
 def set_times(operation, start, end):
-    operation.start = None if start is None else Decimal(start)
+    operation.time, operation.start = start, None if start is None else Decimal(start)
     operation.end = None if end is None else Decimal(end)
     if None not in (start, end) and operation.end < operation.start:
         raise Fault(operation.line, f"the operation ends at {end}, before it starts at {start}")

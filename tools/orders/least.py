@@ -1,4 +1,4 @@
-"""The least part of a history without an order that has none itself.
+"""The least part of an inconsistent history that has no order, either.
 
 A load can always be left out: an order of all operations is one of the others, too. So can a write whose value no
 operation that is kept received there. A fence can under any model. What is left out shows nothing then, and what is

@@ -26,7 +26,7 @@ class Problem:
 
     def __init__(self, operations, model="sc", real_time=False, opening=None):
         self.operations, self.model, self.opening = operations, model, opening or {}
-        if model == "sc":
+        if model == "sc" and not real_time:
             self.nodes = [node for node, operation in enumerate(operations) if operation.kind != FENCE]
         else:
             self.nodes = list(range(len(operations)))

@@ -82,7 +82,7 @@ class Proof:
 
     def program_order(self, node):
         core = f"program order of core {self.problem.operations[node].core}"
-        return core if self.problem.model == "sc" else f"{core}, which its store buffer keeps"
+        return core if self.problem.model == "sc" else f"{core}, kept under total store order"
 
     def seen_by(self, write, read, level):
         """That a write comes before a read, or is one of its core's own before it."""
@@ -137,7 +137,7 @@ def lines_of_read(problem, forced, read):
     if not dropped:
         yield f"not consistent: {operation.told()}, and nothing wrote that there"
         return
-    yield f"not consistent: {operation.told()}, and nothing that wrote that can be meant:"
+    yield f"not consistent: {operation.told()}, and each write of that value is ruled out:"
     proof = Proof(problem, forced)
     proof.source_of(read, forced.level)
     yield from (f"  {fact}" for fact in proof.facts)

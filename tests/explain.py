@@ -273,6 +273,10 @@ def runs(tester):
             found = out.find(part, at)
             at, good = found + len(part), good and found >= 0
         tester.expect(good, f"{words}: {status} {out} {error}, wanted {said}")
+    queue = Path(tester.folder, "queue.trace")  # each core stores to one line: the bank serves them in turn
+    queue.write_text("trace 2\n" + "".join(f"{core} W 0x0 1\n" for core in range(64)), encoding="ascii")
+    status, out, error = tester.run("--", "trace", "--limit", "190", str(queue))
+    tester.expect(status == 1 and "Cause: too few turns." in out, f"a queue: {status} {out} {error}")
     for words, wanted in NO_RUNS:
         status, out, error = tester.run("--", *words.split(" "))
         tester.expect((status, out, error.count("\n")) == (2, "", 1) and wanted in error, f"{words}: {status} {error}")

@@ -21,8 +21,8 @@ TOP = Path(__file__).resolve().parent.parent
 sys.path.insert(0, str(TOP))
 from reference.given import NUMBERS  # noqa: E402
 from reference.traces import Trace  # noqa: E402
-from tests.explored_rules import ANY, RIGHT, SB, STORE_AND_LOAD, STUCK, TWO_STORES, WIDE, WRONG  # noqa: E402
-from tools.explored.frozen import Elsewhere, Unread  # noqa: E402
+from tests.explored_rules import ANY, NUMBERED, RIGHT, SB, STORE_AND_LOAD, STUCK, TWO_STORES, WIDE, WRONG  # noqa: E402
+from tools.explored.frozen import Elsewhere, Numbered, Unread  # noqa: E402
 from tools.explored.parts import MASK, Parts  # noqa: E402
 from tools.explored.reports import Report  # noqa: E402
 from tools.explored.rows import ROWS  # noqa: E402
@@ -248,6 +248,18 @@ def wide(folder, name, keeps, changes):
         yield f"{name}: {kept} were kept, not {keeps}"
 
 
+def numbered(folder, name, changes):
+    """Faults in how a rule is refused that reads a number which states don't have."""
+    module, _ = module_of(folder, changes)
+    for keeps, kind in ((), Parts), (("whole",), Whole):
+        try:
+            Search(system_of(module, TWO_STORES, {}, keeps, kind)).run(10 ** 6)
+            yield f"{name}: isn't refused by {kind.__name__}"
+        except Elsewhere as cause:
+            if kind is Whole and not isinstance(cause, Numbered):
+                yield f"{name}: {cause}"
+
+
 # The command line.
 def ran(*words, to=None):
     return subprocess.run([EXPLORE, *map(str, words)], capture_output=True, text=True, timeout=120, check=False,
@@ -337,8 +349,8 @@ def main():
     player = Path(named[0]).resolve() if named else TOP / "reference/play.py"
     with tempfile.TemporaryDirectory() as folder:
         tries = [*(wrong_rule(folder, *of) for of in WRONG), *(right_rule(folder, *of) for of in RIGHT),
-                 *(wide(folder, *of) for of in WIDE), counts(folder), beside_what_is_proved(folder),
-                 command_line(folder, player), copied(folder),
+                 *(wide(folder, *of) for of in WIDE), *(numbered(folder, *of) for of in NUMBERED),
+                 counts(folder), beside_what_is_proved(folder), command_line(folder, player), copied(folder),
                  *(compared(module_of(folder, changes)[0], text, given)
                    for text, given, changes in [*COMPARED, *(LONG if is_long else [])]),
                  *(compared_if_small(module_of(folder, changes)[0], text, given)

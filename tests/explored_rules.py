@@ -55,6 +55,14 @@ WRONG = [
          '        if e.state != "Shared":\n            return "Dropped"\n')]),
     ("a load's time is the version's", ORDER, 16, "0 W 0x0 1\n0 R 0x8\n", {"ways": 2, "bank_ways": 2}, [
         ("            time = max(core.pts, copy.wts)\n", "            time = copy.wts\n")]),
+    # Each kind of message that carries ownership counts as an owner.
+    ("an owner returns its line and keeps it", OWNERS, 12, TWO_STORES, {}, [
+        ('        if m.kind == "FlushReq":\n            copies.remove(copy)\n',
+         '        if m.kind == "FlushReq":\n            pass\n')]),
+    ("an owner that wrote its line back still owns it", OWNERS, 12, STORE_AND_LOAD, {}, [
+        ('            copy.state, copy.written = "Shared", False\n', '            copy.written = False\n')]),
+    ("a line is upgraded twice", OWNERS, 19, "0 R 0x0\n0 W 0x0 1\n1 R 0x0\n1 W 0x0 2\n", {}, [
+        ('            e.state, e.owner = "Exclusive", m.core\n', '            e.owner = m.core\n')]),
     ("a swap receives what it stores", VALUE, 8, "0 S 0x0 1\n", {}, [
         ('received = copy.words[index] if kind != "store" else None',
          'received = dict(load=copy.words[index], swap=value, store=None)[kind]')]),
@@ -84,4 +92,14 @@ WIDE = [
          '        if core.out and len(list(self.flight.values())) >= 0:\n            return "Waiting"')]),
     ("a machine has more", ("whole",), [
         ("        self.stopped = False\n", "        self.stopped, self.grants = False, 0\n")]),
+]
+# Rules that read numbers which states don't have, so that they are refused.
+NUMBERED = [
+    ("how many messages were sent", [("        if core.out:\n", "        if core.out and self.sent > 500:\n")]),
+    ("whether it is even", [("        if core.out:\n", "        if core.out or self.sent % 2 == 0:\n")]),
+    ("how many operations a core was issued", [
+        ("        if self.cores[number].op:\n",
+         "        if self.cores[number].op or len(self.cores[number].issued) > 0:\n")]),
+    ("how many operations all were issued", [
+        ("        if self.cores[number].op:\n", "        if self.cores[number].op or self.issued > 0:\n")]),
 ]

@@ -16,6 +16,7 @@ from pathlib import Path
 TOP = Path(__file__).resolve().parent.parent
 MODEL = TOP / "examples/murphi/tardis.m"
 ROOMY, ANY = {"PLACES": 2, "BANK_PLACES": 2}, {"EVICT_ANY": "true"}
+WRITERS = "0 W 0x0 1\n0 W 0x8 1\n1 W 0x8 1\n1 W 0x0 1\n"  # a trace, since the model stores no other value
 RING = {"CORES": 3, "LINES": 3, "PLACES": 3, "BANK_PLACES": 3}
 # A test, what the model's constants are, and the words of explore.py for the same machine.
 SAME = [
@@ -25,6 +26,7 @@ SAME = [
     ("LB", {"TEST": 2}, ["--small"]),
     ("WRC", {"TEST": 3, "CORES": 3}, ["--small"]),
     ("3.SB", RING, []),
+    (WRITERS, {"TEST": 4} | ANY, ["--small", "--evict", "any"]),
 ]
 LONG = [
     ("WRC", {"TEST": 3, "CORES": 3} | ROOMY, []),
@@ -61,11 +63,12 @@ def verified(folder, text):
 
 def explored(test, words):
     """The states, the events and those of done states, and the ends."""
-    ran = subprocess.run([TOP / "tools/explore.py", *words, TOP / f"examples/litmus/{test}.litmus"],
-                         capture_output=True, text=True, check=False, timeout=600)
+    path, text = ("/dev/stdin", test) if "\n" in test else (TOP / f"examples/litmus/{test}.litmus", None)
+    ran = subprocess.run([TOP / "tools/explore.py", *words, path], input=text, capture_output=True, text=True,
+                         check=False, timeout=600)
     lines = [line.partition(" ") for line in ran.stdout.splitlines()]
     of = {name: said for name, _, said in lines}
-    ends = {tuple(re.findall(r"=(\d)", said)) for name, _, said in lines if name == "end"}
+    ends = {tuple(re.findall(r"=(\d)", said.replace("-", "0"))) for name, _, said in lines if name == "end"}
     return int(of["states"]), int(of["events"]) + int(of["done"]), ends
 
 

@@ -82,6 +82,16 @@ def goes_on_fairly(run):
     return None
 
 
+def not_served(run):
+    """The cores that starve: their operation is open for long, and of those that wait for the same set none gets on in
+    as many rounds more. Where one does, the others may only be behind it."""
+    later, sets = deepcopy(run), Waiting(run)
+    by_rounds(later, run.turns + LONG)
+    waiting = {core: sets.set_of(run.machine.line_at(core)) for core in run.starved()}
+    served = {at for core, at in waiting.items() if later.machine.cores[core].done > run.machine.cores[core].done}
+    return [core for core, at in waiting.items() if at not in served]
+
+
 class Waiting:
     """What the cores of a run wait for."""
 
@@ -175,8 +185,8 @@ def told(run, end, options):
         yield f"Cause: a sum of times doesn't fit 64 bits ({Teller(machine).event(run.made[-1][0])})."
     elif end == "stalled" or len(machine.flight) >= machine.o.messages and goes_on_fairly(run) is None:
         yield from full_network(run)
-    elif options.schedule == "round" and not options.fair and run.starved():
-        yield from starvation(run, run.starved())
+    elif options.schedule == "round" and not options.fair and not_served(run):
+        yield from starvation(run, not_served(run))
     else:
         yield from too_few_turns(run, options.limit)
 

@@ -42,6 +42,7 @@ from tools.explored.whole import Whole  # noqa: E402
 
 GOOD, WRONG, BAD_WORDS, LEFT = 0, 1, 2, 3
 MOST_CORES = 8
+MOST_DIFFERENCES = 10  # lines of a player that answers otherwise
 
 
 def words():
@@ -97,7 +98,7 @@ def explored(options, subject):
     """A search, whether all was explored, and what is said of how it was made."""
     keeps, said, search = ("whole",) if options.whole else (), [], None
     if options.resume:
-        search, keeps = resumed(options, subject)
+        search, keeps, said = resumed(options, subject)
     while True:
         try:
             search = search or Search(system_of(options, subject, keeps))
@@ -128,15 +129,23 @@ def mark(options, path):
     return sha256(b"\0".join(of)).hexdigest()
 
 
-def save(options, search, keeps):
-    with open(options.save, "wb") as file:
-        pickle.dump((mark(options, options.FILE[0]), keeps, search), file, protocol=5)
+def save(options, *kept):
+    """Writes a search, what it keeps of states, and what is said of it."""
+    with written(options.save) as file:
+        pickle.dump((mark(options, options.FILE[0]), *kept), file, protocol=5)
+
+
+def written(path):
+    try:
+        return open(path, "wb")
+    except OSError as error:
+        raise Bad(f"{path}: {error.strerror}") from None
 
 
 def resumed(options, subject):
     try:
         with open(options.resume, "rb") as file:
-            marked, keeps, search = pickle.load(file)
+            marked, search, keeps, said = pickle.load(file)
     except OSError as error:
         raise Bad(f"{options.resume}: {error.strerror}") from None
     except (pickle.UnpicklingError, AttributeError, EOFError, ImportError, IndexError, TypeError, ValueError):
@@ -144,7 +153,7 @@ def resumed(options, subject):
     if marked != mark(options, options.FILE[0]):
         raise Bad(f"{options.resume} is of other words, another file or another machine")
     search.system.attach(system_of(options, subject, keeps))
-    return search, keeps
+    return search, keeps, said
 
 
 # One file.
@@ -161,25 +170,25 @@ def of_file(options, path):
     lines = [*report.lines(), *said]
     status = WRONG if not report.is_good else GOOD if is_all else LEFT
     if options.player:
-        line, is_same = played(options.player, [*texts, *report.samples()])
-        lines.append(line)
+        more, is_same = played(options.player, [*texts, *report.samples()])
+        lines += more
         status = status if is_same else WRONG
     if options.save and not is_all:
-        save(options, search, keeps)
+        save(options, search, keeps, said)
     speed = f"{path}: {len(search.states)} states in {took:.2f} s of one processor, " \
         f"{len(search.states) / took:,.0f} a second\n"
     return lines, texts, speed, status
 
 
 def played(command, texts):
-    """Plays texts on a player of events: what is said of it, and whether each answer is the same."""
+    """Plays texts on a player of events: the lines on it, and whether each answer is the same."""
     text = "\n".join(line for lines in texts for line in lines) + "\n"
     try:
         ran = subprocess.run([*shlex.split(command), "-"], input=text, capture_output=True, text=True, check=False)
     except OSError as error:
         raise Bad(f"{command}: {error.strerror}") from None
-    last = ran.stdout.splitlines()[-1:] or ["nothing"]
-    return f"player {last[0].removeprefix('-: ')}", ran.returncode == 0
+    *differences, last = ran.stdout.splitlines() or ["nothing"]
+    return [*differences[:MOST_DIFFERENCES], f"player {last.removeprefix('-: ')}"], ran.returncode == 0
 
 
 def job(options, path):
@@ -214,7 +223,8 @@ def main(of):
         if options.speed:
             sys.stderr.write(speed)
     if options.found:
-        Path(options.found).write_text("\n".join(line for text in found for line in text) + "\n", encoding="ascii")
+        with written(options.found) as file:
+            file.write(("\n".join(line for text in found for line in text) + "\n").encode("ascii"))
     return worst
 
 

@@ -15,7 +15,7 @@ A machine has places for one message more than cores, or for more. With fewer it
 (docs/EXPLORING.md), and old recalls may fill it; --stuck draws fewer, too, and tells of runs that end so. If nothing is
 found, the script says how many different machines it tried, and how many rows of docs/PROTOCOL.md's tables it met.
 
-Change a rule in a copy of examples/ (docs/CHANGING-A-RULE.md). The status is 0 if nothing was found, 1 if something
+Change a rule in a copy of reference/ and tools/ (docs/CHANGING-A-RULE.md). The status is 0 if nothing was found, 1 if something
 was, and 2 for a bad file or word, which standard error names in one line. The script writes nothing but what it
 prints.
 """
@@ -258,6 +258,7 @@ def shortest(trial):
             yield f"The shortest way to a fault, of {len(report.search.states)} states:"
             yield from report.texts()[0]
             return
+    yield "No shorter way was found: the rule looks at more than one part, or there are too many states."
 
 
 def explored(options, subject, how):

@@ -7,7 +7,8 @@
 -- Not in the model: private writes, several banks, lines of eight words, numbers of messages, times that don't fit.
 
 const
-  TEST: 0;           -- 0: store buffering, 1: message passing, 2: load buffering, 3: a write seen by two (3 cores)
+  TEST: 0;           -- 0: store buffering, 1: message passing, 2: load buffering, 3: a write seen by two (3 cores),
+                     -- 4: both cores store to both lines, in opposite orders
   CORES: 2;          -- 2; 3 in test 3, and for a ring of three in tests 0 and 2
   LINES: 2;          -- 2, or 3 in a ring
   STEPS: 2;          -- operations of a core, at most
@@ -71,6 +72,7 @@ end;
 function is_load(c: Core; s: 0 .. STEPS - 1): boolean;
 begin
   if TEST = 3 then return c = CORES - 1 | c = 1 & s = 0; endif;
+  if TEST = 4 then return false; endif;
   if TEST = 1 then return c = 1; endif;
   if TEST = 2 then return s = 0; endif;
   return s = 1;
@@ -616,6 +618,7 @@ begin
   if TEST = 1 then return a = 1 & b = 0; endif;
   if TEST = 2 then return a = 1 & b = 1 & (CORES = 2 | last = 1); endif;
   if TEST = 3 then return a = 1 & b = 1 & last = 0; endif;
+  if TEST = 4 then return a = 1 | b = 1; endif;  -- nothing is loaded
   return a = 0 & b = 0 & (CORES = 2 | last = 0);
 end;
 

@@ -40,7 +40,8 @@ class Holder(SimpleNamespace):
 
 
 WORDS, LINE = {"wts", "words"}, {"wts", "rts", "words", "dirty"}
-OF_MESSAGES = {"RenewRep": WORDS, "UpgradeRep": WORDS, "ExReq": {"pts"}, "DramStRep": {"words"}}
+OF_MESSAGES = {"RenewRep": WORDS, "UpgradeRep": WORDS, "ExReq": {"pts"}, "FlushReq": {"rts"},
+               "DramStRep": {"words"}}
 OF_ENTRIES = {"Exclusive": LINE, "Recalling": LINE, "Shared": {"owner"}, "Storing": LINE | {"owner"}}
 MAY_BE_LEFT_OUT = {"written"}.union(*OF_MESSAGES.values(), *OF_ENTRIES.values())
 

@@ -12,8 +12,11 @@ from types import SimpleNamespace
 from tools.explored.frozen import Elsewhere, Numbered, Unread, frozen, thawed
 
 KNOWN = {"o", "cores", "mts", "bank_sets", "dram", "flight", "sent", "records", "counts", "stopped"}
-# What a core has beside what a rule may read: its sets, and the operations that it was issued, which only grow.
+# What a core has beside its fields: its sets, and the operations that it was issued, which only grow.
 NOT_FIELDS = ("sets", "issued")
+# What numbers of messages, records and the like begin with, where a step is made twice: no rule can tell a sum or a
+# remainder of both alike.
+NUMBERS = (0, 2 ** 61 - 1)
 
 
 class Only:
@@ -63,10 +66,10 @@ class Added:
         self.new.append(one)
 
     def __getitem__(self, at):
-        raise Elsewhere("a rule looks at records")
+        raise Elsewhere("a rule looks at records or issued operations")
 
     def __iter__(self):
-        raise Elsewhere("a rule looks at records")
+        raise Elsewhere("a rule looks at records or issued operations")
 
 
 class Flight(dict):
@@ -156,8 +159,8 @@ class Maker:
     def bank_value(self, mts, sets):
         return frozen(mts), self.shapes.sets(sets, self.shapes.entry)
 
-    def core_of(self, value):
-        return SimpleNamespace(sets=self.sets_of(value[1]), issued=[],
+    def core_of(self, value, first=0):
+        return SimpleNamespace(sets=self.sets_of(value[1]), issued=Added(first),
                                **{name: thawed(one) for name, one in value[0]})
 
     def sets_of(self, value):
@@ -175,7 +178,7 @@ class Maker:
         machine.cores, machine.mts, machine.bank_sets = Only(o.cores), Only(o.banks), Only(o.banks)
         machine.dram = Nowhere()
         if kind == "core":
-            machine.cores = Only(o.cores, at[0], self.core_of(value))
+            machine.cores = Only(o.cores, at[0], self.core_of(value, first))
         elif kind == "bank":
             machine.mts = Only(o.banks, at[0], thawed(value[0]))
             machine.bank_sets = Only(o.banks, at[0], self.sets_of(value[1]))
@@ -195,7 +198,7 @@ class Maker:
     def step(self, part, value, event, message=None, count=1):
         """The result of an event: the answer or the failure, the part after it, the messages that were sent, whether
         the delivered one was taken, and a record; and whether the count of messages in flight was asked for."""
-        once, again = (self.step_from(part, value, event, message, count, first) for first in (0, 1000))
+        once, again = (self.step_from(part, value, event, message, count, first) for first in NUMBERS)
         if once != again:
             raise Numbered("a rule reads a number of messages or records")
         return once

@@ -63,10 +63,14 @@ class Search:
             self.made += len(found)
             self.look(at, state, found)
             at += 1
-            if is_first and (self.faults or self.stuck):
+            if is_first and self.is_wrong():
                 break
         self.next = at
         return at == len(states)
+
+    def is_wrong(self):
+        """Whether a fault or a stuck state was met; an end of time is none."""
+        return bool(self.stuck) or any(self.system.faults.values[fault - 1][0] != "exhausted" for fault in self.faults)
 
     def look(self, at, state, found):
         """Notes what kind of state it is."""

@@ -57,6 +57,7 @@ class Replay:
             answer = self.machine.step(event)
         except Exception as error:
             self.failed = type(error).__name__
+            self.texts[-1] += f"  # next: {call}, which fails"
             self.texts.append(f"# {call} : the machine has no case for this ({self.failed})")
             return
         self.texts.append(line(call, self.tell.answer(answer), note))

@@ -4,9 +4,9 @@ It is for rules that look at more than one part, at a tenth of the speed; and te
 it. A state has every value of every part, all records in the order in which they were completed, and the messages in
 flight as a bag.
 """
-from tools.explored.frozen import Shapes, frozen, thawed
+from tools.explored.frozen import Numbered, Shapes, frozen, thawed
 from tools.explored.history import with_record
-from tools.explored.local import KNOWN, Maker, Tables
+from tools.explored.local import KNOWN, NUMBERS, Maker, Tables
 from tools.explored.parts import OWNING
 from tools.explored.programs import end_of, programs_of
 from tools.explored.rows import Rows
@@ -38,18 +38,19 @@ class Whole(Saved):
         return (cores, banks, frozen(machine.dram), flight, tuple(map(tuple, machine.records)), tuple(programs),
                 tuple(advances), machine.stopped, more)
 
-    def machine(self, state):
-        """The machine, its programs and its own advances, to be changed."""
+    def machine(self, state, first=0):
+        """The machine, its programs and its own advances, to be changed. Numbers that states don't have begin with
+        `first`."""
         cores, banks, dram, flight, records, programs, advances, stopped, more = state
         machine = object.__new__(self.module.Machine)
         machine.o, machine.stopped = self.options, stopped
-        machine.cores = [self.maker.core_of(core) for core in cores]
+        machine.cores = [self.maker.core_of(core, first) for core in cores]
         machine.mts = [thawed(mts) for mts, _ in banks]
         machine.bank_sets = [self.maker.sets_of(sets) for _, sets in banks]
         machine.dram = thawed(dram)
-        machine.flight, machine.sent = dict(enumerate(map(self.shapes.held, flight))), len(flight)
+        machine.flight, machine.sent = dict(enumerate(map(self.shapes.held, flight), first)), first + len(flight)
         machine.records = [self.module.Record(*record) for record in records]
-        machine.counts = dict.fromkeys(self.module.COUNTED, 0)
+        machine.counts = dict.fromkeys(self.module.COUNTED, first)
         for name, value in more:
             setattr(machine, name, thawed(value))
         return machine, list(programs), list(advances)
@@ -93,19 +94,23 @@ class Whole(Saved):
     def successors(self, state):
         found = []
         for event in self.possible(state):
-            machine, programs, advances = self.machine(state)
-            name = self.event_id(event, state[3])
-            failed = self.made(machine, event)
-            if failed:
-                found.append((name, None, self.fault(*failed)))
-                continue
-            self.after(machine, event, programs, advances, len(state[4]))
-            after = self.state_of(machine, programs, advances)
-            if after == state:
-                continue
-            fault = self.wrong(machine)
-            found.append((name, None, self.fault(*fault)) if fault else (name, after, 0))
+            once, again = (self.step(state, event, first) for first in NUMBERS)
+            if once != again:
+                raise Numbered("a rule reads a number of messages or operations")
+            found += [once] if once[1] != state else []
         return found
+
+    def step(self, state, event, first):
+        """An event, the state after it or None, and a fault or 0."""
+        machine, programs, advances = self.machine(state, first)
+        name = self.event_id(event, state[3])
+        failed = self.made(machine, ("Deliver", first + event[1]) if event[0] == "Deliver" else event)
+        if failed:
+            return name, None, self.fault(*failed)
+        self.after(machine, event, programs, advances, len(state[4]))
+        after = self.state_of(machine, programs, advances)
+        fault = after != state and self.wrong(machine)
+        return (name, None, self.fault(*fault)) if fault else (name, after, 0)
 
     def event_id(self, event, flight):
         return self.events.id((*event[:1], self.messages.id(flight[event[1]])) if event[0] == "Deliver" else event)

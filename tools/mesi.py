@@ -21,6 +21,7 @@ from pathlib import Path
 
 sys.path.insert(0, str(Path(__file__).resolve().parent.parent))
 from reference.given import tool  # noqa: E402
+from tools.program import number  # noqa: E402
 
 
 DELAY, PAUSE = 30, 10  # the most cycles of a message, and between two operations of a core
@@ -169,8 +170,9 @@ class Machine:
 def main(given):
     about = argparse.ArgumentParser(description=__doc__, allow_abbrev=False,
                                     formatter_class=argparse.RawDescriptionHelpFormatter)
-    for name, usual in (("seed", 0), ("cores", 3), ("operations", 40), ("words", 3), ("lost", 0)):
-        about.add_argument(f"--{name}", type=int, default=usual, metavar="N", help=f"({usual})")
+    for name, least, usual in (("seed", 0, 0), ("cores", 1, 3), ("operations", 0, 40), ("words", 1, 3), ("lost", 0, 0)):
+        about.add_argument(f"--{name}", type=number(least, 10 ** 6), default=usual, metavar="N",
+                           help=f"{least} or more ({usual})")
     about.add_argument("--stamp", choices=["completion", "effect"], default="completion",
                        help="which cycle stands behind the @ (completion)")
     about.add_argument("--blocking", action="store_true", help="the directory waits until a load's data has arrived")

@@ -6,13 +6,14 @@ proof must fail. Each old text stands once in the file. The edits of a crate tha
 in one check of these functions and of those that they call: since a proof takes nothing but contracts from other
 functions, each must fail for itself.
 The check begins with the libraries that maintain/build.py has built. With --wait, a crate waits until an `rt ci` that
-began at the same time has built those below it. What was refused is kept in ~/.cache/tardis-refused by the checksums of
-all that it depends on, and isn't tried again but with --anew.
+began at the same time has built those below it, or has ended, which SIGUSR1 says. What was refused is kept in
+~/.cache/tardis-refused by the checksums of all that it depends on, and isn't tried again but with --anew.
 """
 import contextlib
 import hashlib
 import os
 import re
+import signal
 import sys
 import tempfile
 import threading
@@ -96,29 +97,43 @@ def tried(kit, crate, is_anew):
     return found
 
 
-def is_there(low, begun):
-    """Whether a library is built: by maintain/build.py, or since `begun`, if that is given, by `rt ci`, which leaves no
-    stamp."""
-    if begun is None or not os.path.isfile(f"{low.rlib}/format"):
+class Beside:
+    """An `rt ci` that runs at the same time. It leaves no stamp on a library that it builds, and keeps those that an
+    earlier one built of the same files."""
+
+    def __init__(self):
+        self.begun, self.has_ended = time.time(), False
+        signal.signal(signal.SIGUSR1, self.end)
+
+    def end(self, *_):
+        self.has_ended = True
+
+    def has_built(self, low):
+        return self.has_ended or self.begun < os.stat(low.rlib).st_ctime < time.time() - 5
+
+
+def is_there(low, beside):
+    """Whether a library is built: by maintain/build.py, or by `rt ci`, if that runs beside."""
+    if beside is None or not os.path.isfile(f"{low.rlib}/format"):
         return low.is_built()
-    return begun < os.stat(low.rlib).st_ctime < time.time() - 5
+    return beside.has_built(low)
 
 
-def all_tried(kit, crates, is_anew, begun):
+def all_tried(kit, crates, is_anew, beside):
     """Tries the edits of crates, each once those below it are built, half as many at a time as there are processors."""
     left, found, lock = list(crates), [], threading.Lock()
 
     def work():
         while True:
             with lock:
-                ready = next((crate for crate in left if all(is_there(low, begun) for low in crate.below())), None)
+                ready = next((crate for crate in left if all(is_there(low, beside) for low in crate.below())), None)
                 if ready:
                     left.remove(ready)
                 elif not left:
                     return
             if ready:
                 found.extend(tried(kit, ready, is_anew))
-            elif begun is not None:
+            elif beside is not None:
                 time.sleep(5)
             else:
                 sys.exit(f"refused.py: a crate below {left[0].name} isn't built")
@@ -141,7 +156,7 @@ def main(words):
     names = names or sorted({path.parent.parent.name for path in TOP.glob("crates/*/refused/*.edit")})
     seen = {}
     crates = [kit["Crate"](f"{TOP}/crates/{name}", str(TOP), seen) for name in names]
-    found = all_tried(kit, crates, "--anew" in words, time.time() if "--wait" in words else None)
+    found = all_tried(kit, crates, "--anew" in words, Beside() if "--wait" in words else None)
     for fault in found:
         print(fault)
     sys.exit(len(found) > 0)

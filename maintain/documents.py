@@ -109,7 +109,8 @@ class Definitions:
                 block, name = [], None
                 continue
             block.append(line)
-            found = re.match(r"\s*(?:abbrev pub|unfoldable pub|pub record|pub data|pub|record|data|abbrev) ([^ :]+)", line)
+            found = re.match(r"\s*(?:abbrev pub|unfoldable pub|pub record|pub data|pub|record|data|abbrev) ([^ :]+)",
+                             line)
             if found and not name:
                 name = found.group(1)
 

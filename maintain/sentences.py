@@ -18,8 +18,9 @@ from os.path import relpath
 from pathlib import Path
 
 TOP = Path(__file__).resolve().parent.parent
-PAGES = [TOP / name for name in ("README.md", "CONTRIBUTING.md", "GLOSSARY.md", "examples/README.md", "examples/exercises/README.md",
-                             "reference/README.md", "tools/README.md")]
+PAGES = [TOP / name for name in (
+    "README.md", "CONTRIBUTING.md", "GLOSSARY.md", "examples/README.md", "examples/exercises/README.md",
+    "reference/README.md", "tools/README.md")]
 MOST_WORDS = 30
 # Sources whose doc comments are still to be written anew.
 LATER = [TOP / "crates" / name for name in (

@@ -55,7 +55,7 @@ def stale_loads(records):
 
 
 def overwriting(records, load):
-    """The write that a stale hit comes before, of records by number: the last one so far with a greater time; or None."""
+    """The write that a stale hit comes before, of records by number: the last so far with a greater time; or None."""
     before = (records[number] for number in range(load.number - 1, -1, -1)) if load.kind == "load" else ()
     return next((one for one in before if one.word == load.word and one.kind != "load" and one.time > load.time), None)
 

@@ -35,7 +35,7 @@ class WatchedRun(Run):
         return answer
 
     def look(self, name, *of):
-        """What only a look before an event sees: what it is about, and whether the program's next step is an advance."""
+        """What only a look before an event sees: what it is about, and whether the program next makes an advance."""
         machine, about, wants = self.machine, "", False
         if name == "EvictCache":
             about = machine.find(of[1], machine.cache_set(*of))[0].state

@@ -84,7 +84,8 @@ def families(tester, program, folder):
     tester.expect((status, out, error) == (0, f"26 tests are in {folder}\n", "") and names == set(cycles.NAMES),
                   f"--all 6: {status} {out} {error} {names}")
     status, out, error = tester.run("--all", "4")
-    tester.expect(status == 0 and out.count("\n") == 6 and "SB: PodWR Fre PodWR Fre\n" in out, f"--all 4: {out} {error}")
+    is_good = status == 0 and out.count("\n") == 6 and "SB: PodWR Fre PodWR Fre\n" in out
+    tester.expect(is_good, f"--all 4: {out} {error}")
 
 
 def from_brace(text):
@@ -123,7 +124,8 @@ def others(tester):
     tester.expect(status == 0 and "ld x7,0(x8) | ld x7,0(x8) ;" in out and "sw" not in out, f"--width d: {out} {error}")
     folder = TOP / "examples/litmus"
     status, out, error = tester.run("--why", str(folder / "SB.litmus"), str(folder / "SB+forall.litmus"))
-    tester.expect((status, error) == (0, "") and out.count("PodWR Fre PodWR Fre") == 2, f"--why: {status} {out} {error}")
+    is_good = (status, error) == (0, "") and out.count("PodWR Fre PodWR Fre") == 2
+    tester.expect(is_good, f"--why: {status} {out} {error}")
     for name, said in (("SB+yes", "some order ends so"), ("STALE", "some order ends so"),
                        ("RENEW", "no values end otherwise")):
         status, out, error = tester.run("--why", str(folder / f"{name}.litmus"))

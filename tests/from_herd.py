@@ -4,7 +4,8 @@
 The tests of tests/herd were typed in as herd7's generator writes them. Each asks for the one end that the cycle of its
 name forbids, so under sequential consistency it has every other end: loads receive 0 or 1, and locations end as 1 or
 2. What the script turns single cells and conditions into, and which lines it refuses, was worked out by hand;
-so were the obstacles of the tests of tests/herd_users, which are as users have them. The last line is `N tried, M wrong`.
+so were the obstacles of the tests of tests/herd_users, which are as users have them. The last line is `N tried, M
+wrong`.
 """
 import os
 import sys

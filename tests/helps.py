@@ -1,5 +1,5 @@
 #!/usr/bin/env python3
-"""Asks the tools of reference/, tools/ and maintain/ for help, and gives them files that they can't read: tests/helps.py
+"""Asks the tools of reference/, tools/ and maintain/ for help, and gives them bad files: tests/helps.py
 
 Help comes on standard output, with status 0, and no tool writes a file of the repository. A reader that goes away ends
 a tool without a word. For a missing file and one of another kind, each tool writes one line and ends with status 2;
@@ -26,10 +26,11 @@ READERS = ["tools/advance.py 1 {}", "env TARDIS=reference/oracle.py tools/seeds.
            "tools/number.py {}", "reference/tso.py {0} {0}"]
 
 
-PIPED = ["tools/explore.py examples/litmus/SB.litmus", "tools/mesi.py", "tools/order.py examples/histories/lost.history",
-         "tools/cycles.py --all 8", "tools/cycles.py SB", "reference/sequential.py examples/litmus/Z6.0.litmus",
+PIPED = ["tools/explore.py examples/litmus/SB.litmus", "tools/mesi.py",
+         "tools/order.py examples/histories/lost.history", "tools/cycles.py --all 8", "tools/cycles.py SB", "reference/sequential.py examples/litmus/Z6.0.litmus",
          "env TARDIS=reference/oracle.py tools/witness.py --seeds 20 examples/litmus/SB.litmus",
-         "tools/from_herd.py tests/herd/Z6.0.litmus", "tools/page.py --player reference/play.py examples/litmus/SB.litmus",
+         "tools/from_herd.py tests/herd/Z6.0.litmus",
+         "tools/page.py --player reference/play.py examples/litmus/SB.litmus",
          "env TARDIS=reference/oracle.py tools/explain.py examples/exercises/history.trace "
          "examples/exercises/history.records"]
 

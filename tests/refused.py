@@ -97,7 +97,7 @@ def tried(kit, crate, is_anew):
     return found
 
 
-class Beside:
+class Builder:
     """An `rt ci` that runs at the same time. It leaves no stamp on a library that it builds, and keeps those that an
     earlier one built of the same files."""
 
@@ -112,28 +112,28 @@ class Beside:
         return self.has_ended or self.begun < os.stat(low.rlib).st_ctime < time.time() - 5
 
 
-def is_there(low, beside):
-    """Whether a library is built: by maintain/build.py, or by `rt ci`, if that runs beside."""
-    if beside is None or not os.path.isfile(f"{low.rlib}/format"):
+def is_there(low, builder):
+    """Whether a library is built: by maintain/build.py, or by the `rt ci` that runs at the same time."""
+    if builder is None or not os.path.isfile(f"{low.rlib}/format"):
         return low.is_built()
-    return beside.has_built(low)
+    return builder.has_built(low)
 
 
-def all_tried(kit, crates, is_anew, beside):
+def all_tried(kit, crates, is_anew, builder):
     """Tries the edits of crates, each once those below it are built, half as many at a time as there are processors."""
     left, found, lock = list(crates), [], threading.Lock()
 
     def work():
         while True:
             with lock:
-                ready = next((crate for crate in left if all(is_there(low, beside) for low in crate.below())), None)
+                ready = next((crate for crate in left if all(is_there(low, builder) for low in crate.below())), None)
                 if ready:
                     left.remove(ready)
                 elif not left:
                     return
             if ready:
                 found.extend(tried(kit, ready, is_anew))
-            elif beside is not None:
+            elif builder is not None:
                 time.sleep(5)
             else:
                 sys.exit(f"refused.py: a crate below {left[0].name} isn't built")
@@ -156,7 +156,7 @@ def main(words):
     names = names or sorted({path.parent.parent.name for path in TOP.glob("crates/*/refused/*.edit")})
     seen = {}
     crates = [kit["Crate"](f"{TOP}/crates/{name}", str(TOP), seen) for name in names]
-    found = all_tried(kit, crates, "--anew" in words, Beside() if "--wait" in words else None)
+    found = all_tried(kit, crates, "--anew" in words, Builder() if "--wait" in words else None)
     for fault in found:
         print(fault)
     sys.exit(len(found) > 0)

@@ -281,7 +281,8 @@ def an_ended_program(tester, folder):
         tester.expect((status, out, error.count("\n")) == (2, "", 1) and said in error, f"{program}: {error}")
     os.environ["TARDIS"] = shutil.which("true")
     status, out, error = tester.run("--parts", "2", "0", "9", TEST)
-    tester.expect((status, out, error.count("\n")) == (2, "", 1) and "where 'test' is wanted" in error, f"true: {error}")
+    is_good = (status, out, error.count("\n")) == (2, "", 1) and "where 'test' is wanted" in error
+    tester.expect(is_good, f"true: {error}")
     os.environ["TARDIS"] = kept
     tester.expect([path.name for path in Path(folder).iterdir()] == ["killed"], "a report of a killed program")
 

@@ -56,7 +56,8 @@ def main():
     program, tried, wrong = os.path.abspath(sys.argv[1]), 0, 0
     os.chdir(TOP)
     for words, wanted, *ran in answers():
-        ran = ran[0] if ran else subprocess.run([program, *words], capture_output=True, stdin=subprocess.DEVNULL, timeout=120)
+        ran = ran[0] if ran else subprocess.run([program, *words], capture_output=True, stdin=subprocess.DEVNULL,
+                                                timeout=120)
         got = ran.returncode, ran.stdout.decode(), ran.stderr.decode(errors="replace")
         tried += 1
         if got != wanted:

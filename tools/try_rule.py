@@ -15,9 +15,9 @@ A machine has places for one message more than cores, or for more. With fewer it
 (docs/EXPLORING.md), and old recalls may fill it; --stuck draws fewer, too, and tells of runs that end so. If nothing is
 found, the script says how many different machines it tried, and how many rows of docs/PROTOCOL.md's tables it met.
 
-Change a rule in a copy of reference/ and tools/ (docs/CHANGING-A-RULE.md). The status is 0 if nothing was found, 1 if something
-was, and 2 for a bad file or word, which standard error names in one line. The script writes nothing but what it
-prints.
+Change a rule in a copy of reference/ and tools/ (docs/CHANGING-A-RULE.md). The status is 0 if nothing was found, 1 if
+something was, and 2 for a bad file or word, which standard error names in one line. The script writes nothing but what
+it prints.
 """
 import argparse
 import shlex

@@ -4,7 +4,7 @@ from pathlib import Path
 
 
 def question(run):
-    """None of a trace. `registers` has by core those that the core's loads and swaps fill, in turn; None for a store."""
+    """None of a trace. `registers` has by core those that its loads and swaps fill, in turn; None for a store."""
     test = run.subject.test
     if test is None:
         return None

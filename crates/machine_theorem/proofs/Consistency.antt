@@ -48,7 +48,7 @@ module _ (config : Config) (opening : FinMap nat_cmp ℕ) (a : State) (s : IsKep
     coherent = value_left;
     cases = λ message rest same. (bag_finds config opening (record a { bag = message ∷ rest })
         (kept_reordered config opening a (message ∷ rest) same s)).0.found;
-    recalls = owners_answer f s.shape.some_words (view config a) s.reached.reachable;
+    recalls = owners_answer f s.shape.some_words refl (view config a) s.reached.reachable;
   }
 
 module _ (m : Machine) (s : Invariant m) where

@@ -89,12 +89,12 @@ CoreFits lease pinned t c x rest b o (Arrives copy) =
 CoreFits lease pinned t c x rest b o (Grants copy) =
     IsThere o × Answers c x (record x { copies = with_at x.copies c (Some (copy_seen copy)); messages = rest })
 CoreFits lease pinned t c x rest b o (Returns kept sent) = IsThere o × (b ≡ false) × GoesUp sent ×
-    LineTransition lease pinned t x t (record x {
+    LineTransition lease false pinned t x t (record x {
       copies = with_at x.copies c (copy_or_none kept);
       messages =
           body_seen c 0 sent ∷ rest;
     })
-CoreFits lease pinned t c x rest b o Drops = LineTransition lease pinned t x t (record x { messages = rest })
+CoreFits lease pinned t c x rest b o Drops = LineTransition lease false pinned t x t (record x { messages = rest })
 CoreFits lease pinned t c x rest b o NoCase = ⊥
 CoreFits lease pinned t c x rest b o _ = Unit {0}
 
@@ -122,18 +122,18 @@ module _ (lease : ℕ) (pinned : ℕ → Type 0) (t c : ℕ) (x : Line) (rest : 
 
   flush_fits : (o : Option LineCopy) → x.copies c ≡ copy_or_none o → b ≡ false → (pinned c → ⊥) →
       IsPermutation x.messages (FlushReq c ∷ rest) → CoreFits lease pinned t c x rest b o (on_copy.flushed o)
-  flush_fits None is off un p = dropped c rest p un (without_copy is)
+  flush_fits None is off un p = dropped c rest p (un, without_copy is)
   flush_fits (Some copy) is off un p = go (is_exclusive copy.state) refl
     where
       go : (e : Bool) → is_exclusive copy.state ≡ e → CoreFits lease pinned t c x rest b (Some copy)
           (cond e (Returns None (body.FlushRep (words_of_copy copy))) Drops)
       go true ex = ((copy, refl), off, (λ cores banks from to. refl), flushed c rest (copy_seen copy) p un is ex)
-      go false sh = dropped c rest p un (with_shared copy is sh)
+      go false sh = dropped c rest p (un, with_shared copy is sh)
 
   back_fits : (until : ℕ) (o : Option LineCopy) → x.copies c ≡ copy_or_none o → b ≡ false → (pinned c → ⊥) →
       IsPermutation x.messages (WbReq c until ∷ rest) → CoreFits lease pinned t c x rest b o
       (on_copy.written_back lease until o)
-  back_fits until None is off un p = wb_dropped c until rest p un (without_copy is)
+  back_fits until None is off un p = wb_dropped c until rest p (un, without_copy is)
   back_fits until (Some copy) is off un p = go (is_exclusive copy.state) refl
     where
       by_time : is_exclusive copy.state ≡ true → (fit : Bool) → CoreFits lease pinned t c x rest b (Some copy)
@@ -145,7 +145,7 @@ module _ (lease : ℕ) (pinned : ℕ → Type 0) (t c : ℕ) (x : Line) (rest : 
       go : (e : Bool) → is_exclusive copy.state ≡ e → CoreFits lease pinned t c x rest b (Some copy)
           (cond e (on_copy.returned copy (returned_lease copy.wts copy.rts until lease)) Drops)
       go true ex = by_time ex (fits (copy.wts + lease))
-      go false sh = wb_dropped c until rest p un (with_shared copy is sh)
+      go false sh = wb_dropped c until rest p (un, with_shared copy is sh)
 
   unless_open : (q : Bool) (o : Option LineCopy) (r : CoreReaction) →
       (q ≡ false → CoreFits lease pinned t c x rest b o r) → CoreFits lease pinned t c x rest b o (cond q Holds r)

@@ -41,26 +41,26 @@ module _ (lease : ℕ) (pinned : ℕ → Type 0) (t : ℕ) (x : Line) (rest : Li
     (seen : x.entry ≡ entry_seen (entry_of bank m.line))
     (waits : P (Some (Held, bank)))
     (late : P None)
-    (loads : LineTransition lease pinned t x t (record x { entry = Loading; messages = DramLd ∷ x.messages }) →
+    (loads : LineTransition lease false pinned t x t (record x { entry = Loading; messages = DramLd ∷ x.messages }) →
     P (Some (HeldAfter (to_dram bank m.line body.DramLd), with_used bank m.line entry.Loading)))
     (recalls : (owner : ℕ) (sent : Body) → GoesDown sent → entry_of bank m.line ≡ Some (entry.Exclusive owner) →
-    LineTransition lease pinned t x t (record x {
+    LineTransition lease false pinned t x t (record x {
       entry = Recalling owner;
       messages =
           body_seen 0 owner sent ∷ x.messages;
     }) →
     P (Some (HeldAfter (from_bank bank m.line (Core owner) sent), with_changed bank m.line (entry.Recalling owner))))
     (grants : (e : Entry) (sent : Body) → GoesDown sent → IsFor c e → Up →
-    LineTransition lease pinned t x t (record x {
+    LineTransition lease false pinned t x t (record x {
       entry = entry_seen (Some e);
       messages =
           body_seen 0 c sent ∷ rest;
     }) →
     P (Some (Done (Some (from_bank bank m.line m.from sent)), with_used bank m.line e)))
     (becomes : (dirty : Bool) (line : TimedLine) (old : Entry) → entry_of bank m.line ≡ Some old →
-    LineTransition lease pinned t x t (record x { entry = Shared dirty (timed line); messages = rest }) →
+    LineTransition lease false pinned t x t (record x { entry = Shared dirty (timed line); messages = rest }) →
     P (Some (Done None, with_changed bank m.line (entry.Shared dirty line))))
-    (leaves : LineTransition lease pinned t x t (record x { entry = Absent; messages = rest }) →
+    (leaves : LineTransition lease false pinned t x t (record x { entry = Absent; messages = rest }) →
     P (Some (Done None, without_entry bank m.line)))
   where
     is : (e : Option Entry) → entry_of bank m.line ≡ e → x.entry ≡ entry_seen e
@@ -131,7 +131,7 @@ module _ (lease : ℕ) (pinned : ℕ → Type 0) (t : ℕ) (x : Line) (rest : Li
     exclusive_goes room v _ up at p = waits
 
     returns_go : (line : TimedLine) (e : Option Entry) → entry_of bank m.line ≡ e → is_owned e ≡ true →
-        LineTransition lease pinned t x t (record x { entry = Shared true (timed line); messages = rest }) →
+        LineTransition lease false pinned t x t (record x { entry = Shared true (timed line); messages = rest }) →
         P (after_decision bank m (on_entry.given_back line e))
     returns_go line (Some (entry.Exclusive o)) at h mv = becomes _ _ _ at mv
     returns_go line (Some (entry.Recalling o)) at h mv = becomes _ _ _ at mv

@@ -48,53 +48,53 @@ module _ (n : ℕ) where
       ZerosFrom n line.words
   entered x dirty line is k = subst (EntryEnds n) is k.entry
 
-  moved : (lease : ℕ) (pinned : ℕ → Type 0) (t u : ℕ) (x y : Line) → LineTransition lease pinned t x u y →
+  moved : (lease : ℕ) (loses : Bool) (pinned : ℕ → Type 0) (t u : ℕ) (x y : Line) → LineTransition lease loses pinned t x u y →
       HasZeros n x → HasZeros n y
-  moved lease pinned t u x y (evict_shared c copy un is sh) k =
+  moved lease loses pinned t u x y (evict_shared c copy un is sh) k =
       zeros_by (left x c k) k.entry k.messages k.dram
-  moved lease pinned t u x y (evict_exclusive c copy un is ex) k =
+  moved lease loses pinned t u x y (evict_exclusive c copy un is ex) k =
       zeros_by (left x c k) k.entry (k.copies c copy is, k.messages) k.dram
-  moved lease pinned t u x y (dropped c rest p un stale) k =
+  moved lease loses pinned t u x y (dropped c rest p may) k =
       zeros_by k.copies k.entry ((taken _ _ p k.messages).1) k.dram
-  moved lease pinned t u x y (wb_dropped c until rest p un stale) k =
+  moved lease loses pinned t u x y (wb_dropped c until rest p may) k =
       zeros_by k.copies k.entry ((taken _ _ p k.messages).1) k.dram
-  moved lease pinned t u x y (flushed c rest copy p un is ex) k =
+  moved lease loses pinned t u x y (flushed c rest copy p un is ex) k =
       zeros_by (left x c k) k.entry (k.copies c copy is, (taken _ _ p k.messages).1) k.dram
-  moved lease pinned t u x y (written_back c until rest copy p un is ex) k =
+  moved lease loses pinned t u x y (written_back c until rest copy p un is ex) k =
       zeros_by (copied x c _ (k.copies c copy is) k) k.entry (k.copies c copy is, (taken _ _ p k.messages).1)
       k.dram
-  moved lease pinned t u x y (renewed c pts dirty line rest is p) k =
+  moved lease loses pinned t u x y (renewed c pts dirty line rest is p) k =
       zeros_by k.copies (entered x dirty line is k) (tt, (taken _ _ p k.messages).1) k.dram
-  moved lease pinned t u x y (leased c pts version dirty line rest is p) k =
+  moved lease loses pinned t u x y (leased c pts version dirty line rest is p) k =
       zeros_by k.copies (entered x dirty line is k) (entered x dirty line is k, (taken _ _ p k.messages).1)
       k.dram
-  moved lease pinned t u x y (upgraded c dirty line rest is p) k =
+  moved lease loses pinned t u x y (upgraded c dirty line rest is p) k =
       zeros_by k.copies tt (tt, (taken _ _ p k.messages).1) k.dram
-  moved lease pinned t u x y (granted c version dirty line rest is p) k =
+  moved lease loses pinned t u x y (granted c version dirty line rest is p) k =
       zeros_by k.copies tt (entered x dirty line is k, (taken _ _ p k.messages).1) k.dram
-  moved lease pinned t u x y (flush_returns c line rest p) k =
+  moved lease loses pinned t u x y (flush_returns c line rest p) k =
       let each = taken _ _ p k.messages in
       zeros_by k.copies each.0 each.1 k.dram
-  moved lease pinned t u x y (wb_returns c line rest p) k =
+  moved lease loses pinned t u x y (wb_returns c line rest p) k =
       let each = taken _ _ p k.messages in
       zeros_by k.copies each.0 each.1 k.dram
-  moved lease pinned t u x y (loaded words rest p) k =
+  moved lease loses pinned t u x y (loaded words rest p) k =
       let each = taken _ _ p k.messages in
       zeros_by k.copies each.0 each.1 k.dram
-  moved lease pinned t u x y (stored rest p) k =
+  moved lease loses pinned t u x y (stored rest p) k =
       zeros_by k.copies tt ((taken _ _ p k.messages).1) k.dram
-  moved lease pinned t u x y (evict_clean line is) k =
+  moved lease loses pinned t u x y (evict_clean line is) k =
       zeros_by k.copies tt k.messages k.dram
-  moved lease pinned t u x y (evict_dirty line is) k =
+  moved lease loses pinned t u x y (evict_dirty line is) k =
       zeros_by k.copies tt (entered x true line is k, k.messages) k.dram
-  moved lease pinned t u x y (shuffled messages p) k =
+  moved lease loses pinned t u x y (shuffled messages p) k =
       zeros_by k.copies k.entry (taken _ _ p k.messages) k.dram
-  moved lease pinned t u x y (dram_loads rest p) k =
+  moved lease loses pinned t u x y (dram_loads rest p) k =
       zeros_by k.copies k.entry (k.dram, (taken _ _ p k.messages).1) k.dram
-  moved lease pinned t u x y (dram_stores words rest p) k =
+  moved lease loses pinned t u x y (dram_stores words rest p) k =
       let each = taken _ _ p k.messages in
       zeros_by k.copies k.entry (tt, each.1) each.0
-  moved lease pinned t u x y _ k = zeros_by k.copies tt (tt, k.messages) k.dram
+  moved lease loses pinned t u x y _ k = zeros_by k.copies tt (tt, k.messages) k.dram
 
   answered : (c : ℕ) (x y : Line) → Answers c x y → HasZeros n x → HasZeros n y
   answered c x y (shared line rest p) k =
@@ -150,7 +150,7 @@ module _ (f : Config) (some : 0 < f.line_words) where
       changed m l _ (zeros_by f.line_words
       (copied f.line_words (m.lines l) c new (used _ copy op received ts new u (x.copies c copy is)) x)
       x.entry x.messages x.dram) k
-  kept m n (line_changes l t y move) k = changed m l y (moved f.line_words _ _ _ t _ y move (k l)) k
+  kept m n (line_changes l t y move) k = changed m l y (moved f.line_words _ _ _ _ t _ y move (k l)) k
 
 -- one more turn of the protocol
 pub goes_on : {f : Config} {m n : by_line.Machine} → IsReached f m → Transition f m n → IsReached f n

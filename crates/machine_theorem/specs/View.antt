@@ -1,6 +1,6 @@
 -- The machine's state, seen line by line: what each table and each message says of one line, and of each core its time
 -- and its open operation.
-use Rattle.std.specs.Prelude.{ℕ, ◌%◌, ◌==◌, List, [], ◌∷◌, Option, Some, None, if◌then◌else◌}
+use Rattle.std.specs.Prelude.{false, ℕ, ◌%◌, ◌==◌, List, [], ◌∷◌, Option, Some, None, if◌then◌else◌}
 use Rattle.std.specs.Ordering.{nat_cmp}
 use Rattle.std.specs.FinMap.{FinMap}
 use Rattle.physiological_order.specs.Order.{flat}
@@ -95,6 +95,7 @@ set_up config opening = record {
   lease = config.lease;
   banks = config.banks;
   private_write = config.private_write;
+  loses_recalls = false;
 }
 
 -- a line of a state

@@ -1,4 +1,4 @@
-use Rattle.std.proofs.Common.{◌≡◌, ◌≢◌, ℕ, ◌+◌, true, false, Option, Some, None, refl, sym, ◌∙◌, subst, arith}
+use Rattle.std.proofs.Common.{Bool, ◌≡◌, ◌≢◌, ℕ, ◌+◌, true, false, Option, Some, None, refl, sym, ◌∙◌, subst, arith}
 use Rattle.physiological_order.specs.declared.operation.Op.{Op}
 use Rattle.physiological_order.specs.declared.operation.Op.TheVariants.{Load}
 use Rattle.physiological_order.specs.Order.{address}
@@ -16,17 +16,18 @@ pub record BlockedOk (f : Config) (cores : ℕ → Core) (lines : ℕ → Line) 
       CannotUse op (cores c).pts ((lines (line_of f (address op))).copies c)
 
 -- no move changes a copy of a core that is pinned on the line
-moves_pinned : (lease : ℕ) (pinned : ℕ → Type 0) (t u : ℕ) (x y : Line) → LineTransition lease pinned t x u y →
+moves_pinned : (lease : ℕ) (loses : Bool) (pinned : ℕ → Type 0) (t u : ℕ) (x y : Line) →
+    LineTransition lease loses pinned t x u y →
     (c : ℕ) → pinned c → y.copies c ≡ x.copies c
-moves_pinned lease pinned t u x y (evict_shared d copy un is sh) c p =
+moves_pinned lease loses pinned t u x y (evict_shared d copy un is sh) c p =
     with_at_other x.copies d None c (λ e. un (subst pinned e p))
-moves_pinned lease pinned t u x y (evict_exclusive d copy un is ex) c p =
+moves_pinned lease loses pinned t u x y (evict_exclusive d copy un is ex) c p =
     with_at_other x.copies d None c (λ e. un (subst pinned e p))
-moves_pinned lease pinned t u x y (flushed d rest copy q un is ex) c p =
+moves_pinned lease loses pinned t u x y (flushed d rest copy q un is ex) c p =
     with_at_other x.copies d None c (λ e. un (subst pinned e p))
-moves_pinned lease pinned t u x y (written_back d until rest copy q un is ex) c p =
+moves_pinned lease loses pinned t u x y (written_back d until rest copy q un is ex) c p =
     with_at_other x.copies d _ c (λ e. un (subst pinned e p))
-moves_pinned lease pinned t u x y _ c p = refl
+moves_pinned lease loses pinned t u x y _ c p = refl
 
 asks_copies : (c pts : ℕ) (op : Op) (x y : Line) → Asks c pts op x y → (d : ℕ) → y.copies d ≡ x.copies d
 asks_copies c pts op x y (to_read a w) d = refl
@@ -101,7 +102,7 @@ transition_blocked f m n (line_changes l t y mv) k =
       idle = k.idle;
       blocked = λ d o e q. subst (CannotUse o (m.cores d).pts)
           (with_at_cases (λ i (x : Line). i ≡ line_of f (address o) → (m.lines i).copies d ≡ x.copies d) m.lines l y
-          (λ r. sym (moves_pinned _ _ _ _ _ y mv d (o, e, sym r))) (λ i nl r. refl) (line_of f (address o)) refl)
+          (λ r. sym (moves_pinned _ _ _ _ _ _ y mv d (o, e, sym r))) (λ i nl r. refl) (line_of f (address o)) refl)
           (k.blocked d o e q);
     }
 

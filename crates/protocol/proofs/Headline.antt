@@ -129,10 +129,10 @@ answers_busy f h l records p t c x y one (upgrades rts copy rest q is) k = let e
     tally-taken (about c) x.messages _ q in let a = k.2.asks c in let i = about_itself c in omega arith
 
 -- no move lowers the time of a bank
-moves_rise : (lease : ℕ) (pinned : ℕ → Type 0) (t u : ℕ) (x y : Line) → LineTransition lease pinned t x u y → t ≤ u
-moves_rise lease pinned t u x y (evict_clean line is) = omega arith
-moves_rise lease pinned t u x y (evict_dirty line is) = omega arith
-moves_rise lease pinned t u x y _ = omega arith
+moves_rise : (lease : ℕ) (loses : Bool) (pinned : ℕ → Type 0) (t u : ℕ) (x y : Line) → LineTransition lease loses pinned t x u y → t ≤ u
+moves_rise lease loses pinned t u x y (evict_clean line is) = omega arith
+moves_rise lease loses pinned t u x y (evict_dirty line is) = omega arith
+moves_rise lease loses pinned t u x y _ = omega arith
 
 -- the opening
 opened_line : (f : Config) (pts mts : ℕ → ℕ) (drams : ℕ → List ℕ) → OpensWith f drams → (l : ℕ) →
@@ -286,18 +286,18 @@ answer_ok f m c l y a k =
           (λ d ne. k.cores d);
     }
 
-move_ok : (f : Config) (m : Machine) (l t : ℕ) (y : Line) → LineTransition f.lease (IsPinned f m.cores l)
+move_ok : (f : Config) (m : Machine) (l t : ℕ) (y : Line) → LineTransition f.lease f.loses_recalls (IsPinned f m.cores l)
     (m.mts (l % f.banks)) (m.lines l) t y → MachineOk f m →
     MachineOk f (record m { mts = with_at m.mts (l % f.banks) t; lines = with_at m.lines l y })
 move_ok f m l t y mv k =
-    let up = moves_rise f.lease (IsPinned f m.cores l) (m.mts (l % f.banks)) t (m.lines l) y mv in
+    let up = moves_rise f.lease f.loses_recalls (IsPinned f m.cores l) (m.mts (l % f.banks)) t (m.lines l) y mv in
     record {
       kept = k.kept;
       lines = with_at_cases (λ i x. Goes f (values f m.records) i m.records (busy f m.cores i)
           (with_at m.mts (l % f.banks) t (i % f.banks)) x) m.lines l y
           (subst (λ (u : ℕ). Goes f (values f m.records) l m.records (busy f m.cores l) u y)
           (sym (with_at_same m.mts (l % f.banks) t))
-          (moves_keep f (values f m.records) l m.records (busy f m.cores l) f.lease (IsPinned f m.cores l)
+          (moves_keep f (values f m.records) l m.records (busy f m.cores l) f.lease f.loses_recalls (IsPinned f m.cores l)
           (λ c un. waits_unpinned f l (m.cores c).out (m.cores c).open_op un) (m.mts (l % f.banks)) (m.lines l)
           t y mv (k.lines l)))
           (λ i ne. with_at_cases (λ b u. b ≡ i % f.banks → Goes f (values f m.records) i m.records (busy f m.cores i)

@@ -434,22 +434,22 @@ module _ (f : Config) (h : ℕ → Memory) (l : ℕ) (records : List Record) (bu
       )
 
   -- every move of one line keeps it
-  pub moves_keep : (lease : ℕ) (pinned : ℕ → Type 0) → ((c : ℕ) → (pinned c → ⊥) → busy c ≡ 0) →
-      (t : ℕ) (x : Line) (u : ℕ) (y : Line) → LineTransition lease pinned t x u y → Goes t x → Goes u y
-  moves_keep lease pinned free t x u y move k = by_move u y move
+  pub moves_keep : (lease : ℕ) (loses : Bool) (pinned : ℕ → Type 0) → ((c : ℕ) → (pinned c → ⊥) → busy c ≡ 0) →
+      (t : ℕ) (x : Line) (u : ℕ) (y : Line) → LineTransition lease loses pinned t x u y → Goes t x → Goes u y
+  moves_keep lease loses pinned free t x u y move k = by_move u y move
     where
       -- a message that is taken comes first
       has : (m : Message) (rest : List Message) → IsPermutation x.messages (m ∷ rest) → Has t x m rest k.0 k.1
       has m rest p = ok_shuffled t x k.0 k.1 (m ∷ rest) p k.2
 
-      by_move : (u : ℕ) (y : Line) → LineTransition lease pinned t x u y → Goes u y
+      by_move : (u : ℕ) (y : Line) → LineTransition lease loses pinned t x u y → Goes u y
       by_move u y (evict_shared c copy un is sh) =
           (k.0, k.1, ok_evict_shared t x k.0 k.1 c copy (free c un) is sh k.2)
       by_move u y (evict_exclusive c copy un is ex) =
           (k.0, Flying, ok_evict_exclusive t x k.0 k.1 c copy (free c un) is ex k.2)
-      by_move u y (dropped c rest p un stale) =
+      by_move u y (dropped c rest p may) =
           (k.0, k.1, ok_without t x k.0 k.1 (FlushReq c) rest refl refl refl (λ d. refl) (has _ rest p))
-      by_move u y (wb_dropped c until rest p un stale) =
+      by_move u y (wb_dropped c until rest p may) =
           (k.0, k.1, ok_without t x k.0 k.1 (WbReq c until) rest refl refl refl (λ d. refl) (has _ rest p))
       by_move u y (flushed c rest copy p un is ex) = (
         k.0,

@@ -1,4 +1,4 @@
-use Rattle.std.proofs.Common.{◌≡◌, ◌≢◌, ℕ, ◌+◌, ◌<◌, ◌≤◌, Bool, true, false, cond, eqb, List, [], ◌∷◌, Option, Some, None}
+use Rattle.std.proofs.Common.{◌%◌, ◌≡◌, ◌≢◌, ℕ, ◌+◌, ◌<◌, ◌≤◌, Bool, true, false, cond, eqb, List, [], ◌∷◌, Option, Some, None}
 use Rattle.std.proofs.Common.{inl, inr, refl, sym, ap, ◌∙◌, subst, arith, le_trans, le_refl, ⊎_elim}
 use Rattle.std.specs.List.Sorted.{IsPermutation}
 use Rattle.std.proofs.lemmas.Bool.{cases_eq, cond-true, cond-false, eq-eqb, ne_eqb}
@@ -203,7 +203,7 @@ module _ (f : Config) (h : ℕ → Memory) (l : ℕ) (records : List Record) (bu
 
   -- every move of one line keeps what the entry says of the owner
   pub moves_answer : (lease : ℕ) (pinned : ℕ → Type 0) → ((c : ℕ) → (pinned c → ⊥) → busy c ≡ 0) →
-      (u : ℕ) (y : Line) → LineTransition lease pinned t x u y → OwnerAnswers y y.entry
+      (u : ℕ) (y : Line) → LineTransition lease false pinned t x u y → OwnerAnswers y y.entry
   moves_answer lease pinned free u y (evict_shared c copy un is sh) =
       answers_stay x y (record {
         owners = owns_same x.copies c None (sym (owns_not (x.copies c) (not_exclusive (x.copies c) copy is sh)));
@@ -213,12 +213,12 @@ module _ (f : Config) (h : ℕ → Memory) (l : ℕ) (records : List Record) (bu
       }) x.entry q
   moves_answer lease pinned free u y (evict_exclusive c copy un is ex) =
       named f h l records busy t x goes.0 goes.1 ok c copy is ex x.entry q y (let i = own c in omega arith)
-  moves_answer lease pinned free u y (dropped c rest p un stale) =
+  moves_answer lease pinned free u y (dropped c rest p may) =
       without f h l records busy t x goes.0 goes.1 ok c (FlushReq c) rest p (λ d. refl) (λ d. refl) (recall_other c)
-      (no_owner f h l records busy t x goes.0 goes.1 ok c (free c un) stale) x.entry q
-  moves_answer lease pinned free u y (wb_dropped c until rest p un stale) =
+      (no_owner f h l records busy t x goes.0 goes.1 ok c (free c may.0) may.1) x.entry q
+  moves_answer lease pinned free u y (wb_dropped c until rest p may) =
       without f h l records busy t x goes.0 goes.1 ok c (WbReq c until) rest p (λ d. refl) (λ d. refl)
-      (recall_other c) (no_owner f h l records busy t x goes.0 goes.1 ok c (free c un) stale) x.entry q
+      (recall_other c) (no_owner f h l records busy t x goes.0 goes.1 ok c (free c may.0) may.1) x.entry q
   moves_answer lease pinned free u y (flushed c rest copy p un is ex) =
       named f h l records busy t x goes.0 goes.1 ok c copy is ex x.entry q y (let i = own c in omega arith)
   moves_answer lease pinned free u y (written_back c until rest copy p un is ex) =
@@ -355,8 +355,9 @@ module _ (f : Config) (h : ℕ → Memory) (l : ℕ) (records : List Record) (bu
 abbrev Answer : Machine → Type 0
 Answer m = (l : ℕ) → OwnerAnswers (m.lines l) (m.lines l).entry
 
-change_answers : (f : Config) (m n : Machine) → MachineOk f m → Answer m → Transition f m n → Answer n
-change_answers f m n ok so_far change = by_change n change
+change_answers : (f : Config) → f.loses_recalls ≡ false → (m n : Machine) → MachineOk f m → Answer m →
+    Transition f m n → Answer n
+change_answers f strict m n ok so_far change = by_change n change
   where
     at : (here : ℕ) (y : Line) → OwnerAnswers y y.entry → (i : ℕ) →
         OwnerAnswers (with_at m.lines here y i) (with_at m.lines here y i).entry
@@ -376,10 +377,13 @@ change_answers f m n ok so_far change = by_change n change
         new op received is used)
     by_change n (line_changes here u y mv) =
         at here y (moves_answer f _ here m.records _ _ (m.lines here) (ok.lines here) (so_far here) f.lease
-        (IsPinned f m.cores here) (λ c un. waits_unpinned f here (m.cores c).out (m.cores c).open_op un) u y mv)
+        (IsPinned f m.cores here) (λ c un. waits_unpinned f here (m.cores c).out (m.cores c).open_op un) u y
+        (subst (λ b. LineTransition f.lease b (IsPinned f m.cores here) (m.mts (here % f.banks)) (m.lines here) u y)
+        strict mv))
 
--- so in every reached machine
-pub owners_answer : (f : Config) → 0 < f.line_words → (m : Machine) → Reachable f m → Answer m
-owners_answer f good m (at_first pts mts drams at opens) = λ l. tt
-owners_answer f good m (goes_on {m = before} r change) =
-    change_answers f before m (reachable_ok f good before r) (owners_answer f good before r) change
+-- so in every reached machine, if no recall may be lost
+pub owners_answer : (f : Config) → 0 < f.line_words → f.loses_recalls ≡ false → (m : Machine) → Reachable f m →
+    Answer m
+owners_answer f good strict m (at_first pts mts drams at opens) = λ l. tt
+owners_answer f good strict m (goes_on {m = before} r change) =
+    change_answers f strict before m (reachable_ok f good before r) (owners_answer f good strict before r) change

@@ -64,6 +64,8 @@ pub record Config : Type 0 where
   pub lease : ℕ
   pub banks : ℕ
   pub private_write : Bool
+  -- whether a core may drop a recall of a line that it owns, or has an operation open on; the table's cores don't
+  pub loses_recalls : Bool
 
 pub record Machine : Type 0 where
   pub lines : ℕ → Line
@@ -95,29 +97,34 @@ version_of (Some c) = Some c.line.wts
 abbrev pub NotOwned : Option Copy → Type 0
 NotOwned copy = (c : Copy) → copy ≡ Some c → c.exclusive ≡ false
 
+-- a core drops a recall: any, if recalls may be lost, and else one that is stale, since the core doesn't own the line
+-- and has no operation open on it
+abbrev pub MayDrop : Bool → (ℕ → Type 0) → ℕ → Line → Type 0
+MayDrop true pinned c x = Unit {0}
+MayDrop false pinned c x = (pinned c → Prim.⊥) × NotOwned (x.copies c)
+
 -- what a message or an eviction does to one line, if no core's own state takes part, except that some cores are pinned
 -- on the line. mts is the memory time of the line's bank before and after
-pub data LineTransition (lease : ℕ) (pinned : ℕ → Type 0) : ℕ → Line → ℕ → Line → Type 0 where
+pub data LineTransition (lease : ℕ) (loses : Bool) (pinned : ℕ → Type 0) : ℕ → Line → ℕ → Line → Type 0 where
   evict_shared : {t : ℕ} {x : Line} (c : ℕ) (copy : Copy) → (pinned c → Prim.⊥) → x.copies c ≡ Some copy →
       copy.exclusive ≡ false →
-      LineTransition lease pinned t x t (record x { copies = with_at x.copies c None })
+      LineTransition lease loses pinned t x t (record x { copies = with_at x.copies c None })
   evict_exclusive : {t : ℕ} {x : Line} (c : ℕ) (copy : Copy) → (pinned c → Prim.⊥) → x.copies c ≡ Some copy →
       copy.exclusive ≡ true →
-      LineTransition lease pinned t x t (record x {
+      LineTransition lease loses pinned t x t (record x {
         copies = with_at x.copies c None;
         messages =
             FlushRep c copy.line ∷ x.messages;
       })
-  -- a recall is dropped only where it is stale: its core doesn't own the line, and has no operation open on it
   dropped : {t : ℕ} {x : Line} (c : ℕ) (rest : List Message) → IsPermutation x.messages (FlushReq c ∷ rest) →
-      (pinned c → Prim.⊥) → NotOwned (x.copies c) → LineTransition lease pinned t x t (record x { messages = rest })
+      MayDrop loses pinned c x → LineTransition lease loses pinned t x t (record x { messages = rest })
   wb_dropped : {t : ℕ} {x : Line} (c until : ℕ) (rest : List Message) → IsPermutation x.messages
-      (WbReq c until ∷ rest) → (pinned c → Prim.⊥) → NotOwned (x.copies c) →
-      LineTransition lease pinned t x t (record x { messages = rest })
+      (WbReq c until ∷ rest) → MayDrop loses pinned c x →
+      LineTransition lease loses pinned t x t (record x { messages = rest })
   flushed : {t : ℕ} {x : Line} (c : ℕ) (rest : List Message) (copy : Copy) → IsPermutation x.messages
       (FlushReq c ∷ rest) → (pinned c → Prim.⊥) →
       x.copies c ≡ Some copy → copy.exclusive ≡ true →
-      LineTransition lease pinned t x t (record x {
+      LineTransition lease loses pinned t x t (record x {
         copies = with_at x.copies c None;
         messages =
             FlushRep c copy.line ∷ rest;
@@ -125,62 +132,62 @@ pub data LineTransition (lease : ℕ) (pinned : ℕ → Type 0) : ℕ → Line �
   written_back : {t : ℕ} {x : Line} (c until : ℕ) (rest : List Message) (copy : Copy) → IsPermutation x.messages
       (WbReq c until ∷ rest) → (pinned c → Prim.⊥) →
       x.copies c ≡ Some copy → copy.exclusive ≡ true →
-      LineTransition lease pinned t x t (let line =
+      LineTransition lease loses pinned t x t (let line =
       record (copy.line) { rts = max (max copy.line.rts (copy.line.wts + lease)) until } in
       record x { copies = with_at x.copies c (Some (record { exclusive = false; written = false; line = line })); messages = WbRep c line ∷ rest })
   -- the bank. A request that starts a load or a recall stays
-  load_starts : {t : ℕ} {x : Line} → x.entry ≡ Absent → LineTransition lease pinned t x t
+  load_starts : {t : ℕ} {x : Line} → x.entry ≡ Absent → LineTransition lease loses pinned t x t
       (record x { entry = Loading; messages = DramLd ∷ x.messages })
   renewed : {t : ℕ} {x : Line} (c pts : ℕ) (dirty : Bool) (line : Timed) (rest : List Message) →
       x.entry ≡ Shared dirty line →
       IsPermutation x.messages (ShReq c pts (Some line.wts) ∷ rest) →
-      LineTransition lease pinned t x t (let rts = max (max line.rts (line.wts + lease)) (pts + lease) in
+      LineTransition lease loses pinned t x t (let rts = max (max line.rts (line.wts + lease)) (pts + lease) in
       record x { entry = Shared dirty (record line { rts = rts }); messages = RenewRep c rts ∷ rest })
   leased : {t : ℕ} {x : Line} (c pts : ℕ) (version : Option ℕ) (dirty : Bool) (line : Timed) (rest : List Message) →
       x.entry ≡ Shared dirty line →
       IsPermutation x.messages (ShReq c pts version ∷ rest) →
-      LineTransition lease pinned t x t (let leased =
+      LineTransition lease loses pinned t x t (let leased =
       record line { rts = max (max line.rts (line.wts + lease)) (pts + lease) } in
       record x { entry = Shared dirty leased; messages = ShRep c leased ∷ rest })
   upgraded : {t : ℕ} {x : Line} (c : ℕ) (dirty : Bool) (line : Timed) (rest : List Message) → x.entry ≡ Shared dirty line →
       IsPermutation x.messages (ExReq c (Some line.wts) ∷ rest) →
-      LineTransition lease pinned t x t (record x { entry = Exclusive c; messages = UpgradeRep c line.rts ∷ rest })
+      LineTransition lease loses pinned t x t (record x { entry = Exclusive c; messages = UpgradeRep c line.rts ∷ rest })
   granted : {t : ℕ} {x : Line} (c : ℕ) (version : Option ℕ) (dirty : Bool) (line : Timed) (rest : List Message) →
       x.entry ≡ Shared dirty line →
       IsPermutation x.messages (ExReq c version ∷ rest) →
-      LineTransition lease pinned t x t (record x { entry = Exclusive c; messages = ExRep c line ∷ rest })
+      LineTransition lease loses pinned t x t (record x { entry = Exclusive c; messages = ExRep c line ∷ rest })
   wb_starts : {t : ℕ} {x : Line} (owner until : ℕ) → x.entry ≡ Exclusive owner →
-      LineTransition lease pinned t x t (record x {
+      LineTransition lease loses pinned t x t (record x {
         entry = Recalling owner;
         messages =
             WbReq owner until ∷ x.messages;
       })
   flush_starts : {t : ℕ} {x : Line} (owner : ℕ) → x.entry ≡ Exclusive owner →
-      LineTransition lease pinned t x t (record x { entry = Recalling owner; messages = FlushReq owner ∷ x.messages })
+      LineTransition lease loses pinned t x t (record x { entry = Recalling owner; messages = FlushReq owner ∷ x.messages })
   flush_returns : {t : ℕ} {x : Line} (c : ℕ) (line : Timed) (rest : List Message) → IsPermutation x.messages
       (FlushRep c line ∷ rest) →
-      LineTransition lease pinned t x t (record x { entry = Shared true line; messages = rest })
+      LineTransition lease loses pinned t x t (record x { entry = Shared true line; messages = rest })
   wb_returns : {t : ℕ} {x : Line} (c : ℕ) (line : Timed) (rest : List Message) → IsPermutation x.messages
       (WbRep c line ∷ rest) →
-      LineTransition lease pinned t x t (record x { entry = Shared true line; messages = rest })
+      LineTransition lease loses pinned t x t (record x { entry = Shared true line; messages = rest })
   loaded : {t : ℕ} {x : Line} (words : List ℕ) (rest : List Message) → IsPermutation x.messages
       (DramLdRep words ∷ rest) →
-      LineTransition lease pinned t x t (record x { entry = Shared false (record { wts = t; rts = t; words = words }); messages = rest })
+      LineTransition lease loses pinned t x t (record x { entry = Shared false (record { wts = t; rts = t; words = words }); messages = rest })
   stored : {t : ℕ} {x : Line} (rest : List Message) → IsPermutation x.messages (DramStRep ∷ rest) →
-      LineTransition lease pinned t x t (record x { entry = Absent; messages = rest })
+      LineTransition lease loses pinned t x t (record x { entry = Absent; messages = rest })
   evict_clean : {t : ℕ} {x : Line} (line : Timed) → x.entry ≡ Shared false line →
-      LineTransition lease pinned t x (max t line.rts) (record x { entry = Absent })
+      LineTransition lease loses pinned t x (max t line.rts) (record x { entry = Absent })
   evict_dirty : {t : ℕ} {x : Line} (line : Timed) → x.entry ≡ Shared true line →
-      LineTransition lease pinned t x (max t line.rts) (record x { entry = Storing; messages = DramSt line.words ∷ x.messages })
+      LineTransition lease loses pinned t x (max t line.rts) (record x { entry = Storing; messages = DramSt line.words ∷ x.messages })
   -- messages are a bag
   shuffled : {t : ℕ} {x : Line} (messages : List Message) → IsPermutation x.messages messages →
-      LineTransition lease pinned t x t (record x { messages = messages })
+      LineTransition lease loses pinned t x t (record x { messages = messages })
   -- DRAM
   dram_loads : {t : ℕ} {x : Line} (rest : List Message) → IsPermutation x.messages (DramLd ∷ rest) →
-      LineTransition lease pinned t x t (record x { messages = DramLdRep x.dram ∷ rest })
+      LineTransition lease loses pinned t x t (record x { messages = DramLdRep x.dram ∷ rest })
   dram_stores : {t : ℕ} {x : Line} (words : List ℕ) (rest : List Message) → IsPermutation x.messages
       (DramSt words ∷ rest) →
-      LineTransition lease pinned t x t (record x { dram = words; messages = DramStRep ∷ rest })
+      LineTransition lease loses pinned t x t (record x { dram = words; messages = DramStRep ∷ rest })
 
 -- a reply that comes to a core with a request out
 pub data Answers (c : ℕ) : Line → Line → Type 0 where
@@ -302,7 +309,7 @@ pub data Transition (f : Config) : Machine → Machine → Type 0 where
           number = length m.records;
         } ∷ [];
       })
-  line_changes : {m : Machine} (l t : ℕ) (y : Line) → LineTransition f.lease (IsPinned f m.cores l)
+  line_changes : {m : Machine} (l t : ℕ) (y : Line) → LineTransition f.lease f.loses_recalls (IsPinned f m.cores l)
       (m.mts (l % f.banks)) (m.lines l) t y →
       Transition f m (record m { mts = with_at m.mts (l % f.banks) t; lines = with_at m.lines l y })
 

@@ -1,10 +1,12 @@
-//! Store buffering: three ends, thirteen points in layers of 1, 2, 3, 4 and 3, of which seven are kept at once.
+//! Store buffering: three ends, thirteen points in layers of 1, 2, 3, 4 and 3, of which seven are kept at once. And
+//! seven swaps of one word: each order of the threads is an end, and k turns lead to 7!/(7 - k)! points, in layers of 1,
+//! 7, 42, 210, 840, 2,520, 5,040 and 5,040.
 use crate::{EndsError, MOST_STATES, list_ends};
 use litmus_reader::read;
 use std::alloc::Global;
 use std::test::Fail;
 
-const TEXT: &str = "RISCV SB\n\
+const BUFFERING: &str = "RISCV SB\n\
     {0:x6=x; 0:x8=y; 1:x6=y; 1:x8=x; }\n\
     P0 | P1 ;\n\
     ori x5,x0,1 | ori x5,x0,1 ;\n\
@@ -12,12 +14,26 @@ const TEXT: &str = "RISCV SB\n\
     lw x7,0(x8) | lw x7,0(x8) ;\n\
     exists (0:x7=0 /\\ 1:x7=0)\n";
 
-// How many states may be kept, and how many ends and states there are then; none if there are too many.
-const COUNTS: &[(usize, usize, u64)] = &[(0, 0, 0), (6, 0, 0), (7, 3, 13), (MOST_STATES, 3, 13)];
+const SWAPS: &str = "RISCV SWAPS\n\
+    {0:x6=x; 0:x5=1; 1:x6=x; 1:x5=2; 2:x6=x; 2:x5=3; 3:x6=x; 3:x5=4; 4:x6=x; 4:x5=5; 5:x6=x; 5:x5=6; 6:x6=x; 6:x5=7; }\n\
+    P0 | P1 | P2 | P3 | P4 | P5 | P6 ;\n\
+    amoswap.w x7,x5,(x6) | amoswap.w x7,x5,(x6) | amoswap.w x7,x5,(x6) | amoswap.w x7,x5,(x6) | \
+    amoswap.w x7,x5,(x6) | amoswap.w x7,x5,(x6) | amoswap.w x7,x5,(x6) ;\n\
+    exists (0:x7=0 /\\ 1:x7=1 /\\ 2:x7=2 /\\ 3:x7=3 /\\ 4:x7=4 /\\ 5:x7=5 /\\ 6:x7=6)\n";
+
+// How many states of a test may be kept, and how many ends and states there are then; none if there are too many.
+const COUNTS: &[(&str, usize, usize, u64)] = &[
+    (BUFFERING, 0, 0, 0),
+    (BUFFERING, 6, 0, 0),
+    (BUFFERING, 7, 3, 13),
+    (BUFFERING, MOST_STATES, 3, 13),
+    (SWAPS, 10_079, 0, 0),
+    (SWAPS, 10_080, 5_040, 13_700),
+];
 
 // Whether so many ends and states are told.
-fn are_told(alloc: Global, most: usize, ends: usize, states: u64) -> bool {
-    let Ok(test) = read(alloc, TEXT.as_bytes()) else {
+fn are_told(alloc: Global, text: &str, most: usize, ends: usize, states: u64) -> bool {
+    let Ok(test) = read(alloc, text.as_bytes()) else {
         return false;
     };
     match list_ends(alloc, &test, most) {
@@ -28,9 +44,9 @@ fn are_told(alloc: Global, most: usize, ends: usize, states: u64) -> bool {
 }
 
 #[test]
-fn store_buffering(rt: HostRuntime) -> Result<(), Fail> {
-    for (most, ends, states) in COUNTS {
-        assert!(rt; are_told(rt.alloc(), *most, *ends, *states), "{most}");
+fn ends_and_states_are_counted(rt: HostRuntime) -> Result<(), Fail> {
+    for (text, most, ends, states) in COUNTS {
+        assert!(rt; are_told(rt.alloc(), text, *most, *ends, *states), "{most}");
     }
     Ok(())
 }

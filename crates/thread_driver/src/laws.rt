@@ -22,7 +22,7 @@ ghost use Rattle.thread_driver.specs.Calls.{RoomMade, VictimLeft, victim_of_seat
 ghost use Rattle.thread_driver.specs.Given.{IsBankTurn, IsCoreTurn, TurnsGiven};
 ghost use Rattle.thread_driver.specs.Reports.{IsDecided, IsReport, Moved, SomeLacked, SomeStopped, Stopped, Went};
 ghost use Rattle.thread_driver.specs.Shifts.{AreBanksInOrder, AreCoresInOrder, AreOver, NoneOpen, Ran};
-ghost use Rattle.thread_driver.specs.Teams.{SeatsPassed, rested};
+ghost use Rattle.thread_driver.specs.Teams.{InARow, SeatsPassed, is_followed, rested, row_end};
 ghost use Rattle.thread_driver.specs.ThreadRuns.{machine_of};
 ghost use Rattle.thread_driver.specs.Turns.{AfterRefusal, BankHadTurn, CoreHadTurn};
 
@@ -89,6 +89,21 @@ pub fn no_bank_has_a_turn_after_one_that_ends_all<P: Program>()
         banks' ≡ banks }
 {}
 
+/// How long a seat goes on before the next one has its turns: it has another turn exactly after one that made progress
+/// and ended nothing, at most sixteen in a row, and no more than the limit in all. It has at least one, unless it had as
+/// many as there may be.
+pub fn seats_have_turns_in_a_row<P: Program>()
+    ensures followed { (told : Told) → (is_followed told ≡ true) ↔
+        ((told.has_progressed ≡ true) × (told.no_memory ≡ false) × (told.is_exhausted ≡ false)) }
+    ensures sixteen { (limit n : ℕ) → n + 16 ≤ limit → row_end limit n ≡ n + 16 }
+    ensures limit { (limit n : ℕ) → limit ≤ n + 16 → row_end limit n ≡ limit }
+    ensures cores { (m : Machine) (most n k : ℕ) (told : Told) (p q : CoreSeat) (before after : P) →
+        InARow (IsCoreTurn P.acts m) most n (p, before) k told (q, after) →
+        n < most → (n < k) × (k ≤ most) }
+    ensures banks { (m : Machine) (most n k : ℕ) (told : Told) (p q : BankSeat) →
+        InARow (IsBankTurn m) most n p k told q → n < most → (n < k) × (k ≤ most) }
+{}
+
 /// When a worker lets another thread run: after each fourth pass in a row in which no turn of its seats made progress.
 pub fn waiting_workers_let_others_run()
     ensures progress { (idle : ℕ) → rested idle true ≡ (0, false) }
@@ -113,7 +128,7 @@ pub fn turns_decide_the_end<P: Program>()
 
 /// The machine that a closed one shows is consistent, as are those that events lead to: its records are a legal
 /// history of the opening memory and of what its cores were issued, a line has at most one owner, and a word's coherent
-/// value is the one that the records leave. Words that lines don't have are 0.
+/// value is the one that the records leave. Words that lines don't have are 0, and no recall is lost.
 pub fn closed_machines_are_consistent()
     ensures { (run : Run) (parts : Parts run) → IsConsistent (machine_of run parts) }
 {

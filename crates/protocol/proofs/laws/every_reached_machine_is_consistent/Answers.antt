@@ -33,4 +33,4 @@ pub returns-clause-cases : goal.returns-clause-cases
 returns-clause-cases c = λ f m good r l. messages_have_cases f good m r l
 
 pub returns-clause-recalls : goal.returns-clause-recalls
-returns-clause-recalls c = λ f m good r l. owners_answer f good m r l
+returns-clause-recalls c = λ f m good strict r l. owners_answer f good strict m r l

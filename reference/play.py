@@ -2,7 +2,8 @@
 """Plays examples of the machine as texts (docs/EVENTS.md) on the second program's machine: reference/play.py [FILE..].
 
 A text is read from standard input if FILE is `-`, or if none is named. `--print FILE` writes the text with the answers
-that came. No allocation of the second program fails, so that `--again` changes nothing.
+that came. No allocation of the second program fails, so that `--again` changes nothing. `--live` answers each call on
+standard input before it reads the next one.
 """
 import sys
 from collections import Counter
@@ -12,7 +13,7 @@ sys.path.insert(0, str(Path(__file__).resolve().parent.parent))
 from reference.machine_texts import MachinePlayer  # noqa: E402
 from reference.printing import printed  # noqa: E402
 from reference.seat_texts import SeatsOrNumbersPlayer  # noqa: E402
-from reference.texts import examples_of, is_answer  # noqa: E402
+from reference.texts import Unreadable, examples_of, is_answer  # noqa: E402
 
 
 KINDS = {"machine": MachinePlayer, "seats": SeatsOrNumbersPlayer, "numbers": SeatsOrNumbersPlayer}
@@ -74,9 +75,25 @@ def tell(name, is_print):
     return worst
 
 
+def play_live():
+    """Answers each call on standard input when it is read."""
+    player = MachinePlayer()
+    for line in sys.stdin:
+        call = " ".join(line.split())
+        if call:
+            try:
+                player.read(call)
+                print(player.play(call), flush=True)
+            except Unreadable as cause:
+                print(f"unread: {cause}", flush=True)
+    return GOOD
+
+
 def main(words):
     if words[:1] in (["-h"], ["--help"]):
         return print(__doc__)
+    if words == ["--live"]:
+        return play_live()
     is_print = "--print" in words
     files = [word for word in words if word not in ("--print", "--again")]
     if any(word.startswith("--") for word in files) or is_print and len(files) != 1:

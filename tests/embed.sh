@@ -85,6 +85,32 @@ if command -v rustc >/dev/null; then
 else
     echo "embed.sh: no rustc, so the caller in Rust isn't tried" >&2
 fi
+# Installed, as the Python package, pkg-config and CMake find it.
+"$top/maintain/install.sh" "$work/prefix" || exit 1
+TARDIS_LIBRARY="$work/prefix/lib/libtardis.so" "$top/tests/python_package.py" --library || exit 1
+"$work/prefix/bin/tardis" check "$work/trace" "$work/wrong" >"$work/said"
+[ "$(cat "$work/said")" = 'wrong value 1' ] || { echo "embed.sh: the installed program: $(cat "$work/said")"; exit 1; }
+export PKG_CONFIG_PATH="$work/prefix/lib/pkgconfig" LD_LIBRARY_PATH="$work/prefix/lib"
+# found NAME: a program that was built over what is installed checks a history.
+found() {
+    said=$("$work/$1" "$work/trace" "$work/legal")
+    [ "$said" = legal ] || { echo "embed.sh: $1: $said"; exit 1; }
+}
+if command -v pkg-config >/dev/null; then
+    # shellcheck disable=SC2046
+    gcc -o "$work/by_pkg_config" "$embed/check.c" $(pkg-config --cflags --libs tardis) && found by_pkg_config || exit 1
+else
+    echo "embed.sh: no pkg-config, so its file isn't tried" >&2
+fi
+if command -v cmake >/dev/null; then
+    mkdir "$work/cmake" && printf '%s\n' 'cmake_minimum_required(VERSION 3.13)' 'project(tried C)' \
+        'find_package(tardis REQUIRED)' "add_executable(by_cmake $embed/check.c)" \
+        'target_link_libraries(by_cmake tardis::tardis)' >"$work/cmake/CMakeLists.txt"
+    { cmake -S "$work/cmake" -B "$work" -DCMAKE_PREFIX_PATH="$work/prefix" && cmake --build "$work"; } >"$work/said" 2>&1 &&
+        found by_cmake || { cat "$work/said"; exit 1; }
+else
+    echo "embed.sh: no cmake, so its file isn't tried" >&2
+fi
 PARTS='litmus settings seeds traces seeded_traces verdicts trace_faults' "$top/tests/check.sh" "$work/tardis" \
     >"$work/said" || { cat "$work/said"; exit 1; }
 EMBED_ARRAYS=1 PARTS=verdicts "$top/tests/check.sh" "$work/tardis" >"$work/said" || { cat "$work/said"; exit 1; }

@@ -1,0 +1,59 @@
+#!/bin/sh
+# Installs what is built for others to find: maintain/install.sh PREFIX
+# The program and the player of events (`tardis-play-events`), the library for C and C++ (static, and shared, which the
+# Python package loads, too), its header, files for pkg-config and CMake, a page for man, and bash's completions. `./tardis
+# --help`, `./play` and `tests/embed.sh --build` build what is wanted; this builds nothing and needs gcc and ar.
+case ${1-} in '' | -*) exec sed -n '2,/^[^#]/s/^# \{0,1\}//p' "$0" ;; esac
+top=$(CDPATH='' cd -- "$(dirname -- "$0")/.." && pwd) || exit 1
+tardis=${tardis:-$top/crates/tardis/out/tardis} events=${events:-$top/crates/play_events/out/play_events}
+library=$top/crates/tardis_c/out/libtardis_c.a memory=$(dirname -- "$(rt doc)")/c/liblibc_c.a
+for built in "$tardis" "$events" "$library" "$memory"; do
+    [ -e "$built" ] || { echo "install.sh: $built isn't built" >&2; exit 1; }
+done
+mkdir -p "$1" && prefix=$(CDPATH='' cd -- "$1" && pwd) || exit 1
+cd "$prefix" && mkdir -p bin include lib/pkgconfig lib/cmake/tardis share/man/man1 share/bash-completion/completions || exit 1
+cp "$tardis" bin/tardis && cp "$events" bin/tardis-play-events && cp "$top/crates/tardis_c/tardis.h" include/ || exit 1
+
+rm -f lib/libtardis.a
+printf 'create lib/libtardis.a\naddlib %s\naddlib %s\nsave\nend\n' "$library" "$memory" | ar -M || exit 1
+gcc -shared -o lib/libtardis.so -Wl,--whole-archive "$library" -Wl,--no-whole-archive "$memory" || exit 1
+
+cat >lib/pkgconfig/tardis.pc <<END
+prefix=$prefix
+Name: tardis
+Description: The proved simulator of the Tardis coherence protocol and its checker of histories
+Version: 0.1
+Cflags: -I\${prefix}/include
+Libs: -L\${prefix}/lib -ltardis
+END
+cat >lib/cmake/tardis/tardis-config.cmake <<'END'
+get_filename_component(tardis_prefix "${CMAKE_CURRENT_LIST_DIR}/../../.." ABSOLUTE)
+add_library(tardis::tardis STATIC IMPORTED)
+set_target_properties(tardis::tardis PROPERTIES IMPORTED_LOCATION "${tardis_prefix}/lib/libtardis.a"
+    INTERFACE_INCLUDE_DIRECTORIES "${tardis_prefix}/include")
+END
+
+# help COMMAND: what the program says of it.
+help() { bin/tardis ${1:+"$1"} --help 2>&1; }
+commands=$(help | sed -n '/^Commands:/,/^$/s/^  \([a-z]*\) .*/\1/p')
+{
+    printf '.TH TARDIS 1\n.SH NAME\ntardis \\- a simulator of the Tardis coherence protocol that checks what it simulates\n'
+    for command in '' $commands; do
+        printf '.SH %s\n.nf\n' "tardis ${command:---help}"
+        help "$command" | sed 's/\\/\\\\/g; s/^\./\\\&./; s/-/\\-/g'
+        printf '.fi\n'
+    done
+} >share/man/man1/tardis.1
+{
+    echo '_tardis() {'
+    echo '    local words'
+    echo '    case ${COMP_WORDS[1]} in'
+    for command in $commands; do
+        echo "    $command) words='$(help "$command" | grep -o -- '^ *[a-zA-Z, -]*--[a-z-]*' | grep -o -- '--[a-z-]*' | tr '\n' ' ')' ;;"
+    done
+    echo "    *) words='"$commands"' ;;"
+    echo '    esac'
+    echo '    COMPREPLY=($(compgen -W "$words" -- "${COMP_WORDS[COMP_CWORD]}"))'
+    echo '}'
+    echo 'complete -o default -F _tardis tardis'
+} >share/bash-completion/completions/tardis

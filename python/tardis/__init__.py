@@ -1,0 +1,12 @@
+"""The proved simulator of the Tardis coherence protocol, and its checker of histories, from Python (python/README.md).
+
+`litmus`, `trace` and `check` call the proved library; `Machine` drives the proved machine event by event, through the
+player of events. Where neither is built, the second program answers, with a warning: it isn't proved.
+"""
+from tardis.errors import BadConfiguration, BadText, NoMemory, TardisError
+from tardis.machine import Answer, Machine, Message
+from tardis.reports import LitmusReport, Record, Records, State, TraceReport
+from tardis.runs import check, litmus, trace
+
+__all__ = ["Answer", "BadConfiguration", "BadText", "LitmusReport", "Machine", "Message", "NoMemory", "Record", "Records",
+           "State", "TardisError", "TraceReport", "check", "litmus", "trace"]

@@ -1,0 +1,23 @@
+"""Why a call has no answer."""
+
+
+class TardisError(Exception):
+    """A call has no answer. Its text is the program's line."""
+
+
+class NoMemory(TardisError):
+    """Memory was refused."""
+
+
+class BadConfiguration(TardisError):
+    """An option of the machine is out of its range: the text names it."""
+
+
+class BadText(TardisError):
+    """The text is no litmus test, no trace, or no list of records. `line` counts from 1; docs/TEXTS.md has the kinds."""
+
+    def __init__(self, told: str) -> None:
+        super().__init__(told)
+        place, _, kind = told.removeprefix("tardis: line ").partition(": ")
+        self.line = int(place) if place.isdigit() else 0
+        self.kind = kind

@@ -1,0 +1,68 @@
+"""The calls of the proved library, as crates/tardis_c/tardis.h declares them."""
+import ctypes
+import functools
+
+from tardis import found
+from tardis.errors import BadConfiguration, BadText, NoMemory, TardisError
+from tardis.options import Options
+
+NO_MEMORY, BAD_TEST, BAD_LINE, BAD_MACHINE, SHORT_BUFFER = 3, 4, 5, 6, 8
+ERRORS = {NO_MEMORY: NoMemory, BAD_TEST: BadText, BAD_LINE: BadText, BAD_MACHINE: BadConfiguration}
+FIELDS = ("lease", "time", "banks", "sets", "ways", "bank_sets", "bank_ways", "line_words", "messages", "private_write",
+          "by_seed", "seed", "limit", "runs", "records", "fair")
+
+
+class TardisOptions(ctypes.Structure):
+    """struct tardis_options."""
+
+    _fields_ = [(name, ctypes.c_uint64) for name in FIELDS]
+
+
+@functools.cache
+def loaded() -> ctypes.CDLL | None:
+    """The library; None where there is none."""
+    path = found.library()
+    if path is None:
+        return None
+    library = ctypes.CDLL(path)
+    for name in ("tardis_c_litmus", "tardis_c_trace", "tardis_c_check"):
+        getattr(library, name).restype = ctypes.c_uint32
+    return library
+
+
+def options_of(options: Options, records: bool) -> TardisOptions:
+    """The options as the library takes them."""
+    named = {name: int(getattr(options, name)) for name in FIELDS if hasattr(options, name)}
+    return TardisOptions(**named, by_seed=options.schedule == "seed", records=records)
+
+
+def told(call, *arguments) -> tuple[int, str]:
+    """The number that a call answers, and its text: once more with a larger buffer if it doesn't fit."""
+    size = 1 << 16
+    while True:
+        buffer, length = ctypes.create_string_buffer(size), ctypes.c_size_t(0)
+        number = call(*arguments, buffer, ctypes.c_size_t(size), ctypes.byref(length))
+        if number != SHORT_BUFFER:
+            break
+        size = length.value
+    text = buffer.raw[:length.value].decode() if length.value <= size else ""
+    if number in ERRORS:
+        raise ERRORS[number](text.strip())
+    if number > SHORT_BUFFER:
+        raise TardisError(f"number {number}")
+    return number, text
+
+
+def text_argument(text: bytes) -> tuple[bytes, ctypes.c_size_t]:
+    return text, ctypes.c_size_t(len(text))
+
+
+def run(kind: str, text: bytes, options: Options, records: bool = False) -> str:
+    """The report of a litmus test or a trace, or a trace's records."""
+    call = getattr(loaded(), f"tardis_c_{kind}")
+    return told(call, *text_argument(text), ctypes.byref(options_of(options, records)))[1]
+
+
+def check(trace: bytes, records: bytes) -> str:
+    """The line of the verdict on records."""
+    return told(loaded().tardis_c_check, *text_argument(trace), *text_argument(records))[1]

@@ -1,0 +1,163 @@
+"""The machine, event by event. Each call is one line of docs/EVENTS.md, which the player of events answers at once."""
+import subprocess
+from collections.abc import Iterator, Mapping
+from dataclasses import dataclass
+
+from tardis import found
+from tardis.errors import BadConfiguration, NoMemory, TardisError
+from tardis.options import Options
+from tardis.reports import Record, Records, record_of
+
+OF_MACHINE = ("banks", "sets", "ways", "bank_sets", "bank_ways", "line_words", "lease", "messages", "time")
+
+
+@dataclass(frozen=True)
+class Answer:
+    """The answer to an event: issued, completed, requested, waiting, idle, delivered, dropped, held, started, evicted,
+    recalled, advanced or refused; the cause of a refusal; and the record of a completion."""
+
+    name: str
+    cause: str | None = None
+    record: Record | None = None
+
+
+@dataclass(frozen=True)
+class Message:
+    """A message in flight: its kind (ShReq, ExReq, ..), its ends (`core 1`, `bank 0`, `dram 0`), the byte address of its
+    line's first word, and what it carries."""
+
+    number: int
+    kind: str
+    sender: str
+    receiver: str
+    address: int
+    carries: str
+
+
+class Machine:
+    """A machine of the proved simulator, which you drive: you say which core attempts, and when each message arrives.
+
+    Addresses are in bytes, multiples of 8; times in ticks. An event that is refused changes nothing (but `Exhausted`,
+    which stops the machine). `is_proved` says whether the proved player answers. Close it, or use it in a `with`."""
+
+    def __init__(self, cores: int = 2, memory: Mapping[int, int] | None = None, **options: int | bool) -> None:
+        built = Options(**options)
+        if not 1 <= cores <= 64:
+            raise BadConfiguration(f"cores is {cores}: it goes from 1 to 64")
+        path = found.player()
+        self.is_proved = path is not None
+        command = [path] if path else found.second("play.py", "the player of events")
+        self._player = subprocess.Popen([*command, "--live"], stdin=subprocess.PIPE, stdout=subprocess.PIPE, text=True,
+                                        bufsize=1)
+        words = " ".join(f"{name.replace('_', '-')} {getattr(built, name)}" for name in OF_MACHINE)
+        opening = " ".join(f"{address:#x} {value}" for address, value in (memory or {}).items())
+        opened = self.call(f"machine cores {cores} {words} private-write {'yes' if built.private_write else 'no'}"
+                           + (f" with {opening}" if opening else ""))
+        if opened != "opened":
+            self.close()
+            raise NoMemory(opened) if "NoMemory" in opened else TardisError(opened)
+
+    def call(self, line: str) -> str:
+        """The answer to a line of docs/EVENTS.md."""
+        if "\n" in line or not line.strip():
+            raise ValueError("one call, in one line")
+        self._player.stdin.write(line + "\n")
+        answer = self._player.stdout.readline()
+        if not answer:
+            raise TardisError("the player ended")
+        if answer.startswith("unread: "):
+            raise ValueError(f"{line}: {answer.removeprefix('unread: ').strip()}")
+        return answer.rstrip("\n")
+
+    def _event(self, line: str) -> Answer:
+        name, _, rest = self.call(line).partition(" ")
+        return Answer(name, rest if name == "refused" else None, record_of(rest) if name == "completed" else None)
+
+    # Events.
+    def load(self, core: int, address: int) -> Answer:
+        """Issues a load: it is attempted later."""
+        return self._event(f"issue {core} R {address:#x}")
+
+    def store(self, core: int, address: int, value: int) -> Answer:
+        """Issues a store."""
+        return self._event(f"issue {core} W {address:#x} {value}")
+
+    def swap(self, core: int, address: int, value: int) -> Answer:
+        """Issues a swap, which stores a value and receives the old one."""
+        return self._event(f"issue {core} S {address:#x} {value}")
+
+    def attempt(self, core: int) -> Answer:
+        """The core attempts its open operation: completed, requested, waiting, idle, or refused (NoRoom: evict `victim`)."""
+        return self._event(f"attempt {core}")
+
+    def deliver(self, number: int) -> Answer:
+        """The message of this number arrives."""
+        return self._event(f"deliver m{number}")
+
+    def evict_copy(self, core: int, address: int) -> Answer:
+        """The core gives up its copy of a line."""
+        return self._event(f"evict core {core} {address:#x}")
+
+    def evict_entry(self, bank: int, address: int) -> Answer:
+        """The bank gives up its entry of a line, or recalls the line first."""
+        return self._event(f"evict bank {bank} {address:#x}")
+
+    def advance(self, core: int) -> Answer:
+        """The core's time goes on by one tick."""
+        return self._event(f"advance {core}")
+
+    # Look-ups.
+    def in_flight(self) -> list[int]:
+        """The numbers of the messages in flight, in the order of sending."""
+        return [int(word[1:]) for word in self.call("flight").split() if word != "none"]
+
+    def message(self, number: int) -> Message | None:
+        """The message in flight that has this number."""
+        told = self.call(f"message m{number}")
+        if told == "none":
+            return None
+        kind, sender, sent_by, _, receiver, sent_to, address, *carries = told.split()
+        return Message(number, kind, f"{sender} {sent_by}", f"{receiver} {sent_to}", int(address, 16), " ".join(carries))
+
+    def victim(self, core: int, address: int) -> int | None:
+        """The line to evict so that the core has a place for this one."""
+        told = self.call(f"victim {core} {address:#x}")
+        return None if told == "none" else int(told, 16)
+
+    def room(self, number: int) -> tuple[int, int] | None:
+        """Bank and line to evict so that this message, which was held, finds room."""
+        told = self.call(f"room m{number}").split()
+        return (int(told[1]), int(told[2], 16)) if told[0] == "bank" else None
+
+    def open_operation(self, core: int) -> str | None:
+        """The operation that the core was issued and hasn't completed."""
+        told = self.call(f"open {core}")
+        return None if told == "none" else told
+
+    def value(self, address: int) -> int:
+        """The word's value, where its line now is."""
+        return int(self.call(f"word {address:#x}"))
+
+    def records(self) -> Records:
+        """The completed operations."""
+        return Records(record_of(self.call(f"record {number}")) for number in range(int(self.call("records"))))
+
+    def check(self) -> str:
+        """The checker's verdict on the records: always legal."""
+        return self.call("check")
+
+    # The player.
+    def close(self) -> None:
+        """Ends the player."""
+        if self._player.poll() is None:
+            self._player.communicate()
+
+    def __enter__(self) -> "Machine":
+        return self
+
+    def __exit__(self, *error: object) -> None:
+        self.close()
+
+    def __iter__(self) -> Iterator[Message]:
+        """The messages in flight."""
+        return iter([self.message(number) for number in self.in_flight()])

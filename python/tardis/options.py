@@ -1,0 +1,51 @@
+"""The options of a run, with the ranges and defaults of the program (docs/SCHEDULES.md, docs/PROTOCOL.md)."""
+from dataclasses import dataclass, fields
+
+from tardis.errors import BadConfiguration
+
+MOST = 2 ** 64 - 1
+RANGES = {"lease": (1, 2 ** 32), "time": (0, MOST), "banks": (1, 8), "sets": (1, 1024), "ways": (1, 16),
+          "bank_sets": (1, 1024), "bank_ways": (1, 16), "messages": (1, 65536), "limit": (1, 2 ** 32 - 1),
+          "runs": (1, 1_000_000), "seed": (0, MOST)}
+SCHEDULES = "round", "seed"
+
+
+@dataclass(frozen=True, kw_only=True)
+class Options:
+    """How a machine is built, and how a run goes on it."""
+
+    lease: int = 10              # ticks that a lease extends past the times that it covers
+    time: int = 0                # of each core and bank before the first event, in ticks
+    banks: int = 1
+    sets: int = 64               # of a private cache
+    ways: int = 4                # lines of a private set
+    bank_sets: int = 256
+    bank_ways: int = 8
+    line_words: int = 1          # 1 or 8 words of 8 bytes
+    messages: int = 4096         # in flight at most
+    private_write: bool = False
+    schedule: str = "round"      # or seed
+    fair: bool = False           # with rounds alone: a message that a bank makes a place for is delivered once more
+    seed: int = 0                # of the first run; each further run has the next
+    limit: int = 100_000         # rounds or turns of a run
+    runs: int = 1                # of a litmus test
+
+    def __post_init__(self) -> None:
+        for name, (least, most) in RANGES.items():
+            if not least <= getattr(self, name) <= most:
+                raise BadConfiguration(f"{name} is {getattr(self, name)}: it goes from {least} to {most}")
+        if self.line_words not in (1, 8):
+            raise BadConfiguration(f"line_words is {self.line_words}: it is 1 or 8")
+        if self.schedule not in SCHEDULES:
+            raise BadConfiguration(f"schedule is {self.schedule!r}: it is round or seed")
+        if self.fair and self.schedule != "round":
+            raise BadConfiguration("fair needs schedule='round'")
+
+    def words(self, kind: str) -> list[str]:
+        """The options of the command `kind` (litmus or trace) that say the same."""
+        words = []
+        for field in fields(self):
+            value = getattr(self, field.name)
+            if value != field.default and (field.name != "runs" or kind == "litmus"):
+                words += ["--" + field.name.replace("_", "-")] + ([] if value is True else [str(value)])
+        return words

@@ -1,0 +1,89 @@
+"""What reports say (docs/TEXTS.md), as objects."""
+from dataclasses import dataclass, field
+from typing import NamedTuple
+
+
+@dataclass(frozen=True)
+class State:
+    """An end state of a litmus test: how many runs ended in it, and the value of each name in the condition."""
+
+    times: int
+    values: dict[str, int]
+
+
+@dataclass(frozen=True)
+class LitmusReport:
+    """The report on the runs of a litmus test. `is_proved` says who made it: the proved library, or the second program."""
+
+    text: str = field(repr=False)
+    is_proved: bool
+    name: str
+    numbers: dict[str, int]  # of each line with one number: runs, all-done, stalled, held, completed, renewals, ..
+    states: list[State]
+    condition: str           # exists, ~exists or forall
+    verdict: bool            # whether the runs that were made meet it
+
+
+@dataclass(frozen=True)
+class TraceReport:
+    """The report on a run of a trace."""
+
+    text: str = field(repr=False)
+    is_proved: bool
+    end: str                 # all-done, stalled, limit, exhausted or memory
+    numbers: dict[str, int]  # cores, issued, completed, loads, .., stale-hits
+    words: dict[int, int]    # by byte address, the value that the run leaves
+
+
+class Record(NamedTuple):
+    """A completed operation, as a line of records has it."""
+
+    core: int
+    place: int            # in the core's program order, from 0
+    kind: str             # R, W or S: a load, a store, a swap
+    address: int          # in bytes
+    value: int | None     # what was written; None for a load
+    received: int | None  # None for a store
+    time: int             # the timestamp, in ticks
+    number: int           # of completion, from 0
+
+
+class Records(list[Record]):
+    """Records, in the order of completion."""
+
+    def columns(self) -> dict[str, list]:
+        """The records by columns, as `pandas.DataFrame` takes them."""
+        return {name: [record[at] for record in self] for at, name in enumerate(Record._fields)}
+
+
+def record_of(line: str) -> Record:
+    """The record that a line has."""
+    core, place, kind, address, *rest = line.split()
+    *values, time, number = map(int, rest)
+    return Record(int(core), int(place), kind, int(address, 16), values[0] if kind != "R" else None,
+                  values[-1] if kind != "W" else None, time, number)
+
+
+def litmus_report(text: str, is_proved: bool) -> LitmusReport:
+    """A report on a litmus test, from its text."""
+    lines = text.splitlines()
+    pairs = [line.split() for line in lines]
+    states = [State(int(times), {name: int(value) for name, _, value in (word.rpartition("=") for word in words)})
+              for times, *words in pairs if times.isdigit()]
+    named = {words[0]: words[1] for words in pairs if len(words) == 2 and not words[0].isdigit()}
+    numbers = {name: int(value) for name, value in named.items() if value.isdigit() and name != "test"}
+    return LitmusReport(text, is_proved, named["test"], numbers, states, named["condition"], named["verdict"] == "yes")
+
+
+def trace_report(text: str, is_proved: bool) -> TraceReport:
+    """A report on a trace, from its text."""
+    pairs = [line.split() for line in text.splitlines()]
+    words = {int(name, 16): int(value) for _, name, value in (each for each in pairs if each[0] == "word")}
+    named = {each[0]: each[1] for each in pairs if len(each) == 2}
+    numbers = {name: int(value) for name, value in named.items() if value.isdigit()}
+    return TraceReport(text, is_proved, named["end"], numbers, words)
+
+
+def records_of(text: str) -> Records:
+    """Records, from their text."""
+    return Records(map(record_of, text.splitlines()))

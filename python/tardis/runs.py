@@ -1,0 +1,60 @@
+"""Litmus tests, traces, and checks of histories."""
+import os
+import subprocess
+import tempfile
+
+from tardis import found, library
+from tardis.errors import BadConfiguration, BadText, NoMemory, TardisError
+from tardis.options import Options
+from tardis.reports import LitmusReport, Records, TraceReport, litmus_report, records_of, trace_report
+
+
+def in_bytes(text: str | bytes) -> bytes:
+    return text.encode() if isinstance(text, str) else text
+
+
+def by_second(words: list[str], *texts: bytes) -> str:
+    """What the second program prints of a command on these texts."""
+    command = found.second("oracle.py", "the shared library")
+    with tempfile.TemporaryDirectory(prefix="tardis-") as folder:
+        paths = [os.path.join(folder, str(number)) for number in range(len(texts))]
+        for path, text in zip(paths, texts):
+            with open(path, "wb") as file:
+                file.write(text)
+        came = subprocess.run(command + words + paths, capture_output=True, text=True)
+    if came.returncode in (0, 1) and came.stdout:
+        return came.stdout
+    told = came.stderr.strip()
+    raise {1: NoMemory, 2: BadText, 3: BadConfiguration}.get(came.returncode, TardisError)(told)
+
+
+def run(kind: str, text: str | bytes, options: Options, records: bool = False) -> tuple[str, bool]:
+    """The text of a report, and whether the proved library made it."""
+    if library.loaded():
+        return library.run(kind, in_bytes(text), options, records), True
+    words = [kind, *options.words(kind)] + (["--records"] if records else [])
+    return by_second(words, in_bytes(text)), False
+
+
+def litmus(text: str | bytes, **options: int | str | bool) -> LitmusReport:
+    """Runs a litmus test (docs/TEXTS.md), with the fields of `Options`: `litmus(text, runs=1000, schedule="seed")`.
+
+    Raises BadText, BadConfiguration or NoMemory."""
+    return litmus_report(*run("litmus", text, Options(**options)))
+
+
+def trace(text: str | bytes, *, records: bool = False, **options: int | str | bool) -> TraceReport | Records:
+    """Runs a trace over a memory of zeros: its report, or its records by columns.
+
+    Raises BadText, BadConfiguration or NoMemory."""
+    if records:
+        return records_of(run("trace", text, Options(**options), True)[0])
+    return trace_report(*run("trace", text, Options(**options)))
+
+
+def check(trace: str | bytes, records: str | bytes) -> str:
+    """The checker's verdict on records of a trace's operations, over a memory of zeros: `legal`, or what is wrong and the
+    number of the record. Raises BadText or NoMemory."""
+    if library.loaded():
+        return library.check(in_bytes(trace), in_bytes(records)).strip()
+    return by_second(["check"], in_bytes(trace), in_bytes(records)).strip()

@@ -1,0 +1,177 @@
+#!/usr/bin/env python3
+"""Tries the players' `--live` (docs/EVENTS.md) and the Python package: tests/python_package.py EVENT_PLAYER
+
+Each call of the texts in crates/play_events/data is sent alone, and its answer read before the next one is sent, to the
+proved player and to the second program's. Then the package: answers by hand, faults, and a network of one's own
+(examples/embed/latency.py), by both. tests/python_package.py --library tries litmus tests, traces and checks by the
+shared library that TARDIS_LIBRARY names, against the reports in examples/; without the option, by the second program.
+"""
+import os
+import subprocess
+import sys
+import warnings
+from itertools import islice
+from pathlib import Path
+
+TOP = Path(__file__).resolve().parent.parent
+sys.path[:0] = [str(TOP), str(TOP / "python")]
+import tardis  # noqa: E402
+from reference.machine_texts import MachinePlayer  # noqa: E402
+from reference.texts import examples_of, is_answer  # noqa: E402
+
+STORE_BUFFERING = TOP / "examples/litmus/SB.litmus"
+
+
+def fail(why):
+    sys.exit(f"python_package.py: {why}")
+
+
+class Live:
+    """A player that answers each call at once."""
+
+    def __init__(self, command):
+        self.player = subprocess.Popen([*command, "--live"], stdin=subprocess.PIPE, stdout=subprocess.PIPE, text=True,
+                                       bufsize=1)
+
+    def say(self, call):
+        self.player.stdin.write(call + "\n")
+        return self.player.stdout.readline().rstrip("\n")
+
+    def end(self):
+        rest = self.player.communicate()[0]
+        return self.player.returncode, rest
+
+
+def dialog(command):
+    """Calls by hand: what can't be read gets its cause, a blank line nothing, and the player goes on."""
+    live = Live(command)
+    for call, wanted in (("flight", "no machine"), ("machine cores 2 lease 10", "opened"), ("issue 1 R 0x0", "issued"),
+                         ("attempt 1", "requested"), ("  flight  ", "m0"), ("deliver m0 1", "unread: a word too many"),
+                         ("fly", "unread: there is no such call"), ("deliver m0", "started"), ("\nflight", "m0 m1"),
+                         ("issue 1 R 0x0", "refused Busy"), ("issue 1 R 0x4", "unread: an address is a multiple of 8")):
+        came = live.say(call)
+        if came != wanted:
+            fail(f"{command[0]}: {call.strip()}: {came}, not {wanted}")
+    if live.end() != (0, ""):
+        fail(f"{command[0]}: the end of the input")
+
+
+def texts(command, most):
+    """The calls of the texts that have an answer, repeats made, up to so many of each example; a player for each."""
+    tried = 0
+    for path in sorted((TOP / "crates/play_events/data").glob("*.events")):
+        for example in examples_of(path.read_text(), {"machine": MachinePlayer}):
+            live = Live(command)
+            for _, _, call, wanted in islice(example.lines(), most):
+                came = live.say(call)
+                if wanted is not None and not is_answer(wanted, came):
+                    fail(f"{command[0]}: {path.name}: {example.title}: {call}: {came}, not {wanted}")
+                tried += 1
+            live.end()
+    return tried
+
+
+def machine():
+    """A load of core 1 by hand, and what is refused."""
+    with tardis.Machine(cores=2, lease=10, memory={8: 5}) as opened:
+        names = [opened.load(1, 8).name, opened.attempt(1).name]
+        sent = opened.message(0)
+        names += [opened.deliver(number).name for number in (0, 1, 2, 0, 3)]
+        done = opened.attempt(1)
+        if names != ["issued", "requested", "started", "delivered", "delivered", "delivered", "delivered"]:
+            fail(f"events of a load: {names}")
+        if sent != tardis.Message(0, "ShReq", "core 1", "bank 0", 8, "pts 0 version none"):
+            fail(f"its request: {sent}")
+        if done.record != tardis.Record(1, 0, "R", 8, None, 5, 0, 0) or opened.records() != [done.record]:
+            fail(f"its record: {done}")
+        if (opened.value(8), opened.check(), opened.in_flight(), opened.message(0)) != (5, "legal", [], None):
+            fail("the look-ups after it")
+        if opened.deliver(7) != tardis.Answer("refused", "NoSuch") or opened.open_operation(1) is not None:
+            fail("a message that isn't there")
+        if opened.records().columns()["received"] != [5]:
+            fail("columns")
+    for make, kind in ((lambda: tardis.Machine(cores=65), tardis.BadConfiguration),
+                       (lambda: tardis.Machine(ways=17), tardis.BadConfiguration)):
+        try:
+            make()
+            fail("a machine that can't be")
+        except kind:
+            pass
+    return opened.is_proved
+
+
+def latency():
+    """Cycles of one store by hand: a hop, DRAM both ways, the request once more a hop later, a hop, a hit. And what is
+    told of three traces."""
+    told = ""
+    for name in ("FIRST-STORE", "MIGRATORY", "FALSE-SHARING"):
+        told += subprocess.run([sys.executable, TOP / "examples/embed/latency.py", TOP / f"examples/traces/{name}.trace", "1",
+                                "100"], text=True, capture_output=True, check=True).stdout
+    if not told.startswith(f"lease 1: {10 + 100 + 100 + 10 + 10 + 1} cycles, 1 operations, legal\n"):
+        fail(f"latency.py: {told}")
+    return told
+
+
+def runs(is_proved):
+    """Reports and verdicts, against examples/ and by hand."""
+    report = tardis.litmus(STORE_BUFFERING.read_text())
+    if report.text != STORE_BUFFERING.with_suffix(".report").read_text() or report.is_proved != is_proved:
+        fail(f"the report of store buffering: {report}")
+    if (report.states, report.verdict) != ([tardis.State(1, {"0:x7": 1, "1:x7": 1})], False):
+        fail(f"its states: {report}")
+    seeded = tardis.litmus(STORE_BUFFERING.read_text(), schedule="seed", runs=300, seed=5)
+    if sum(state.times for state in seeded.states) != 300 or len(seeded.states) != 3:
+        fail(f"300 seeds: {seeded}")
+    trace = TOP / "examples/traces/MIGRATORY.trace"
+    if tardis.trace(trace.read_text()).text != trace.with_suffix(".report").read_text():
+        fail("the report of a trace")
+    records = tardis.trace("0 W 0x8 7\n", records=True)
+    if records != [tardis.Record(0, 0, "W", 8, 7, None, 1, 0)]:
+        fail(f"records: {records}")
+    for told, wanted in ((tardis.check("0 W 0x0 1\n", "0 0 W 0x0 1 1 0\n"), "legal"),
+                         (tardis.check("0 W 0x0 1\n1 R 0x0\n", "0 0 W 0x0 1 1 0\n1 0 R 0x0 0 1 1\n"), "wrong value 1")):
+        if told != wanted:
+            fail(f"a verdict: {told}, not {wanted}")
+    faults(is_proved)
+
+
+def faults(is_proved):
+    """What is refused, with its line, and options out of range."""
+    for make, kind, line in ((lambda: tardis.litmus("RISCV\n"), tardis.BadText, 1),
+                             (lambda: tardis.trace("0 R 0x0\n0 R 0x4\n"), tardis.BadText, 2),
+                             (lambda: tardis.check("0 R 0x0\n", "0 R 0x0\n"), tardis.BadText, 1),
+                             (lambda: tardis.trace("0 R 0x0\n", lease=0), tardis.BadConfiguration, None),
+                             (lambda: tardis.trace("0 R 0x0\n", schedule="seed", fair=True), tardis.BadConfiguration,
+                              None)):
+        try:
+            make()
+            fail("what is refused was taken")
+        except kind as error:
+            if line is not None and error.line != line:
+                fail(f"{error}: line {error.line}, not {line}")
+
+
+def main(words):
+    if words[:1] in ([], ["-h"], ["--help"]):
+        return print(__doc__)
+    if words == ["--library"]:
+        return runs(True)
+    warnings.simplefilter("ignore")
+    player = words[0]
+    told = []
+    for command, named in (([player], player), ([sys.executable, str(TOP / "reference/play.py")], "")):
+        os.environ["TARDIS_PLAYER"] = named
+        dialog(command)
+        tried = texts(command, 2000 if named else 30)
+        if machine() != bool(named):
+            fail("which player answers")
+        told.append(latency())
+        print(f"python_package.py: {tried} calls, one by one")
+    if told[0] != told[1]:
+        fail(f"latency.py: {told[0]} by the proved player, and {told[1]}")
+    os.environ["TARDIS_LIBRARY"] = ""
+    runs(False)
+
+
+if __name__ == "__main__":
+    sys.exit(main(sys.argv[1:]))

@@ -57,7 +57,7 @@ def dialog(command):
 
 
 def texts(command, most):
-    """The calls of the texts that have an answer, repeats made, up to so many of each example; a player for each."""
+    """The calls of the texts that have an answer, repeats made, at most `most` of each example; a player for each."""
     tried = 0
     for path in sorted((TOP / "crates/play_events/data").glob("*.events")):
         for example in examples_of(path.read_text(), {"machine": MachinePlayer}):
@@ -101,8 +101,8 @@ def machine():
 
 
 def latency():
-    """Cycles of one store by hand: a hop, DRAM both ways, the request once more a hop later, a hop, a hit. And what is
-    told of three traces."""
+    """Cycles of one store by hand: a hop, DRAM both ways, the request once more a hop later, a hop, a hit. And what three
+    traces print."""
     told = ""
     for name in ("FIRST-STORE", "MIGRATORY", "FALSE-SHARING"):
         told += subprocess.run([sys.executable, TOP / "examples/embed/latency.py", TOP / f"examples/traces/{name}.trace", "1",

@@ -1,7 +1,7 @@
 #!/bin/sh
 # Installs what is built for others to find: maintain/install.sh PREFIX
 # The program and the player of events (`tardis-play-events`), the library for C and C++ (static, and shared, which the
-# Python package loads, too), its header, files for pkg-config and CMake, a page for man, and bash's completions. `./tardis
+# Python package loads, too), its headers, files for pkg-config and CMake, a page for man, and bash's completions. `./tardis
 # --help`, `./play` and `tests/embed.sh --build` build what is wanted; this builds nothing and needs gcc and ar.
 case ${1-} in '' | -*) exec sed -n '2,/^[^#]/s/^# \{0,1\}//p' "$0" ;; esac
 top=$(CDPATH='' cd -- "$(dirname -- "$0")/.." && pwd) || exit 1
@@ -12,7 +12,7 @@ for built in "$tardis" "$events" "$library" "$memory"; do
 done
 mkdir -p "$1" && prefix=$(CDPATH='' cd -- "$1" && pwd) || exit 1
 cd "$prefix" && mkdir -p bin include lib/pkgconfig lib/cmake/tardis share/man/man1 share/bash-completion/completions || exit 1
-cp "$tardis" bin/tardis && cp "$events" bin/tardis-play-events && cp "$top/crates/tardis_c/tardis.h" include/ || exit 1
+cp "$tardis" bin/tardis && cp "$events" bin/tardis-play-events && cp "$top/crates/tardis_c/tardis.h" "$top/crates/tardis_c/tardis.hpp" include/ || exit 1
 
 rm -f lib/libtardis.a
 printf 'create lib/libtardis.a\naddlib %s\naddlib %s\nsave\nend\n' "$library" "$memory" | ar -M || exit 1

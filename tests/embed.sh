@@ -43,7 +43,8 @@ strict="-O1 -Wall -Wextra -Werror -I$crate"
     gcc -std=c11 -pedantic $strict $memory -o "$work/numbers_c" "$embed/numbers.c" $library &&
     g++ -x c++ -std=c++11 -pedantic $strict $memory -o "$work/numbers_cpp" "$embed/numbers.c" -x none $library &&
     gcc -std=c11 -pedantic $strict -o "$work/check" "$embed/check.c" $library &&
-    g++ -std=c++17 -pedantic $strict -o "$work/tardis" "$embed/tardis.cpp" $library
+    g++ -std=c++17 -pedantic $strict -o "$work/tardis" "$embed/tardis.cpp" $library &&
+    g++ -std=c++17 -pedantic $strict -o "$work/latency" "$embed/latency.cpp" $library
 } || exit 1
 
 timeout 120 "$work/numbers_c" || exit 1
@@ -91,6 +92,12 @@ TARDIS_LIBRARY="$work/prefix/lib/libtardis.so" "$top/tests/python_package.py" --
 "$work/prefix/bin/tardis" check "$work/trace" "$work/wrong" >"$work/said"
 [ "$(cat "$work/said")" = 'wrong value 1' ] || { echo "embed.sh: the installed program: $(cat "$work/said")"; exit 1; }
 export PKG_CONFIG_PATH="$work/prefix/lib/pkgconfig" LD_LIBRARY_PATH="$work/prefix/lib"
+# A network of one's own, in C++ and in Python: the same cycles.
+for trace in FIRST-STORE MIGRATORY FALSE-SHARING; do
+    "$work/latency" "$work/prefix/bin/tardis-play-events" "$top/examples/traces/$trace.trace" 1 100 >"$work/said"
+    TARDIS_PLAYER="$work/prefix/bin/tardis-play-events" "$embed/latency.py" "$top/examples/traces/$trace.trace" 1 100 |
+        diff "$work/said" - || exit 1
+done
 # found NAME: a program that was built over what is installed checks a history.
 found() {
     said=$("$work/$1" "$work/trace" "$work/legal")

@@ -2,11 +2,10 @@
 // --schedule threads and --workers. What it prints and its status are the program's, so that tests/check.sh can try
 // it. With EMBED_ARRAYS in the environment, `check` gives the library arrays in place of texts, where these are read
 // here.
-#include "tardis.h"
+#include "tardis.hpp"
 
 #include <cstdio>
 #include <cstdlib>
-#include <functional>
 #include <iostream>
 #include <map>
 #include <sstream>
@@ -57,24 +56,12 @@ std::vector<std::string> words_of(int count, char **words, tardis_options &optio
     return others;
 }
 
-// A call that puts a text into a buffer and answers a number.
-using Call = std::function<int(char *buffer, size_t size, size_t *length)>;
-
-// Calls with a short buffer first, and then, where the text doesn't fit, with one of its length. Only the length tells
-// so: an error's line that doesn't fit keeps its number. The text goes out.
-int told(const Call &call) {
-    std::vector<char> buffer(16);
-    size_t length = 0;
-    int number = call(buffer.data(), buffer.size(), &length);
-    if (length > buffer.size()) {
-        buffer.resize(length);
-        number = call(buffer.data(), buffer.size(), &length);
-    }
-    const bool is_report = number == TARDIS_DONE || number == TARDIS_NOT_DONE;
-    std::FILE *out = is_report ? stdout : stderr;
-    std::fwrite(buffer.data(), 1, length, out);
+// The text goes out; the status that the program would have.
+int told(const tardis::Report &report) {
+    std::FILE *out = report.is_report() ? stdout : stderr;
+    std::fwrite(report.text.data(), 1, report.text.size(), out);
     if (std::fflush(out) != 0) fail("write failed", 4);
-    switch (number) {
+    switch (report.number) {
     case TARDIS_DONE: return 0;
     case TARDIS_BAD_TEST: case TARDIS_BAD_LINE: return 2;
     case TARDIS_BAD_MACHINE: return 3;
@@ -105,19 +92,16 @@ tardis_operation operation_of(const std::vector<std::string> &fields, size_t at)
 
 // What `check` prints, from arrays.
 int check_arrays(const std::string &trace, const std::string &text) {
-    std::vector<tardis_operation> operations;
+    tardis::History history;
     for (const auto &line : fields_of(trace))
-        if (line[0] != "trace" && line[1] != "A") operations.push_back(operation_of(line, 1));
-    std::vector<tardis_record> records;
+        if (line[0] != "trace" && line[1] != "A") history.issue(operation_of(line, 1));
     for (const auto &line : fields_of(text)) {
         const tardis_operation operation = operation_of(line, 2);
         const uint64_t received = operation.kind == TARDIS_STORE ? 0 : std::stoull(line[line.size() - 3]);
-        records.push_back({operation, std::stoull(line[1]), received, std::stoull(line[line.size() - 2]),
-                           std::stoull(line.back())});
+        history.complete({operation, std::stoull(line[1]), received, std::stoull(line[line.size() - 2]),
+                          std::stoull(line.back())});
     }
-    tardis_told told{};
-    const int number =
-        tardis_check_records(operations.data(), operations.size(), records.data(), records.size(), &told);
+    const auto [number, told] = history.verdict();
     static const char *const WORDS[] = {"legal", "bad number", "out of program order", "wrong value"};
     if (number != TARDIS_DONE && number != TARDIS_NOT_DONE) fail("number " + std::to_string(number), 1);
     std::cout << WORDS[told.kind];
@@ -129,20 +113,14 @@ int check_arrays(const std::string &trace, const std::string &text) {
 }  // namespace
 
 int main(int count, char **words) {
-    tardis_options options;
-    tardis_defaults(&options);
+    tardis_options options = tardis::defaults();
     const std::string command = count > 1 ? words[1] : "";
     const std::vector<std::string> files = words_of(count, words, options);
     if (files.size() != (command == "check" ? 2 : 1)) fail("bad command line", 3);
     const std::string text = text_of(files[0]);
-    if (command == "litmus")
-        return told([&](auto... out) { return tardis_run_litmus(text.data(), text.size(), &options, out...); });
-    if (command == "trace")
-        return told([&](auto... out) { return tardis_run_trace(text.data(), text.size(), &options, out...); });
+    if (command == "litmus") return told(tardis::litmus(text, options));
+    if (command == "trace") return told(tardis::trace(text, options));
     if (command != "check") fail("bad command line", 3);
     const std::string records = text_of(files[1]);
-    if (std::getenv("EMBED_ARRAYS")) return check_arrays(text, records);
-    return told([&](auto... out) {
-        return tardis_check(text.data(), text.size(), records.data(), records.size(), out...);
-    });
+    return std::getenv("EMBED_ARRAYS") ? check_arrays(text, records) : told(tardis::check(text, records));
 }

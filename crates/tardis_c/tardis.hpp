@@ -1,0 +1,178 @@
+// The checker, the runner and the machine for C++17, header only, over tardis.h and the player of events. Nothing here is
+// proved; what it calls is. Errors are values: numbers of tardis.h, and empty optionals. Nothing throws but for want of
+// memory.
+#ifndef TARDIS_HPP
+#define TARDIS_HPP
+
+#include "tardis.h"
+
+#include <cstdio>
+#include <functional>
+#include <optional>
+#include <sstream>
+#include <string>
+#include <string_view>
+#include <utility>
+#include <vector>
+
+#include <sys/socket.h>
+#include <sys/wait.h>
+#include <unistd.h>
+
+namespace tardis {
+
+// The default options of a run.
+inline tardis_options defaults() {
+    tardis_options options{};
+    tardis_defaults(&options);
+    return options;
+}
+
+// A number of tardis.h, and the report or the error's line.
+struct Report {
+    int number = TARDIS_NULL;
+    std::string text;
+    bool is_report() const { return number == TARDIS_DONE || number == TARDIS_NOT_DONE; }
+};
+
+// Calls again where the text doesn't fit into the first buffer.
+inline Report told(const std::function<int(char *buffer, size_t size, size_t *length)> &call) {
+    std::string buffer(4096, '\0');
+    size_t length = 0;
+    int number = call(buffer.data(), buffer.size(), &length);
+    if (length > buffer.size()) {
+        buffer.resize(length);
+        number = call(buffer.data(), buffer.size(), &length);
+    }
+    buffer.resize(length);
+    return {number, buffer};
+}
+
+inline Report litmus(std::string_view text, const tardis_options &options = defaults()) {
+    return told([&](char *buffer, size_t size, size_t *length) {
+        return tardis_run_litmus(text.data(), text.size(), &options, buffer, size, length);
+    });
+}
+
+// The report of a trace, or its records if the options say so.
+inline Report trace(std::string_view text, const tardis_options &options = defaults()) {
+    return told([&](char *buffer, size_t size, size_t *length) {
+        return tardis_run_trace(text.data(), text.size(), &options, buffer, size, length);
+    });
+}
+
+inline Report check(std::string_view trace, std::string_view records) {
+    return told([&](char *buffer, size_t size, size_t *length) {
+        return tardis_check(trace.data(), trace.size(), records.data(), records.size(), buffer, size, length);
+    });
+}
+
+// What cores were issued, each core's operations in its order, and records of what is completed, over a memory of zeros.
+class History {
+  public:
+    void issue(const tardis_operation &operation) { operations.push_back(operation); }
+    void complete(const tardis_record &record) { records.push_back(record); }
+    // The verdict on all that there is so far: each call goes through the whole history.
+    std::pair<int, tardis_told> verdict() const {
+        tardis_told found{};
+        const int number =
+            tardis_check_records(operations.data(), operations.size(), records.data(), records.size(), &found);
+        return {number, found};
+    }
+
+  private:
+    std::vector<tardis_operation> operations;
+    std::vector<tardis_record> records;
+};
+
+// A message in flight: its number, its kind (ShReq, ..), its ends (core 1, bank 0, dram 0), the byte address of its line.
+struct Message {
+    uint64_t number;
+    std::string kind, sender, receiver;
+    uint64_t address;
+};
+
+// A machine that you drive: you say which core attempts, and when each message arrives. It runs in the player of events,
+// a process of its own, which answers each call at once (docs/EVENTS.md). The machine ends with this value.
+class Machine {
+  public:
+    // Starts the player at this path and opens a machine, as `cores 4 lease 10`; none if that is refused.
+    static std::optional<Machine> open(const std::string &player, const std::string &options) {
+        int ends[2];
+        if (socketpair(AF_UNIX, SOCK_STREAM, 0, ends) != 0) return std::nullopt;
+        const pid_t child = fork();
+        if (child == 0) {
+            dup2(ends[1], 0);
+            dup2(ends[1], 1);
+            close(ends[0]);
+            close(ends[1]);
+            execl(player.c_str(), player.c_str(), "--live", static_cast<char *>(nullptr));
+            _exit(127);
+        }
+        close(ends[1]);
+        if (child < 0) {
+            close(ends[0]);
+            return std::nullopt;
+        }
+        Machine machine(child, ends[0]);
+        if (machine.call("machine " + options) != "opened") return std::nullopt;
+        return machine;
+    }
+
+    Machine(Machine &&other) noexcept : child(std::exchange(other.child, -1)), end(std::exchange(other.end, -1)) {}
+    Machine &operator=(Machine &&other) noexcept {
+        std::swap(child, other.child);
+        std::swap(end, other.end);
+        return *this;
+    }
+    ~Machine() {
+        if (end >= 0) close(end);
+        if (child > 0) waitpid(child, nullptr, 0);
+    }
+
+    // The answer to a line of docs/EVENTS.md: `issue 1 R 0x8`, `deliver m3`, `copy 0 0x8`; empty if the player is gone.
+    std::string call(const std::string &line) {
+        const std::string said = line + '\n';
+        for (size_t at = 0; at < said.size();) {
+            const ssize_t count = send(end, said.data() + at, said.size() - at, MSG_NOSIGNAL);
+            if (count <= 0) return {};
+            at += static_cast<size_t>(count);
+        }
+        std::string answer;
+        for (char block[4096]; answer.empty() || answer.back() != '\n';) {
+            const ssize_t count = read(end, block, sizeof block);
+            if (count <= 0) return {};
+            answer.append(block, static_cast<size_t>(count));
+        }
+        answer.pop_back();
+        return answer;
+    }
+
+    std::string attempt(unsigned core) { return call("attempt " + std::to_string(core)); }
+    std::string deliver(uint64_t number) { return call("deliver m" + std::to_string(number)); }
+
+    // The numbers of the messages in flight, in the order of sending.
+    std::vector<uint64_t> in_flight() {
+        std::vector<uint64_t> numbers;
+        std::istringstream words(call("flight"));
+        for (std::string word; words >> word && word != "none";) numbers.push_back(std::stoull(word.substr(1)));
+        return numbers;
+    }
+
+    // The message in flight that has this number, if there is one.
+    std::optional<Message> message(uint64_t number) {
+        std::istringstream words(call("message m" + std::to_string(number)));
+        std::string kind, from, of, arrow, to, at, address;
+        if (!(words >> kind >> from >> of >> arrow >> to >> at >> address)) return std::nullopt;
+        return Message{number, kind, from + ' ' + of, to + ' ' + at, std::stoull(address, nullptr, 16)};
+    }
+
+  private:
+    Machine(pid_t child, int end) : child(child), end(end) {}
+    pid_t child;
+    int end;
+};
+
+} // namespace tardis
+
+#endif

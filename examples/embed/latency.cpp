@@ -1,0 +1,109 @@
+// A network of one's own drives the machine: latency PLAYER TRACE [LEASE ..], as latency.py in C++. A hop takes 10 cycles,
+// DRAM 100, and a hit 1; a message that is held tries again a hop later.
+#include "tardis.hpp"
+
+#include <fstream>
+#include <iostream>
+#include <map>
+#include <queue>
+#include <tuple>
+
+namespace {
+
+constexpr uint64_t HOP = 10, DRAM = 100, HIT = 1;
+
+using Programs = std::map<unsigned, std::queue<std::string>>;
+
+// A time, whether a message arrives then (or a core goes on, which comes first), and which.
+using Due = std::tuple<uint64_t, bool, uint64_t>;
+
+class Network {
+  public:
+    Network(tardis::Machine &machine, Programs programs, unsigned cores) : machine(machine), programs(std::move(programs)) {
+        for (unsigned core = 0; core < cores; core++) due.push({0, false, core});
+    }
+
+    // The time of the last event.
+    uint64_t run() {
+        uint64_t now = 0;
+        while (!due.empty()) {
+            const auto [time, is_message, number] = due.top();
+            due.pop();
+            now = time;
+            if (is_message) arrive(number, now);
+            else go_on(static_cast<unsigned>(number), now);
+            for (const uint64_t each : machine.in_flight()) {
+                if (each < sent) continue;
+                const bool is_dram = machine.message(each)->kind.rfind("Dram", 0) == 0;
+                due.push({now + (is_dram ? DRAM : HOP), true, each});
+                sent = each + 1;
+            }
+        }
+        return now;
+    }
+
+  private:
+    // The core issues its next operation, if it has none open, and attempts it.
+    void go_on(unsigned core, uint64_t now) {
+        const std::string name = std::to_string(core);
+        if (machine.call("open " + name) == "none") {
+            if (programs[core].empty()) return;
+            machine.call("issue " + name + ' ' + programs[core].front());
+            programs[core].pop();
+        }
+        std::string answer = machine.attempt(core);
+        if (answer == "refused NoRoom") {
+            std::istringstream words(machine.call("open " + name));
+            std::string letter, address;
+            words >> letter >> address;
+            machine.call("evict core " + name + ' ' + machine.call("victim " + name + ' ' + address));
+            answer = machine.attempt(core);
+        }
+        if (answer.rfind("completed", 0) == 0) due.push({now + HIT, false, core});
+    }
+
+    // The message arrives; a core that got one goes on.
+    void arrive(uint64_t number, uint64_t now) {
+        const std::string receiver = machine.message(number)->receiver;
+        const std::string answer = machine.deliver(number);
+        if (answer == "held" || answer == "started") {
+            const std::string room = machine.call("room m" + std::to_string(number));
+            if (room != "none") machine.call("evict " + room);
+            due.push({now + HOP, true, number});
+        } else if (receiver.rfind("core ", 0) == 0) {
+            due.push({now, false, std::stoull(receiver.substr(5))});
+        }
+    }
+
+    tardis::Machine &machine;
+    Programs programs;
+    std::priority_queue<Due, std::vector<Due>, std::greater<Due>> due;
+    uint64_t sent = 0;
+};
+
+} // namespace
+
+int main(int count, char **words) {
+    if (count < 3) {
+        std::cerr << "latency: give the player of events, a trace, and leases\n";
+        return 2;
+    }
+    Programs programs;
+    unsigned cores = 0;
+    std::ifstream file(words[2]);
+    for (std::string line; std::getline(file, line);) {
+        std::istringstream fields(line.substr(0, line.find('#')));
+        std::string core, step;
+        if (!(fields >> core) || core == "trace" || !std::getline(fields >> std::ws, step)) continue;
+        programs[static_cast<unsigned>(std::stoul(core))].push(step);
+        cores = std::max(cores, static_cast<unsigned>(std::stoul(core)) + 1);
+    }
+    for (int at = 3; at < count; at++) {
+        const std::string lease = words[at];
+        auto machine = tardis::Machine::open(words[1], "cores " + std::to_string(cores) + " lease " + lease);
+        if (!machine) return 1;
+        const uint64_t cycles = Network(*machine, programs, cores).run();
+        std::cout << "lease " << lease << ": " << cycles << " cycles, " << machine->call("records") << " operations, "
+                  << machine->call("check") << '\n';
+    }
+}

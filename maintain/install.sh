@@ -1,8 +1,8 @@
 #!/bin/sh
 # Installs what is built for others to find: maintain/install.sh PREFIX
 # The program and the player of events (`tardis-play-events`), the library for C and C++ (static, and shared, which the
-# Python package loads, too), its headers, files for pkg-config and CMake, a page for man, and bash's completions. `./tardis
-# --help`, `./play` and `tests/embed.sh --build` build what is wanted; this builds nothing and needs gcc and ar.
+# Python package loads, too), its headers, files for pkg-config and CMake, a page for man, and bash's completions.
+# `./tardis`, `./play` and `tests/embed.sh --build` build what is wanted; this builds nothing, and needs gcc and ar.
 case ${1-} in '' | -*) exec sed -n '2,/^[^#]/s/^# \{0,1\}//p' "$0" ;; esac
 top=$(CDPATH='' cd -- "$(dirname -- "$0")/.." && pwd) || exit 1
 tardis=${tardis:-$top/crates/tardis/out/tardis} events=${events:-$top/crates/play_events/out/play_events}
@@ -11,8 +11,10 @@ for built in "$tardis" "$events" "$library" "$memory"; do
     [ -e "$built" ] || { echo "install.sh: $built isn't built" >&2; exit 1; }
 done
 mkdir -p "$1" && prefix=$(CDPATH='' cd -- "$1" && pwd) || exit 1
-cd "$prefix" && mkdir -p bin include lib/pkgconfig lib/cmake/tardis share/man/man1 share/bash-completion/completions || exit 1
-cp "$tardis" bin/tardis && cp "$events" bin/tardis-play-events && cp "$top/crates/tardis_c/tardis.h" "$top/crates/tardis_c/tardis.hpp" include/ || exit 1
+cd "$prefix" || exit 1
+mkdir -p bin include lib/pkgconfig lib/cmake/tardis share/man/man1 share/bash-completion/completions || exit 1
+cp "$tardis" bin/tardis && cp "$events" bin/tardis-play-events || exit 1
+cp "$top/crates/tardis_c/tardis.h" "$top/crates/tardis_c/tardis.hpp" include/ || exit 1
 
 rm -f lib/libtardis.a
 printf 'create lib/libtardis.a\naddlib %s\naddlib %s\nsave\nend\n' "$library" "$memory" | ar -M || exit 1
@@ -37,7 +39,7 @@ END
 help() { bin/tardis ${1:+"$1"} --help 2>&1; }
 commands=$(help | sed -n '/^Commands:/,/^$/s/^  \([a-z]*\) .*/\1/p')
 {
-    printf '.TH TARDIS 1\n.SH NAME\ntardis \\- a simulator of the Tardis coherence protocol that checks what it simulates\n'
+    printf '.TH TARDIS 1\n.SH NAME\ntardis \\- simulates the Tardis coherence protocol, and checks what it simulates\n'
     for command in '' $commands; do
         printf '.SH %s\n.nf\n' "tardis ${command:---help}"
         help "$command" | sed 's/\\/\\\\/g; s/^\./\\\&./; s/-/\\-/g'
@@ -49,7 +51,8 @@ commands=$(help | sed -n '/^Commands:/,/^$/s/^  \([a-z]*\) .*/\1/p')
     echo '    local words'
     echo '    case ${COMP_WORDS[1]} in'
     for command in $commands; do
-        echo "    $command) words='$(help "$command" | grep -o -- '^ *[a-zA-Z, -]*--[a-z-]*' | grep -o -- '--[a-z-]*' | tr '\n' ' ')' ;;"
+        options=$(help "$command" | grep -o -- '^ *[a-zA-Z, -]*--[a-z-]*' | grep -o -- '--[a-z-]*' | tr '\n' ' ')
+        echo "    $command) words='$options' ;;"
     done
     echo "    *) words='"$commands"' ;;"
     echo '    esac'

@@ -113,8 +113,8 @@ if command -v cmake >/dev/null; then
     mkdir "$work/cmake" && printf '%s\n' 'cmake_minimum_required(VERSION 3.13)' 'project(tried C)' \
         'find_package(tardis REQUIRED)' "add_executable(by_cmake $embed/check.c)" \
         'target_link_libraries(by_cmake tardis::tardis)' >"$work/cmake/CMakeLists.txt"
-    { cmake -S "$work/cmake" -B "$work" -DCMAKE_PREFIX_PATH="$work/prefix" && cmake --build "$work"; } >"$work/said" 2>&1 &&
-        found by_cmake || { cat "$work/said"; exit 1; }
+    cmake -S "$work/cmake" -B "$work" -DCMAKE_PREFIX_PATH="$work/prefix" >"$work/said" 2>&1 &&
+        cmake --build "$work" >>"$work/said" 2>&1 && found by_cmake || { cat "$work/said"; exit 1; }
 else
     echo "embed.sh: no cmake, so its file isn't tried" >&2
 fi

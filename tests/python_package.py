@@ -101,12 +101,13 @@ def machine():
 
 
 def latency():
-    """Cycles of one store by hand: a hop, DRAM both ways, the request once more a hop later, a hop, a hit. And what three
-    traces print."""
+    """Cycles of one store by hand: a hop, DRAM both ways, the request once more a hop later, a hop, a hit. And what
+    three traces print."""
     told = ""
     for name in ("FIRST-STORE", "MIGRATORY", "FALSE-SHARING"):
-        told += subprocess.run([sys.executable, TOP / "examples/embed/latency.py", TOP / f"examples/traces/{name}.trace", "1",
-                                "100"], text=True, capture_output=True, check=True).stdout
+        path = TOP / f"examples/traces/{name}.trace"
+        told += subprocess.run([sys.executable, TOP / "examples/embed/latency.py", path, "1", "100"], text=True,
+                               capture_output=True, check=True).stdout
     if not told.startswith(f"lease 1: {10 + 100 + 100 + 10 + 10 + 1} cycles, 1 operations, legal\n"):
         fail(f"latency.py: {told}")
     return told

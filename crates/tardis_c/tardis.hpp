@@ -1,6 +1,6 @@
-// The checker, the runner and the machine for C++17, header only, over tardis.h and the player of events. Nothing here is
-// proved; what it calls is. Errors are values: numbers of tardis.h, and empty optionals. Nothing throws but for want of
-// memory.
+// The checker, the runner and the machine for C++17, header only, over tardis.h and the player of events. Nothing here
+// is proved; what it calls is. Errors are values: numbers of tardis.h, and empty optionals. Nothing throws but for want
+// of memory.
 #ifndef TARDIS_HPP
 #define TARDIS_HPP
 
@@ -67,7 +67,8 @@ inline Report check(std::string_view trace, std::string_view records) {
     });
 }
 
-// What cores were issued, each core's operations in its order, and records of what is completed, over a memory of zeros.
+// What cores were issued, each core's operations in its order, and records of what is completed, over a memory of
+// zeros.
 class History {
   public:
     void issue(const tardis_operation &operation) { operations.push_back(operation); }
@@ -85,15 +86,15 @@ class History {
     std::vector<tardis_record> records;
 };
 
-// A message in flight: its number, its kind (ShReq, ..), its ends (core 1, bank 0, dram 0), the byte address of its line.
+// A message in flight: its number, its kind (ShReq, ..), its ends (core 1, bank 0, dram 0), and its line's byte address.
 struct Message {
     uint64_t number;
     std::string kind, sender, receiver;
     uint64_t address;
 };
 
-// A machine that you drive: you say which core attempts, and when each message arrives. It runs in the player of events,
-// a process of its own, which answers each call at once (docs/EVENTS.md). The machine ends with this value.
+// A machine that you drive: you say which core attempts, and when each message arrives. It runs in the player of
+// events, a process of its own, which answers each call at once (docs/EVENTS.md). The machine ends with this value.
 class Machine {
   public:
     // Starts the player at this path and opens a machine, as `cores 4 lease 10`; none if that is refused.

@@ -1,5 +1,5 @@
-// A network of one's own drives the machine: latency PLAYER TRACE [LEASE ..], as latency.py in C++. A hop takes 10 cycles,
-// DRAM 100, and a hit 1; a message that is held tries again a hop later.
+// A network of one's own drives the machine: latency PLAYER TRACE [LEASE ..], as latency.py in C++. A hop takes 10
+// cycles, DRAM 100, and a hit 1; a message that is held tries again a hop later.
 #include "tardis.hpp"
 
 #include <fstream>
@@ -19,7 +19,8 @@ using Due = std::tuple<uint64_t, bool, uint64_t>;
 
 class Network {
   public:
-    Network(tardis::Machine &machine, Programs programs, unsigned cores) : machine(machine), programs(std::move(programs)) {
+    Network(tardis::Machine &machine, Programs programs, unsigned cores)
+        : machine(machine), programs(std::move(programs)) {
         for (unsigned core = 0; core < cores; core++) due.push({0, false, core});
     }
 

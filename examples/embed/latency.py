@@ -1,9 +1,9 @@
 #!/usr/bin/env python3
 """A network of one's own drives the machine: examples/embed/latency.py TRACE [LEASE ..]
 
-For each lease the trace is run once, and the cycles that it took are printed. A hop takes 10 cycles, DRAM 100, and a hit 1. Cores
-run side by side; a core waits for its reply. The machine has no time of its own: when a message arrives is decided here,
-and what happens then by the machine. A message that is held tries again a hop later.
+For each lease the trace is run once, and the cycles that it took are printed. A hop takes 10 cycles, DRAM 100, and a
+hit 1. Cores run side by side; a core waits for its reply. The machine has no time of its own: this script decides when
+a message arrives, and the machine what happens then. A message that is held tries again a hop later.
 """
 import heapq
 import sys

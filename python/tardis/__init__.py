@@ -8,5 +8,5 @@ from tardis.machine import Answer, Machine, Message
 from tardis.reports import LitmusReport, Record, Records, State, TraceReport
 from tardis.runs import check, litmus, trace
 
-__all__ = ["Answer", "BadConfiguration", "BadText", "LitmusReport", "Machine", "Message", "NoMemory", "Record", "Records",
-           "State", "TardisError", "TraceReport", "check", "litmus", "trace"]
+__all__ = ["Answer", "BadConfiguration", "BadText", "LitmusReport", "Machine", "Message", "NoMemory", "Record",
+           "Records", "State", "TardisError", "TraceReport", "check", "litmus", "trace"]

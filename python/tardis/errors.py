@@ -14,7 +14,8 @@ class BadConfiguration(TardisError):
 
 
 class BadText(TardisError):
-    """The text is no litmus test, no trace, or no list of records. `line` counts from 1; docs/TEXTS.md has the kinds."""
+    """The text is no litmus test, no trace, or no list of records. `line` counts from 1; docs/TEXTS.md has the kinds.
+    """
 
     def __init__(self, told: str) -> None:
         super().__init__(told)

@@ -23,8 +23,8 @@ class Answer:
 
 @dataclass(frozen=True)
 class Message:
-    """A message in flight: its kind (ShReq, ExReq, ..), its ends (`core 1`, `bank 0`, `dram 0`), the byte address of its
-    line's first word, and what it carries."""
+    """A message in flight: its kind (ShReq, ExReq, ..), its ends (`core 1`, `bank 0`, `dram 0`), the byte address of
+    its line's first word, and what it carries."""
 
     number: int
     kind: str
@@ -87,7 +87,8 @@ class Machine:
         return self._event(f"issue {core} S {address:#x} {value}")
 
     def attempt(self, core: int) -> Answer:
-        """The core attempts its open operation: completed, requested, waiting, idle, or refused (NoRoom: evict `victim`)."""
+        """The core attempts its open operation: completed, requested, waiting, idle, or refused (NoRoom: evict
+        `victim`)."""
         return self._event(f"attempt {core}")
 
     def deliver(self, number: int) -> Answer:
@@ -117,7 +118,8 @@ class Machine:
         if told == "none":
             return None
         kind, sender, sent_by, _, receiver, sent_to, address, *carries = told.split()
-        return Message(number, kind, f"{sender} {sent_by}", f"{receiver} {sent_to}", int(address, 16), " ".join(carries))
+        return Message(number, kind, f"{sender} {sent_by}", f"{receiver} {sent_to}", int(address, 16),
+                       " ".join(carries))
 
     def victim(self, core: int, address: int) -> int | None:
         """The line to evict so that the core has a place for this one."""

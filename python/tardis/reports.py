@@ -13,7 +13,8 @@ class State:
 
 @dataclass(frozen=True)
 class LitmusReport:
-    """The report on the runs of a litmus test. `is_proved` says who made it: the proved library, or the second program."""
+    """The report on the runs of a litmus test. `is_proved` says who made it: the proved library, or the second program.
+    """
 
     text: str = field(repr=False)
     is_proved: bool

@@ -53,8 +53,8 @@ def trace(text: str | bytes, *, records: bool = False, **options: int | str | bo
 
 
 def check(trace: str | bytes, records: str | bytes) -> str:
-    """The checker's verdict on records of a trace's operations, over a memory of zeros: `legal`, or what is wrong and the
-    number of the record. Raises BadText or NoMemory."""
+    """The checker's verdict on records of a trace's operations, over a memory of zeros: `legal`, or what is wrong and
+    the number of the record. Raises BadText or NoMemory."""
     if library.loaded():
         return library.check(in_bytes(trace), in_bytes(records)).strip()
     return by_second(["check"], in_bytes(trace), in_bytes(records)).strip()

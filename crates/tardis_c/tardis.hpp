@@ -86,7 +86,7 @@ class History {
     std::vector<tardis_record> records;
 };
 
-// A message in flight: its number, its kind (ShReq, ..), its ends (core 1, bank 0, dram 0), and its line's byte address.
+// A message in flight: its number, kind (ShReq, ..) and ends (core 1, bank 0, dram 0), and its line's byte address.
 struct Message {
     uint64_t number;
     std::string kind, sender, receiver;

@@ -1,6 +1,7 @@
 """The calls of the proved library, as crates/tardis_c/tardis.h declares them."""
 import ctypes
 import functools
+from typing import Any
 
 from tardis import found
 from tardis.errors import BadConfiguration, BadText, NoMemory, TardisError
@@ -19,7 +20,7 @@ class TardisOptions(ctypes.Structure):
 
 
 @functools.cache
-def loaded() -> ctypes.CDLL | None:
+def loaded() -> Any:
     """The library; None where there is none."""
     path = found.library()
     if path is None:
@@ -36,7 +37,7 @@ def options_of(options: Options, records: bool) -> TardisOptions:
     return TardisOptions(**named, by_seed=options.schedule == "seed", records=records)
 
 
-def told(call, *arguments) -> tuple[int, str]:
+def told(call: Any, *arguments: Any) -> tuple[int, str]:
     """The number that a call answers, and its text: once more with a larger buffer if it doesn't fit."""
     size = 1 << 16
     while True:

@@ -2,6 +2,7 @@
 import subprocess
 from collections.abc import Iterator, Mapping
 from dataclasses import dataclass
+from typing import Any
 
 from tardis import found
 from tardis.errors import BadConfiguration, NoMemory, TardisError
@@ -40,7 +41,7 @@ class Machine:
     Addresses are in bytes, multiples of 8; times in ticks. An event that is refused changes nothing (but `Exhausted`,
     which stops the machine). `is_proved` says whether the proved player answers. Close it, or use it in a `with`."""
 
-    def __init__(self, cores: int = 2, memory: Mapping[int, int] | None = None, **options: int | bool) -> None:
+    def __init__(self, cores: int = 2, memory: Mapping[int, int] | None = None, **options: Any) -> None:
         built = Options(**options)
         if not 1 <= cores <= 64:
             raise BadConfiguration(f"cores is {cores}: it goes from 1 to 64")
@@ -61,8 +62,10 @@ class Machine:
         """The answer to a line of docs/EVENTS.md."""
         if "\n" in line or not line.strip():
             raise ValueError("one call, in one line")
-        self._player.stdin.write(line + "\n")
-        answer = self._player.stdout.readline()
+        sent, answers = self._player.stdin, self._player.stdout
+        assert sent and answers
+        sent.write(line + "\n")
+        answer = answers.readline()
         if not answer:
             raise TardisError("the player ended")
         if answer.startswith("unread: "):
@@ -162,4 +165,4 @@ class Machine:
 
     def __iter__(self) -> Iterator[Message]:
         """The messages in flight."""
-        return iter([self.message(number) for number in self.in_flight()])
+        return iter([message for number in self.in_flight() if (message := self.message(number))])

@@ -1,6 +1,6 @@
 """What reports say (docs/TEXTS.md), as objects."""
 from dataclasses import dataclass, field
-from typing import NamedTuple
+from typing import Any, NamedTuple
 
 
 @dataclass(frozen=True)
@@ -52,7 +52,7 @@ class Record(NamedTuple):
 class Records(list[Record]):
     """Records, in the order of completion."""
 
-    def columns(self) -> dict[str, list]:
+    def columns(self) -> dict[str, list[Any]]:
         """The records by columns, as `pandas.DataFrame` takes them."""
         return {name: [record[at] for record in self] for at, name in enumerate(Record._fields)}
 

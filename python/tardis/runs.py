@@ -2,6 +2,7 @@
 import os
 import subprocess
 import tempfile
+from typing import Any
 
 from tardis import found, library
 from tardis.errors import BadConfiguration, BadText, NoMemory, TardisError
@@ -36,14 +37,14 @@ def run(kind: str, text: str | bytes, options: Options, records: bool = False) -
     return by_second(words, in_bytes(text)), False
 
 
-def litmus(text: str | bytes, **options: int | str | bool) -> LitmusReport:
+def litmus(text: str | bytes, **options: Any) -> LitmusReport:
     """Runs a litmus test (docs/TEXTS.md), with the fields of `Options`: `litmus(text, runs=1000, schedule="seed")`.
 
     Raises BadText, BadConfiguration or NoMemory."""
     return litmus_report(*run("litmus", text, Options(**options)))
 
 
-def trace(text: str | bytes, *, records: bool = False, **options: int | str | bool) -> TraceReport | Records:
+def trace(text: str | bytes, *, records: bool = False, **options: Any) -> TraceReport | Records:
     """Runs a trace over a memory of zeros: its report, or its records by columns.
 
     Raises BadText, BadConfiguration or NoMemory."""

@@ -1,7 +1,7 @@
 -- What can be delivered: a message that a line must have is in the bag, goes to its part, and has a case there.
 use Rattle.std.proofs.Common.{◌≡◌, ℕ, zero, suc, ◌+◌, ◌%◌, ◌<◌, ◌≤◌, Bool, true, false, ◌&&◌, ◌||◌, cond, eqb, leb}
-use Rattle.std.proofs.Common.{List, []}
-use Rattle.std.proofs.Common.{◌∷◌, Option, Some, refl, sym, ap, ◌∙◌, subst, arith, ⊎_elim}
+use Rattle.std.proofs.Common.{List, [], ◌∷◌, Option, Some, None, ◌⊎◌, inl, inr, refl, sym, ap, ◌∙◌, subst, arith}
+use Rattle.std.proofs.Common.{⊎_elim}
 use Rattle.std.specs.Ordering.{nat_cmp}
 use Rattle.std.specs.FinMap.{FinMap}
 use Rattle.std.proofs.lemmas.Bool.{cases_Bool, cond-true, cond-false, eqb-true, le-leb}
@@ -13,7 +13,7 @@ use Rattle.network.specs.declared.message.Message.{Message}
 use Rattle.physiological_order.specs.declared.operation.Op.{Op}
 use Rattle.physiological_order.specs.declared.operation.Op.TheVariants.{Load, Store, Swap}
 use Rattle.private_cache.specs.declared.line_copy.LineCopy.{LineCopy}
-use Rattle.private_cache.specs.CopyTable.{copy_of, is_pinned}
+use Rattle.private_cache.specs.CopyTable.{copy_of, is_pinned, with_used}
 use Rattle.core_pts.specs.declared.decision.CoreReaction.{CoreReaction}
 use Rattle.core_pts.specs.OnCopy as on_copy
 use Rattle.core_pts.specs.OnCopy.{at_core, is_exclusive}
@@ -21,17 +21,19 @@ use Rattle.core_pts.specs.CoreTable as core_table
 use Rattle.core_pts.specs.CoreTable.{CoreState, core_has_case, comes_to_core, is_this_core, pinned_line}
 use Rattle.machine_table.specs.Step as step
 use Rattle.machine_table.specs.Step.{Does, Attempting, Getting, core_step, reacted, attempted}
-use Rattle.llc_bank.specs.BankTable.{BankState, entry_of, bank_has_case, comes_to_bank, is_this_bank}
+use Rattle.llc_bank.specs.BankTable.{BankState, core_of, entry_of, bank_has_case, comes_to_bank, is_this_bank}
 use Rattle.dram_mts.specs.Table.{dram_has_case, comes_to_dram, is_dram}
 use Rattle.machine_table.specs.declared.config.Config.{Config}
 use Rattle.protocol.specs.Machine as by_line
 use Rattle.protocol.specs.Machine.{tally}
 use Rattle.machine_theorem.specs.Bags.{weigh, SameBag}
 use Rattle.machine_theorem.specs.States.{State}
+use Rattle.machine_theorem.specs.Moves.{Move, completes, with_completion}
 use Rattle.machine_theorem.specs.Consistent.{FindsCase}
 use Rattle.machine_theorem.specs.View.{message_seen, messages_of}
 use Rattle.machine_theorem.specs.Shape.{IsHome}
 use Rattle.machine_theorem.specs.Kept.{IsKept}
+use Rattle.machine_theorem.proofs.Services.{IsService, IsLate, a_core}
 use Rattle.machine_theorem.proofs.KeptSteps.{kept_reordered}
 use Rattle.machine_theorem.proofs.Consistency.{state_consistent}
 
@@ -138,6 +140,10 @@ module _ (config : Config) (opening : FinMap nat_cmp ℕ) (a : State) (s : IsKep
       go (node.Dram i) e k = absurd (let z : false ≡ true = sym no_dram ∙ sym (ap comes_to_dram is)
           ∙ and_right (is_dram x.to) _ k.1 in cc)
 
+  pub comes : ToBank → (b : Body) → x.body ≡ b →
+      comes_to_bank x.from b (entry_of (a.banks (x.line % config.banks)) x.line) ≡ true
+  comes at b is = rw (← is) (and_right (is_this_bank (a.banks (x.line % config.banks)).number x.to) _ at.has)
+
   -- to the DRAM behind it
   pub record ToDram : Type 0 where
     pub to : x.to ≡ node.Dram (x.line % config.banks)
@@ -183,6 +189,11 @@ module _ (config : Config) (opening : FinMap nat_cmp ℕ) (a : State) (s : IsKep
       go (node.Dram i) e k = absurd (let z : false ≡ true = sym no_dram ∙ sym (ap comes_to_dram is)
           ∙ and_right (is_dram x.to) _ k.1 in cc)
 
+  -- to this core
+  pub its_core : ToCore → (o : ℕ) → core_of x.to ≡ o →
+      (o < config.cores) × (x.to ≡ node.Core o) × (core_has_case (a.cores o) x ≡ true)
+  its_core at o to = let d : at.core ≡ o = sym (ap core_of at.to) ∙ to in rw (← d) (at.below, at.to, at.has)
+
 -- what a message to a core is decided to do, by its body, and by the core's operation and copy
 pub core_decided : (core : CoreState) (x : Message) (b : Body) (p : Bool) (held : Option LineCopy) (r : CoreReaction) →
     x.body ≡ b → is_pinned (pinned_line core) x.line ≡ p → copy_of core.cache x.line ≡ held →
@@ -206,6 +217,29 @@ serving_attempt core p held opens is serves =
     ∙ ap (λ (b : Bool). attempted core p (cond b (core_table.completed_at core p held
     (on_copy.time_of core.private_write core.pts p held))
     (Some (core_table.attempt_unserved core p held.wts), core))) serves
+
+-- the core completes an operation with its copy at this time
+abbrev pub completed : State → ℕ → Op → LineCopy → ℕ → State
+completed a c p held ts =
+    let core = a.cores c in
+    let index = core_table.index_of core p in
+    with_completion a c p (on_copy.received_at index p held) ts (record core {
+      pts = ts;
+      open_op = None;
+      is_out = false;
+      cache = with_used core.cache (core_table.line_of core p) (on_copy.copy_after index ts p held);
+    })
+
+-- such an attempt completes it, if its time fits
+pub served : (config : Config) (a : State) (c : ℕ) → c < config.cores → (p : Op) (held : LineCopy) →
+    (a.cores c).open_op ≡ Some p → copy_of (a.cores c).cache (core_table.line_of (a.cores c) p) ≡ Some held →
+    on_copy.serves p (a.cores c).pts held ≡ true → (ts : Option ℕ) →
+    on_copy.time_of (a.cores c).private_write (a.cores c).pts p held ≡ ts →
+    IsLate config a ⊎ ((t : ℕ) × (move : Move config a (completed a c p held t)) × IsService move)
+served config a c below p held opens is serves None t =
+    inl (a_core c Attempting a.bag below (λ z. cc) refl (rw t at (serving_attempt (a.cores c) p held opens is serves)))
+served config a c below p held opens is serves (Some ts) t =
+    inr (ts, completes c p _ ts _ below (rw t at (serving_attempt (a.cores c) p held opens is serves)), tt)
 
 -- an owner's copy serves any operation
 pub owner_serves : (pts : ℕ) (held : LineCopy) → is_exclusive held.state ≡ true → (p : Op) →

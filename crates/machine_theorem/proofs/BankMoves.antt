@@ -6,7 +6,7 @@ use Rattle.std.specs.FinMap.{FinMap, insert}
 use Rattle.std.specs.List.{AllByRecursion as Each}
 use Rattle.std.specs.List.Sorted.{IsPermutation}
 use Rattle.std.proofs.lemmas.List.Sorted.{IsPermutation-refl}
-use Rattle.std.proofs.lemmas.Bool.{cases_eq, lt-ltb, eq-eqb}
+use Rattle.std.proofs.lemmas.Bool.{and_parts, cases_eq, lt-ltb, eq-eqb}
 use Rattle.std.proofs.Math.Nat.{mod-lt}
 use Rattle.network.specs.declared.counts.Counts.{Counts}
 use Rattle.network.specs.declared.message.Node.{Node}
@@ -42,7 +42,7 @@ use Rattle.machine_theorem.specs.Kept.{IsKept}
 use Rattle.machine_theorem.proofs.KeptSteps.{Goes}
 use Rattle.machine_theorem.proofs.Lookups.{IsNow, put_now, change_now, drop_now, messages_here, messages_there}
 use Rattle.machine_theorem.proofs.Turns as turns
-use Rattle.machine_theorem.proofs.Routes.{GoesDown, ownership_of, both, core_and_bank, up_ends}
+use Rattle.machine_theorem.proofs.Routes.{GoesDown, both, core_and_bank, up_ends}
 use Rattle.machine_theorem.proofs.OnEntries.{AtRequest, IsFor, bank_goes}
 use Rattle.machine_theorem.proofs.DramWords.{words-insert_same, words-insert_other}
 use Rattle.machine_theorem.proofs.ByParts.{bank_by, shape_by}
@@ -266,8 +266,9 @@ module _ (config : Config) (opening : FinMap nat_cmp ℕ) (before : State) (mess
       (bank_goes config.lease (IsPinned (set_up config opening) (view config a).cores l) here.mts
       (line_seen config a l) (messages_of rest l) (core_of message.from) here message Up Reacts
       refl tt tt loads recalls grants becomes leaves room message.body
-      (ownership_of (is_this_bank here.number message.to)
-      (comes_to_bank message.from message.body (entry_of here l)) has) (up message.body goes_home.2)
+      (and_parts (is_this_bank here.number message.to)
+      (comes_to_bank message.from message.body (entry_of here l)) has).1
+      (up message.body goes_home.2)
       (subst (λ (k : ℕ). IsPermutation (messages_of a.bag l)
       (body_seen (core_of message.from) k message.body ∷ messages_of rest l)) to came))
 
@@ -309,4 +310,4 @@ module _ (config : Config) (opening : FinMap nat_cmp ℕ) (before : State) (mess
   pub dram_delivery : dram_has_case lines message ≡ true →
       Goes config opening a (with_dram a home_bank) rest (reacted (dram_table lines message))
   dram_delivery has =
-      dram_delivered message.body refl (ownership_of (is_dram message.to) (comes_to_dram message.body) has)
+      dram_delivered message.body refl (and_parts (is_dram message.to) (comes_to_dram message.body) has).1

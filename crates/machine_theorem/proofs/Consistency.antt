@@ -12,8 +12,8 @@ use Rattle.machine_table.specs.Opening.{open_core}
 use Rattle.protocol.specs.Issued.{IsIssued}
 use Rattle.protocol.specs.Machine as by_line
 use Rattle.protocol.specs.Machine.{tally}
-use Rattle.protocol.proofs.Lemmas.{legal, what_is_issued, reachable_ok, at_most_one, coherent_is, owners_answer}
-use Rattle.protocol.proofs.Lemmas.{about, load, loading, store, storing}
+use Rattle.protocol.proofs.Lemmas.{legal, what_is_issued, reachable_ok, at_most_one, coherent_is, owners_answer, about}
+use Rattle.protocol.proofs.Lemmas.{load, loading, store, storing}
 use Rattle.machine_theorem.specs.States.{State, seen}
 use Rattle.machine_theorem.specs.Ownership.{coherent}
 use Rattle.machine_theorem.specs.Coherence as machine

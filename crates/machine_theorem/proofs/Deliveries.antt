@@ -1,10 +1,9 @@
 -- What can be delivered: a message that a line must have is in the bag, goes to its part, and has a case there.
 use Rattle.std.proofs.Common.{◌≡◌, ℕ, zero, suc, ◌+◌, ◌%◌, ◌<◌, ◌≤◌, Bool, true, false, ◌&&◌, ◌||◌, cond, eqb, leb}
 use Rattle.std.proofs.Common.{List, [], ◌∷◌, Option, Some, None, ◌⊎◌, inl, inr, refl, sym, ap, ◌∙◌, subst, arith}
-use Rattle.std.proofs.Common.{⊎_elim}
 use Rattle.std.specs.Ordering.{nat_cmp}
 use Rattle.std.specs.FinMap.{FinMap}
-use Rattle.std.proofs.lemmas.Bool.{cases_Bool, cond-true, cond-false, eqb-true, le-leb}
+use Rattle.std.proofs.lemmas.Bool.{eqb-true, le-leb}
 use Rattle.network.specs.declared.message.Node.{Node}
 use Rattle.network.specs.declared.message.Node.TheVariants as node
 use Rattle.network.specs.declared.message.Body.{Body}
@@ -40,6 +39,10 @@ use Rattle.machine_theorem.proofs.Consistency.{state_consistent}
 pub and_right : (p q : Bool) → (p && q) ≡ true → q ≡ true
 and_right true q e = e
 and_right false q e = absurd (cc)
+
+pub counts_if : (b : Bool) (n : ℕ) → 1 ≤ cond b n 0 → (b ≡ true) × (1 ≤ n)
+counts_if true n some = (refl, some)
+counts_if false n some = absurd (omega arith)
 
 -- a message that weighs something, and the others
 pub record Found (w : Message → ℕ) (bag : List Message) : Type 0 where
@@ -88,24 +91,10 @@ pub record OfLine (h : ℕ) (w : by_line.Message → ℕ) (bag : List Message) :
   pub weighs : 1 ≤ w (message_seen message)
 
 pub found_of : (h : ℕ) (w : by_line.Message → ℕ) (bag : List Message) → 1 ≤ tally w (messages_of bag h) → OfLine h w bag
-found_of h w bag some = go k.message k.rest k.taken k.weighs
-  where
-    k : Found (of_line h w) bag
-    k = found (of_line h w) bag (let e = line_weighs h w bag in omega arith)
-
-    go : (x : Message) (rest : List Message) → SameBag bag (x ∷ rest) → 1 ≤ of_line h w x → OfLine h w bag
-    go x rest same weighs =
-        ⊎_elim
-        (λ (t : eqb x.line h ≡ true). record {
-          message = x;
-          rest = rest;
-          taken = same;
-          line = eqb-true x.line h t;
-          weighs = subst (λ (n : ℕ). 1 ≤ n) (cond-true (eqb x.line h) (w (message_seen x)) 0 t) weighs;
-        })
-        (λ (f : eqb x.line h ≡ false). absurd (let e = cond-false (eqb x.line h) (w
-        (message_seen x)) 0 f in omega arith))
-        (cases_Bool (eqb x.line h))
+found_of h w bag some =
+    let k = found (of_line h w) bag (let e = line_weighs h w bag in omega arith) in
+    let is = counts_if (eqb k.message.line h) (w (message_seen k.message)) k.weighs in
+    record { message = k.message; rest = k.rest; taken = k.taken; line = eqb-true k.message.line h is.0; weighs = is.1 }
 
 module _ (config : Config) (opening : FinMap nat_cmp ℕ) (a : State) (s : IsKept config opening a) (x : Message)
     (rest : List Message) (taken : SameBag a.bag (x ∷ rest)) where

@@ -3,7 +3,7 @@
 use Rattle.std.proofs.Common.{◌≡◌, ℕ, ◌+◌, ◌%◌, ◌<◌, max, Bool, true, false, ◌||◌, ◌&&◌, cond, leb, List, ◌∷◌, Option}
 use Rattle.std.proofs.Common.{Some, None, refl, sym, ap, ◌∙◌, subst, arith}
 use Rattle.std.specs.List.Sorted.{IsPermutation}
-use Rattle.std.proofs.lemmas.Bool.{leb-true, leb-false}
+use Rattle.std.proofs.lemmas.Bool.{and_parts, leb-true, leb-false}
 use Rattle.physiological_order.specs.declared.operation.Op.{Op}
 use Rattle.physiological_order.specs.declared.operation.Op.TheVariants.{Load, Store, Swap}
 use Rattle.physiological_order.specs.Order.{address}
@@ -16,14 +16,12 @@ use Rattle.core_pts.specs.CoreTable.{CoreState, comes_to_core, waits_for, is_sha
 use Rattle.core_pts.specs.OnCopy as on_copy
 use Rattle.core_pts.specs.OnCopy.{is_exclusive, serves, time_of, received_at, copy_after, words_of_copy, at_core}
 use Rattle.core_pts.specs.declared.decision.CoreReaction.{CoreReaction}
-use Rattle.core_pts.specs.declared.decision.CoreReaction.TheVariants.{Arrives, Grants, Returns, Drops, Holds}
-use Rattle.core_pts.specs.declared.decision.CoreReaction.TheVariants.{NoCase}
+use Rattle.core_pts.specs.declared.decision.CoreReaction.TheVariants.{Arrives, Grants, Returns, Drops, Holds, NoCase}
 use Rattle.protocol.specs.Machine.{Config, Message, RenewRep, UpgradeRep, FlushReq, WbReq, Line, with_at, CannotUse}
-use Rattle.protocol.specs.Machine.{Copy, NotOwned, LineTransition, dropped, wb_dropped, flushed, written_back}
-use Rattle.protocol.specs.Machine.{Answers, shared}
-use Rattle.protocol.specs.Machine.{exclusive, renews, upgrades, Uses, load_hit, load_own, store_own, swap_own}
+use Rattle.protocol.specs.Machine.{Copy, NotOwned, LineTransition, dropped, wb_dropped, flushed, written_back, Answers}
+use Rattle.protocol.specs.Machine.{shared, exclusive, renews, upgrades, Uses, load_hit, load_own, store_own, swap_own}
 use Rattle.protocol.proofs.Lemmas.{Some_injective}
-use Rattle.machine_theorem.proofs.Routes.{GoesUp, ownership_of}
+use Rattle.machine_theorem.proofs.Routes.{GoesUp}
 use Rattle.machine_theorem.specs.View.{copy_seen, copy_or_none, body_seen}
 
 -- the time of a write, where it fits
@@ -161,9 +159,9 @@ module _ (lease : ℕ) (pinned : ℕ → Type 0) (t c : ℕ) (x : Line) (rest : 
   core_fits core line (body.ExRep y) un has is p =
       exclusive (record { wts = y.wts; rts = y.rts; words = y.words }) rest p
   core_fits core line (body.RenewRep rts) un has is p =
-      renewed_fits rts _ is (ownership_of (waits_for core line) _ has) p
+      renewed_fits rts _ is (and_parts (waits_for core line) _ has).1 p
   core_fits core line (body.UpgradeRep rts) un has is p =
-      upgraded_fits rts _ is (ownership_of (waits_for core line) _ has) p
+      upgraded_fits rts _ is (and_parts (waits_for core line) _ has).1 p
   core_fits core line body.FlushReq un has is p = unless_open b _ _ (λ e. flush_fits _ is e (un e) p)
   core_fits core line (body.WbReq until) un has is p = unless_open b _ _ (λ e. back_fits until _ is e (un e) p)
   core_fits core line _ un has is p = absurd (let z : false ≡ true = has in cc)

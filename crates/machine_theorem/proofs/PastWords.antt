@@ -48,8 +48,8 @@ module _ (n : ℕ) where
       ZerosFrom n line.words
   entered x dirty line is k = subst (EntryEnds n) is k.entry
 
-  moved : (lease : ℕ) (loses : Bool) (pinned : ℕ → Type 0) (t u : ℕ) (x y : Line) → LineTransition lease loses pinned t x u y →
-      HasZeros n x → HasZeros n y
+  moved : (lease : ℕ) (loses : Bool) (pinned : ℕ → Type 0) (t u : ℕ) (x y : Line) →
+      LineTransition lease loses pinned t x u y → HasZeros n x → HasZeros n y
   moved lease loses pinned t u x y (evict_shared c copy un is sh) k =
       zeros_by (left x c k) k.entry k.messages k.dram
   moved lease loses pinned t u x y (evict_exclusive c copy un is ex) k =

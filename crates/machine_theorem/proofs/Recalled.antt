@@ -3,7 +3,7 @@ use Rattle.std.proofs.Common.{◌≡◌, ◌≢◌, ℕ, suc, ◌+◌, ◌/◌, 
 use Rattle.std.proofs.Common.{length, Option, Some, None, ◌⊎◌, inl, inr, refl, sym, ap, ◌∙◌, subst, arith, ⊎_elim}
 use Rattle.std.proofs.Common.{le_trans}
 use Rattle.std.specs.Prelude.{option_map}
-use Rattle.std.proofs.lemmas.Bool.{cases_Bool, cases_eq, cond-true, cond-false, eq-eqb, eqb-true}
+use Rattle.std.proofs.lemmas.Bool.{cases_eq, cond-true, cond-false, eq-eqb, eqb-true}
 use Rattle.physiological_order.specs.declared.operation.Op.{Op}
 use Rattle.physiological_order.specs.declared.operation.Op.TheVariants.{Load, Store, Swap}
 use Rattle.physiological_order.specs.Order.{address, of_core}
@@ -40,7 +40,7 @@ use Rattle.machine_theorem.proofs.Services.{a_core, IsLate, IsService, leads_lat
 use Rattle.machine_theorem.proofs.Bags.{as_many}
 use Rattle.machine_theorem.proofs.Lookups.{put_now, messages_here}
 use Rattle.machine_theorem.proofs.Consistency.{state_consistent, line_counts}
-use Rattle.machine_theorem.proofs.Deliveries.{of_line, line_weighs, Found, found, found_of, ToCore, to_core}
+use Rattle.machine_theorem.proofs.Deliveries.{counts_if, of_line, line_weighs, Found, found, found_of, ToCore, to_core}
 use Rattle.machine_theorem.proofs.Deliveries.{core_decided, owner_serves, IsReply, Suits, completed, its_core, served}
 use Rattle.machine_theorem.proofs.Ways.{Setting, IsAsk, IsRequest, Stands, Beside, Way, way_after, way_here, kept}
 use Rattle.machine_theorem.proofs.Ways.{unasked, asked_still, IsShared, IsGone, by_return, evicts, by_loading}
@@ -110,10 +110,7 @@ module _ (who : Setting) where
         }) few)
 
   if_one : (d o : ℕ) → 1 ≤ cond (eqb d o) 1 0 → d ≡ o
-  if_one d o some =
-      ⊎_elim (λ (t : eqb d o ≡ true). eqb-true d o t)
-      (λ (f : eqb d o ≡ false). absurd (let z : ◌≡◌ {A = ℕ} (cond (eqb d o) 1 0) 0 = cond-false (eqb d o) 1 0 f in
-      omega arith)) (cases_Bool (eqb d o))
+  if_one d o some = eqb-true d o (counts_if (eqb d o) 1 some).0
 
   -- a return that is on its way
   pub is_back : (q : Message) (rest : List Message) (o : ℕ) (line : TimedLine) → q.from ≡ node.Core o →

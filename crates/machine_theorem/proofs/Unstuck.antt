@@ -1,14 +1,15 @@
 -- Nothing is stuck: services complete the open operation of any core, in every reached state, or a time doesn't fit.
-use Rattle.std.proofs.Common.{◌≡◌, ◌≢◌, ℕ, suc, ◌+◌, ◌/◌, ◌%◌, ◌<◌, ◌≤◌, Bool, true, false, ◌&&◌, ◌||◌, cond, eqb, leb}
-use Rattle.std.proofs.Common.{List, [], ◌∷◌, ◌++◌, length, Option, Some, None, ◌⊎◌, inl, inr, refl, sym, ap, ◌∙◌, subst}
-use Rattle.std.proofs.Common.{arith, ⊎_elim, le_trans, le_refl}
-use Rattle.std.specs.Prelude.{option_map, Ok, Err}
+use Rattle.std.proofs.Common.{◌≡◌, ◌≢◌, ℕ, suc, ◌+◌, ◌/◌, ◌%◌, ◌<◌, ◌≤◌, Bool, true, false, ◌&&◌, cond, eqb, leb, List}
+use Rattle.std.proofs.Common.{[], ◌∷◌, ◌++◌, length, Option, Some, None, ◌⊎◌, inl, inr, refl, sym, ap, ◌∙◌, subst}
+use Rattle.std.proofs.Common.{arith, le_trans, le_refl}
+use Rattle.std.specs.Prelude.{Ok, Err}
 use Rattle.std.specs.Ordering.{nat_cmp}
 use Rattle.std.specs.FinMap.{FinMap}
 use Rattle.std.specs.Option.{is_some}
-use Rattle.std.proofs.lemmas.Bool.{cases_Bool, cond-true, eq-eqb, ne_eqb, eqb-true, lt-ltb, ltb-false, leb-true, le-leb}
+use Rattle.std.proofs.lemmas.Bool.{and_parts, or_parts, or_right, cond-true, eq-eqb, ne_eqb, eqb-true, lt-ltb}
+use Rattle.std.proofs.lemmas.Bool.{ltb-false, leb-true, le-leb}
 use Rattle.physiological_order.specs.declared.operation.Op.{Op}
-use Rattle.physiological_order.specs.declared.operation.Op.TheVariants.{Load, Store, Swap}
+use Rattle.physiological_order.specs.declared.operation.Op.TheVariants.{Load}
 use Rattle.physiological_order.specs.Order.{address, of_core}
 use Rattle.network.specs.declared.message.Node.{Node}
 use Rattle.network.specs.declared.message.Node.TheVariants as node
@@ -18,7 +19,7 @@ use Rattle.network.specs.declared.message.Message.{Message}
 use Rattle.network.specs.declared.message.TimedLine.{TimedLine}
 use Rattle.network.specs.Mail.{counted}
 use Rattle.line_sets.specs.Order.{is_there, without}
-use Rattle.line_sets.specs.SetTable.{set_at, has_room}
+use Rattle.line_sets.specs.SetTable.{Sets, set_at, has_room}
 use Rattle.line_sets.proofs.Lemmas.{length-without_there, length-drop_line, set_at-set_same}
 use Rattle.std.proofs.Math.Nat.{mod-lt}
 use Rattle.private_cache.specs.declared.line_copy.LineCopy.{LineCopy}
@@ -54,8 +55,8 @@ use Rattle.machine_theorem.proofs.ReachedStates.{reached_kept}
 use Rattle.machine_theorem.proofs.Openings.{fair}
 use Rattle.machine_theorem.proofs.SetSizes.{Fits}
 use Rattle.machine_theorem.proofs.Sizes.{reached_sized, first_there}
-use Rattle.machine_theorem.proofs.Deliveries.{OfLine, found_of, to_bank, to_core, IsReply, Suits, suits_replies, comes}
-use Rattle.machine_theorem.proofs.Deliveries.{completed, its_core, served}
+use Rattle.machine_theorem.proofs.Deliveries.{OfLine, found_of, counts_if, to_bank, to_core, IsReply, Suits}
+use Rattle.machine_theorem.proofs.Deliveries.{suits_replies, comes, completed, its_core, served}
 use Rattle.machine_theorem.proofs.Ways.{IsAsk, IsRequest, Setting, returned}
 use Rattle.machine_theorem.proofs.Recalled.{is_back}
 use Rattle.machine_theorem.proofs.Replies.{reply_comes, Answered, Replied}
@@ -113,86 +114,64 @@ module _ (config : Config) (good : is_good config ≡ true) (opening : FinMap na
         closed = ap (λ (k : CoreState). k.open_op) (with_at_same a.cores c _);
       }))
 
-  -- a message of the core about the line, by what its body weighs
+  -- what is asked for by a reader at such a time, or by a writer
+  abbrev asked_by : (ℕ → Bool) → Body → ℕ
+  asked_by reads (body.ShReq pts version) = cond (reads pts) 1 0
+  asked_by reads (body.ExReq version) = 1
+  asked_by reads _ = 0
+
+  asked_by_asks : (reads : ℕ → Bool) (b : Body) → 1 ≤ asked_by reads b → IsAsk b
+  asked_by_asks reads (body.ShReq pts version) some = tt
+  asked_by_asks reads (body.ExReq version) some = tt
+  asked_by_asks reads _ some = absurd (omega arith)
+
+  -- a message of the core about the line weighs that
   abbrev is_from : Node → Bool
   is_from (node.Core d) = eqb d c
   is_from _ = false
 
-  abbrev weight : (Body → ℕ) → Message → ℕ
-  weight u m = cond (eqb m.line l && is_from m.from) (u m.body) 0
+  abbrev weight : (ℕ → Bool) → Message → ℕ
+  weight reads m = cond (eqb m.line l && is_from m.from) (asked_by reads m.body) 0
 
-  weight_asks : (u : Body → ℕ) → ((b : Body) → 1 ≤ u b → IsAsk b) → (m : Message) → 1 ≤ weight u m → IsRequest c l m
-  weight_asks u asks m some = go (eqb m.line l) refl (is_from m.from) refl some
+  weight_asks : (reads : ℕ → Bool) (m : Message) → 1 ≤ weight reads m → IsRequest c l m
+  weight_asks reads m some =
+      let k = counts_if (eqb m.line l && is_from m.from) (asked_by reads m.body) some in
+      let its = and_parts (eqb m.line l) (is_from m.from) k.0 in
+      record {
+        line = eqb-true m.line l its.0;
+        from = from_core m.from its.1;
+        asks = asked_by_asks reads m.body k.1;
+      }
     where
       from_core : (from : Node) → is_from from ≡ true → from ≡ node.Core c
       from_core (node.Core d) e = ap node.Core (eqb-true d c e)
-      from_core (node.Bank b) e = absurd (cc)
-      from_core (node.Dram b) e = absurd (cc)
+      from_core _ e = absurd (cc)
 
-      go : (p : Bool) → eqb m.line l ≡ p → (q : Bool) → is_from m.from ≡ q → 1 ≤ cond (p && q) (u m.body) 0 →
-          IsRequest c l m
-      go true e true k some = record {
-        line = eqb-true m.line l e;
-        from = from_core m.from k;
-        asks = asks m.body some;
-      }
-      go true e false k some = absurd (omega arith)
-      go false e q k some = absurd (omega arith)
-
-  weighs_own : (u : Body → ℕ) (m : Message) → m.line ≡ l → m.from ≡ node.Core c → weight u m ≡ u m.body
-  weighs_own u m line from = cond-true (eqb m.line l && is_from m.from) (u m.body) 0
+  weighs_own : (reads : ℕ → Bool) (m : Message) → m.line ≡ l → m.from ≡ node.Core c →
+      weight reads m ≡ asked_by reads m.body
+  weighs_own reads m line from = cond-true (eqb m.line l && is_from m.from) (asked_by reads m.body) 0
       (ap (λ (p : Bool). p && is_from m.from) (eq-eqb m.line l line) ∙ ap is_from from ∙ eq-eqb c c refl)
 
-  -- what is asked for at all, and what the operation needs at this time
-  abbrev anything : Body → ℕ
-  anything (body.ShReq pts version) = 1
-  anything (body.ExReq version) = 1
-  anything _ = 0
-
-  anything_asks : (b : Body) → 1 ≤ anything b → IsAsk b
-  anything_asks (body.ShReq pts version) some = tt
-  anything_asks (body.ExReq version) some = tt
-  anything_asks _ some = absurd (omega arith)
-
+  -- what the operation needs at this time
   abbrev is_load : Op → Bool
   is_load (Load a) = true
   is_load _ = false
 
-  abbrev enough : ℕ → Body → ℕ
-  enough pts (body.ShReq p version) = cond (is_load op && leb pts p) 1 0
-  enough pts (body.ExReq version) = 1
-  enough pts _ = 0
+  abbrev enough : ℕ → ℕ → Bool
+  enough pts p = is_load op && leb pts p
 
-  enough_asks : (pts : ℕ) (b : Body) → 1 ≤ enough pts b → IsAsk b
-  enough_asks pts (body.ShReq p version) some = tt
-  enough_asks pts (body.ExReq version) some = tt
-  enough_asks pts _ some = absurd (omega arith)
-
-  a_load : (p : Op) → is_load p ≡ true → (a : ℕ) × (p ≡ Load a)
-  a_load (Load a) e = (a, refl)
-  a_load (Store a v) e = absurd (cc)
-  a_load (Swap a v) e = absurd (cc)
-
-  reads_long : (pts p : ℕ) → 1 ≤ cond (is_load op && leb pts p) 1 0 → (a : ℕ) × (op ≡ Load a) × (pts ≤ p)
-  reads_long pts p some = go (is_load op) refl (leb pts p) refl some
+  reads_long : (pts p : ℕ) → enough pts p ≡ true → (a : ℕ) × (op ≡ Load a) × (pts ≤ p)
+  reads_long pts p some =
+      let its = and_parts (is_load op) (leb pts p) some in
+      let load = a_load op its.0 in (load.0, load.1, leb-true pts p its.1)
     where
-      go : (b : Bool) → is_load op ≡ b → (d : Bool) → leb pts p ≡ d → 1 ≤ cond (b && d) 1 0 →
-          (a : ℕ) × (op ≡ Load a) × (pts ≤ p)
-      go true e true k some = let z = a_load op e in (z.0, z.1, leb-true pts p k)
-      go true e false k some = absurd (omega arith)
-      go false e d k some = absurd (omega arith)
+      a_load : (p : Op) → is_load p ≡ true → (a : ℕ) × (p ≡ Load a)
+      a_load (Load a) e = (a, refl)
+      a_load _ e = absurd (cc)
 
-  -- a request's weight is that of its body
-  of_body : (u : Body → ℕ) (m : Message) → 1 ≤ weight u m → (b : Body) → m.body ≡ b → 1 ≤ u b
-  of_body u m some b e = go (eqb m.line l && is_from m.from) some
-    where
-      go : (p : Bool) → 1 ≤ cond p (u m.body) 0 → 1 ≤ u b
-      go true s = subst (λ (d : Body). 1 ≤ u d) e s
-      go false s = absurd (omega arith)
-
-  -- the core as it is, with its requests by what their bodies weigh
-  abbrev asking : (n need : ℕ) → State → (u : Body → ℕ) → ((b : Body) → 1 ≤ u b → IsAsk b) → Setting
-  asking n need a u asks = record {
+  -- the core as it is, with its requests by what they ask for
+  abbrev asking : (n need : ℕ) → State → (ℕ → Bool) → Setting
+  asking n need a reads = record {
     config = config;
     good = good;
     opening = opening;
@@ -201,38 +180,39 @@ module _ (config : Config) (good : is_good config ≡ true) (opening : FinMap na
     l = l;
     need = need;
     K = core_seen (a.cores c);
-    w = weight u;
-    w_asks = weight_asks u asks;
+    w = weight reads;
+    w_asks = weight_asks reads;
   }
 
   bring : (n : ℕ) (a : State) → Reached config opening a → length a.bag ≤ n → (a.cores c).open_op ≡ Some op →
-      (a.cores c).is_out ≡ true → (u : Body → ℕ) (asks : (b : Body) → 1 ≤ u b → IsAsk b) →
-      1 ≤ weigh (weight u) a.bag → (S : Body → Type 0) → ((p : ℕ) (version : Option ℕ) →
-      1 ≤ u (body.ShReq p version) → (x : TimedLine) → p ≤ x.rts → S (body.ShRep x) × S (body.RenewRep x.rts)) →
-      ((version : Option ℕ) → 1 ≤ u (body.ExReq version) →
-      ((x : TimedLine) → S (body.ExRep x)) × ((rts : ℕ) → S (body.UpgradeRep rts))) →
-      Answered (asking n 1 a u asks) S 14 a
-  bring n a r size opens out u asks asked S shared owner =
-      reply_comes (asking n 1 a u asks)
+      (a.cores c).is_out ≡ true → (reads : ℕ → Bool) → 1 ≤ weigh (weight reads) a.bag → (S : Body → Type 0) →
+      ((p : ℕ) → reads p ≡ true → (x : TimedLine) → p ≤ x.rts → S (body.ShRep x) × S (body.RenewRep x.rts)) →
+      ((x : TimedLine) → S (body.ExRep x)) × ((rts : ℕ) → S (body.UpgradeRep rts)) →
+      Answered (asking n 1 a reads) S 14 a
+  bring n a r size opens out reads asked S shared owner =
+      reply_comes (asking n 1 a reads)
       (record { op = op; is_out = out; opens = opens; on = refl; one_needed = refl }) S
-      (λ m some p version e x le. shared p version (of_body u m some (body.ShReq p version) e) x le)
-      (λ m some version e. owner version (of_body u m some (body.ExReq version) e)) a
-      (record { reached = r; core_is = refl; asked = asked }) size
+      (λ m some p version e x le. shared p (read m p version e
+      (counts_if (eqb m.line l && is_from m.from) (asked_by reads m.body) some).1) x le)
+      (λ m some version e. owner) a (record { reached = r; core_is = refl; asked = asked }) size
+    where
+      read : (m : Message) (p : ℕ) (version : Option ℕ) → m.body ≡ body.ShReq p version → 1 ≤ asked_by reads m.body →
+          reads p ≡ true
+      read m p version e some = (counts_if (reads p) 1 (rw e at some)).0
 
   -- a core that waits for what its operation needs
   by_enough : (n : ℕ) (a : State) → Reached config opening a → length a.bag ≤ n → (a.cores c).open_op ≡ Some op →
       (a.cores c).is_out ≡ true → 1 ≤ weigh (weight (enough (a.cores c).pts)) a.bag → Ends (suc n) 16 a
   by_enough n a r size opens out asked =
-      leads_on (bring n a r size opens out (enough pts) (enough_asks pts) asked (Suits op pts)
-      (λ p version some x le. let z = reads_long pts p some in
-      ((z.0, z.1, le_trans z.2 le), (z.0, z.1, le_trans z.2 le)))
-      (λ version some. (λ x. tt, λ rts. tt)))
+      leads_on (bring n a r size opens out (enough pts) asked (Suits op pts)
+      (λ p some x le. let z = reads_long pts p some in
+      ((z.0, z.1, le_trans z.2 le), (z.0, z.1, le_trans z.2 le))) (λ x. tt, λ rts. tt))
       (λ b x. leads_for (replied b x.0) (λ d y. completes_later a b d x.1 y)) (omega arith)
     where
       pts : ℕ
       pts = (a.cores c).pts
 
-      replied : (b : State) → Replied (asking n 1 a (enough pts) (enough_asks pts)) (Suits op pts) b → Ends (suc n) 2 b
+      replied : (b : State) → Replied (asking n 1 a (enough pts)) (Suits op pts) b → Ends (suc n) 2 b
       replied b x =
           let t = taken config good opening c below op b x.reached x.reply x.rest x.taken x.to
           (suits_replies op pts _ x.suits) in
@@ -252,7 +232,7 @@ module _ (config : Config) (good : is_good config ≡ true) (opening : FinMap na
     core = a.cores c
 
     asks_for : (b : Body) → core_step core Attempting ≡ Does (step.asks core op b) →
-        1 ≤ enough core.pts b → Ends (suc (suc n)) 17 a
+        1 ≤ asked_by (enough core.pts) b → Ends (suc (suc n)) 17 a
     asks_for b done enough' =
         let q = core_table.to_bank core (core_table.line_of core op) b in
         let new : CoreState = record core { is_out = true } in
@@ -260,8 +240,8 @@ module _ (config : Config) (good : is_good config ≡ true) (opening : FinMap na
         let move : Move config a s = core_steps c Attempting a.bag (Makes Requested false (Some q) new) below refl done
         refl in
         let now = with_at_same a.cores c new in
-        let own : weight (enough core.pts) q ≡ enough core.pts b = weighs_own (enough core.pts) q (its_line a r)
-        (ap node.Core ((kept a r).shape.each_core c).numbered) in
+        let own : weight (enough core.pts) q ≡ asked_by (enough core.pts) b =
+        weighs_own (enough core.pts) q (its_line a r) (ap node.Core ((kept a r).shape.each_core c).numbered) in
         ends_after move (λ z. cc) (omega arith) refl
         (by_enough (suc n) s (goes_on r move) (omega arith) (ap (λ (k : CoreState). k.open_op) now ∙ opens)
         (ap (λ (k : CoreState). k.is_out) now)
@@ -275,12 +255,9 @@ module _ (config : Config) (good : is_good config ≡ true) (opening : FinMap na
         by_kind : (p : Op) → op ≡ p → Ends (suc (suc n)) 17 a
         by_kind (Load x) e = asks_for (body.ShReq core.pts version)
             (done ∙ ap (λ (p : Op). attempted core op (Some (core_table.need core.pts p version), core)) e)
-            (let z : enough core.pts (body.ShReq core.pts version) ≡ 1 = rw (e, le-leb core.pts core.pts (le_refl _)) in
-            omega arith)
-        by_kind (Store x v) e = asks_for (body.ExReq version)
-            (done ∙ ap (λ (p : Op). attempted core op (Some (core_table.need core.pts p version), core)) e)
-            (omega arith)
-        by_kind (Swap x v) e = asks_for (body.ExReq version)
+            (let z : enough core.pts core.pts ≡ true = rw (e, le-leb core.pts core.pts (le_refl _)) in
+            rw z (omega arith))
+        by_kind _ e = asks_for (body.ExReq version)
             (done ∙ ap (λ (p : Op). attempted core op (Some (core_table.need core.pts p version), core)) e)
             (omega arith)
 
@@ -311,11 +288,13 @@ module _ (config : Config) (good : is_good config ≡ true) (opening : FinMap na
     abbrev that_core : CoreState
     that_core = a.cores c
 
+    abbrev its : ℕ
+    its = core_table.line_of that_core op
+
     -- the set is full: another copy leaves
     module _ (v : ℕ) (held : LineCopy) (is : copy_of that_core.cache v ≡ Some held)
-        (apart : v ≢ core_table.line_of that_core op) (gone : copy_of that_core.cache
-        (core_table.line_of that_core op) ≡ None)
-        (place : place_for (cache.without_copy that_core.cache v) (core_table.line_of that_core op) ≡ true) where
+        (apart : v ≢ its) (gone : copy_of that_core.cache its ≡ None)
+        (place : place_for (cache.without_copy that_core.cache v) its ≡ true) where
       abbrev left : CoreState
       left = record that_core { cache = cache.without_copy that_core.cache v }
 
@@ -323,8 +302,7 @@ module _ (config : Config) (good : is_good config ≡ true) (opening : FinMap na
       back = core_table.to_bank that_core v (body.FlushRep (words_of_copy held))
 
       off : is_pinned (pinned_line that_core) v ≡ false
-      off = ap (λ (o : Option Op). is_pinned (option_map (core_table.line_of that_core) o) v) opens
-          ∙ ne_eqb (core_table.line_of that_core op) v (λ e. apart (sym e))
+      off = rw opens (ne_eqb its v (λ e. apart (sym e)))
 
       evicts : core_step that_core (Evicting v)
           ≡ Does (Makes Evicted false (cond (is_exclusive held.state) (Some back) None) left)
@@ -333,9 +311,9 @@ module _ (config : Config) (good : is_good config ≡ true) (opening : FinMap na
           ∙ ap (λ (b : Bool). Does (copy_evicted (core_table.sent_back that_core v
           (cond b (Err not_left.Pinned, that_core.cache) (Ok held, cache.without_copy that_core.cache v))))) off
 
-      gone_still : copy_of left.cache (core_table.line_of that_core op) ≡ None
+      gone_still : copy_of left.cache its ≡ None
       gone_still = (drop_now (λ k. k) that_core.cache.sets ((kept a r).shape.each_core c).sets v).there
-          (core_table.line_of that_core op) (λ e. apart (sym e)) ∙ gone
+          its (λ e. apart (sym e)) ∙ gone
 
       -- the core is as the copy left it
       placed : (b : State) → Reached config opening b → length b.bag ≤ n → b.cores c ≡ left → Ends (suc (suc n)) 17 b
@@ -353,26 +331,24 @@ module _ (config : Config) (good : is_good config ≡ true) (opening : FinMap na
           let s : State = record (with_core a c left) { bag = back ∷ a.bag; counts = counted a.counts back.body } in
           let move : Move config a s = core_steps c (Evicting v) a.bag (Makes Evicted false (Some back) left) below refl
           (rw ex at evicts) refl in
-          let who = asking n 0 s anything anything_asks in
+          let who = asking n 0 s (λ p. true) in
           let back_is = is_back who back a.bag c (words_of_copy held)
           (ap node.Core ((kept a r).shape.each_core c).numbered) (inl refl) in
           ends_after move (λ z. cc) (omega arith) refl
-          (leads_on (leads_wider (returned who s (record { reached = goes_on r move; core_is = refl; asked = omega arith })
-          (omega arith) v c back_is) (omega arith))
+          (leads_on (leads_wider (returned who s
+          (record { reached = goes_on r move; core_is = refl; asked = omega arith }) (omega arith) v c back_is)
+          (omega arith))
           (λ b x. leads_for (placed b x.stands.reached x.few
           (ap (λ (g : ℕ → CoreState). g c) x.goal.1 ∙ with_at_same a.cores c left))
           (λ d y. completes_later s b d x.beside.records y)) (omega arith))
 
     -- a copy that can leave
-    without_place : copy_of that_core.cache (core_table.line_of that_core op) ≡ None →
-        place_for that_core.cache (core_table.line_of that_core op) ≡ false → Ends (suc (suc n)) 19 a
+    without_place : copy_of that_core.cache its ≡ None →
+        place_for that_core.cache its ≡ false → Ends (suc (suc n)) 19 a
     without_place gone full = by_victim v.0 v.1 (copy_of that_core.cache v.0) refl
       where
-        line : ℕ
-        line = core_table.line_of that_core op
-
         i : ℕ
-        i = cache.set_of that_core.cache line
+        i = cache.set_of that_core.cache its
 
         fits : Fits config.sets config.ways (λ k. k) that_core.cache
         fits = (reached_sized config good opening a r).caches c
@@ -381,22 +357,12 @@ module _ (config : Config) (good : is_good config ≡ true) (opening : FinMap na
         has : (h : ℕ) → is_there (set_at that_core.cache.sets i) h ≡ true → is_some (copy_of that_core.cache h) ≡ true
         has h there = rw (fits.homes i h there) there
 
-        or_false : (p q : Bool) → (p || q) ≡ false → q ≡ false
-        or_false true q e = absurd (cc)
-        or_false false q e = e
-
-        no_room : has_room that_core.cache i ≡ false
-        no_room = or_false (is_there (set_at that_core.cache.sets i) line) _ full
-
         v : (h : ℕ) × (is_there (set_at that_core.cache.sets i) h ≡ true)
         v = first_there (set_at that_core.cache.sets i)
-            (let le = ltb-false (length (set_at that_core.cache.sets i)) that_core.cache.ways no_room in
+            (let le = ltb-false (length (set_at that_core.cache.sets i)) that_core.cache.ways
+            (or_parts (is_there (set_at that_core.cache.sets i) its) _ full).1 in
             let some = (fair config good).some_ways in
             let ways = fits.as_many_ways in omega (arith, le, some, ways))
-
-        or_right : (p q : Bool) → q ≡ true → (p || q) ≡ true
-        or_right true q e = refl
-        or_right false q e = e
 
         by_victim : (h : ℕ) → is_there (set_at that_core.cache.sets i) h ≡ true → (o : Option LineCopy) →
             copy_of that_core.cache h ≡ o → Ends (suc (suc n)) 19 a
@@ -404,53 +370,38 @@ module _ (config : Config) (good : is_good config ≡ true) (opening : FinMap na
             absurd (let z : true ≡ false = sym (has h there) ∙ ap is_some is in cc)
         by_victim h there (Some held) is =
             by_state h held is (λ e. let z : true ≡ false = rw (e, gone) at (sym (has h there)) in cc) gone
-            (or_right (is_there (set_at left_sets i') line) _ room) (is_exclusive held.state) refl
+            (or_right (is_there (set_at without_h.sets (cache.set_of without_h its)) its) _ room)
+            (is_exclusive held.state) refl
           where
-            set_h : cache.set_of that_core.cache h ≡ i
-            set_h = fits.homes i h there
+            without_h : Sets LineCopy
+            without_h = cache.without_copy that_core.cache h
 
-            left_sets : List (List (ℕ × LineCopy))
-            left_sets = (cache.without_copy that_core.cache h).sets
+            j : ℕ
+            j = cache.set_of that_core.cache h
 
-            i' : ℕ
-            i' = cache.set_of (cache.without_copy that_core.cache h) line
+            fewer : length (set_at without_h.sets (cache.set_of without_h its))
+                ≡ length (without (set_at that_core.cache.sets j) h)
+            fewer = ap (λ (k : ℕ). length (set_at without_h.sets k)) (ap (λ (m : ℕ). its % m)
+                (length-drop_line that_core.cache.sets j h) ∙ sym (fits.homes i h there))
+                ∙ ap length (set_at-set_same that_core.cache.sets j (without (set_at that_core.cache.sets j) h)
+                (mod-lt h ((kept a r).shape.each_core c).sets))
 
-            some : 0 < length that_core.cache.sets
-            some = ((kept a r).shape.each_core c).sets
-
-            same_set : i' ≡ i
-            same_set = ap (λ (m : ℕ). line % m)
-                (length-drop_line that_core.cache.sets (cache.set_of that_core.cache h) h)
-
-            shorter : length (set_at left_sets i) < length (set_at that_core.cache.sets i)
-            shorter = subst (λ (j : ℕ). length (set_at left_sets j) < length (set_at that_core.cache.sets j)) set_h
-                (subst (λ (ps : List (ℕ × LineCopy)). length ps <
-                length (set_at that_core.cache.sets (cache.set_of that_core.cache h)))
-                (sym (set_at-set_same that_core.cache.sets (cache.set_of that_core.cache h)
-                (without (set_at that_core.cache.sets (cache.set_of that_core.cache h)) h) (mod-lt h some)))
-                (length-without_there (set_at that_core.cache.sets (cache.set_of that_core.cache h)) h (ap is_some is)))
-
-            room : has_room (cache.without_copy that_core.cache h) i' ≡ true
-            room = lt-ltb (length (set_at left_sets i')) that_core.cache.ways
-                (let le = fits.sizes i in
-                let e = ap (λ (j : ℕ). length (set_at left_sets j)) same_set in let lt = shorter in omega (
-                  arith,
-                  le,
-                  e,
-                  lt,
-                ))
+            room : has_room without_h (cache.set_of without_h its) ≡ true
+            room =
+                let le = fits.sizes j in
+                let e = fewer in
+                let lt = length-without_there (set_at that_core.cache.sets j) h (ap is_some is) in
+                lt-ltb _ that_core.cache.ways (omega (arith, le, e, lt))
 
     -- a core whose request isn't out
     quiet_ends : Ends (suc (suc n)) 19 a
-    quiet_ends = by_held (copy_of that_core.cache (core_table.line_of that_core op)) refl
+    quiet_ends = by_held (copy_of that_core.cache its) refl
       where
-        by_held : (o : Option LineCopy) → copy_of that_core.cache (core_table.line_of that_core op) ≡ o → Ends (suc
-            (suc n)) 19 a
+        by_held : (o : Option LineCopy) → copy_of that_core.cache its ≡ o → Ends (suc (suc n)) 19 a
         by_held (Some held) is = leads_within (with_held n a r size opens quiet held is) (omega arith)
-        by_held None gone = by_place (place_for that_core.cache (core_table.line_of that_core op)) refl
+        by_held None gone = by_place (place_for that_core.cache its) refl
           where
-            by_place : (b : Bool) → place_for that_core.cache (core_table.line_of that_core op) ≡ b → Ends (suc
-                (suc n)) 19 a
+            by_place : (b : Bool) → place_for that_core.cache its ≡ b → Ends (suc (suc n)) 19 a
             by_place true place = leads_within (with_place n a r size opens quiet gone place) (omega arith)
             by_place false full = without_place gone full
 
@@ -479,19 +430,22 @@ module _ (config : Config) (good : is_good config ≡ true) (opening : FinMap na
       x = found_of l (about c) a.bag (omega (arith, one))
 
       one_is : (d : ℕ) → 1 ≤ one_if (eqb d c) → d ≡ c
-      one_is d some = ⊎_elim (λ (t : eqb d c ≡ true). eqb-true d c t)
-          (λ (e : eqb d c ≡ false). absurd (let z = ap one_if e in omega arith)) (cases_Bool (eqb d c))
+      one_is d some = eqb-true d c (is_one (eqb d c) some)
+        where
+          is_one : (b : Bool) → 1 ≤ one_if b → b ≡ true
+          is_one true some = refl
+          is_one false some = absurd (omega arith)
 
       -- the request is out
       asked : (m : Message) (rest : List Message) → SameBag a.bag (m ∷ rest) → m.line ≡ l → (b : Body) → m.body ≡ b →
           ((core : CoreState) (line : ℕ) → core_table.comes_to_core core line b ≡ false) → comes_to_dram b ≡ false →
           ((from : Node) (e : Option Entry) → comes_to_bank from b e ≡ is_core from) →
-          1 ≤ one_if (eqb (core_of m.from) c) → 1 ≤ anything b → Ends (suc (suc n)) 34 a
+          1 ≤ one_if (eqb (core_of m.from) c) → 1 ≤ asked_by (λ p. true) b → Ends (suc (suc n)) 34 a
       asked m rest same line b e no_core no_dram by of some =
-          leads_on (leads_wider (bring n a r size opens out anything anything_asks
-          (let z = same (weight anything) in let y = weighs_own anything m line (its_own m.from refl is) in
-          let x : 1 ≤ anything m.body = rw e some in omega arith)
-          IsReply (λ p version i y le. (tt, tt)) (λ version i. (λ y. tt, λ rts. tt))) (omega arith))
+          leads_on (leads_wider (bring n a r size opens out (λ p. true)
+          (let z = same (weight (λ p. true)) in let y = weighs_own (λ p. true) m line (its_own m.from refl is) in
+          let x : 1 ≤ asked_by (λ p. true) m.body = rw e some in omega arith)
+          IsReply (λ p i y le. (tt, tt)) (λ y. tt, λ rts. tt)) (omega arith))
           (λ d y. leads_for (once_taken n d y.0.reached y.0.few
           (ap (λ (i : by_line.Core). i.open_op) y.0.core_is ∙ opens) y.0.reply y.0.rest y.0.taken y.0.to y.0.suits)
           (λ i z. completes_later a d i y.1 z)) (omega arith)

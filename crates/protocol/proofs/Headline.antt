@@ -117,22 +117,23 @@ goes_later {f} {h} {l} {records} {p} {t} {u} {x} le k = (
 )
 
 -- a reply comes only to a core that waits for it
-answers_busy : (f : Config) (h : ℕ → Memory) (l : ℕ) (records : List Record) (p : ℕ → ℕ) (t c : ℕ) (x y : Line) →
+answers_busy : {f : Config} {h : ℕ → Memory} {l : ℕ} {records : List Record} {p : ℕ → ℕ} {t c : ℕ} {x y : Line} →
     p c ≤ 1 → Answers c x y → Goes f h l records p t x → p c ≡ 1
-answers_busy f h l records p t c x y one (shared line rest q) k = let e =
-    tally-taken (about c) x.messages _ q in let a = k.2.asks c in let i = about_itself c in omega arith
-answers_busy f h l records p t c x y one (exclusive line rest q) k = let e =
-    tally-taken (about c) x.messages _ q in let a = k.2.asks c in let i = about_itself c in omega arith
-answers_busy f h l records p t c x y one (renews rts copy rest q is) k = let e =
-    tally-taken (about c) x.messages _ q in let a = k.2.asks c in let i = about_itself c in omega arith
-answers_busy f h l records p t c x y one (upgrades rts copy rest q is) k = let e =
-    tally-taken (about c) x.messages _ q in let a = k.2.asks c in let i = about_itself c in omega arith
+answers_busy {c = c} {x = x} one (shared line rest q) k = let e = tally-taken (about c) x.messages _ q in
+    let a = k.2.asks c in let i = about_itself c in omega arith
+answers_busy {c = c} {x = x} one (exclusive line rest q) k = let e = tally-taken (about c) x.messages _ q in
+    let a = k.2.asks c in let i = about_itself c in omega arith
+answers_busy {c = c} {x = x} one (renews rts copy rest q is) k = let e = tally-taken (about c) x.messages _ q in
+    let a = k.2.asks c in let i = about_itself c in omega arith
+answers_busy {c = c} {x = x} one (upgrades rts copy rest q is) k = let e = tally-taken (about c) x.messages _ q in
+    let a = k.2.asks c in let i = about_itself c in omega arith
 
 -- no move lowers the time of a bank
-moves_rise : (lease : ℕ) (loses : Bool) (pinned : ℕ → Type 0) (t u : ℕ) (x y : Line) → LineTransition lease loses pinned t x u y → t ≤ u
-moves_rise lease loses pinned t u x y (evict_clean line is) = omega arith
-moves_rise lease loses pinned t u x y (evict_dirty line is) = omega arith
-moves_rise lease loses pinned t u x y _ = omega arith
+moves_rise : {lease : ℕ} {loses : Bool} {pinned : ℕ → Type 0} {t u : ℕ} {x y : Line} →
+    LineTransition lease loses pinned t x u y → t ≤ u
+moves_rise (evict_clean line is) = omega arith
+moves_rise (evict_dirty line is) = omega arith
+moves_rise _ = omega arith
 
 -- the opening
 opened_line : (f : Config) (pts mts : ℕ → ℕ) (drams : ℕ → List ℕ) → OpensWith f drams → (l : ℕ) →
@@ -179,8 +180,7 @@ issue_ok : (f : Config) (m : Machine) (c : ℕ) (op : Op) → (m.cores c).open_o
 issue_ok f m c op none k =
     let core : Core = record (m.cores c) { open_op = Some op } in
     let idle = (k.cores c).idle none in
-    let at : length (m.issued c) ≡ length (of_core c m.records) =
-    subst (Opened (m.issued c) (length (of_core c m.records))) none (k.cores c).opened in
+    let at : length (m.issued c) ≡ length (of_core c m.records) = rw none at (k.cores c).opened in
     record {
       kept = Kept-issue f.opening m.issued (with_at m.issued c (m.issued c ++ op ∷ [])) m.records
           (with_at_cases (λ d ops. (more : List Op) × (ops ≡ m.issued d ++ more)) m.issued c (m.issued c ++ op ∷ [])
@@ -267,8 +267,7 @@ answer_ok : (f : Config) (m : Machine) (c l : ℕ) (y : Line) → Answers c (m.l
 answer_ok f m c l y a k =
     let core : Core = record (m.cores c) { out = false } in
     let one = waits_at_most f l (m.cores c).out (m.cores c).open_op in
-    let waited = answers_busy f (values f m.records) l m.records (busy f m.cores l) (m.mts (l % f.banks)) c
-    (m.lines l) y one a (k.lines l) in
+    let waited = answers_busy one a (k.lines l) in
     record {
       kept = k.kept;
       lines = with_at_cases (λ i x. Goes f (values f m.records) i m.records (busy f (with_at m.cores c core) i)
@@ -290,7 +289,7 @@ move_ok : (f : Config) (m : Machine) (l t : ℕ) (y : Line) → LineTransition f
     (m.mts (l % f.banks)) (m.lines l) t y → MachineOk f m →
     MachineOk f (record m { mts = with_at m.mts (l % f.banks) t; lines = with_at m.lines l y })
 move_ok f m l t y mv k =
-    let up = moves_rise f.lease f.loses_recalls (IsPinned f m.cores l) (m.mts (l % f.banks)) t (m.lines l) y mv in
+    let up = moves_rise mv in
     record {
       kept = k.kept;
       lines = with_at_cases (λ i x. Goes f (values f m.records) i m.records (busy f m.cores i)
@@ -302,8 +301,7 @@ move_ok f m l t y mv k =
           t y mv (k.lines l)))
           (λ i ne. with_at_cases (λ b u. b ≡ i % f.banks → Goes f (values f m.records) i m.records (busy f m.cores i)
           u (m.lines i)) m.mts (l % f.banks) t
-          (λ e. goes_later
-          (subst (λ (b : ℕ). m.mts b ≤ t) e up) (k.lines i))
+          (λ e. goes_later (subst (λ (b : ℕ). m.mts b ≤ t) e up) (k.lines i))
           (λ b nb e. subst (λ (b' : ℕ). Goes f (values f m.records) i m.records (busy f m.cores i) (m.mts b')
           (m.lines i)) (sym e) (k.lines i))
           (i % f.banks) refl);

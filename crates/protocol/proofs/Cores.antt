@@ -115,7 +115,7 @@ module _ (f : Config) (h : ℕ → Memory) (l : ℕ) (records : List Record) whe
     where
       has : (m : Message) (rest : List Message) → IsPermutation x.messages (m ∷ rest) →
           LineOk f h l records busy t (record x { messages = m ∷ rest }) k.0 k.1
-      has m rest p = ok_shuffled f h l records busy t x k.0 k.1 (m ∷ rest) p k.2
+      has m rest p = ok_shuffled f h l records busy x (m ∷ rest) p k.2
 
       by_answer : (y : Line) → Answers c x y → Goes f h l records (with_at busy c 0) t y
       by_answer y (shared line rest p) = (

@@ -296,9 +296,8 @@ move_ok f m l t y mv k =
           (with_at m.mts (l % f.banks) t (i % f.banks)) x) m.lines l y
           (subst (λ (u : ℕ). Goes f (values f m.records) l m.records (busy f m.cores l) u y)
           (sym (with_at_same m.mts (l % f.banks) t))
-          (moves_keep f (values f m.records) l m.records (busy f m.cores l) f.lease f.loses_recalls (IsPinned f m.cores l)
-          (λ c un. waits_unpinned f l (m.cores c).out (m.cores c).open_op un) (m.mts (l % f.banks)) (m.lines l)
-          t y mv (k.lines l)))
+          (moves_keep f (values f m.records) l m.records (busy f m.cores l)
+          (λ c un. waits_unpinned f l (m.cores c).out (m.cores c).open_op un) mv (k.lines l)))
           (λ i ne. with_at_cases (λ b u. b ≡ i % f.banks → Goes f (values f m.records) i m.records (busy f m.cores i)
           u (m.lines i)) m.mts (l % f.banks) t
           (λ e. goes_later (subst (λ (b : ℕ). m.mts b ≤ t) e up) (k.lines i))

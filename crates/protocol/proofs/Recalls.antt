@@ -298,7 +298,7 @@ module _ (f : Config) (h : ℕ → Memory) (l : ℕ) (records : List Record) (bu
 
     pub replies_answer : (c : ℕ) (y : Line) → Answers c x y → OwnerAnswers y y.entry
     replies_answer c y (shared line rest p) =
-        let k = ok_shuffled f h l records busy t x s b (ShRep c line ∷ rest) p ok in
+        let k = ok_shuffled f h l records busy x (ShRep c line ∷ rest) p ok in
         answers_stay x y (replied c (ShRep c line) rest (record { exclusive = false; written = false; line = line }) p
         (λ d. refl) (λ d. refl) (λ d. refl) (sym (owns_not (x.copies c) (k.messages.0).0))) x.entry q
     replies_answer c y (renews rts copy rest p is) =

@@ -1,19 +1,18 @@
-use Rattle.std.proofs.Common.{◌≡◌, ◌≢◌, ℕ, ◌+◌, ◌≤◌, true, false, eqb, List, ◌∷◌, Option, Some, None, IfSome, inl}
-use Rattle.std.proofs.Common.{refl, sym, ap, ◌∙◌, subst, arith, le_refl}
+use Rattle.std.proofs.Common.{◌≡◌, ◌≢◌, ℕ, ◌+◌, ◌≤◌, true, false, eqb, List, ◌∷◌, Option, Some, None, IfSome, inl, refl}
+use Rattle.std.proofs.Common.{sym, ap, ◌∙◌, subst, arith, le_refl}
 use Rattle.std.specs.List.Sorted.{IsPermutation}
 use Rattle.std.proofs.lemmas.Bool.{ne_eqb}
 use Rattle.physiological_order.specs.declared.operation.Op.{Op}
 use Rattle.physiological_order.specs.declared.operation.Op.TheVariants.{Load}
 use Rattle.physiological_order.specs.declared.operation.Record.{Record}
 use Rattle.physiological_order.specs.Order.{Memory}
-use Rattle.protocol.specs.Machine.{Config, Timed, Copy, Message, ShReq, ExReq, ShRep, ExRep, RenewRep, UpgradeRep}
-use Rattle.protocol.specs.Machine.{Line, with_at, version_of, CannotUse, Answers, shared, exclusive, renews, upgrades}
-use Rattle.protocol.specs.Machine.{Asks, to_read, to_write, NotOwned}
-use Rattle.protocol.specs.Machine.{tally}
+use Rattle.protocol.specs.Machine.{Config, Timed, Copy, Message, ShReq, ExReq, ShRep, ExRep, RenewRep, UpgradeRep, Line}
+use Rattle.protocol.specs.Machine.{with_at, version_of, CannotUse, Answers, shared, exclusive, renews, upgrades, Asks}
+use Rattle.protocol.specs.Machine.{to_read, to_write, NotOwned, tally}
 use Rattle.protocol.proofs.Lease.{Leased}
-use Rattle.protocol.proofs.Lines.{Holder, Bank, At, Flying, right, load, store, about, one_if, about_itself}
-use Rattle.protocol.proofs.Lines.{HasShared, MessageOk, CopyOk, LineOk, with_at_same, with_at_other}
-use Rattle.protocol.proofs.Lines.{with_at_cases, with_bag, copy_keeps, flying, loading, storing}
+use Rattle.protocol.proofs.Lines.{Holder, Bank, At, Flying, right, load, store, about, one_if, about_itself, HasShared}
+use Rattle.protocol.proofs.Lines.{MessageOk, CopyOk, LineOk, with_at_same, with_at_other, with_at_cases, with_bag}
+use Rattle.protocol.proofs.Lines.{copy_keeps, flying, loading, storing}
 use Rattle.protocol.proofs.LineChanges.{At≢Bank, At_injective, flying_one, at_most_one, owned, keep, lost, Goes}
 use Rattle.protocol.proofs.LineChanges.{ok_shuffled}
 

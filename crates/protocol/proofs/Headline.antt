@@ -1,6 +1,6 @@
-use Rattle.std.proofs.Common.{◌≡◌, ◌≢◌, ℕ, ◌+◌, ◌%◌, ◌<◌, ◌≤◌, Bool, true, false, cond, eqb, List, []}
-use Rattle.std.proofs.Common.{◌∷◌, ◌++◌, length, Option, Some, None, refl, sym, ap, ◌∙◌, subst, arith}
-use Rattle.std.proofs.Common.{le_trans, le_refl, ⊎_elim, append-nil, length-append}
+use Rattle.std.proofs.Common.{◌≡◌, ◌≢◌, ℕ, ◌+◌, ◌%◌, ◌<◌, ◌≤◌, Bool, true, false, cond, eqb, List, [], ◌∷◌, ◌++◌}
+use Rattle.std.proofs.Common.{length, Option, Some, None, refl, sym, ap, ◌∙◌, subst, arith, le_trans, le_refl, ⊎_elim}
+use Rattle.std.proofs.Common.{append-nil, length-append}
 use Rattle.std.specs.Prelude.{slice_get}
 use Rattle.std.proofs.Math.Seq.{get_or-append_seam}
 use Rattle.std.proofs.lemmas.Option.{slice_get-get_or}
@@ -12,12 +12,10 @@ use Rattle.physiological_order.specs.declared.operation.Record.{Record}
 use Rattle.physiological_order.specs.Order.{Memory, address, of_core, Legal}
 use Rattle.physiological_order.proofs.Lemmas.{each_push, Sorted-from_Ascends, Kept-none, Kept-issue, Kept-push}
 use Rattle.physiological_order.proofs.Lemmas.{Legal-from_Kept}
-use Rattle.protocol.specs.Machine.{Config, Timed, Copy, Entry, Absent, Loading, Storing}
-use Rattle.protocol.specs.Machine.{Line, Core, Machine, line_of, with_at, word_at, waits, OpensWith, opened, IsPinned}
-use Rattle.protocol.specs.Machine.{LineTransition, evict_clean, evict_dirty, Answers, shared, exclusive, renews}
-use Rattle.protocol.specs.Machine.{upgrades, Asks, Uses, Transition, issue, advance, ask, answer, complete}
-use Rattle.protocol.specs.Machine.{line_changes}
-use Rattle.protocol.specs.Machine.{Reachable, at_first, goes_on}
+use Rattle.protocol.specs.Machine.{Config, Timed, Copy, Entry, Absent, Loading, Storing, Line, Core, Machine, line_of}
+use Rattle.protocol.specs.Machine.{with_at, word_at, waits, OpensWith, opened, IsPinned, LineTransition, evict_clean}
+use Rattle.protocol.specs.Machine.{evict_dirty, Answers, shared, exclusive, renews, upgrades, Asks, Uses, Transition}
+use Rattle.protocol.specs.Machine.{issue, advance, ask, answer, complete, line_changes, Reachable, at_first, goes_on}
 use Rattle.protocol.proofs.Bags.{tally-taken, each_map}
 use Rattle.protocol.proofs.Lines.{Holder, Bank, about, about_itself, EntryOk, with_at_same, with_at_other}
 use Rattle.protocol.proofs.Lines.{with_at_cases, with_bag}
@@ -285,8 +283,8 @@ answer_ok f m c l y a k =
           (λ d ne. k.cores d);
     }
 
-move_ok : (f : Config) (m : Machine) (l t : ℕ) (y : Line) → LineTransition f.lease f.loses_recalls (IsPinned f m.cores l)
-    (m.mts (l % f.banks)) (m.lines l) t y → MachineOk f m →
+move_ok : (f : Config) (m : Machine) (l t : ℕ) (y : Line) → LineTransition f.lease f.loses_recalls
+    (IsPinned f m.cores l) (m.mts (l % f.banks)) (m.lines l) t y → MachineOk f m →
     MachineOk f (record m { mts = with_at m.mts (l % f.banks) t; lines = with_at m.lines l y })
 move_ok f m l t y mv k =
     let up = moves_rise mv in

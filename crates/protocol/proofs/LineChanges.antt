@@ -6,13 +6,12 @@ use Rattle.std.proofs.lemmas.Bool.{cases_eq}
 use Rattle.physiological_order.specs.declared.operation.Record.{Record}
 use Rattle.physiological_order.specs.Order.{Memory}
 use Rattle.protocol.specs.Machine.{Config, Timed, Copy, Entry, Absent, Loading, Shared, Exclusive, Recalling, Storing}
-use Rattle.protocol.specs.Machine.{Message, ShReq, ExReq, ShRep, ExRep, RenewRep, UpgradeRep, FlushReq, WbReq}
-use Rattle.protocol.specs.Machine.{FlushRep, WbRep, DramLd, DramLdRep, DramSt, DramStRep, Line, with_at}
-use Rattle.protocol.specs.Machine.{LineTransition, evict_shared, evict_exclusive, dropped, wb_dropped, flushed}
-use Rattle.protocol.specs.Machine.{written_back, load_starts, renewed, leased, upgraded, granted, wb_starts}
-use Rattle.protocol.specs.Machine.{flush_starts, flush_returns, wb_returns, loaded, stored, evict_clean, evict_dirty}
-use Rattle.protocol.specs.Machine.{shuffled, dram_loads, dram_stores}
-use Rattle.protocol.specs.Machine.{tally}
+use Rattle.protocol.specs.Machine.{Message, ShReq, ExReq, ShRep, ExRep, RenewRep, UpgradeRep, FlushReq, WbReq, FlushRep}
+use Rattle.protocol.specs.Machine.{WbRep, DramLd, DramLdRep, DramSt, DramStRep, Line, with_at, LineTransition}
+use Rattle.protocol.specs.Machine.{evict_shared, evict_exclusive, dropped, wb_dropped, flushed, written_back}
+use Rattle.protocol.specs.Machine.{load_starts, renewed, leased, upgraded, granted, wb_starts, flush_starts}
+use Rattle.protocol.specs.Machine.{flush_returns, wb_returns, loaded, stored, evict_clean, evict_dirty, shuffled}
+use Rattle.protocol.specs.Machine.{dram_loads, dram_stores, tally}
 use Rattle.protocol.proofs.Bags.{tally-taken, each_taken}
 use Rattle.protocol.proofs.Lease.{Current, Leased, Leased-from_Current, Current-raise, Current-fill, Leased-renew}
 use Rattle.protocol.proofs.Lease.{Current-upgrade}
@@ -264,8 +263,8 @@ module _ (f : Config) (h : ℕ → Memory) (l : ℕ) (records : List Record) (bu
       }
 
   -- the right goes out to a core, with the line or with a word that the core's own copy stands
-  ok_grants : {t : ℕ} (x : Line) {s : Timed} (u : Timed) {b : Holder} (owner : ℕ) (dirty : Bool) (line : Timed) (m n : Message)
-      (rest : List Message) → x.entry ≡ Shared dirty line → right m ≡ 0 → right n ≡ 1 → load m ≡ 0 → load n ≡ 0 →
+  ok_grants : {t : ℕ} (x : Line) {s : Timed} (u : Timed) {b : Holder} (owner : ℕ) (dirty : Bool) (line : Timed)
+      (m n : Message) (rest : List Message) → x.entry ≡ Shared dirty line → right m ≡ 0 → right n ≡ 1 → load m ≡ 0 → load n ≡ 0 →
       store m ≡ 0 → store n ≡ 0 → ((c : ℕ) → about c m ≡ about c n) →
       Current f h records l u → s.rts ≤ u.rts → MessageOk f h l u.rts u x.copies x.dram n →
       Has t x m rest s b → Ok t (record x { entry = Exclusive owner; messages = n ∷ rest }) u Flying

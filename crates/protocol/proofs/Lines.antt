@@ -6,8 +6,8 @@ use Rattle.physiological_order.specs.declared.operation.Record.{Record}
 use Rattle.physiological_order.specs.Order.{Memory}
 use Rattle.protocol.specs.Machine.{Config, Timed, Copy, Entry, Absent, Loading, Shared, Exclusive, Recalling, Storing}
 use Rattle.protocol.specs.Machine.{Message, ShReq, ExReq, ShRep, ExRep, RenewRep, UpgradeRep, FlushReq, WbReq}
-use Rattle.protocol.specs.Machine.{FlushRep, WbRep, DramLd, DramLdRep, DramSt, DramStRep, Line, line_of, with_at, NotOwned}
-use Rattle.protocol.specs.Machine.{tally}
+use Rattle.protocol.specs.Machine.{FlushRep, WbRep, DramLd, DramLdRep, DramSt, DramStRep, Line, line_of, with_at}
+use Rattle.protocol.specs.Machine.{NotOwned, tally}
 use Rattle.protocol.proofs.Lease.{Current, Leased, Leased-keeps}
 
 -- where the right of a line is

@@ -1,25 +1,23 @@
-use Rattle.std.proofs.Common.{◌%◌, ◌≡◌, ◌≢◌, ℕ, ◌+◌, ◌<◌, ◌≤◌, Bool, true, false, cond, eqb, List, [], ◌∷◌, Option, Some, None}
-use Rattle.std.proofs.Common.{inl, inr, refl, sym, ap, ◌∙◌, subst, arith, le_trans, le_refl, ⊎_elim}
+use Rattle.std.proofs.Common.{◌%◌, ◌≡◌, ◌≢◌, ℕ, ◌+◌, ◌<◌, ◌≤◌, Bool, true, false, cond, eqb, List, [], ◌∷◌, Option}
+use Rattle.std.proofs.Common.{Some, None, inl, inr, refl, sym, ap, ◌∙◌, subst, arith, le_trans, le_refl, ⊎_elim}
 use Rattle.std.specs.List.Sorted.{IsPermutation}
 use Rattle.std.proofs.lemmas.Bool.{cases_eq, cond-true, cond-false, eq-eqb, ne_eqb}
 use Rattle.physiological_order.specs.declared.operation.Op.{Op}
 use Rattle.physiological_order.specs.declared.operation.Record.{Record}
 use Rattle.physiological_order.specs.Order.{Memory, address}
-use Rattle.protocol.specs.Machine.{Config, Timed, Copy, Entry, Exclusive, Recalling}
-use Rattle.protocol.specs.Machine.{Message, ShRep, ExRep, RenewRep, UpgradeRep, FlushReq, WbReq}
-use Rattle.protocol.specs.Machine.{FlushRep, WbRep, DramLd, DramLdRep, DramSt, DramStRep, Line, with_at, tally, owns}
-use Rattle.protocol.specs.Machine.{LineTransition, evict_shared, evict_exclusive, dropped, wb_dropped, flushed}
-use Rattle.protocol.specs.Machine.{written_back, load_starts, renewed, leased, upgraded, granted, wb_starts}
-use Rattle.protocol.specs.Machine.{flush_starts, flush_returns, wb_returns, loaded, stored, evict_clean, evict_dirty}
-use Rattle.protocol.specs.Machine.{shuffled, dram_loads, dram_stores, NotOwned}
-use Rattle.protocol.specs.Machine.{Answers, shared, exclusive, renews, upgrades, Asks, to_read, to_write}
-use Rattle.protocol.specs.Machine.{Uses, load_hit, load_own, store_own, swap_own, Machine, Transition, issue, advance}
-use Rattle.protocol.specs.Machine.{ask, answer, complete, line_changes, Reachable, at_first, goes_on, line_of, IsPinned}
+use Rattle.protocol.specs.Machine.{Config, Timed, Copy, Entry, Exclusive, Recalling, Message, ShRep, ExRep, RenewRep}
+use Rattle.protocol.specs.Machine.{UpgradeRep, FlushReq, WbReq, FlushRep, WbRep, DramLd, DramLdRep, DramSt, DramStRep}
+use Rattle.protocol.specs.Machine.{Line, with_at, tally, owns, LineTransition, evict_shared, evict_exclusive, dropped}
+use Rattle.protocol.specs.Machine.{wb_dropped, flushed, written_back, upgraded, granted, wb_starts, flush_starts}
+use Rattle.protocol.specs.Machine.{shuffled, dram_loads, dram_stores, NotOwned, Answers, shared, exclusive, renews}
+use Rattle.protocol.specs.Machine.{upgrades, Asks, to_read, to_write, Uses, load_hit, load_own, store_own, swap_own}
+use Rattle.protocol.specs.Machine.{Machine, Transition, issue, advance, ask, answer, complete, line_changes, Reachable}
+use Rattle.protocol.specs.Machine.{at_first, goes_on, line_of, IsPinned}
 use Rattle.protocol.specs.Recalls.{recall_to, grant_to, return_of, OwnsOrWill, OwnerAnswers}
 use Rattle.protocol.proofs.Bags.{tally-taken}
-use Rattle.protocol.proofs.Lines.{Holder, flying, right, about, one_if, LineOk}
-use Rattle.protocol.proofs.Lines.{with_at_same, with_at_other, with_at_cases}
-use Rattle.protocol.proofs.LineChanges.{At_injective, at_most_one, ok_shuffled, Goes}
+use Rattle.protocol.proofs.Lines.{Holder, flying, right, about, one_if, LineOk, with_at_same, with_at_other}
+use Rattle.protocol.proofs.Lines.{with_at_cases}
+use Rattle.protocol.proofs.LineChanges.{At_injective, at_most_one, ok_shuffled}
 use Rattle.protocol.proofs.Cores.{Some_injective}
 use Rattle.protocol.proofs.Headline.{MachineOk, reachable_ok, waits_unpinned}
 
@@ -198,8 +196,8 @@ module _ (f : Config) (h : ℕ → Memory) (l : ℕ) (records : List Record) (bu
 
   module _ (q : OwnerAnswers x x.entry) where
     -- every move of one line keeps what the entry says of the owner
-    pub moves_answer : {lease : ℕ} {pinned : ℕ → Type 0} → ((c : ℕ) → (pinned c → ⊥) → busy c ≡ 0) → {u : ℕ} {y : Line} →
-        LineTransition lease false pinned t x u y → OwnerAnswers y y.entry
+    pub moves_answer : {lease : ℕ} {pinned : ℕ → Type 0} → ((c : ℕ) → (pinned c → ⊥) → busy c ≡ 0) →
+        {u : ℕ} {y : Line} → LineTransition lease false pinned t x u y → OwnerAnswers y y.entry
     moves_answer free {y = y} (evict_shared c copy un is sh) =
         answers_stay x y (record {
           owners = owns_same x.copies c None (sym (owns_not (x.copies c) (not_exclusive (x.copies c) copy is sh)));
@@ -210,7 +208,8 @@ module _ (f : Config) (h : ℕ → Memory) (l : ℕ) (records : List Record) (bu
     moves_answer free {y = y} (evict_exclusive c copy un is ex) =
         named c copy is ex x.entry q y (let i = own c in omega arith)
     moves_answer free (dropped c rest p may) =
-        without c (FlushReq c) rest p (λ d. refl) (λ d. refl) (recall_other c) (no_owner c (free c may.0) may.1) x.entry q
+        without c (FlushReq c) rest p (λ d. refl) (λ d. refl) (recall_other c) (no_owner c (free c may.0) may.1)
+        x.entry q
     moves_answer free (wb_dropped c until rest p may) =
         without c (WbReq c until) rest p (λ d. refl) (λ d. refl) (recall_other c) (no_owner c (free c may.0) may.1)
         x.entry q
@@ -230,9 +229,11 @@ module _ (f : Config) (h : ℕ → Memory) (l : ℕ) (records : List Record) (bu
           recalls = λ c. let e = tally-taken (recall_to c) x.messages ms p in omega arith;
         }) x.entry q
     moves_answer free {y = y} (dram_loads rest p) =
-        answers_stay x y (exchanged DramLd (DramLdRep x.dram) rest x.dram p (λ c. refl) (λ c. refl) (λ c. refl)) x.entry q
+        answers_stay x y (exchanged DramLd (DramLdRep x.dram) rest x.dram p (λ c. refl) (λ c. refl) (λ c. refl))
+        x.entry q
     moves_answer free {y = y} (dram_stores words rest p) =
-        answers_stay x y (exchanged (DramSt words) DramStRep rest words p (λ c. refl) (λ c. refl) (λ c. refl)) x.entry q
+        answers_stay x y (exchanged (DramSt words) DramStRep rest words p (λ c. refl) (λ c. refl) (λ c. refl))
+        x.entry q
     moves_answer free _ = tt
 
     -- a request is no recall, grant or return

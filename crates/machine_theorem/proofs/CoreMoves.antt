@@ -5,7 +5,7 @@ use Rattle.std.specs.Prelude.{Result, Ok, Err, option_map}
 use Rattle.std.specs.Ordering.{nat_cmp}
 use Rattle.std.specs.FinMap.{FinMap}
 use Rattle.std.specs.List.{AllByRecursion as Each}
-use Rattle.std.proofs.lemmas.Bool.{cases_Bool, eq-eqb}
+use Rattle.std.proofs.lemmas.Bool.{cases_Bool, cond_both, eq-eqb}
 use Rattle.std.proofs.Math.Nat.{mod-lt}
 use Rattle.physiological_order.specs.declared.operation.Op.{Op}
 use Rattle.physiological_order.specs.declared.operation.Op.TheVariants.{Load}
@@ -301,34 +301,15 @@ module _ (config : Config) (opening : FinMap nat_cmp ℕ) (a : State) (s : IsKep
             (writes c core.pts op (v.lines l) version (copy_or_none o) copy cannot ver)
 
     attempt_on_goes : (o : Option LineCopy) → copy_of core.cache l ≡ o → Attempts (core_table.attempt_on core op o)
-    attempt_on_goes None there = by_out core.is_out refl
-      where
-        by_place : core.is_out ≡ false → (b : Bool) → place_for core.cache l ≡ b →
-            Attempts (Some (cond b (core_table.need core.pts op None) attempted.NoRoom), core)
-        by_place out true place = need_goes None None there refl place out tt
-        by_place out false place = tt
-
-        by_out : (b : Bool) → core.is_out ≡ b →
-            Attempts (
-              Some (cond b attempted.Waiting (cond (place_for core.cache l) (core_table.need core.pts op None)
-                  attempted.NoRoom)),
-              core,
-            )
-        by_out true out = tt
-        by_out false out = by_place out (place_for core.cache l) refl
-    attempt_on_goes (Some copy) there = by_use (serves op core.pts copy) refl
-      where
-        by_out : serves op core.pts copy ≡ false → (b : Bool) → core.is_out ≡ b →
-            Attempts (Some (cond b attempted.Waiting (core_table.need core.pts op (Some copy.wts))), core)
-        by_out no_use true out = tt
-        by_out no_use false out = need_goes (Some copy.wts) (Some copy) there refl
-            (place-there core.cache l copy there) out (serves_not op core.pts copy no_use)
-
-        by_use : (b : Bool) → serves op core.pts copy ≡ b →
-            Attempts (cond b (completed_at core op copy (time_of core.private_write core.pts op copy))
-            (Some (core_table.attempt_unserved core op copy.wts), core))
-        by_use true can = completed_goes copy there can _ refl
-        by_use false can = by_out can core.is_out refl
+    attempt_on_goes None there =
+        cond_both core.is_out _ _ (λ r. Attempts (Some r, core)) (λ out. tt)
+        (λ out. cond_both (place_for core.cache l) _ _ (λ r. Attempts (Some r, core))
+        (λ place. need_goes None None there refl place out tt) (λ place. tt))
+    attempt_on_goes (Some copy) there =
+        cond_both (serves op core.pts copy) _ _ Attempts (λ can. completed_goes copy there can _ refl)
+        (λ no_use. cond_both core.is_out _ _ (λ r. Attempts (Some r, core)) (λ out. tt)
+        (λ out. need_goes (Some copy.wts) (Some copy) there refl (place-there core.cache l copy there) out
+        (serves_not op core.pts copy no_use)))
 
   pub attempt_goes : (o : Option Op) → core.open_op ≡ o → Tries config opening a c a.bag (step.attempt_open core o)
   attempt_goes None e = tt
@@ -339,7 +320,10 @@ module _ (config : Config) (opening : FinMap nat_cmp ℕ) (a : State) (s : IsKep
       Goes config opening a (with_core a c) a.bag (step.copy_evicted
       (core_table.sent_back core l (cache.evicted core.cache l (pinned_line core) o)))
   eviction_goes l None there = tt
-  eviction_goes l (Some copy) there = by_pin (is_pinned (pinned_line core) l) refl
+  eviction_goes l (Some copy) there =
+      cond_both (is_pinned (pinned_line core) l) _ _
+      (λ r. Goes config opening a (with_core a c) a.bag (step.copy_evicted (core_table.sent_back core l r))) (λ p. tt)
+      (λ off. by_state off (is_exclusive copy.state) refl)
     where
       new : CoreState
       new = record core { cache = without_copy core.cache l }
@@ -385,9 +369,3 @@ module _ (config : Config) (opening : FinMap nat_cmp ℕ) (a : State) (s : IsKep
         reached = left (messages_of a.bag l) a.bag refl (λ k ne. refl)
             (evict_shared c (copy_seen copy) (unpinned l off) (ap copy_or_none there) sh);
       }
-
-      by_pin : (b : Bool) → is_pinned (pinned_line core) l ≡ b →
-          Goes config opening a (with_core a c) a.bag (step.copy_evicted
-          (core_table.sent_back core l (cond b (Err Pinned, core.cache) (Ok copy, without_copy core.cache l))))
-      by_pin true p = tt
-      by_pin false off = by_state off (is_exclusive copy.state) refl

@@ -1,6 +1,6 @@
 -- What a bank's table does with one line is moves of the line.
-use Rattle.std.proofs.Common.{◌≡◌, ℕ, ◌+◌, max, Bool, true, false, ◌&&◌, cond, List, ◌∷◌, Option, Some, None, refl}
-use Rattle.std.proofs.Common.{ap, ◌∙◌, subst}
+use Rattle.std.proofs.Common.{◌≡◌, ℕ, ◌+◌, max, Bool, true, false, ◌&&◌, cond, List, ◌∷◌, Option, Some, None, refl, ap}
+use Rattle.std.proofs.Common.{◌∙◌, subst}
 use Rattle.std.specs.List.Sorted.{IsPermutation}
 use Rattle.std.proofs.lemmas.Bool.{eqb-true}
 use Rattle.network.specs.declared.message.Node.TheVariants.{Core}

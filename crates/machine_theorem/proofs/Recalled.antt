@@ -239,18 +239,16 @@ module _ (who : Setting) where
             (exclusive_still (core_table.index_of core p) ts p held ex)
             (ap (λ (k : CoreState). is_pinned (pinned_line k) h) (with_at_same a.cores o _)) recall)
 
+        by_op : (q : Option Op) → core.open_op ≡ q → is_pinned (option_map (core_table.line_of core) q) h ≡ true →
+            Way who h 3 (IsShared who h) a
+        by_op None q pinned = absurd (let z : false ≡ true = pinned in cc)
+        by_op (Some p) q pinned =
+            let here = eqb-true (core_table.line_of core p) h pinned in
+            completes p q here (served config a o below p held q (rw here is) (owner_serves core.pts held ex p) _ refl)
+
         by_pin : (b : Bool) → is_pinned (pinned_line core) h ≡ b → Way who h 3 (IsShared who h) a
         by_pin false off = leads_within (by_recall a st size h o held is ex off recall) (omega arith)
-        by_pin true pinned = by_op core.open_op refl
-          where
-            by_op : (q : Option Op) → core.open_op ≡ q → Way who h 3 (IsShared who h) a
-            by_op None q = absurd (let z : false ≡ true =
-                sym (ap (λ (i : Option Op). is_pinned (option_map (core_table.line_of core) i) h) q) ∙ pinned in cc)
-            by_op (Some p) q =
-                let here = eqb-true (core_table.line_of core p) h
-                (sym (ap (λ (i : Option Op). is_pinned (option_map (core_table.line_of core) i) h) q) ∙ pinned) in
-                completes p q here
-                (served config a o below p held q (rw here is) (owner_serves core.pts held ex p) _ refl)
+        by_pin true pinned = by_op core.open_op refl pinned
 
     -- no grant of a line goes to the core that waits: its request is still out
     pub not_granted : (a : State) → Stands who a → (h : ℕ) (x : Message) (rest : List Message) → SameBag a.bag

@@ -1,6 +1,7 @@
 -- Owners and coherent values of a machine's lists are those of its state by lines.
 use Rattle.std.proofs.Common.{◌≡◌, ℕ, zero, suc, ◌+◌, ◌%◌, ◌≤◌, Bool, true, false, ◌&&◌, cond, eqb, List, [], ◌∷◌}
-use Rattle.std.proofs.Common.{length, get_or, Option, Some, None, refl, sym, ap, ap₂, ◌∙◌, arith}
+use Rattle.std.proofs.Common.{length, get_or, Option, Some, None, refl, sym, ap, ap₂, ◌∙◌, arith, ⊎_elim}
+use Rattle.std.proofs.lemmas.Bool.{cases_Bool}
 use Rattle.std.specs.List.{slice_get}
 use Rattle.std.specs.FinMap.{entries}
 use Rattle.std.proofs.lemmas.Option.{slice_get-get_or}
@@ -102,13 +103,8 @@ owner_first copies (suc n) = ap (owner_or (copies (suc n))) (owner_first copies 
         (owner_or (copies 0) None)) ≡ or_other (owner_or y (by_line.owner_words (λ k. copies (suc k)) n))
         (owner_or (copies 0) None)
     passed None = refl
-    passed (Some copy) = go copy.exclusive
-      where
-        go : (b : Bool) → cond b (Some copy.line.words) (or_other (by_line.owner_words (λ k. copies (suc k)) n)
-            (owner_or (copies 0) None)) ≡ or_other
-            (cond b (Some copy.line.words) (by_line.owner_words (λ k. copies (suc k)) n)) (owner_or (copies 0) None)
-        go true = refl
-        go false = refl
+    passed (Some copy) = ⊎_elim (λ (e : copy.exclusive ≡ true). rw e) (λ (e : copy.exclusive ≡ false). rw e)
+        (cases_Bool copy.exclusive)
 
 none_owns : (cores : List CoreState) (line : ℕ) → exclusive_copies cores line ≡ 0 → owner_words cores line ≡ None
 none_owns [] line h = refl
@@ -117,12 +113,10 @@ none_owns (core ∷ cores) line h = go (copy_of core.cache line) h (none_owns co
     go : (o : Option LineCopy) → owner_in o + exclusive_copies cores line ≡ 0 → (exclusive_copies cores line ≡ 0 →
         owner_words cores line ≡ None) → or_other (owned_words o) (owner_words cores line) ≡ None
     go None h rest = rest (omega arith)
-    go (Some copy) h rest = by_state (is_exclusive copy.state) h
-      where
-        by_state : (b : Bool) → cond b 1 0 + exclusive_copies cores line ≡ 0 →
-            or_other (cond b (Some copy.words) None) (owner_words cores line) ≡ None
-        by_state true h = absurd (omega arith)
-        by_state false h = rest (omega arith)
+    go (Some copy) h rest = ⊎_elim
+        (λ (e : is_exclusive copy.state ≡ true). absurd (let z = rw e at h in omega arith))
+        (λ (e : is_exclusive copy.state ≡ false). rw e (rest (let z = rw e at h in omega arith)))
+        (cases_Bool (is_exclusive copy.state))
 
 owner_is : (cores : List CoreState) (line : ℕ) → exclusive_copies cores line ≤ 1 →
     by_line.owner_words (λ k. copy_at (slice_get cores k) line) (length cores) ≡ owner_words cores line
@@ -140,12 +134,11 @@ owner_is (core ∷ cores) line h =
     go : (o : Option LineCopy) → owner_in o + exclusive_copies cores line ≤ 1 → or_other (owner_words cores line)
         (owner_or (copy_or_none o) None) ≡ or_other (owned_words o) (owner_words cores line)
     go None h = none_or (owner_words cores line)
-    go (Some copy) h = by_state (is_exclusive copy.state) h
-      where
-        by_state : (b : Bool) → cond b 1 0 + exclusive_copies cores line ≤ 1 → or_other (owner_words cores line)
-            (cond b (Some copy.words) None) ≡ or_other (cond b (Some copy.words) None) (owner_words cores line)
-        by_state true h = ap (λ o. or_other o (Some copy.words)) (none_owns cores line (omega arith))
-        by_state false h = none_or (owner_words cores line)
+    go (Some copy) h = ⊎_elim
+        (λ (e : is_exclusive copy.state ≡ true). rw e (ap (λ o. or_other o (Some copy.words))
+        (none_owns cores line (let z = rw e at h in omega arith))))
+        (λ (e : is_exclusive copy.state ≡ false). rw e (none_or (owner_words cores line)))
+        (cases_Bool (is_exclusive copy.state))
 
 -- words with the ownership in flight
 cached_is : (o : Option CoreState) (line : ℕ) → by_line.words_of (copy_at o line) ≡ cached_words o line

@@ -73,16 +73,11 @@ carries_is from to _ = refl
 
 pub owners_weigh : (ms : List Message) (line : ℕ) → owners_in (messages_of ms line) ≡ weigh (ownership_in line) ms
 owners_weigh [] line = refl
-owners_weigh (x ∷ xs) line = go (eqb x.line line) (owners_weigh xs line)
-  where
-    seen : by_line.Message
-    seen = body_seen (core_of x.from) (core_of x.to) x.body
-
-    go : (b : Bool) → owners_in (messages_of xs line) ≡ weigh (ownership_in line) xs →
-        owners_in (cond b (seen ∷ messages_of xs line) (messages_of xs line)) ≡
-        cond (b && right.carries_ownership x.body) 1 0 + weigh (ownership_in line) xs
-    go true rest = ap₂ (λ a b. a + b) (carries_is (core_of x.from) (core_of x.to) x.body) rest
-    go false rest = omega (arith, rest)
+owners_weigh (x ∷ xs) line =
+    let rest = owners_weigh xs line in
+    ⊎_elim (λ (e : eqb x.line line ≡ true). rw e
+    (ap₂ (λ a b. a + b) (carries_is (core_of x.from) (core_of x.to) x.body) rest))
+    (λ (e : eqb x.line line ≡ false). rw e (omega (arith, rest))) (cases_Bool (eqb x.line line))
 
 pub owners_are : (ms : List (ℕ × Message)) (line : ℕ) → owners_in (messages_of (bag_of ms) line) ≡ count_messages
     (is_ownership_of line) ms
@@ -171,17 +166,12 @@ module _ (cores : List CoreState) (line : ℕ) where
   granted_is : (ms : List (ℕ × Message)) → by_line.granted_words copies (messages_of (bag_of ms) line) ≡
       granted_words cores line (first_message (is_ownership_of line) ms)
   granted_is [] = refl
-  granted_is (x ∷ xs) = go (eqb x.1.line line) (granted_is xs)
-    where
-      go : (b : Bool) → by_line.granted_words copies (messages_of (bag_of xs) line) ≡ granted_words cores line
-          (first_message (is_ownership_of line) xs) →
-          by_line.granted_words copies (cond b (body_seen (core_of x.1.from) (core_of x.1.to) x.1.body ∷
-          messages_of (bag_of xs) line) (messages_of (bag_of xs) line)) ≡ granted_words cores line
-          (cond (b && right.carries_ownership x.1.body) (Some x) (first_message (is_ownership_of line) xs))
-      go true rest = with_ownership x.1 (messages_of (bag_of xs) line) (first_message (is_ownership_of line) xs) x.0
-          x.1.body rest
-          ∙ sym (granted_if (right.carries_ownership x.1.body) x (first_message (is_ownership_of line) xs))
-      go false rest = rest
+  granted_is (x ∷ xs) =
+      let rest = granted_is xs in
+      ⊎_elim (λ (e : eqb x.1.line line ≡ true). rw e (with_ownership x.1 (messages_of (bag_of xs) line)
+      (first_message (is_ownership_of line) xs) x.0 x.1.body rest
+      ∙ sym (granted_if (right.carries_ownership x.1.body) x (first_message (is_ownership_of line) xs))))
+      (λ (e : eqb x.1.line line ≡ false). rw e rest) (cases_Bool (eqb x.1.line line))
 
 -- words in a bank
 bank_is : (o : Option BankState) (line : ℕ) → by_line.entry_words (entry_at o line) ≡ bank_words o line
@@ -208,17 +198,12 @@ with_store from to ms found _ rest = rest
 stored_is : (ms : List (ℕ × Message)) (line : ℕ) → by_line.stored_words (messages_of (bag_of ms) line) ≡ stored_words
     (first_message (is_store_of line) ms)
 stored_is [] line = refl
-stored_is (x ∷ xs) line = go (eqb x.1.line line) (stored_is xs line)
-  where
-    go : (b : Bool) → by_line.stored_words (messages_of (bag_of xs) line) ≡ stored_words
-        (first_message (is_store_of line) xs) →
-        by_line.stored_words (cond b (body_seen (core_of x.1.from) (core_of x.1.to) x.1.body ∷
-        messages_of (bag_of xs) line) (messages_of (bag_of xs) line)) ≡
-        stored_words (cond (b && right.is_dram_store x.1.body) (Some x) (first_message (is_store_of line) xs))
-    go true rest = with_store (core_of x.1.from) (core_of x.1.to) (messages_of (bag_of xs) line)
-        (first_message (is_store_of line) xs) x.1.body rest
-        ∙ sym (stored_if (right.is_dram_store x.1.body) x (first_message (is_store_of line) xs))
-    go false rest = rest
+stored_is (x ∷ xs) line =
+    let rest = stored_is xs line in
+    ⊎_elim (λ (e : eqb x.1.line line ≡ true). rw e (with_store (core_of x.1.from) (core_of x.1.to)
+    (messages_of (bag_of xs) line) (first_message (is_store_of line) xs) x.1.body rest
+    ∙ sym (stored_if (right.is_dram_store x.1.body) x (first_message (is_store_of line) xs))))
+    (λ (e : eqb x.1.line line ≡ false). rw e rest) (cases_Bool (eqb x.1.line line))
 
 same_else : (o : Option (List ℕ)) (d : List ℕ) → by_line.or_else o d ≡ or_else o d
 same_else None d = refl

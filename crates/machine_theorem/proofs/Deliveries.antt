@@ -1,9 +1,10 @@
 -- What can be delivered: a message that a line must have is in the bag, goes to its part, and has a case there.
+use Rattle.std.proofs.Common.{⊎_elim}
 use Rattle.std.proofs.Common.{◌≡◌, ℕ, zero, suc, ◌+◌, ◌%◌, ◌<◌, ◌≤◌, Bool, true, false, ◌&&◌, ◌||◌, cond, eqb, leb}
 use Rattle.std.proofs.Common.{List, [], ◌∷◌, Option, Some, None, ◌⊎◌, inl, inr, refl, sym, ap, ◌∙◌, subst, arith}
 use Rattle.std.specs.Ordering.{nat_cmp}
 use Rattle.std.specs.FinMap.{FinMap}
-use Rattle.std.proofs.lemmas.Bool.{eqb-true, le-leb}
+use Rattle.std.proofs.lemmas.Bool.{cases_Bool, eqb-true, le-leb}
 use Rattle.network.specs.declared.message.Node.{Node}
 use Rattle.network.specs.declared.message.Node.TheVariants as node
 use Rattle.network.specs.declared.message.Body.{Body}
@@ -74,13 +75,10 @@ of_line h w x = cond (eqb x.line h) (w (message_seen x)) 0
 pub line_weighs : (h : ℕ) (w : by_line.Message → ℕ) (bag : List Message) →
     tally w (messages_of bag h) ≡ weigh (of_line h w) bag
 line_weighs h w [] = refl
-line_weighs h w (x ∷ xs) = go (eqb x.line h) (line_weighs h w xs)
-  where
-    go : (b : Bool) → tally w (messages_of xs h) ≡ weigh (of_line h w) xs →
-        tally w (cond b (message_seen x ∷ messages_of xs h) (messages_of xs h))
-        ≡ cond b (w (message_seen x)) 0 + weigh (of_line h w) xs
-    go true e = omega arith
-    go false e = omega arith
+line_weighs h w (x ∷ xs) =
+    let k = line_weighs h w xs in
+    ⊎_elim (λ (e : eqb x.line h ≡ true). rw e (omega arith)) (λ (e : eqb x.line h ≡ false). rw e (omega arith))
+    (cases_Bool (eqb x.line h))
 
 -- such a message
 pub record OfLine (h : ℕ) (w : by_line.Message → ℕ) (bag : List Message) : Type 0 where

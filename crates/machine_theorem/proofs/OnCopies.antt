@@ -3,7 +3,7 @@
 use Rattle.std.proofs.Common.{◌≡◌, ℕ, ◌+◌, ◌%◌, ◌<◌, max, Bool, true, false, ◌||◌, ◌&&◌, cond, leb, List, ◌∷◌, Option}
 use Rattle.std.proofs.Common.{Some, None, refl, sym, ap, ◌∙◌, subst, arith}
 use Rattle.std.specs.List.Sorted.{IsPermutation}
-use Rattle.std.proofs.lemmas.Bool.{and_parts, cond_both, leb-true, leb-false}
+use Rattle.std.proofs.lemmas.Bool.{and_parts, cond_both, or_parts, leb-true, leb-false}
 use Rattle.physiological_order.specs.declared.operation.Op.{Op}
 use Rattle.physiological_order.specs.declared.operation.Op.TheVariants.{Load, Store, Swap}
 use Rattle.physiological_order.specs.Order.{address}
@@ -54,22 +54,15 @@ module _ (f : Config) (pts : ℕ) (copy : LineCopy) where
 -- one that doesn't, can't be used
 pub serves_not : (op : Op) (pts : ℕ) (copy : LineCopy) → serves op pts copy ≡ false →
     CannotUse op pts (Some (copy_seen copy))
-serves_not (Load a) pts copy h = go (is_exclusive copy.state) refl h
-  where
-    go : (e : Bool) → is_exclusive copy.state ≡ e → (e || leb pts copy.rts) ≡ false →
-        (is_exclusive copy.state ≡ false) × (copy.rts < pts)
-    go true ex k = absurd (cc)
-    go false sh k = (sh, leb-false pts copy.rts k)
+serves_not (Load a) pts copy h =
+    let k = or_parts (is_exclusive copy.state) (leb pts copy.rts) h in (k.0, leb-false pts copy.rts k.1)
 serves_not (Store a v) pts copy h = (h, tt)
 serves_not (Swap a v) pts copy h = (h, tt)
 
 pub serves_clash : (op : Op) (pts : ℕ) (copy : LineCopy) → serves op pts copy ≡ true →
     CannotUse op pts (Some (copy_seen copy)) → ⊥
-serves_clash (Load a) pts copy h k = go (is_exclusive copy.state) k.0 h
-  where
-    go : (e : Bool) → e ≡ false → (e || leb pts copy.rts) ≡ true → ⊥
-    go true z w = cc
-    go false z w = let le = leb-true pts copy.rts w in let lt = k.1 in omega arith
+serves_clash (Load a) pts copy h k =
+    let le = leb-true pts copy.rts (rw k.0 at h) in let lt = k.1 in omega arith
 serves_clash (Store a v) pts copy h k = let z : true ≡ false = sym h ∙ k.0 in cc
 serves_clash (Swap a v) pts copy h k = let z : true ≡ false = sym h ∙ k.0 in cc
 

@@ -1,11 +1,12 @@
 -- The invariant holds of the initial state and of a machine as it opens.
+use Rattle.std.proofs.Common.{⊎_elim}
 use Rattle.std.proofs.Common.{◌≡◌, ℕ, ◌/◌, ◌%◌, ◌<◌, ◌≤◌, Bool, true, false, ◌&&◌, ◌||◌, eqb, leb, List, [], length}
 use Rattle.std.proofs.Common.{replicate, Option, Some, None, refl, sym, ap, ◌∙◌, subst, arith}
 use Rattle.std.specs.Prelude.{unwrap_or}
 use Rattle.std.specs.Ordering.{nat_cmp}
 use Rattle.std.specs.FinMap.{FinMap, entries, get-entries}
 use Rattle.std.proofs.lemmas.List.{length-replicate}
-use Rattle.std.proofs.lemmas.Bool.{and_parts, leb-true, eqb-true}
+use Rattle.std.proofs.lemmas.Bool.{and_parts, or_cases, leb-true, eqb-true}
 use Rattle.line_sets.specs.Order.{find}
 use Rattle.dram_mts.specs.Lines.{words_of}
 use Rattle.llc_bank.specs.declared.entry.Entry.{Entry}
@@ -40,11 +41,8 @@ some_of : (n most : ℕ) → is_within n most ≡ true → 0 < n
 some_of n most h = let le = leb-true 1 n (and_parts (leb 1 n) (leb n most) h).0 in omega arith
 
 one_or_eight : (n : ℕ) → (eqb n 1 || eqb n 8) ≡ true → (0 < n) × (n ≤ 8)
-one_or_eight n h = go (eqb n 1) refl h
-  where
-    go : (b : Bool) → eqb n 1 ≡ b → (b || eqb n 8) ≡ true → (0 < n) × (n ≤ 8)
-    go true e k = let q = eqb-true n 1 e in (omega arith, omega arith)
-    go false e k = let q = eqb-true n 8 k in (omega arith, omega arith)
+one_or_eight n h = ⊎_elim (λ (e : eqb n 1 ≡ true). let q = eqb-true n 1 e in (omega arith, omega arith))
+    (λ (e : eqb n 8 ≡ true). let q = eqb-true n 8 e in (omega arith, omega arith)) (or_cases (eqb n 1) (eqb n 8) h)
 
 pub fair : (c : Config) → is_good c ≡ true → Fair c
 fair c good =

@@ -349,13 +349,7 @@ module _ (who : Setting) where
     pub owned_copy : (held : Option LineCopy) → by_line.owns (copy_or_none held) ≡ 1 →
         (copy' : LineCopy) × (held ≡ Some copy') × (is_exclusive copy'.state ≡ true)
     owned_copy None e = absurd (omega arith)
-    owned_copy (Some copy') e = go (is_exclusive copy'.state) refl
-      where
-        go : (b : Bool) → is_exclusive copy'.state ≡ b →
-            (k : LineCopy) × (Some copy' ≡ Some k) × (is_exclusive k.state ≡ true)
-        go true is = (copy', refl, is)
-        go false is = absurd (let z : by_line.owns (copy_or_none (Some copy')) ≡ 0 =
-            cond-false (is_exclusive copy'.state) 1 0 is in omega arith)
+    owned_copy (Some copy') e = (copy', refl, (counts_if (is_exclusive copy'.state) 1 (omega arith)).0)
 
     pub by_recalling : (a : State) → Stands who a → length a.bag ≤ suc n → (h o : ℕ) →
         entry_of (a.banks (home h)) h ≡ Some (entry.Recalling o) → Way who h 4 (IsShared who h) a

@@ -1,4 +1,5 @@
 -- Nothing is stuck: services complete the open operation of any core, in every reached state, or a time doesn't fit.
+use Rattle.std.proofs.Common.{⊎_elim}
 use Rattle.std.proofs.Common.{◌≡◌, ◌≢◌, ℕ, suc, ◌+◌, ◌/◌, ◌%◌, ◌<◌, ◌≤◌, Bool, true, false, ◌&&◌, cond, eqb, leb, List}
 use Rattle.std.proofs.Common.{[], ◌∷◌, ◌++◌, length, Option, Some, None, ◌⊎◌, inl, inr, refl, sym, ap, ◌∙◌, subst}
 use Rattle.std.proofs.Common.{arith, le_trans, le_refl}
@@ -6,7 +7,7 @@ use Rattle.std.specs.Prelude.{Ok, Err}
 use Rattle.std.specs.Ordering.{nat_cmp}
 use Rattle.std.specs.FinMap.{FinMap}
 use Rattle.std.specs.Option.{is_some}
-use Rattle.std.proofs.lemmas.Bool.{and_parts, or_parts, or_right, cond-true, eq-eqb, ne_eqb, eqb-true, lt-ltb}
+use Rattle.std.proofs.lemmas.Bool.{and_parts, cases_Bool, or_parts, or_right, cond-true, eq-eqb, ne_eqb, eqb-true, lt-ltb}
 use Rattle.std.proofs.lemmas.Bool.{ltb-false, leb-true, le-leb}
 use Rattle.physiological_order.specs.declared.operation.Op.{Op}
 use Rattle.physiological_order.specs.declared.operation.Op.TheVariants.{Load}
@@ -271,12 +272,12 @@ module _ (config : Config) (good : is_good config ≡ true) (opening : FinMap na
 
     with_held : (held : LineCopy) → copy_of core.cache (core_table.line_of core op) ≡ Some held →
         Ends (suc (suc n)) 17 a
-    with_held held is = by_serving (on_copy.serves op core.pts held) refl
-      where
-        by_serving : (b : Bool) → on_copy.serves op core.pts held ≡ b → Ends (suc (suc n)) 17 a
-        by_serving true serves = leads_within
-            (by_copy (suc (suc n)) a r (omega arith) opens held (rw (its_line a r) at is) serves) (omega arith)
-        by_serving false serves = needs (Some held.wts) (rw (serves, quiet) at (attempts (Some held) is))
+    with_held held is = ⊎_elim
+        (λ (serves : on_copy.serves op core.pts held ≡ true). leads_within
+        (by_copy (suc (suc n)) a r (omega arith) opens held (rw (its_line a r) at is) serves) (omega arith))
+        (λ (serves : on_copy.serves op core.pts held ≡ false).
+        needs (Some held.wts) (rw (serves, quiet) at (attempts (Some held) is)))
+        (cases_Bool (on_copy.serves op core.pts held))
 
     with_place : copy_of core.cache (core_table.line_of core op) ≡ None →
         place_for core.cache (core_table.line_of core op) ≡ true → Ends (suc (suc n)) 17 a
@@ -399,11 +400,11 @@ module _ (config : Config) (good : is_good config ≡ true) (opening : FinMap na
       where
         by_held : (o : Option LineCopy) → copy_of that_core.cache its ≡ o → Ends (suc (suc n)) 19 a
         by_held (Some held) is = leads_within (with_held n a r size opens quiet held is) (omega arith)
-        by_held None gone = by_place (place_for that_core.cache its) refl
-          where
-            by_place : (b : Bool) → place_for that_core.cache its ≡ b → Ends (suc (suc n)) 19 a
-            by_place true place = leads_within (with_place n a r size opens quiet gone place) (omega arith)
-            by_place false full = without_place gone full
+        by_held None gone = ⊎_elim
+            (λ (place : place_for that_core.cache its ≡ true).
+            leads_within (with_place n a r size opens quiet gone place) (omega arith))
+            (λ (full : place_for that_core.cache its ≡ false). without_place gone full)
+            (cases_Bool (place_for that_core.cache its))
 
   -- once a reply is taken, whatever it brought
   once_taken : (n : ℕ) (a : State) → Reached config opening a → length a.bag ≤ n → (a.cores c).open_op ≡ Some op →
@@ -471,26 +472,21 @@ module _ (config : Config) (good : is_good config ≡ true) (opening : FinMap na
       go : (m : Message) (rest : List Message) → SameBag a.bag (m ∷ rest) → m.line ≡ l → (b : Body) → m.body ≡ b →
           1 ≤ about c (body_seen (core_of m.from) (core_of m.to) b) → Ends (suc (suc n)) 34 a
       go m rest same line (body.ShReq pts version) e some =
-          asked m rest same line (body.ShReq pts version) e (λ k i. refl) refl (λ g i. refl) some (omega arith)
+          asked m rest same line _ e (λ k i. refl) refl (λ g i. refl) some (omega arith)
       go m rest same line (body.ExReq version) e some =
-          asked m rest same line (body.ExReq version) e (λ k i. refl) refl (λ g i. refl) some (omega arith)
-      go m rest same line (body.ShRep y) e some =
-          replied m rest same (body.ShRep y) e (λ g k i. refl) refl some tt
-      go m rest same line (body.ExRep y) e some =
-          replied m rest same (body.ExRep y) e (λ g k i. refl) refl some tt
-      go m rest same line (body.RenewRep rts) e some =
-          replied m rest same (body.RenewRep rts) e (λ g k i. refl) refl some tt
-      go m rest same line (body.UpgradeRep rts) e some =
-          replied m rest same (body.UpgradeRep rts) e (λ g k i. refl) refl some tt
+          asked m rest same line _ e (λ k i. refl) refl (λ g i. refl) some (omega arith)
+      go m rest same line (body.ShRep y) e some = replied m rest same _ e (λ g k i. refl) refl some tt
+      go m rest same line (body.ExRep y) e some = replied m rest same _ e (λ g k i. refl) refl some tt
+      go m rest same line (body.RenewRep rts) e some = replied m rest same _ e (λ g k i. refl) refl some tt
+      go m rest same line (body.UpgradeRep rts) e some = replied m rest same _ e (λ g k i. refl) refl some tt
       go m rest same line _ e some = absurd (omega arith)
 
   pub ends_within_34 : (a : State) → Reached config opening a → (a.cores c).open_op ≡ Some op →
       Ends (length a.bag + 2) 34 a
-  ends_within_34 a r opens = subst (λ (most : ℕ). Ends most 34 a) two (go (a.cores c).is_out refl)
+  ends_within_34 a r opens = subst (λ (most : ℕ). Ends most 34 a) two (⊎_elim
+      (λ (out : (a.cores c).is_out ≡ true). by_waiting (length a.bag) a r (le_refl _) opens out)
+      (λ (quiet : (a.cores c).is_out ≡ false). leads_within (quiet_ends (length a.bag) a r (le_refl _) opens quiet)
+      (omega arith)) (cases_Bool (a.cores c).is_out))
     where
       two : suc (suc (length a.bag)) ≡ length a.bag + 2
       two = omega arith
-
-      go : (b : Bool) → (a.cores c).is_out ≡ b → Ends (suc (suc (length a.bag))) 34 a
-      go true out = by_waiting (length a.bag) a r (le_refl _) opens out
-      go false quiet = leads_within (quiet_ends (length a.bag) a r (le_refl _) opens quiet) (omega arith)

@@ -2,7 +2,7 @@
 use Rattle.std.proofs.Common.{◌≡◌, ◌≢◌, ℕ, suc, ◌+◌, ◌/◌, ◌%◌, ◌≤◌, max, Bool, true, false, ◌&&◌, cond, List, ◌∷◌}
 use Rattle.std.proofs.Common.{length, Option, Some, None, refl, sym, ap, ◌∙◌, subst, arith, ⊎_elim}
 use Rattle.std.specs.Option.{is_some}
-use Rattle.std.proofs.lemmas.Bool.{cases_eq, lt-ltb, ltb-false}
+use Rattle.std.proofs.lemmas.Bool.{cases_Bool, cond_both, cases_eq, lt-ltb, ltb-false}
 use Rattle.physiological_order.specs.Order.{of_core}
 use Rattle.network.specs.declared.message.Node.TheVariants as node
 use Rattle.network.specs.declared.message.Body.{Body}
@@ -296,42 +296,25 @@ module _ (who : Setting) (how : Waits who) where
                 let suits = shared_suits x (request a st).weighs pts version e longer
                 (lease_reaches line'.wts line'.rts pts version bank'.lease lease t) in
                 granted (entry.Shared dirty longer) (on_entry.read_answer lease.1 longer)
-                (either lease.1 longer suits)
+                (cond_both lease.1 _ _ Suits (λ renewed. suits.1) (λ read. suits.0))
                 (decided who bank' x (body.ShReq pts version) (Some (entry.Shared dirty line'))
                 (decision.Grants (entry.Shared dirty longer) (on_entry.read_answer lease.1 longer)) e there
                 (λ room. ap (on_entry.leased dirty line') t))
               where
-                either : (r : Bool) (longer : TimedLine) →
-                    Suits (body.ShRep longer) × Suits (body.RenewRep longer.rts) → Suits (on_entry.read_answer r longer)
-                either true longer s = s.1
-                either false longer s = s.0
-
                 lease_reaches : (wts rts pts : ℕ) (version : Option ℕ) (lease : ℕ) (given : ℕ × Bool) →
                     shared_lease wts rts pts version lease ≡ Some given → pts ≤ given.0
-                lease_reaches wts rts pts version lease given t = by_fit (fits_time (wts + lease) && fits_time
-                    (pts + lease)) t
-                  where
-                    by_fit : (b : Bool) → cond b (Some (
-                      max (max rts (wts + lease)) (pts + lease),
-                      is_version wts version,
-                    ))
-                        None ≡ Some given → pts ≤ given.0
-                    by_fit true k =
-                        let z = ap (λ (g : ℕ × Bool). g.0) (Some_injective _ given k) in omega arith
-                    by_fit false k = absurd (cc)
+                lease_reaches wts rts pts version lease given t = ⊎_elim
+                    (λ (fit : (fits_time (wts + lease) && fits_time (pts + lease)) ≡ true).
+                    let z = ap (λ (g : ℕ × Bool). g.0) (Some_injective _ given (rw fit at t)) in omega arith)
+                    (λ (late : (fits_time (wts + lease) && fits_time (pts + lease)) ≡ false).
+                    absurd (let z = rw late at t in cc)) (cases_Bool _)
         go (body.ExReq version) e ask =
-            granted (entry.Exclusive (core_of x.from))
-            (cond (is_version line'.wts version) (body.UpgradeRep line'.rts) (body.ExRep line'))
-            (either (is_version line'.wts version) (owner_suits x (request a st).weighs version e))
+            let its = owner_suits x (request a st).weighs version e in
+            let sent = cond (is_version line'.wts version) (body.UpgradeRep line'.rts) (body.ExRep line') in
+            granted (entry.Exclusive (core_of x.from)) sent
+            (cond_both (is_version line'.wts version) _ _ Suits (λ upgraded. its.1 line'.rts) (λ sent. its.0 line'))
             (decided who bank' x (body.ExReq version) (Some (entry.Shared dirty line'))
-            (decision.Grants (entry.Exclusive (core_of x.from))
-            (cond (is_version line'.wts version) (body.UpgradeRep line'.rts) (body.ExRep line'))) e there
-            (λ room. refl))
-          where
-            either : (r : Bool) → ((y : TimedLine) → Suits (body.ExRep y)) × ((rts : ℕ) → Suits (body.UpgradeRep rts)) →
-                Suits (cond r (body.UpgradeRep line'.rts) (body.ExRep line'))
-            either true s = s.1 line'.rts
-            either false s = s.0 line'
+            (decision.Grants (entry.Exclusive (core_of x.from)) sent) e there (λ room. refl))
         go _ e ask = absurd ask
 
     -- whatever the entry is, a reply comes

@@ -7,8 +7,8 @@ use Rattle.std.specs.Prelude.{Ok, Err}
 use Rattle.std.specs.Ordering.{nat_cmp}
 use Rattle.std.specs.FinMap.{FinMap}
 use Rattle.std.specs.Option.{is_some}
-use Rattle.std.proofs.lemmas.Bool.{and_parts, cases_Bool, or_parts, or_right, cond-true, eq-eqb, ne_eqb, eqb-true, lt-ltb}
-use Rattle.std.proofs.lemmas.Bool.{ltb-false, leb-true, le-leb}
+use Rattle.std.proofs.lemmas.Bool.{and_parts, cases_Bool, or_parts, or_right, cond-true, eq-eqb, ne_eqb, eqb-true}
+use Rattle.std.proofs.lemmas.Bool.{lt-ltb, ltb-false, leb-true, le-leb}
 use Rattle.physiological_order.specs.declared.operation.Op.{Op}
 use Rattle.physiological_order.specs.declared.operation.Op.TheVariants.{Load}
 use Rattle.physiological_order.specs.Order.{address, of_core}

@@ -17,7 +17,7 @@ use Rattle.protocol.specs.Machine.{with_at, word_at, waits, OpensWith, opened, I
 use Rattle.protocol.specs.Machine.{evict_dirty, Answers, shared, exclusive, renews, upgrades, Asks, Uses, Transition}
 use Rattle.protocol.specs.Machine.{issue, advance, ask, answer, complete, line_changes, Reachable, at_first, goes_on}
 use Rattle.protocol.proofs.Bags.{tally-taken, each_map}
-use Rattle.protocol.proofs.Lines.{Holder, Bank, about, about_itself, EntryOk, with_at_same, with_at_other}
+use Rattle.protocol.proofs.Lines.{one_at_most, Holder, Bank, about, about_itself, EntryOk, with_at_same, with_at_other}
 use Rattle.protocol.proofs.Lines.{with_at_cases, with_bag}
 use Rattle.protocol.proofs.LineChanges.{Goes, moves_keep}
 use Rattle.protocol.proofs.Cores.{answers_keep, asks_keep}
@@ -57,11 +57,7 @@ waits_none f l false op e = refl
 
 waits_at_most : (f : Config) (l : ℕ) (out : Bool) (op : Option Op) → waits f l out op ≤ 1
 waits_at_most f l true None = omega arith
-waits_at_most f l true (Some op) = go (eqb (line_of f (address op)) l)
-  where
-    go : (b : Bool) → cond b 1 0 ≤ 1
-    go true = omega arith
-    go false = omega arith
+waits_at_most f l true (Some op) = one_at_most (eqb (line_of f (address op)) l)
 waits_at_most f l false op = omega arith
 
 pub waits_here : (f : Config) (op : Op) → waits f (line_of f (address op)) true (Some op) ≡ 1

@@ -264,8 +264,8 @@ module _ (f : Config) (h : ℕ → Memory) (l : ℕ) (records : List Record) (bu
 
   -- the right goes out to a core, with the line or with a word that the core's own copy stands
   ok_grants : {t : ℕ} (x : Line) {s : Timed} (u : Timed) {b : Holder} (owner : ℕ) (dirty : Bool) (line : Timed)
-      (m n : Message) (rest : List Message) → x.entry ≡ Shared dirty line → right m ≡ 0 → right n ≡ 1 → load m ≡ 0 → load n ≡ 0 →
-      store m ≡ 0 → store n ≡ 0 → ((c : ℕ) → about c m ≡ about c n) →
+      (m n : Message) (rest : List Message) → x.entry ≡ Shared dirty line → right m ≡ 0 → right n ≡ 1 → load m ≡ 0 →
+      load n ≡ 0 → store m ≡ 0 → store n ≡ 0 → ((c : ℕ) → about c m ≡ about c n) →
       Current f h records l u → s.rts ≤ u.rts → MessageOk f h l u.rts u x.copies x.dram n →
       Has t x m rest s b → Ok t (record x { entry = Exclusive owner; messages = n ∷ rest }) u Flying
   ok_grants {t} x {s} u {b} owner dirty line m n rest is rm rn dm dn wm wn a st up answer k =

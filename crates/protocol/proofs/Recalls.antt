@@ -1,7 +1,7 @@
 use Rattle.std.proofs.Common.{◌%◌, ◌≡◌, ◌≢◌, ℕ, ◌+◌, ◌<◌, ◌≤◌, Bool, true, false, cond, eqb, List, [], ◌∷◌, Option}
 use Rattle.std.proofs.Common.{Some, None, inl, inr, refl, sym, ap, ◌∙◌, subst, arith, le_trans, le_refl, ⊎_elim}
 use Rattle.std.specs.List.Sorted.{IsPermutation}
-use Rattle.std.proofs.lemmas.Bool.{cases_eq, cond-true, cond-false, eq-eqb, ne_eqb}
+use Rattle.std.proofs.lemmas.Bool.{true_from_ne_false, cases_eq, cond-true, cond-false, eq-eqb, ne_eqb}
 use Rattle.physiological_order.specs.declared.operation.Op.{Op}
 use Rattle.physiological_order.specs.declared.operation.Record.{Record}
 use Rattle.physiological_order.specs.Order.{Memory, address}
@@ -15,8 +15,8 @@ use Rattle.protocol.specs.Machine.{Machine, Transition, issue, advance, ask, ans
 use Rattle.protocol.specs.Machine.{at_first, goes_on, line_of, IsPinned}
 use Rattle.protocol.specs.Recalls.{recall_to, grant_to, return_of, OwnsOrWill, OwnerAnswers}
 use Rattle.protocol.proofs.Bags.{tally-taken}
-use Rattle.protocol.proofs.Lines.{Holder, flying, right, about, one_if, LineOk, with_at_same, with_at_other}
-use Rattle.protocol.proofs.Lines.{with_at_cases}
+use Rattle.protocol.proofs.Lines.{one_at_most, Holder, flying, right, about, one_if, LineOk, with_at_same}
+use Rattle.protocol.proofs.Lines.{with_at_other, with_at_cases}
 use Rattle.protocol.proofs.LineChanges.{At_injective, at_most_one, ok_shuffled}
 use Rattle.protocol.proofs.Cores.{Some_injective}
 use Rattle.protocol.proofs.Headline.{MachineOk, reachable_ok, waits_unpinned}
@@ -31,16 +31,12 @@ tally_both : {X : Type 0} (u v w : X → ℕ) → ((x : X) → u x + v x ≤ w x
 tally_both u v w le [] = omega arith
 tally_both u v w le (x ∷ xs) = let a = le x in let b = tally_both u v w le xs in omega arith
 
-at_most : (b : Bool) → cond b 1 0 ≤ 1
-at_most true = omega arith
-at_most false = omega arith
-
 -- grants and returns of one core have the right; a grant answers a request of its core
 rights : (c : ℕ) (m : Message) → grant_to c m + return_of c m ≤ right m
-rights c (ExRep d x) = let z = at_most (eqb d c) in omega arith
-rights c (UpgradeRep d r) = let z = at_most (eqb d c) in omega arith
-rights c (FlushRep d x) = let z = at_most (eqb d c) in omega arith
-rights c (WbRep d x) = let z = at_most (eqb d c) in omega arith
+rights c (ExRep d x) = let z = one_at_most (eqb d c) in omega arith
+rights c (UpgradeRep d r) = let z = one_at_most (eqb d c) in omega arith
+rights c (FlushRep d x) = let z = one_at_most (eqb d c) in omega arith
+rights c (WbRep d x) = let z = one_at_most (eqb d c) in omega arith
 rights c _ = omega arith
 
 one_if_cond : (b : Bool) → one_if b ≡ cond b 1 0
@@ -57,11 +53,12 @@ own c = cond-true (eqb c c) 1 0 (eq-eqb c c refl)
 
 pub owns_some : (y : Option Copy) → owns y ≡ 1 → (copy : Copy) × (y ≡ Some copy) × (copy.exclusive ≡ true)
 owns_some None e = absurd (omega arith)
-owns_some (Some copy) e = go copy.exclusive refl
-  where
-    go : (b : Bool) → copy.exclusive ≡ b → (k : Copy) × (Some copy ≡ Some k) × (k.exclusive ≡ true)
-    go true is = (copy, refl, is)
-    go false is = absurd (let z : owns (Some copy) ≡ 0 = cond-false copy.exclusive 1 0 is in omega arith)
+owns_some (Some copy) e = (
+  copy,
+  refl,
+  true_from_ne_false copy.exclusive
+      (λ is. let z : owns (Some copy) ≡ 0 = cond-false copy.exclusive 1 0 is in omega arith),
+)
 
 owns_one : (y : Option Copy) (copy : Copy) → y ≡ Some copy → copy.exclusive ≡ true → owns y ≡ 1
 owns_one y copy is ex = ap owns is ∙ cond-true copy.exclusive 1 0 ex

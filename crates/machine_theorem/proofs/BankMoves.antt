@@ -1,12 +1,12 @@
 -- The moves of a bank and of a DRAM keep the invariant.
-use Rattle.std.proofs.Common.{◌≡◌, ◌≢◌, ℕ, ◌%◌, ◌/◌, ◌<◌, ◌≤◌, max, Bool, true, false, List, ◌∷◌, Option}
-use Rattle.std.proofs.Common.{Some, None, refl, sym, ap, ◌∙◌, subst, arith, ⊎_elim}
+use Rattle.std.proofs.Common.{◌≡◌, ◌≢◌, ℕ, ◌%◌, ◌/◌, ◌<◌, ◌≤◌, max, Bool, true, false, List, ◌∷◌, Option, Some, None}
+use Rattle.std.proofs.Common.{refl, sym, ap, ◌∙◌, subst, arith, ⊎_elim}
 use Rattle.std.specs.Ordering.{nat_cmp}
 use Rattle.std.specs.FinMap.{FinMap, insert}
 use Rattle.std.specs.List.{AllByRecursion as Each}
 use Rattle.std.specs.List.Sorted.{IsPermutation}
 use Rattle.std.proofs.lemmas.List.Sorted.{IsPermutation-refl}
-use Rattle.std.proofs.lemmas.Bool.{cases_eq, lt-ltb, eq-eqb}
+use Rattle.std.proofs.lemmas.Bool.{and_parts, cases_eq, lt-ltb, eq-eqb}
 use Rattle.std.proofs.Math.Nat.{mod-lt}
 use Rattle.network.specs.declared.counts.Counts.{Counts}
 use Rattle.network.specs.declared.message.Node.{Node}
@@ -25,8 +25,7 @@ use Rattle.llc_bank.specs.declared.entry.Entry.TheVariants as entry
 use Rattle.llc_bank.specs.OnEntry as on_entry
 use Rattle.llc_bank.specs.BankTable as bank_table
 use Rattle.llc_bank.specs.BankTable.{BankState, core_of, entry_of, with_used, with_changed, without_entry, from_bank}
-use Rattle.llc_bank.specs.BankTable.{to_dram, is_this_bank, comes_to_bank, bank_has_case, after_decision}
-use Rattle.llc_bank.specs.BankTable.{after_eviction}
+use Rattle.llc_bank.specs.BankTable.{to_dram, is_this_bank, comes_to_bank, bank_has_case, after_eviction}
 use Rattle.dram_mts.specs.Lines.{words_of}
 use Rattle.dram_mts.specs.Table.{dram_has_case, is_dram, comes_to_dram, answer_to, dram_case, dram_table}
 use Rattle.machine_table.specs.declared.config.Config.{Config}
@@ -43,7 +42,7 @@ use Rattle.machine_theorem.specs.Kept.{IsKept}
 use Rattle.machine_theorem.proofs.KeptSteps.{Goes}
 use Rattle.machine_theorem.proofs.Lookups.{IsNow, put_now, change_now, drop_now, messages_here, messages_there}
 use Rattle.machine_theorem.proofs.Turns as turns
-use Rattle.machine_theorem.proofs.Routes.{GoesDown, ownership_of, both, core_and_bank, up_ends}
+use Rattle.machine_theorem.proofs.Routes.{GoesDown, both, core_and_bank, up_ends}
 use Rattle.machine_theorem.proofs.OnEntries.{AtRequest, IsFor, bank_goes}
 use Rattle.machine_theorem.proofs.DramWords.{words-insert_same, words-insert_other}
 use Rattle.machine_theorem.proofs.ByParts.{bank_by, shape_by}
@@ -53,8 +52,8 @@ IsOwnedIf cores None = Unit {0}
 IsOwnedIf cores (Some e) = IsOwnedBelow cores e
 
 for_below : (cores c : ℕ) → c < cores → (e : Entry) → IsFor c e → IsOwnedBelow cores e
-for_below cores c lt (entry.Exclusive o) own = subst (λ (k : ℕ). k < cores) (sym own) lt
-for_below cores c lt (entry.Recalling o) own = subst (λ (k : ℕ). k < cores) (sym own) lt
+for_below cores c lt (entry.Exclusive o) own = rw own lt
+for_below cores c lt (entry.Recalling o) own = rw own lt
 for_below cores c lt _ own = tt
 
 -- the bank of a line
@@ -78,7 +77,7 @@ module _ (config : Config) (opening : FinMap nat_cmp ℕ) (a : State) (s : IsKep
   home to sent h route = (is.numbered, h, route)
 
   below : bank.number < config.banks
-  below = subst (λ (k : ℕ). k < config.banks) (sym is.numbered) (mod-lt l s.shape.some_banks)
+  below = rw is.numbered (mod-lt l s.shape.some_banks)
 
   -- to the DRAM behind the bank, and to a core
   back : is_bank_to_dram config.banks (node.Bank bank.number) (node.Dram bank.number) ≡ true
@@ -110,8 +109,7 @@ module _ (config : Config) (opening : FinMap nat_cmp ℕ) (a : State) (s : IsKep
             (bank_by is.numbered is.banks is.lease now.some
             (λ k ne. now.there k (λ q. ne (ap (λ (j : ℕ). j % config.banks) q)) ∙ is.own k ne)
             (λ k y i. ⊎_elim
-            (λ (q : k ≡ l). subst (IsOwnedIf config.cores)
-            (sym now.here ∙ subst (λ (j : ℕ). entry_of new j ≡ Some y) q i) owned)
+            (λ (q : k ≡ l). subst (IsOwnedIf config.cores) (sym now.here ∙ rw q at i) owned)
             (λ (ne : k ≡ l → ⊥). is.owners k y (sym (now.there k ne) ∙ i))
             (cases_eq k l)))
             (λ j ne. s.shape.each_bank j))
@@ -131,8 +129,7 @@ module _ (config : Config) (opening : FinMap nat_cmp ℕ) (a : State) (s : IsKep
       IsKept config opening (with_answer (with_bank a b (record bank { mts = time; table = table })) bag (Some q))
   step_sent time table o bag q line goes now owned others each =
       step time table o (message_seen q ∷ messages_of bag l) (q ∷ bag) (counted a.counts q.body) now owned
-      (subst (λ (k : ℕ). message_seen q ∷ messages_of bag k ≡ messages_of (q ∷ bag) k) line
-      (sym (messages_here q bag)))
+      (rw (← line) (sym (messages_here q bag)))
       (λ k ne. others k ne ∙ messages_there q bag k (λ w. ne (w ∙ line))) (goes, each)
 
   -- an entry leaves, or is recalled for that
@@ -219,10 +216,8 @@ module _ (config : Config) (opening : FinMap nat_cmp ℕ) (before : State) (mess
   grants e sent goes own up =
       let ends = up_ends config.cores config.banks message.from message.to up in
       let route : is_core_to_bank config.cores config.banks message.from (node.Bank here.number) ≡ true =
-      subst (λ (f : Node). is_core_to_bank config.cores config.banks f (node.Bank here.number) ≡ true)
-      (sym ends.from_core) (down config opening a s l ends.core ends.some_core) in
-      let some : core_of message.from < config.cores =
-      subst (λ (k : ℕ). k < config.cores) (sym (ap core_of ends.from_core)) ends.some_core in
+      rw ends.from_core (down config opening a s l ends.core ends.some_core) in
+      let some : core_of message.from < config.cores = rw ends.from_core ends.some_core in
       step_sent config opening a s l here.mts (with_used here l e).table (Some e) rest
       (from_bank here l message.from sent) refl
       (home config opening a s l message.from sent goes_home.0
@@ -246,8 +241,7 @@ module _ (config : Config) (opening : FinMap nat_cmp ℕ) (before : State) (mess
 
   came : IsPermutation (messages_of a.bag l)
       (body_seen (core_of message.from) (core_of message.to) message.body ∷ messages_of rest l)
-  came = subst (λ (xs : List by_line.Message). IsPermutation (messages_of a.bag l) xs) (messages_here message rest)
-      (IsPermutation-refl (messages_of a.bag l))
+  came = rw (messages_here message rest) (IsPermutation-refl _)
 
   came_as : (c : Body) → message.body ≡ c → IsPermutation (messages_of a.bag l)
       (body_seen (core_of message.from) (core_of message.to) c ∷ messages_of rest l)
@@ -267,13 +261,14 @@ module _ (config : Config) (opening : FinMap nat_cmp ℕ) (before : State) (mess
       Reacts (bank_table.bank_table here message)
   bank_delivery to has =
       let room = has_room here.table (bank_table.set_of here l) in
-      subst (λ (k : ℕ). Reacts (after_decision here message (on_entry.at_bank k here.mts room (core_of message.from)
-      (entry_of here l) message.body))) (sym of.lease)
+      subst (λ (k : ℕ). Reacts (bank_table.after_decision here message (on_entry.at_bank k here.mts room
+      (core_of message.from) (entry_of here l) message.body))) (sym of.lease)
       (bank_goes config.lease (IsPinned (set_up config opening) (view config a).cores l) here.mts
       (line_seen config a l) (messages_of rest l) (core_of message.from) here message Up Reacts
       refl tt tt loads recalls grants becomes leaves room message.body
-      (ownership_of (is_this_bank here.number message.to)
-      (comes_to_bank message.from message.body (entry_of here l)) has) (up message.body goes_home.2)
+      (and_parts (is_this_bank here.number message.to)
+      (comes_to_bank message.from message.body (entry_of here l)) has).1
+      (up message.body goes_home.2)
       (subst (λ (k : ℕ). IsPermutation (messages_of a.bag l)
       (body_seen (core_of message.from) k message.body ∷ messages_of rest l)) to came))
 
@@ -305,19 +300,14 @@ module _ (config : Config) (opening : FinMap nat_cmp ℕ) (before : State) (mess
   dram_delivered : (c : Body) → message.body ≡ c → comes_to_dram c ≡ true →
       Goes config opening a (with_dram a home_bank) rest (reacted (dram_case lines message c))
   dram_delivered body.DramLd e has =
-      answered lines (body.DramLdRep (words_of lines l))
-      (subst (λ (d : Body). has_route config.cores config.banks message.from message.to d ≡ true) e goes_home.2)
-      (λ k ne. refl) (dram_loads (messages_of rest l) (came_as body.DramLd e))
+      answered lines (body.DramLdRep (words_of lines l)) (rw e at goes_home.2) (λ k ne. refl)
+      (dram_loads (messages_of rest l) (came_as body.DramLd e))
   dram_delivered (body.DramSt ws) e has =
-      answered (insert lines l ws) body.DramStRep
-      (subst (λ (d : Body). has_route config.cores config.banks message.from message.to d ≡ true) e goes_home.2)
-      (λ k ne. words-insert_other lines l k ws ne)
-      (subst (λ (us : List ℕ). turns.Moves config opening a l ((view config a).mts home_bank)
-      (record (line_seen config a l) { dram = us; messages = DramStRep ∷ messages_of rest l }))
-      (sym (words-insert_same lines l ws)) (dram_stores ws (messages_of rest l) (came_as (body.DramSt ws) e)))
+      answered (insert lines l ws) body.DramStRep (rw e at goes_home.2) (λ k ne. words-insert_other lines l k ws ne)
+      (rw (words-insert_same lines l ws) (dram_stores ws (messages_of rest l) (came_as (body.DramSt ws) e)))
   dram_delivered _ e has = absurd (let z : false ≡ true = has in cc)
 
   pub dram_delivery : dram_has_case lines message ≡ true →
       Goes config opening a (with_dram a home_bank) rest (reacted (dram_table lines message))
   dram_delivery has =
-      dram_delivered message.body refl (ownership_of (is_dram message.to) (comes_to_dram message.body) has)
+      dram_delivered message.body refl (and_parts (is_dram message.to) (comes_to_dram message.body) has).1

@@ -1,6 +1,7 @@
 -- Owners and coherent values of a machine's lists are those of its state by lines.
 use Rattle.std.proofs.Common.{◌≡◌, ℕ, zero, suc, ◌+◌, ◌%◌, ◌≤◌, Bool, true, false, ◌&&◌, cond, eqb, List, [], ◌∷◌}
-use Rattle.std.proofs.Common.{length, get_or, Option, Some, None, refl, sym, ap, ap₂, ◌∙◌, arith}
+use Rattle.std.proofs.Common.{length, get_or, Option, Some, None, refl, sym, ap, ap₂, ◌∙◌, arith, ⊎_elim}
+use Rattle.std.proofs.lemmas.Bool.{cases_Bool}
 use Rattle.std.specs.List.{slice_get}
 use Rattle.std.specs.FinMap.{entries}
 use Rattle.std.proofs.lemmas.Option.{slice_get-get_or}
@@ -72,16 +73,11 @@ carries_is from to _ = refl
 
 pub owners_weigh : (ms : List Message) (line : ℕ) → owners_in (messages_of ms line) ≡ weigh (ownership_in line) ms
 owners_weigh [] line = refl
-owners_weigh (x ∷ xs) line = go (eqb x.line line) (owners_weigh xs line)
-  where
-    seen : by_line.Message
-    seen = body_seen (core_of x.from) (core_of x.to) x.body
-
-    go : (b : Bool) → owners_in (messages_of xs line) ≡ weigh (ownership_in line) xs →
-        owners_in (cond b (seen ∷ messages_of xs line) (messages_of xs line)) ≡
-        cond (b && right.carries_ownership x.body) 1 0 + weigh (ownership_in line) xs
-    go true rest = ap₂ (λ a b. a + b) (carries_is (core_of x.from) (core_of x.to) x.body) rest
-    go false rest = omega (arith, rest)
+owners_weigh (x ∷ xs) line =
+    let rest = owners_weigh xs line in
+    ⊎_elim (λ (e : eqb x.line line ≡ true). rw e
+    (ap₂ (λ a b. a + b) (carries_is (core_of x.from) (core_of x.to) x.body) rest))
+    (λ (e : eqb x.line line ≡ false). rw e (omega (arith, rest))) (cases_Bool (eqb x.line line))
 
 pub owners_are : (ms : List (ℕ × Message)) (line : ℕ) → owners_in (messages_of (bag_of ms) line) ≡ count_messages
     (is_ownership_of line) ms
@@ -102,13 +98,8 @@ owner_first copies (suc n) = ap (owner_or (copies (suc n))) (owner_first copies 
         (owner_or (copies 0) None)) ≡ or_other (owner_or y (by_line.owner_words (λ k. copies (suc k)) n))
         (owner_or (copies 0) None)
     passed None = refl
-    passed (Some copy) = go copy.exclusive
-      where
-        go : (b : Bool) → cond b (Some copy.line.words) (or_other (by_line.owner_words (λ k. copies (suc k)) n)
-            (owner_or (copies 0) None)) ≡ or_other
-            (cond b (Some copy.line.words) (by_line.owner_words (λ k. copies (suc k)) n)) (owner_or (copies 0) None)
-        go true = refl
-        go false = refl
+    passed (Some copy) = ⊎_elim (λ (e : copy.exclusive ≡ true). rw e) (λ (e : copy.exclusive ≡ false). rw e)
+        (cases_Bool copy.exclusive)
 
 none_owns : (cores : List CoreState) (line : ℕ) → exclusive_copies cores line ≡ 0 → owner_words cores line ≡ None
 none_owns [] line h = refl
@@ -117,12 +108,10 @@ none_owns (core ∷ cores) line h = go (copy_of core.cache line) h (none_owns co
     go : (o : Option LineCopy) → owner_in o + exclusive_copies cores line ≡ 0 → (exclusive_copies cores line ≡ 0 →
         owner_words cores line ≡ None) → or_other (owned_words o) (owner_words cores line) ≡ None
     go None h rest = rest (omega arith)
-    go (Some copy) h rest = by_state (is_exclusive copy.state) h
-      where
-        by_state : (b : Bool) → cond b 1 0 + exclusive_copies cores line ≡ 0 →
-            or_other (cond b (Some copy.words) None) (owner_words cores line) ≡ None
-        by_state true h = absurd (omega arith)
-        by_state false h = rest (omega arith)
+    go (Some copy) h rest = ⊎_elim
+        (λ (e : is_exclusive copy.state ≡ true). absurd (let z = rw e at h in omega arith))
+        (λ (e : is_exclusive copy.state ≡ false). rw e (rest (let z = rw e at h in omega arith)))
+        (cases_Bool (is_exclusive copy.state))
 
 owner_is : (cores : List CoreState) (line : ℕ) → exclusive_copies cores line ≤ 1 →
     by_line.owner_words (λ k. copy_at (slice_get cores k) line) (length cores) ≡ owner_words cores line
@@ -140,12 +129,11 @@ owner_is (core ∷ cores) line h =
     go : (o : Option LineCopy) → owner_in o + exclusive_copies cores line ≤ 1 → or_other (owner_words cores line)
         (owner_or (copy_or_none o) None) ≡ or_other (owned_words o) (owner_words cores line)
     go None h = none_or (owner_words cores line)
-    go (Some copy) h = by_state (is_exclusive copy.state) h
-      where
-        by_state : (b : Bool) → cond b 1 0 + exclusive_copies cores line ≤ 1 → or_other (owner_words cores line)
-            (cond b (Some copy.words) None) ≡ or_other (cond b (Some copy.words) None) (owner_words cores line)
-        by_state true h = ap (λ o. or_other o (Some copy.words)) (none_owns cores line (omega arith))
-        by_state false h = none_or (owner_words cores line)
+    go (Some copy) h = ⊎_elim
+        (λ (e : is_exclusive copy.state ≡ true). rw e (ap (λ o. or_other o (Some copy.words))
+        (none_owns cores line (let z = rw e at h in omega arith))))
+        (λ (e : is_exclusive copy.state ≡ false). rw e (none_or (owner_words cores line)))
+        (cases_Bool (is_exclusive copy.state))
 
 -- words with the ownership in flight
 cached_is : (o : Option CoreState) (line : ℕ) → by_line.words_of (copy_at o line) ≡ cached_words o line
@@ -178,17 +166,12 @@ module _ (cores : List CoreState) (line : ℕ) where
   granted_is : (ms : List (ℕ × Message)) → by_line.granted_words copies (messages_of (bag_of ms) line) ≡
       granted_words cores line (first_message (is_ownership_of line) ms)
   granted_is [] = refl
-  granted_is (x ∷ xs) = go (eqb x.1.line line) (granted_is xs)
-    where
-      go : (b : Bool) → by_line.granted_words copies (messages_of (bag_of xs) line) ≡ granted_words cores line
-          (first_message (is_ownership_of line) xs) →
-          by_line.granted_words copies (cond b (body_seen (core_of x.1.from) (core_of x.1.to) x.1.body ∷
-          messages_of (bag_of xs) line) (messages_of (bag_of xs) line)) ≡ granted_words cores line
-          (cond (b && right.carries_ownership x.1.body) (Some x) (first_message (is_ownership_of line) xs))
-      go true rest = with_ownership x.1 (messages_of (bag_of xs) line) (first_message (is_ownership_of line) xs) x.0
-          x.1.body rest
-          ∙ sym (granted_if (right.carries_ownership x.1.body) x (first_message (is_ownership_of line) xs))
-      go false rest = rest
+  granted_is (x ∷ xs) =
+      let rest = granted_is xs in
+      ⊎_elim (λ (e : eqb x.1.line line ≡ true). rw e (with_ownership x.1 (messages_of (bag_of xs) line)
+      (first_message (is_ownership_of line) xs) x.0 x.1.body rest
+      ∙ sym (granted_if (right.carries_ownership x.1.body) x (first_message (is_ownership_of line) xs))))
+      (λ (e : eqb x.1.line line ≡ false). rw e rest) (cases_Bool (eqb x.1.line line))
 
 -- words in a bank
 bank_is : (o : Option BankState) (line : ℕ) → by_line.entry_words (entry_at o line) ≡ bank_words o line
@@ -215,17 +198,12 @@ with_store from to ms found _ rest = rest
 stored_is : (ms : List (ℕ × Message)) (line : ℕ) → by_line.stored_words (messages_of (bag_of ms) line) ≡ stored_words
     (first_message (is_store_of line) ms)
 stored_is [] line = refl
-stored_is (x ∷ xs) line = go (eqb x.1.line line) (stored_is xs line)
-  where
-    go : (b : Bool) → by_line.stored_words (messages_of (bag_of xs) line) ≡ stored_words
-        (first_message (is_store_of line) xs) →
-        by_line.stored_words (cond b (body_seen (core_of x.1.from) (core_of x.1.to) x.1.body ∷
-        messages_of (bag_of xs) line) (messages_of (bag_of xs) line)) ≡
-        stored_words (cond (b && right.is_dram_store x.1.body) (Some x) (first_message (is_store_of line) xs))
-    go true rest = with_store (core_of x.1.from) (core_of x.1.to) (messages_of (bag_of xs) line)
-        (first_message (is_store_of line) xs) x.1.body rest
-        ∙ sym (stored_if (right.is_dram_store x.1.body) x (first_message (is_store_of line) xs))
-    go false rest = rest
+stored_is (x ∷ xs) line =
+    let rest = stored_is xs line in
+    ⊎_elim (λ (e : eqb x.1.line line ≡ true). rw e (with_store (core_of x.1.from) (core_of x.1.to)
+    (messages_of (bag_of xs) line) (first_message (is_store_of line) xs) x.1.body rest
+    ∙ sym (stored_if (right.is_dram_store x.1.body) x (first_message (is_store_of line) xs))))
+    (λ (e : eqb x.1.line line ≡ false). rw e rest) (cases_Bool (eqb x.1.line line))
 
 same_else : (o : Option (List ℕ)) (d : List ℕ) → by_line.or_else o d ≡ or_else o d
 same_else None d = refl

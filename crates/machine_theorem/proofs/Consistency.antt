@@ -11,13 +11,15 @@ use Rattle.machine_table.specs.Machine.{Machine, operation_of}
 use Rattle.machine_table.specs.Opening.{open_core}
 use Rattle.protocol.specs.Issued.{IsIssued}
 use Rattle.protocol.specs.Machine as by_line
-use Rattle.protocol.proofs.Lemmas.{legal, what_is_issued, reachable_ok, at_most_one, coherent_is, owners_answer}
+use Rattle.protocol.specs.Machine.{tally}
+use Rattle.protocol.proofs.Lemmas.{legal, what_is_issued, reachable_ok, at_most_one, coherent_is, owners_answer, about}
+use Rattle.protocol.proofs.Lemmas.{load, loading, store, storing}
 use Rattle.machine_theorem.specs.States.{State, seen}
 use Rattle.machine_theorem.specs.Ownership.{coherent}
 use Rattle.machine_theorem.specs.Coherence as machine
 use Rattle.machine_theorem.specs.Consistent.{Consistent}
 use Rattle.machine_theorem.specs.Consistency.{IsConsistent}
-use Rattle.machine_theorem.specs.View.{copy_in, set_up, view}
+use Rattle.machine_theorem.specs.View.{copy_in, entry_in, messages_of, set_up, view}
 use Rattle.machine_theorem.specs.Kept.{IsKept, Invariant}
 use Rattle.machine_theorem.proofs.KeptSteps.{kept_reordered}
 use Rattle.machine_theorem.proofs.Openings.{no_copy}
@@ -37,6 +39,13 @@ module _ (config : Config) (opening : FinMap nat_cmp ℕ) (a : State) (s : IsKep
       ∙ ap (λ rs. replay_end (flat opening) (map (λ (r : Record). r.op) rs) word)
       (one_arrangement a.records _ arranged (arrangement_of (flat opening) a.issued a.records
       (reachable_ok f s.shape.some_words (view config a) s.reached.reachable).kept) is)
+
+  -- the loads and stores in flight of a line, and the messages about a core and the line: one, if the core waits for it
+  pub line_counts : (l : ℕ) → let ms = messages_of a.bag l in let e = entry_in (a.banks (l % config.banks)) l in
+      (tally load ms ≡ loading e) × (tally store ms ≡ storing e) × ((c : ℕ) →
+      tally (about c) ms ≡ by_line.waits f l (a.cores c).is_out (a.cores c).open_op)
+  line_counts l = let k = (reachable_ok f s.shape.some_words (view config a) s.reached.reachable).lines l in
+      (k.2.loads, k.2.stores, k.2.asks)
 
   pub issued_now : (core : ℕ) → IsIssued (a.issued core) (of_core core a.records) (a.cores core).open_op
   issued_now = what_is_issued f s.shape.some_words (view config a) s.reached.reachable

@@ -1,6 +1,7 @@
 -- A delivery to a core keeps the invariant.
-use Rattle.std.proofs.Common.{◌≡◌, ◌≢◌, ℕ, ◌%◌, ◌<◌, true, false, List, ◌∷◌, Option, Some, None}
-use Rattle.std.proofs.Common.{refl, sym, ap, ◌∙◌, subst}
+use Rattle.std.proofs.Common.{◌≡◌, ◌≢◌, ℕ, ◌%◌, ◌<◌, true, false, List, ◌∷◌, Option, Some, None, refl, sym, ap, ◌∙◌}
+use Rattle.std.proofs.Common.{subst}
+use Rattle.std.proofs.lemmas.Bool.{and_parts}
 use Rattle.std.specs.Ordering.{nat_cmp}
 use Rattle.std.specs.FinMap.{FinMap}
 use Rattle.std.specs.List.Sorted.{IsPermutation}
@@ -14,8 +15,7 @@ use Rattle.line_sets.specs.SetTable.{Sets}
 use Rattle.private_cache.specs.declared.line_copy.LineCopy.{LineCopy}
 use Rattle.private_cache.specs.CopyTable.{copy_of, place_for, with_used, with_changed}
 use Rattle.core_pts.specs.declared.decision.CoreReaction.{CoreReaction}
-use Rattle.core_pts.specs.declared.decision.CoreReaction.TheVariants.{Arrives, Grants, Returns, Drops}
-use Rattle.core_pts.specs.declared.decision.CoreReaction.TheVariants.{NoCase}
+use Rattle.core_pts.specs.declared.decision.CoreReaction.TheVariants.{Arrives, Grants, Returns, Drops, NoCase}
 use Rattle.core_pts.specs.CoreTable as core_table
 use Rattle.core_pts.specs.CoreTable.{CoreState, to_bank, pinned_line, is_pinned, kept_in, is_this_core, comes_to_core}
 use Rattle.core_pts.specs.OnCopy.{at_core}
@@ -27,15 +27,14 @@ use Rattle.protocol.specs.Machine.{Line, with_at, IsPinned, Answers, answer}
 use Rattle.machine_theorem.proofs.PastWords.{goes_on}
 use Rattle.machine_theorem.specs.States.{State}
 use Rattle.machine_theorem.specs.Moves.{with_core, with_answer}
-use Rattle.machine_theorem.specs.View.{copy_seen, copy_or_none, body_seen, messages_of, core_seen}
-use Rattle.machine_theorem.specs.View.{set_up, line_seen, view}
+use Rattle.machine_theorem.specs.View.{copy_seen, copy_or_none, body_seen, messages_of, core_seen, set_up, line_seen}
+use Rattle.machine_theorem.specs.View.{view}
 use Rattle.machine_theorem.specs.Shape.{IsCore}
 use Rattle.machine_theorem.specs.Kept.{IsKept}
 use Rattle.machine_theorem.proofs.KeptSteps.{shape_with, Goes}
 use Rattle.machine_theorem.proofs.Lookups.{IsNow, put_now, change_now, drop_now, messages_here, messages_there}
 use Rattle.machine_theorem.proofs.Turns.{core_turn, core_move, bag_turn}
 use Rattle.machine_theorem.proofs.OnCopies.{CoreFits, core_fits}
-use Rattle.machine_theorem.proofs.Routes.{ownership_of}
 use Rattle.machine_theorem.proofs.Rooms.{place-changed, place-without}
 use Rattle.machine_theorem.proofs.CoreMoves as moves
 
@@ -137,7 +136,7 @@ module _ (config : Config) (opening : FinMap nat_cmp ℕ) (before : State) (mess
       Goes config opening a (with_core a c) rest (reacted (core_table.core_table core message))
   core_delivery to has =
       let b = is_pinned (pinned_line core) l in
-      let comes = ownership_of (is_this_core core.number message.to) (comes_to_core core l message.body) has in
+      let comes = (and_parts (is_this_core core.number message.to) (comes_to_core core l message.body) has).1 in
       let first : messages_of a.bag l ≡ body_seen 0 c message.body ∷ messages_of rest l =
       messages_here message rest ∙ ap (λ (m : by_line.Message). m ∷ messages_of rest l)
       (ap (λ (k : ℕ). body_seen (core_of message.from) k message.body) (ap core_of to)

@@ -5,10 +5,10 @@ use Rattle.std.specs.Prelude.{Result, Ok, Err, option_map}
 use Rattle.std.specs.Ordering.{nat_cmp}
 use Rattle.std.specs.FinMap.{FinMap}
 use Rattle.std.specs.List.{AllByRecursion as Each}
-use Rattle.std.proofs.lemmas.Bool.{cases_Bool, eq-eqb}
+use Rattle.std.proofs.lemmas.Bool.{cases_Bool, cond_both, eq-eqb}
 use Rattle.std.proofs.Math.Nat.{mod-lt}
 use Rattle.physiological_order.specs.declared.operation.Op.{Op}
-use Rattle.physiological_order.specs.declared.operation.Op.TheVariants.{Load, Store, Swap}
+use Rattle.physiological_order.specs.declared.operation.Op.TheVariants.{Load}
 use Rattle.physiological_order.specs.declared.operation.Record.{Record}
 use Rattle.physiological_order.specs.Order.{address, of_core}
 use Rattle.network.specs.declared.message.Body.{Body}
@@ -36,14 +36,14 @@ use Rattle.protocol.specs.Machine as by_line
 use Rattle.protocol.specs.Machine.{Copy, Line, Core, ShReq, ExReq, version_of, line_of, with_at, IsPinned, CannotUse}
 use Rattle.protocol.specs.Machine.{Asks, to_read, to_write, Uses, issue, advance, ask, complete, evict_shared}
 use Rattle.protocol.specs.Machine.{evict_exclusive}
-use Rattle.protocol.proofs.Lemmas.{with_at_same, with_at_other, with_at_cases, with_at_id, Opened, reachable_ok}
+use Rattle.protocol.proofs.Lemmas.{with_at_same, with_at_other, with_at_cases, with_at_id, reachable_ok}
 use Rattle.protocol.proofs.Lemmas.{reachable_blocked, Some_injective}
 use Rattle.machine_theorem.specs.PastWords.{IsReached}
 use Rattle.machine_theorem.proofs.PastWords.{goes_on}
 use Rattle.machine_theorem.specs.States.{State}
 use Rattle.machine_theorem.specs.Moves.{with_core}
 use Rattle.machine_theorem.specs.View.{copy_seen, copy_or_none, body_seen, messages_of, copy_in, core_seen, set_up}
-use Rattle.machine_theorem.specs.View.{line_seen, view}
+use Rattle.machine_theorem.specs.View.{view}
 use Rattle.machine_theorem.specs.Shape.{IsCore, GoesHome, HasShape}
 use Rattle.machine_theorem.specs.Kept.{IsKept}
 use Rattle.machine_theorem.proofs.KeptSteps.{Goes, Tries}
@@ -76,10 +76,7 @@ complete_at : (f : by_line.Config) (n : by_line.Machine) (c l place : ℕ) (op :
     Uses f (n.cores c).pts copy op received ts new → IsReached f n →
     IsReached f (completed_on n c l place op new received ts)
 complete_at f n c l place op copy new received ts on count opens quiet is u r =
-    subst (λ (k : ℕ). IsReached f (completed_on n c k place op new received ts)) on
-    (subst (λ (p : ℕ). IsReached f (completed_on n c (line_of f (address op)) p op new received ts)) count
-    (goes_on r (complete {m = n} c op copy new received ts opens quiet
-    (subst (λ (k : ℕ). (n.lines k).copies c ≡ Some copy) (sym on) is) u)))
+    rw (← on, ← count) (goes_on r (complete {m = n} c op copy new received ts opens quiet (rw on is) u))
 
 ask_at : (f : by_line.Config) (n : by_line.Machine) (c l : ℕ) (op : Op) (y : Line) → line_of f (address op) ≡ l →
     (n.cores c).open_op ≡ Some op → (n.cores c).out ≡ false → Asks c (n.cores c).pts op (n.lines l) y →
@@ -87,25 +84,17 @@ ask_at : (f : by_line.Config) (n : by_line.Machine) (c l : ℕ) (op : Op) (y : L
       cores = with_at n.cores c (record (n.cores c) { out = true });
       lines = with_at n.lines l y;
     })
-ask_at f n c l op y on opens quiet a r =
-    subst (λ (k : ℕ). Asks c (n.cores c).pts op (n.lines k) y → IsReached f (record n {
-      cores = with_at n.cores c (record (n.cores c) { out = true });
-      lines = with_at n.lines k y;
-    })) on (λ asks. goes_on r (ask {m = n} c op y opens quiet asks)) a
+ask_at f n c l op y on opens quiet a r = rw (← on) (goes_on r (ask {m = n} c op y opens quiet (rw on a)))
 
 -- the request of an operation
 reads : (c pts a : ℕ) (x : Line) (version : Option ℕ) (y : Option Copy) → x.copies c ≡ y → CannotUse (Load a) pts y →
     version_of y ≡ version → Asks c pts (Load a) x (record x { messages = ShReq c pts version ∷ x.messages })
-reads c pts a x version y is cannot v =
-    subst (λ (w : Option ℕ). Asks c pts (Load a) x (record x { messages = ShReq c pts w ∷ x.messages }))
-    (ap version_of is ∙ v) (to_read a (subst (CannotUse (Load a) pts) (sym is) cannot))
+reads c pts a x version y is cannot v = rw (← v, ← is) (to_read {x = x} a (rw is cannot))
 
 writes : (c pts : ℕ) (op : Op) (x : Line) (version : Option ℕ) (y : Option Copy) → x.copies c ≡ y →
     CannotUse op pts y → version_of y ≡ version →
     Asks c pts op x (record x { messages = ExReq c version ∷ x.messages })
-writes c pts op x version y is cannot v =
-    subst (λ (w : Option ℕ). Asks c pts op x (record x { messages = ExReq c w ∷ x.messages })) (ap version_of is ∙ v)
-    (to_write (subst (CannotUse op pts) (sym is) cannot))
+writes c pts op x version y is cannot v = rw (← v, ← is) (to_write {op = op} {x = x} (rw is cannot))
 
 module _ (config : Config) (opening : FinMap nat_cmp ℕ) (a : State) (s : IsKept config opening a) (c : ℕ)
     (below : c < config.cores) where
@@ -153,13 +142,11 @@ module _ (config : Config) (opening : FinMap nat_cmp ℕ) (a : State) (s : IsKep
   pub home : (l : ℕ) (b : Body) → GoesUp b → GoesHome config (to_bank core l b)
   home l b up =
       let home_is : l % core.banks ≡ l % config.banks = ap (λ (k : ℕ). l % k) is.banks in
-      let there : l % core.banks < config.banks =
-      subst (λ (k : ℕ). k < config.banks) (sym home_is) (mod-lt l s.shape.some_banks) in (
+      let there : l % core.banks < config.banks = rw home_is (mod-lt l s.shape.some_banks) in (
         tt,
         home_is,
         up config.cores config.banks (node.Core core.number) (node.Bank (l % core.banks))
-            ∙ core_and_bank config.cores config.banks core.number (l % core.banks)
-            (subst (λ (k : ℕ). k < config.cores) (sym is.numbered) below) there,
+            ∙ core_and_bank config.cores config.banks core.number (l % core.banks) (rw is.numbered below) there,
       )
 
   -- it is sent, among these messages
@@ -199,12 +186,10 @@ module _ (config : Config) (opening : FinMap nat_cmp ℕ) (a : State) (s : IsKep
       record {
         shape = shape_by s.shape.some_words s.shape.some_banks
             (with_at_cases (λ j y. IsCore config j (with_at a.issued c more j) y) a.cores c new
-            (subst (λ (os : List Op). IsCore config c os new) (sym (with_at_same a.issued c more))
-            (core_by is.numbered is.banks is.line_words is.lease is.private_write is.sets
-            (let k = is.count in let n = length-append (a.issued c) (op ∷ []) in omega arith)
+            (rw (with_at_same a.issued c more) (core_by is.numbered is.banks is.line_words is.lease is.private_write
+            is.sets (let k = is.count in let n = length-append (a.issued c) (op ∷ []) in omega arith)
             (λ p o q. absurd (let z : true ≡ false = sym q ∙ idle none in cc))))
-            (λ j ne. subst (λ (os : List Op). IsCore config j os (a.cores j)) (sym (with_at_other a.issued c more j ne))
-            (s.shape.each_core j)))
+            (λ j ne. rw (with_at_other a.issued c more j ne) (s.shape.each_core j)))
             s.shape.each_bank s.shape.each_message
             (λ j le. with_at_other a.cores c new j (apart j le) ∙ s.shape.cores_beyond j le)
             s.shape.banks_beyond s.shape.drams_beyond
@@ -243,8 +228,7 @@ module _ (config : Config) (opening : FinMap nat_cmp ℕ) (a : State) (s : IsKep
     -- the place of the next record is how many of the core's operations are completed
     count : length (of_core c a.records) ≡ core.issued - 1
     count =
-        let k = subst (Opened (a.issued c) (length (of_core c a.records))) opens
-        ((reachable_ok f s.shape.some_words v s.reached.reachable).cores c).opened in
+        let k = rw opens at ((reachable_ok f s.shape.some_words v s.reached.reachable).cores c).opened in
         let n = k.0 in let i = is.count in omega arith
 
     -- an operation that its copy serves has no request out
@@ -252,9 +236,7 @@ module _ (config : Config) (opening : FinMap nat_cmp ℕ) (a : State) (s : IsKep
         core.is_out ≡ false
     quiet copy there can = ⊎_elim
         (λ (o : core.is_out ≡ true). absurd (serves_clash op core.pts copy can
-        (subst (CannotUse op core.pts) (ap copy_or_none there)
-        (subst (λ (k : ℕ). CannotUse op core.pts ((line_seen config a k).copies c)) on
-        ((reachable_blocked f v s.reached.reachable).blocked c op opens o)))))
+        (rw (on, there) at ((reachable_blocked f v s.reached.reachable).blocked c op opens o))))
         (λ (o : core.is_out ≡ false). o) (cases_Bool core.is_out)
 
     completed_goes : (copy : LineCopy) → copy_of core.cache l ≡ Some copy → serves op core.pts copy ≡ true →
@@ -270,10 +252,7 @@ module _ (config : Config) (opening : FinMap nat_cmp ℕ) (a : State) (s : IsKep
         let rs = a.records ++ record_of c (length a.records) core op (received_at i op copy) ts ∷ [] in
         let now = put_now (λ k. k) core.cache.sets is.sets l used in
         let uses : Uses f core.pts (copy_seen copy) op (received_at i op copy) ts (copy_seen used) =
-        subst (λ (k : ℕ). Uses f core.pts (copy_seen copy) op (received_at (address op % k) op copy) ts
-        (copy_seen (copy_after (address op % k) ts op copy))) (sym is.line_words)
-        (serves_uses f core.pts copy op ts can (subst (λ (b : Bool). time_of b core.pts op copy ≡ Some ts)
-        is.private_write t)) in
+        rw is.line_words (serves_uses f core.pts copy op ts can (rw is.private_write at t)) in
         record {
           shape = shape ts None false (with_used core.cache l used) now.some
               (λ p o q. absurd (let z : ◌≡◌ {A = Option Op} None (Some p) = o in cc)) a.bag rs a.counts
@@ -295,8 +274,7 @@ module _ (config : Config) (opening : FinMap nat_cmp ℕ) (a : State) (s : IsKep
         let y : Line = record (v.lines l) { messages = body_seen c 0 b ∷ messages_of a.bag l } in
         record {
           shape = shape core.pts core.open_op true core.cache is.sets
-              (λ p o r. subst (λ (k : Op). place_for core.cache (core_table.line_of core k) ≡ true)
-              (Some_injective op p (sym opens ∙ o)) place) (q ∷ a.bag) a.records (counted a.counts b)
+              (λ p o r. rw (← Some_injective op p (sym opens ∙ o)) place) (q ∷ a.bag) a.records (counted a.counts b)
               (home l b up, s.shape.each_message);
           reached = core_turn config opening a c new l y (core_seen new) (q ∷ a.bag) a.records
               (line_same _ _ refl (λ d. ap (λ (g : ℕ → Option Copy). g d)
@@ -319,53 +297,33 @@ module _ (config : Config) (opening : FinMap nat_cmp ℕ) (a : State) (s : IsKep
             (subst (λ (p : Op). Asks c core.pts p (v.lines l) (record (v.lines l) {
               messages = ShReq c core.pts version ∷ messages_of a.bag l;
             })) (sym e) (reads c core.pts w (v.lines l) version (copy_or_none o) copy can ver))
-        by_op (Store w u) e can = requested_goes (body.ExReq version) (λ cores banks from to. refl) place out
-            (writes c core.pts op (v.lines l) version (copy_or_none o) copy cannot ver)
-        by_op (Swap w u) e can = requested_goes (body.ExReq version) (λ cores banks from to. refl) place out
+        by_op _ e can = requested_goes (body.ExReq version) (λ cores banks from to. refl) place out
             (writes c core.pts op (v.lines l) version (copy_or_none o) copy cannot ver)
 
     attempt_on_goes : (o : Option LineCopy) → copy_of core.cache l ≡ o → Attempts (core_table.attempt_on core op o)
-    attempt_on_goes None there = by_out core.is_out refl
-      where
-        by_place : core.is_out ≡ false → (b : Bool) → place_for core.cache l ≡ b →
-            Attempts (Some (cond b (core_table.need core.pts op None) attempted.NoRoom), core)
-        by_place out true place = need_goes None None there refl place out tt
-        by_place out false place = tt
-
-        by_out : (b : Bool) → core.is_out ≡ b →
-            Attempts (
-              Some (cond b attempted.Waiting (cond (place_for core.cache l) (core_table.need core.pts op None)
-                  attempted.NoRoom)),
-              core,
-            )
-        by_out true out = tt
-        by_out false out = by_place out (place_for core.cache l) refl
-    attempt_on_goes (Some copy) there = by_use (serves op core.pts copy) refl
-      where
-        by_out : serves op core.pts copy ≡ false → (b : Bool) → core.is_out ≡ b →
-            Attempts (Some (cond b attempted.Waiting (core_table.need core.pts op (Some copy.wts))), core)
-        by_out no_use true out = tt
-        by_out no_use false out = need_goes (Some copy.wts) (Some copy) there refl
-            (place-there core.cache l copy there) out (serves_not op core.pts copy no_use)
-
-        by_use : (b : Bool) → serves op core.pts copy ≡ b →
-            Attempts (cond b (completed_at core op copy (time_of core.private_write core.pts op copy))
-            (Some (core_table.attempt_unserved core op copy.wts), core))
-        by_use true can = completed_goes copy there can _ refl
-        by_use false can = by_out can core.is_out refl
+    attempt_on_goes None there =
+        cond_both core.is_out _ _ (λ r. Attempts (Some r, core)) (λ out. tt)
+        (λ out. cond_both (place_for core.cache l) _ _ (λ r. Attempts (Some r, core))
+        (λ place. need_goes None None there refl place out tt) (λ place. tt))
+    attempt_on_goes (Some copy) there =
+        cond_both (serves op core.pts copy) _ _ Attempts (λ can. completed_goes copy there can _ refl)
+        (λ no_use. cond_both core.is_out _ _ (λ r. Attempts (Some r, core)) (λ out. tt)
+        (λ out. need_goes (Some copy.wts) (Some copy) there refl (place-there core.cache l copy there) out
+        (serves_not op core.pts copy no_use)))
 
   pub attempt_goes : (o : Option Op) → core.open_op ≡ o → Tries config opening a c a.bag (step.attempt_open core o)
   attempt_goes None e = tt
-  attempt_goes (Some op) e = subst (λ (p : Option Attempt × CoreState). Tries config opening a c a.bag
-      (step.attempted core op p)) (sym (ap (core_table.attempt_open core) e))
-      (attempt_on_goes op e (copy_of core.cache (core_table.line_of core op)) refl)
+  attempt_goes (Some op) e = rw e (attempt_on_goes op e (copy_of core.cache (core_table.line_of core op)) refl)
 
   -- a copy leaves
   pub eviction_goes : (l : ℕ) (o : Option LineCopy) → copy_of core.cache l ≡ o →
       Goes config opening a (with_core a c) a.bag (step.copy_evicted
       (core_table.sent_back core l (cache.evicted core.cache l (pinned_line core) o)))
   eviction_goes l None there = tt
-  eviction_goes l (Some copy) there = by_pin (is_pinned (pinned_line core) l) refl
+  eviction_goes l (Some copy) there =
+      cond_both (is_pinned (pinned_line core) l) _ _
+      (λ r. Goes config opening a (with_core a c) a.bag (step.copy_evicted (core_table.sent_back core l r))) (λ p. tt)
+      (λ off. by_state off (is_exclusive copy.state) refl)
     where
       new : CoreState
       new = record core { cache = without_copy core.cache l }
@@ -411,9 +369,3 @@ module _ (config : Config) (opening : FinMap nat_cmp ℕ) (a : State) (s : IsKep
         reached = left (messages_of a.bag l) a.bag refl (λ k ne. refl)
             (evict_shared c (copy_seen copy) (unpinned l off) (ap copy_or_none there) sh);
       }
-
-      by_pin : (b : Bool) → is_pinned (pinned_line core) l ≡ b →
-          Goes config opening a (with_core a c) a.bag (step.copy_evicted
-          (core_table.sent_back core l (cond b (Err Pinned, core.cache) (Ok copy, without_copy core.cache l))))
-      by_pin true p = tt
-      by_pin false off = by_state off (is_exclusive copy.state) refl

@@ -1,10 +1,10 @@
 -- What can be delivered: a message that a line must have is in the bag, goes to its part, and has a case there.
+use Rattle.std.proofs.Common.{⊎_elim}
 use Rattle.std.proofs.Common.{◌≡◌, ℕ, zero, suc, ◌+◌, ◌%◌, ◌<◌, ◌≤◌, Bool, true, false, ◌&&◌, ◌||◌, cond, eqb, leb}
-use Rattle.std.proofs.Common.{List, []}
-use Rattle.std.proofs.Common.{◌∷◌, Option, Some, refl, sym, ap, ◌∙◌, subst, arith, ⊎_elim}
+use Rattle.std.proofs.Common.{List, [], ◌∷◌, Option, Some, None, ◌⊎◌, inl, inr, refl, sym, ap, ◌∙◌, subst, arith}
 use Rattle.std.specs.Ordering.{nat_cmp}
 use Rattle.std.specs.FinMap.{FinMap}
-use Rattle.std.proofs.lemmas.Bool.{cases_Bool, cond-true, cond-false, eqb-true, le-leb}
+use Rattle.std.proofs.lemmas.Bool.{cases_Bool, eqb-true, le-leb}
 use Rattle.network.specs.declared.message.Node.{Node}
 use Rattle.network.specs.declared.message.Node.TheVariants as node
 use Rattle.network.specs.declared.message.Body.{Body}
@@ -13,7 +13,7 @@ use Rattle.network.specs.declared.message.Message.{Message}
 use Rattle.physiological_order.specs.declared.operation.Op.{Op}
 use Rattle.physiological_order.specs.declared.operation.Op.TheVariants.{Load, Store, Swap}
 use Rattle.private_cache.specs.declared.line_copy.LineCopy.{LineCopy}
-use Rattle.private_cache.specs.CopyTable.{copy_of, is_pinned}
+use Rattle.private_cache.specs.CopyTable.{copy_of, is_pinned, with_used}
 use Rattle.core_pts.specs.declared.decision.CoreReaction.{CoreReaction}
 use Rattle.core_pts.specs.OnCopy as on_copy
 use Rattle.core_pts.specs.OnCopy.{at_core, is_exclusive}
@@ -21,23 +21,29 @@ use Rattle.core_pts.specs.CoreTable as core_table
 use Rattle.core_pts.specs.CoreTable.{CoreState, core_has_case, comes_to_core, is_this_core, pinned_line}
 use Rattle.machine_table.specs.Step as step
 use Rattle.machine_table.specs.Step.{Does, Attempting, Getting, core_step, reacted, attempted}
-use Rattle.llc_bank.specs.BankTable.{BankState, entry_of, bank_has_case, comes_to_bank, is_this_bank}
+use Rattle.llc_bank.specs.BankTable.{BankState, core_of, entry_of, bank_has_case, comes_to_bank, is_this_bank}
 use Rattle.dram_mts.specs.Table.{dram_has_case, comes_to_dram, is_dram}
 use Rattle.machine_table.specs.declared.config.Config.{Config}
 use Rattle.protocol.specs.Machine as by_line
 use Rattle.protocol.specs.Machine.{tally}
 use Rattle.machine_theorem.specs.Bags.{weigh, SameBag}
 use Rattle.machine_theorem.specs.States.{State}
+use Rattle.machine_theorem.specs.Moves.{Move, completes, with_completion}
 use Rattle.machine_theorem.specs.Consistent.{FindsCase}
 use Rattle.machine_theorem.specs.View.{message_seen, messages_of}
 use Rattle.machine_theorem.specs.Shape.{IsHome}
 use Rattle.machine_theorem.specs.Kept.{IsKept}
+use Rattle.machine_theorem.proofs.Services.{IsService, IsLate, a_core}
 use Rattle.machine_theorem.proofs.KeptSteps.{kept_reordered}
 use Rattle.machine_theorem.proofs.Consistency.{state_consistent}
 
 pub and_right : (p q : Bool) → (p && q) ≡ true → q ≡ true
 and_right true q e = e
 and_right false q e = absurd (cc)
+
+pub counts_if : (b : Bool) (n : ℕ) → 1 ≤ cond b n 0 → (b ≡ true) × (1 ≤ n)
+counts_if true n some = (refl, some)
+counts_if false n some = absurd (omega arith)
 
 -- a message that weighs something, and the others
 pub record Found (w : Message → ℕ) (bag : List Message) : Type 0 where
@@ -69,13 +75,10 @@ of_line h w x = cond (eqb x.line h) (w (message_seen x)) 0
 pub line_weighs : (h : ℕ) (w : by_line.Message → ℕ) (bag : List Message) →
     tally w (messages_of bag h) ≡ weigh (of_line h w) bag
 line_weighs h w [] = refl
-line_weighs h w (x ∷ xs) = go (eqb x.line h) (line_weighs h w xs)
-  where
-    go : (b : Bool) → tally w (messages_of xs h) ≡ weigh (of_line h w) xs →
-        tally w (cond b (message_seen x ∷ messages_of xs h) (messages_of xs h))
-        ≡ cond b (w (message_seen x)) 0 + weigh (of_line h w) xs
-    go true e = omega arith
-    go false e = omega arith
+line_weighs h w (x ∷ xs) =
+    let k = line_weighs h w xs in
+    ⊎_elim (λ (e : eqb x.line h ≡ true). rw e (omega arith)) (λ (e : eqb x.line h ≡ false). rw e (omega arith))
+    (cases_Bool (eqb x.line h))
 
 -- such a message
 pub record OfLine (h : ℕ) (w : by_line.Message → ℕ) (bag : List Message) : Type 0 where
@@ -86,24 +89,10 @@ pub record OfLine (h : ℕ) (w : by_line.Message → ℕ) (bag : List Message) :
   pub weighs : 1 ≤ w (message_seen message)
 
 pub found_of : (h : ℕ) (w : by_line.Message → ℕ) (bag : List Message) → 1 ≤ tally w (messages_of bag h) → OfLine h w bag
-found_of h w bag some = go k.message k.rest k.taken k.weighs
-  where
-    k : Found (of_line h w) bag
-    k = found (of_line h w) bag (let e = line_weighs h w bag in omega arith)
-
-    go : (x : Message) (rest : List Message) → SameBag bag (x ∷ rest) → 1 ≤ of_line h w x → OfLine h w bag
-    go x rest same weighs =
-        ⊎_elim
-        (λ (t : eqb x.line h ≡ true). record {
-          message = x;
-          rest = rest;
-          taken = same;
-          line = eqb-true x.line h t;
-          weighs = subst (λ (n : ℕ). 1 ≤ n) (cond-true (eqb x.line h) (w (message_seen x)) 0 t) weighs;
-        })
-        (λ (f : eqb x.line h ≡ false). absurd (let e = cond-false (eqb x.line h) (w
-        (message_seen x)) 0 f in omega arith))
-        (cases_Bool (eqb x.line h))
+found_of h w bag some =
+    let k = found (of_line h w) bag (let e = line_weighs h w bag in omega arith) in
+    let is = counts_if (eqb k.message.line h) (w (message_seen k.message)) k.weighs in
+    record { message = k.message; rest = k.rest; taken = k.taken; line = eqb-true k.message.line h is.0; weighs = is.1 }
 
 module _ (config : Config) (opening : FinMap nat_cmp ℕ) (a : State) (s : IsKept config opening a) (x : Message)
     (rest : List Message) (taken : SameBag a.bag (x ∷ rest)) where
@@ -137,6 +126,10 @@ module _ (config : Config) (opening : FinMap nat_cmp ℕ) (a : State) (s : IsKep
           ∙ and_right (is_this_core (a.cores d).number x.to) _ k.1 in cc)
       go (node.Dram i) e k = absurd (let z : false ≡ true = sym no_dram ∙ sym (ap comes_to_dram is)
           ∙ and_right (is_dram x.to) _ k.1 in cc)
+
+  pub comes : ToBank → (b : Body) → x.body ≡ b →
+      comes_to_bank x.from b (entry_of (a.banks (x.line % config.banks)) x.line) ≡ true
+  comes at b is = rw (← is) (and_right (is_this_bank (a.banks (x.line % config.banks)).number x.to) _ at.has)
 
   -- to the DRAM behind it
   pub record ToDram : Type 0 where
@@ -183,6 +176,11 @@ module _ (config : Config) (opening : FinMap nat_cmp ℕ) (a : State) (s : IsKep
       go (node.Dram i) e k = absurd (let z : false ≡ true = sym no_dram ∙ sym (ap comes_to_dram is)
           ∙ and_right (is_dram x.to) _ k.1 in cc)
 
+  -- to this core
+  pub its_core : ToCore → (o : ℕ) → core_of x.to ≡ o →
+      (o < config.cores) × (x.to ≡ node.Core o) × (core_has_case (a.cores o) x ≡ true)
+  its_core at o to = let d : at.core ≡ o = sym (ap core_of at.to) ∙ to in rw (← d) (at.below, at.to, at.has)
+
 -- what a message to a core is decided to do, by its body, and by the core's operation and copy
 pub core_decided : (core : CoreState) (x : Message) (b : Body) (p : Bool) (held : Option LineCopy) (r : CoreReaction) →
     x.body ≡ b → is_pinned (pinned_line core) x.line ≡ p → copy_of core.cache x.line ≡ held →
@@ -206,6 +204,29 @@ serving_attempt core p held opens is serves =
     ∙ ap (λ (b : Bool). attempted core p (cond b (core_table.completed_at core p held
     (on_copy.time_of core.private_write core.pts p held))
     (Some (core_table.attempt_unserved core p held.wts), core))) serves
+
+-- the core completes an operation with its copy at this time
+abbrev pub completed : State → ℕ → Op → LineCopy → ℕ → State
+completed a c p held ts =
+    let core = a.cores c in
+    let index = core_table.index_of core p in
+    with_completion a c p (on_copy.received_at index p held) ts (record core {
+      pts = ts;
+      open_op = None;
+      is_out = false;
+      cache = with_used core.cache (core_table.line_of core p) (on_copy.copy_after index ts p held);
+    })
+
+-- such an attempt completes it, if its time fits
+pub served : (config : Config) (a : State) (c : ℕ) → c < config.cores → (p : Op) (held : LineCopy) →
+    (a.cores c).open_op ≡ Some p → copy_of (a.cores c).cache (core_table.line_of (a.cores c) p) ≡ Some held →
+    on_copy.serves p (a.cores c).pts held ≡ true → (ts : Option ℕ) →
+    on_copy.time_of (a.cores c).private_write (a.cores c).pts p held ≡ ts →
+    IsLate config a ⊎ ((t : ℕ) × (move : Move config a (completed a c p held t)) × IsService move)
+served config a c below p held opens is serves None t =
+    inl (a_core c Attempting a.bag below (λ z. cc) refl (rw t at (serving_attempt (a.cores c) p held opens is serves)))
+served config a c below p held opens is serves (Some ts) t =
+    inr (ts, completes c p _ ts _ below (rw t at (serving_attempt (a.cores c) p held opens is serves)), tt)
 
 -- an owner's copy serves any operation
 pub owner_serves : (pts : ℕ) (held : LineCopy) → is_exclusive held.state ≡ true → (p : Op) →

@@ -1,13 +1,13 @@
 -- A DRAM opens with the words of the opening memory, eight to a line.
-use Rattle.std.proofs.Common.{◌≡◌, ◌≢◌, ℕ, zero, suc, ◌+◌, ◌*◌, ◌/◌, ◌%◌, ◌<◌, ◌≤◌, Bool, true, false, cond, eqb}
-use Rattle.std.proofs.Common.{List, [], ◌∷◌, length, replicate, set, get_or, Option, Some, refl, sym, ap, ◌∙◌, subst}
-use Rattle.std.proofs.Common.{arith, ⊎_elim, get_or-set_same, get_or-set_other, length-set}
+use Rattle.std.proofs.Common.{◌≡◌, ◌≢◌, ℕ, zero, suc, ◌+◌, ◌*◌, ◌/◌, ◌%◌, ◌<◌, ◌≤◌, Bool, true, false, cond, eqb, List}
+use Rattle.std.proofs.Common.{[], ◌∷◌, length, replicate, set, get_or, Option, Some, refl, sym, ap, ◌∙◌, subst, arith}
+use Rattle.std.proofs.Common.{⊎_elim, get_or-set_same, get_or-set_other, length-set}
 use Rattle.std.specs.Prelude.{unwrap_or}
 use Rattle.std.specs.Ordering.{nat_cmp, eq_by_cmp}
 use Rattle.std.specs.FinMap.{FinMap, empty, find, get-empty}
 use Rattle.std.specs.Cmp.{unsigned_tied}
 use Rattle.std.proofs.Math.Nat.{mod-lt, div-add-mod'}
-use Rattle.std.proofs.lemmas.Bool.{cases_eq, eq-eqb, ne_eqb, cond-true, cond-false}
+use Rattle.std.proofs.lemmas.Bool.{cond_both, cases_eq, eq-eqb, ne_eqb, cond-true, cond-false}
 use Rattle.dram_mts.specs.Lines.{words_of}
 use Rattle.machine_table.specs.declared.config.Config.{Config}
 use Rattle.machine_table.specs.Opening.{with_word, dram_of}
@@ -35,13 +35,10 @@ module _ (c : Config) (bank : ℕ) where
 
   pub dram_long : (es : List (ℕ × ℕ)) (l : ℕ) → length (words_of (dram_of c bank es) l) ≡ 8
   dram_long [] l = ap length (empty_words l)
-  dram_long (e ∷ es) l = go (dram_long es) (eqb ((e.0 / c.line_words) % c.banks) bank)
-    where
-      go : ((k : ℕ) → length (words_of (dram_of c bank es) k) ≡ 8) → (b : Bool) →
-          length (words_of (cond b (with_word (dram_of c bank es) (e.0 / c.line_words) (e.0 % c.line_words) e.1)
-          (dram_of c bank es)) l) ≡ 8
-      go long true = word_long (dram_of c bank es) (e.0 / c.line_words) (e.0 % c.line_words) e.1 l long
-      go long false = long l
+  dram_long (e ∷ es) l =
+      let long = dram_long es in
+      cond_both (eqb ((e.0 / c.line_words) % c.banks) bank) _ _ (λ lines. length (words_of lines l) ≡ 8)
+      (λ here. word_long (dram_of c bank es) (e.0 / c.line_words) (e.0 % c.line_words) e.1 l long) (λ there. long l)
 
   -- a word that isn't the one that is set stays
   word_stays : (lines : FinMap nat_cmp (List ℕ)) (line i v l k : ℕ) → (l ≡ line → k ≢ i) →
@@ -61,7 +58,9 @@ module _ (c : Config) (bank : ℕ) where
       get_or (words_of (dram_of c bank es) l) k 0 ≡ 0
   dram_zeros some [] l k le = ap (λ ws. get_or ws k 0) (empty_words l) ∙ get_replicate 8 k 0
   dram_zeros some (e ∷ es) l k le =
-      go (λ j. dram_zeros some es j k le) (eqb ((e.0 / c.line_words) % c.banks) bank)
+      let zeros = dram_zeros some es l k le in
+      cond_both (eqb ((e.0 / c.line_words) % c.banks) bank) _ _ (λ ds. get_or (words_of ds l) k 0 ≡ 0)
+      (λ here. word_stays lines line (e.0 % c.line_words) e.1 l k (λ q. apart) ∙ zeros) (λ there. zeros)
     where
       lines : FinMap nat_cmp (List ℕ)
       lines = dram_of c bank es
@@ -71,11 +70,6 @@ module _ (c : Config) (bank : ℕ) where
 
       apart : k ≢ e.0 % c.line_words
       apart same = let lt = mod-lt e.0 some in omega (arith, le, same, lt)
-
-      go : ((j : ℕ) → get_or (words_of lines j) k 0 ≡ 0) → (b : Bool) →
-          get_or (words_of (cond b (with_word lines line (e.0 % c.line_words) e.1) lines) l) k 0 ≡ 0
-      go zeros true = word_stays lines line (e.0 % c.line_words) e.1 l k (λ q. apart) ∙ zeros l
-      go zeros false = zeros l
 
   module _ (some : 0 < c.line_words) (most : c.line_words ≤ 8) where
     abbrev word : FinMap nat_cmp (List ℕ) → ℕ → ℕ
@@ -111,13 +105,11 @@ module _ (c : Config) (bank : ℕ) where
         ∙ written (dram_of c bank es) a e.1 (dram_long es (a / c.line_words))
         ∙ sym (ap (λ (o : Option ℕ). unwrap_or o 0) (cond-true (eq_by_cmp nat_cmp a e.0) (Some e.1)
         (find nat_cmp a es) (unsigned_tied a e.0 ∙ eq-eqb a e.0 q))))
-        (λ (ne : a ≡ e.0 → ⊥). go (dram_word es a home) ne (eqb ((e.0 / c.line_words) % c.banks) bank)
+        (λ (ne : a ≡ e.0 → ⊥).
+        let rest = dram_word es a home in
+        cond_both (eqb ((e.0 / c.line_words) % c.banks) bank) _ _
+        (λ ds. word ds a ≡ unwrap_or (find nat_cmp a es) 0)
+        (λ here. others (dram_of c bank es) a e.0 e.1 ne ∙ rest) (λ there. rest)
         ∙ sym (ap (λ (o : Option ℕ). unwrap_or o 0) (cond-false (eq_by_cmp nat_cmp a e.0) (Some e.1)
         (find nat_cmp a es) (unsigned_tied a e.0 ∙ ne_eqb a e.0 ne))))
         (cases_eq a e.0)
-      where
-        go : word (dram_of c bank es) a ≡ unwrap_or (find nat_cmp a es) 0 → (a ≡ e.0 → ⊥) → (b : Bool) →
-            word (cond b (with_word (dram_of c bank es) (e.0 / c.line_words) (e.0 % c.line_words) e.1)
-            (dram_of c bank es)) a ≡ unwrap_or (find nat_cmp a es) 0
-        go rest ne true = others (dram_of c bank es) a e.0 e.1 ne ∙ rest
-        go rest ne false = rest

@@ -1,6 +1,6 @@
 -- Every message in flight has a case in the table of the part that it goes to.
-use Rattle.std.proofs.Common.{◌≡◌, ℕ, ◌%◌, ◌/◌, ◌<◌, Bool, true, false, cond, eqb, List, [], ◌∷◌}
-use Rattle.std.proofs.Common.{Option, Some, None, refl, sym, ap, ◌∙◌, subst, arith}
+use Rattle.std.proofs.Common.{◌≡◌, ℕ, ◌%◌, ◌/◌, ◌<◌, Bool, true, false, cond, eqb, List, [], ◌∷◌, Option, Some, None}
+use Rattle.std.proofs.Common.{refl, sym, ap, ◌∙◌, subst, arith}
 use Rattle.std.specs.List.{AllByRecursion as Each}
 use Rattle.std.specs.Option.{option_map}
 use Rattle.std.specs.Ordering.{nat_cmp}
@@ -14,7 +14,7 @@ use Rattle.network.specs.declared.message.Node.TheVariants as node
 use Rattle.network.specs.declared.message.Body.{Body}
 use Rattle.network.specs.declared.message.Body.TheVariants as body
 use Rattle.network.specs.declared.message.Message.{Message}
-use Rattle.network.specs.Routes.{has_route}
+use Rattle.network.specs.Routes.{has_route, is_bank_to_dram, is_core_to_bank}
 use Rattle.private_cache.specs.declared.line_copy.LineCopy.{LineCopy}
 use Rattle.private_cache.specs.CopyTable.{copy_of, place_for}
 use Rattle.core_pts.specs.CoreTable as core_table
@@ -22,8 +22,8 @@ use Rattle.core_pts.specs.CoreTable.{CoreState, is_pinned, waits_for, is_shared_
 use Rattle.core_pts.specs.CoreTable.{core_has_case}
 use Rattle.llc_bank.specs.declared.entry.Entry.{Entry}
 use Rattle.llc_bank.specs.declared.entry.Entry.TheVariants as entry
-use Rattle.llc_bank.specs.BankTable.{BankState, core_of, entry_of, is_core, is_owned, is_this_bank}
-use Rattle.llc_bank.specs.BankTable.{comes_to_bank, bank_has_case}
+use Rattle.llc_bank.specs.BankTable.{BankState, core_of, entry_of, is_core, is_owned, is_this_bank, comes_to_bank}
+use Rattle.llc_bank.specs.BankTable.{bank_has_case}
 use Rattle.dram_mts.specs.Table.{is_dram, comes_to_dram, dram_has_case}
 use Rattle.machine_table.specs.declared.config.Config.{Config}
 use Rattle.machine_table.specs.Machine.{Machine}
@@ -119,58 +119,52 @@ module _ (config : Config) (opening : FinMap nat_cmp ℕ) (a : State) (s : IsKep
           (ap (λ k. comes_to_bank x.from k (entry_of bank x.line)) e ∙ comes),
     )
 
-  dram_end : (b : Body) → x.body ≡ b → (k : ℕ) → x.to ≡ node.Dram k → k < config.banks → comes_to_dram b ≡ true →
-      Finds x.to
-  dram_end b e k to below comes =
-      subst Finds (sym to) (below, both _ _ (ap is_dram to) (ap comes_to_dram e ∙ comes))
-
   abbrev Waits : Body → Type 0
   Waits b = HasCase (set_up config opening) (view config a) x.line (body_seen (core_of x.from) (core_of x.to) b)
 
-  from_core : (c : ℕ) → x.from ≡ node.Core c → is_core x.from ≡ true
-  from_core c e = ap is_core e
+  -- by where its kind goes: up to a bank, down to a core, back to a DRAM, and from there to its bank
+  up : (b : Body) → x.body ≡ b → is_core_to_bank config.cores config.banks x.from x.to ≡ true →
+      ((k : ℕ) (to : x.to ≡ node.Bank k) → is_core x.from ≡ true →
+      comes_to_bank x.from b (entry_of (a.banks k) x.line) ≡ true) → Finds x.to
+  up b e r comes = let u = up_ends _ _ x.from x.to r in
+      bank_end u.bank u.to_bank b e u.some_bank (comes u.bank u.to_bank (ap is_core u.from_core))
+
+  down : (b : Body) → x.body ≡ b → is_core_to_bank config.cores config.banks x.to x.from ≡ true →
+      ((c : ℕ) (to : x.to ≡ node.Core c) → comes_to_core (a.cores c) x.line b ≡ true) → Finds x.to
+  down b e r comes = let u = up_ends _ _ x.to x.from r in
+      core_end u.core u.from_core b e u.some_core (comes u.core u.from_core)
+
+  stored : (b : Body) → x.body ≡ b → is_bank_to_dram config.banks x.from x.to ≡ true → comes_to_dram b ≡ true →
+      Finds x.to
+  stored b e r comes =
+      let u = back_ends _ x.from x.to r in
+      let h = subst (IsHome (x.line % config.banks)) u.from_bank goes.0 in
+      let d = subst (IsHome (x.line % config.banks)) u.to_dram goes.1 in
+      let below : u.dram < config.banks = (let k = u.some_bank in omega arith) in
+      subst Finds (sym u.to_dram) (below, both _ _ (ap is_dram u.to_dram) (ap comes_to_dram e ∙ comes))
+
+  fetched : (b : Body) → x.body ≡ b → is_bank_to_dram config.banks x.to x.from ≡ true →
+      ((k : ℕ) (to : x.to ≡ node.Bank k) → comes_to_bank x.from b (entry_of (a.banks k) x.line) ≡ true) → Finds x.to
+  fetched b e r comes = let u = back_ends _ x.to x.from r in
+      bank_end u.bank u.from_bank b e u.some_bank (comes u.bank u.from_bank)
 
   case_of : (b : Body) → x.body ≡ b → has_route config.cores config.banks x.from x.to b ≡ true → Waits b → Finds x.to
-  case_of (body.ShReq pts v) e r w = let u = up_ends _ _ x.from x.to r in
-      bank_end u.bank u.to_bank _ e u.some_bank (from_core u.core u.from_core)
-  case_of (body.ExReq v) e r w = let u = up_ends _ _ x.from x.to r in
-      bank_end u.bank u.to_bank _ e u.some_bank (from_core u.core u.from_core)
-  case_of (body.FlushRep y) e r w = let u = up_ends _ _ x.from x.to r in bank_end u.bank u.to_bank _ e u.some_bank
-      (is_granted (entry_of (a.banks u.bank) x.line) (subst IsGranted (entry_is u.bank u.to_bank) w))
-  case_of (body.WbRep y) e r w = let u = up_ends _ _ x.from x.to r in bank_end u.bank u.to_bank _ e u.some_bank
-      (is_granted (entry_of (a.banks u.bank) x.line) (subst IsGranted (entry_is u.bank u.to_bank) w))
+  case_of (body.ShReq pts v) e r w = up _ e r (λ k to core. core)
+  case_of (body.ExReq v) e r w = up _ e r (λ k to core. core)
+  case_of (body.FlushRep y) e r w = up _ e r (λ k to core. is_granted _ (subst IsGranted (entry_is k to) w))
+  case_of (body.WbRep y) e r w = up _ e r (λ k to core. is_granted _ (subst IsGranted (entry_is k to) w))
   case_of (body.ShRep y) e r w =
-      let u = up_ends _ _ x.to x.from r in
-      let k = here u.core u.from_core w in
-      core_end u.core u.from_core _ e u.some_core
-      (both _ _ (waiting u.core u.from_core k) (place u.core u.from_core k))
+      down _ e r (λ c to. both _ _ (waiting c to (here c to w)) (place c to (here c to w)))
   case_of (body.ExRep y) e r w =
-      let u = up_ends _ _ x.to x.from r in
-      let k = here u.core u.from_core w in
-      core_end u.core u.from_core _ e u.some_core
-      (both _ _ (waiting u.core u.from_core k) (place u.core u.from_core k))
-  case_of (body.RenewRep rts) e r w =
-      let u = up_ends _ _ x.to x.from r in
-      core_end u.core u.from_core _ e u.some_core
-      (both _ _ (waiting u.core u.from_core (here u.core u.from_core w.0)) (shared u.core u.from_core w.1))
-  case_of (body.UpgradeRep rts) e r w =
-      let u = up_ends _ _ x.to x.from r in
-      core_end u.core u.from_core _ e u.some_core
-      (both _ _ (waiting u.core u.from_core (here u.core u.from_core w.0)) (shared u.core u.from_core w.1))
-  case_of body.FlushReq e r w = let u = up_ends _ _ x.to x.from r in
-      core_end u.core u.from_core _ e u.some_core refl
-  case_of (body.WbReq rts) e r w = let u = up_ends _ _ x.to x.from r in
-      core_end u.core u.from_core _ e u.some_core refl
-  case_of body.DramLd e r w = let u = back_ends _ x.from x.to r in
-      dram_end _ e u.dram u.to_dram (let h = subst (IsHome (x.line % config.banks)) u.from_bank goes.0 in
-      let d = subst (IsHome (x.line % config.banks)) u.to_dram goes.1 in let k = u.some_bank in omega arith) refl
-  case_of (body.DramSt ws) e r w = let u = back_ends _ x.from x.to r in
-      dram_end _ e u.dram u.to_dram (let h = subst (IsHome (x.line % config.banks)) u.from_bank goes.0 in
-      let d = subst (IsHome (x.line % config.banks)) u.to_dram goes.1 in let k = u.some_bank in omega arith) refl
-  case_of (body.DramLdRep ws) e r w = let u = back_ends _ x.to x.from r in bank_end u.bank u.from_bank _ e u.some_bank
-      (is_loaded x.from ws (entry_of (a.banks u.bank) x.line) (sym (entry_is u.bank u.from_bank) ∙ w))
-  case_of body.DramStRep e r w = let u = back_ends _ x.to x.from r in bank_end u.bank u.from_bank _ e u.some_bank
-      (is_stored x.from (entry_of (a.banks u.bank) x.line) (sym (entry_is u.bank u.from_bank) ∙ w))
+      down _ e r (λ c to. both _ _ (waiting c to (here c to w)) (place c to (here c to w)))
+  case_of (body.RenewRep rts) e r w = down _ e r (λ c to. both _ _ (waiting c to (here c to w.0)) (shared c to w.1))
+  case_of (body.UpgradeRep rts) e r w = down _ e r (λ c to. both _ _ (waiting c to (here c to w.0)) (shared c to w.1))
+  case_of body.FlushReq e r w = down _ e r (λ c to. refl)
+  case_of (body.WbReq rts) e r w = down _ e r (λ c to. refl)
+  case_of body.DramLd e r w = stored _ e r refl
+  case_of (body.DramSt ws) e r w = stored _ e r refl
+  case_of (body.DramLdRep ws) e r w = fetched _ e r (λ k to. is_loaded x.from ws _ (sym (entry_is k to) ∙ w))
+  case_of body.DramStRep e r w = fetched _ e r (λ k to. is_stored x.from _ (sym (entry_is k to) ∙ w))
 
   -- it goes between nodes of its kind, to a part with a case for it
   pub finds_part : Waits x.body → FindsPart config a x

@@ -3,7 +3,7 @@
 use Rattle.std.proofs.Common.{◌≡◌, ℕ, ◌+◌, ◌%◌, ◌<◌, max, Bool, true, false, ◌||◌, ◌&&◌, cond, leb, List, ◌∷◌, Option}
 use Rattle.std.proofs.Common.{Some, None, refl, sym, ap, ◌∙◌, subst, arith}
 use Rattle.std.specs.List.Sorted.{IsPermutation}
-use Rattle.std.proofs.lemmas.Bool.{leb-true, leb-false}
+use Rattle.std.proofs.lemmas.Bool.{and_parts, cond_both, or_parts, leb-true, leb-false}
 use Rattle.physiological_order.specs.declared.operation.Op.{Op}
 use Rattle.physiological_order.specs.declared.operation.Op.TheVariants.{Load, Store, Swap}
 use Rattle.physiological_order.specs.Order.{address}
@@ -16,14 +16,12 @@ use Rattle.core_pts.specs.CoreTable.{CoreState, comes_to_core, waits_for, is_sha
 use Rattle.core_pts.specs.OnCopy as on_copy
 use Rattle.core_pts.specs.OnCopy.{is_exclusive, serves, time_of, received_at, copy_after, words_of_copy, at_core}
 use Rattle.core_pts.specs.declared.decision.CoreReaction.{CoreReaction}
-use Rattle.core_pts.specs.declared.decision.CoreReaction.TheVariants.{Arrives, Grants, Returns, Drops, Holds}
-use Rattle.core_pts.specs.declared.decision.CoreReaction.TheVariants.{NoCase}
+use Rattle.core_pts.specs.declared.decision.CoreReaction.TheVariants.{Arrives, Grants, Returns, Drops, Holds, NoCase}
 use Rattle.protocol.specs.Machine.{Config, Message, RenewRep, UpgradeRep, FlushReq, WbReq, Line, with_at, CannotUse}
-use Rattle.protocol.specs.Machine.{Copy, NotOwned, LineTransition, dropped, wb_dropped, flushed, written_back}
-use Rattle.protocol.specs.Machine.{Answers, shared}
-use Rattle.protocol.specs.Machine.{exclusive, renews, upgrades, Uses, load_hit, load_own, store_own, swap_own}
+use Rattle.protocol.specs.Machine.{Copy, NotOwned, LineTransition, dropped, wb_dropped, flushed, written_back, Answers}
+use Rattle.protocol.specs.Machine.{shared, exclusive, renews, upgrades, Uses, load_hit, load_own, store_own, swap_own}
 use Rattle.protocol.proofs.Lemmas.{Some_injective}
-use Rattle.machine_theorem.proofs.Routes.{GoesUp, ownership_of}
+use Rattle.machine_theorem.proofs.Routes.{GoesUp}
 use Rattle.machine_theorem.specs.View.{copy_seen, copy_or_none, body_seen}
 
 -- the time of a write, where it fits
@@ -38,13 +36,9 @@ module _ (f : Config) (pts : ℕ) (copy : LineCopy) where
   Used op i ts = Uses f pts (copy_seen copy) op (received_at i op copy) ts (copy_seen (copy_after i ts op copy))
 
   load_uses : (a : ℕ) → serves (Load a) pts copy ≡ true → Used (Load a) (a % f.line_words) (max pts copy.wts)
-  load_uses a h = go (is_exclusive copy.state) refl h
-    where
-      go : (e : Bool) → is_exclusive copy.state ≡ e → (e || leb pts copy.rts) ≡ true →
-          Uses f pts (copy_seen copy) (Load a) (received_at (a % f.line_words) (Load a) copy) (max pts copy.wts)
-          (copy_seen (cond e (record copy { rts = max (max pts copy.wts) copy.rts }) copy))
-      go true ex k = load_own a ex
-      go false sh k = load_hit a sh (leb-true pts copy.rts k)
+  load_uses a h = cond_both (is_exclusive copy.state) _ _ (λ new. Uses f pts (copy_seen copy) (Load a)
+      (received_at (a % f.line_words) (Load a) copy) (max pts copy.wts) (copy_seen new)) (λ ex. load_own a ex)
+      (λ sh. load_hit a sh (leb-true pts copy.rts (rw sh at h)))
 
   pub serves_uses : (op : Op) (ts : ℕ) → serves op pts copy ≡ true → time_of f.private_write pts op copy ≡ Some ts →
       Used op (address op % f.line_words) ts
@@ -60,22 +54,15 @@ module _ (f : Config) (pts : ℕ) (copy : LineCopy) where
 -- one that doesn't, can't be used
 pub serves_not : (op : Op) (pts : ℕ) (copy : LineCopy) → serves op pts copy ≡ false →
     CannotUse op pts (Some (copy_seen copy))
-serves_not (Load a) pts copy h = go (is_exclusive copy.state) refl h
-  where
-    go : (e : Bool) → is_exclusive copy.state ≡ e → (e || leb pts copy.rts) ≡ false →
-        (is_exclusive copy.state ≡ false) × (copy.rts < pts)
-    go true ex k = absurd (cc)
-    go false sh k = (sh, leb-false pts copy.rts k)
+serves_not (Load a) pts copy h =
+    let k = or_parts (is_exclusive copy.state) (leb pts copy.rts) h in (k.0, leb-false pts copy.rts k.1)
 serves_not (Store a v) pts copy h = (h, tt)
 serves_not (Swap a v) pts copy h = (h, tt)
 
 pub serves_clash : (op : Op) (pts : ℕ) (copy : LineCopy) → serves op pts copy ≡ true →
     CannotUse op pts (Some (copy_seen copy)) → ⊥
-serves_clash (Load a) pts copy h k = go (is_exclusive copy.state) k.0 h
-  where
-    go : (e : Bool) → e ≡ false → (e || leb pts copy.rts) ≡ true → ⊥
-    go true z w = cc
-    go false z w = let le = leb-true pts copy.rts w in let lt = k.1 in omega arith
+serves_clash (Load a) pts copy h k =
+    let le = leb-true pts copy.rts (rw k.0 at h) in let lt = k.1 in omega arith
 serves_clash (Store a v) pts copy h k = let z : true ≡ false = sym h ∙ k.0 in cc
 serves_clash (Swap a v) pts copy h k = let z : true ≡ false = sym h ∙ k.0 in cc
 
@@ -123,34 +110,22 @@ module _ (lease : ℕ) (pinned : ℕ → Type 0) (t c : ℕ) (x : Line) (rest : 
   flush_fits : (o : Option LineCopy) → x.copies c ≡ copy_or_none o → b ≡ false → (pinned c → ⊥) →
       IsPermutation x.messages (FlushReq c ∷ rest) → CoreFits lease pinned t c x rest b o (on_copy.flushed o)
   flush_fits None is off un p = dropped c rest p (un, without_copy is)
-  flush_fits (Some copy) is off un p = go (is_exclusive copy.state) refl
-    where
-      go : (e : Bool) → is_exclusive copy.state ≡ e → CoreFits lease pinned t c x rest b (Some copy)
-          (cond e (Returns None (body.FlushRep (words_of_copy copy))) Drops)
-      go true ex = ((copy, refl), off, (λ cores banks from to. refl), flushed c rest (copy_seen copy) p un is ex)
-      go false sh = dropped c rest p (un, with_shared copy is sh)
+  flush_fits (Some copy) is off un p =
+      cond_both (is_exclusive copy.state) _ _ (CoreFits lease pinned t c x rest b (Some copy))
+      (λ ex. ((copy, refl), off, (λ cores banks from to. refl), flushed c rest (copy_seen copy) p un is ex))
+      (λ sh. dropped c rest p (un, with_shared copy is sh))
 
   back_fits : (until : ℕ) (o : Option LineCopy) → x.copies c ≡ copy_or_none o → b ≡ false → (pinned c → ⊥) →
       IsPermutation x.messages (WbReq c until ∷ rest) → CoreFits lease pinned t c x rest b o
       (on_copy.written_back lease until o)
   back_fits until None is off un p = wb_dropped c until rest p (un, without_copy is)
-  back_fits until (Some copy) is off un p = go (is_exclusive copy.state) refl
-    where
-      by_time : is_exclusive copy.state ≡ true → (fit : Bool) → CoreFits lease pinned t c x rest b (Some copy)
-          (on_copy.returned copy (cond fit (Some (max (max copy.rts (copy.wts + lease)) until)) None))
-      by_time ex true =
-          ((copy, refl), off, (λ cores banks from to. refl), written_back c until rest (copy_seen copy) p un is ex)
-      by_time ex false = tt
-
-      go : (e : Bool) → is_exclusive copy.state ≡ e → CoreFits lease pinned t c x rest b (Some copy)
-          (cond e (on_copy.returned copy (returned_lease copy.wts copy.rts until lease)) Drops)
-      go true ex = by_time ex (fits (copy.wts + lease))
-      go false sh = wb_dropped c until rest p (un, with_shared copy is sh)
-
-  unless_open : (q : Bool) (o : Option LineCopy) (r : CoreReaction) →
-      (q ≡ false → CoreFits lease pinned t c x rest b o r) → CoreFits lease pinned t c x rest b o (cond q Holds r)
-  unless_open true o r h = tt
-  unless_open false o r h = h refl
+  back_fits until (Some copy) is off un p =
+      cond_both (is_exclusive copy.state) _ _ (CoreFits lease pinned t c x rest b (Some copy))
+      (λ ex. cond_both (fits (copy.wts + lease)) _ _
+      (λ rts. CoreFits lease pinned t c x rest b (Some copy) (on_copy.returned copy rts))
+      (λ fit. ((copy, refl), off, (λ cores banks from to. refl), written_back c until rest (copy_seen copy) p un is ex))
+      (λ late. tt))
+      (λ sh. wb_dropped c until rest p (un, with_shared copy is sh))
 
   pub core_fits : (core : CoreState) (line : ℕ) (m : Body) → (b ≡ false → pinned c → ⊥) → comes_to_core core line
       m ≡ true → x.copies c ≡ copy_or_none (copy_of core.cache line) → IsPermutation x.messages
@@ -161,9 +136,11 @@ module _ (lease : ℕ) (pinned : ℕ → Type 0) (t c : ℕ) (x : Line) (rest : 
   core_fits core line (body.ExRep y) un has is p =
       exclusive (record { wts = y.wts; rts = y.rts; words = y.words }) rest p
   core_fits core line (body.RenewRep rts) un has is p =
-      renewed_fits rts _ is (ownership_of (waits_for core line) _ has) p
+      renewed_fits rts _ is (and_parts (waits_for core line) _ has).1 p
   core_fits core line (body.UpgradeRep rts) un has is p =
-      upgraded_fits rts _ is (ownership_of (waits_for core line) _ has) p
-  core_fits core line body.FlushReq un has is p = unless_open b _ _ (λ e. flush_fits _ is e (un e) p)
-  core_fits core line (body.WbReq until) un has is p = unless_open b _ _ (λ e. back_fits until _ is e (un e) p)
+      upgraded_fits rts _ is (and_parts (waits_for core line) _ has).1 p
+  core_fits core line body.FlushReq un has is p = cond_both b _ _ (CoreFits lease pinned t c x rest b _) (λ z. tt)
+      (λ e. flush_fits _ is e (un e) p)
+  core_fits core line (body.WbReq until) un has is p = cond_both b _ _ (CoreFits lease pinned t c x rest b _)
+      (λ z. tt) (λ e. back_fits until _ is e (un e) p)
   core_fits core line _ un has is p = absurd (let z : false ≡ true = has in cc)

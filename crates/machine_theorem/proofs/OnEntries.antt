@@ -1,6 +1,6 @@
 -- What a bank's table does with one line is moves of the line.
-use Rattle.std.proofs.Common.{◌≡◌, ℕ, ◌+◌, max, Bool, true, false, ◌&&◌, cond, List, ◌∷◌, Option, Some, None, refl}
-use Rattle.std.proofs.Common.{ap, ◌∙◌, subst}
+use Rattle.std.proofs.Common.{◌≡◌, ℕ, ◌+◌, max, Bool, true, false, ◌&&◌, cond, List, ◌∷◌, Option, Some, None, refl, ap}
+use Rattle.std.proofs.Common.{◌∙◌, subst}
 use Rattle.std.specs.List.Sorted.{IsPermutation}
 use Rattle.std.proofs.lemmas.Bool.{eqb-true}
 use Rattle.network.specs.declared.message.Node.TheVariants.{Core}
@@ -73,8 +73,8 @@ module _ (lease : ℕ) (pinned : ℕ → Type 0) (t : ℕ) (x : Line) (rest : Li
 
     -- a reader of a line is given a lease
     lease_goes : (pts : ℕ) (version : Option ℕ) (dirty : Bool) (line : TimedLine) → Up →
-        x.entry ≡ Shared dirty (timed line) → IsPermutation x.messages (ShReq c pts version ∷ rest) → (b : Bool) → is_version line.wts version ≡ b →
-        P (after_decision bank m
+        x.entry ≡ Shared dirty (timed line) → IsPermutation x.messages (ShReq c pts version ∷ rest) →
+        (b : Bool) → is_version line.wts version ≡ b → P (after_decision bank m
         (on_entry.leased dirty line (Some (max (max line.rts (line.wts + lease)) (pts + lease), b))))
     lease_goes pts None dirty line up at p true v = absurd (let z : false ≡ true = v in cc)
     lease_goes pts (Some w) dirty line up at p true v = grants _ _ (λ cs bs f g. refl) tt up

@@ -1,20 +1,19 @@
 -- The invariant holds of the initial state and of a machine as it opens.
-use Rattle.std.proofs.Common.{◌≡◌, ℕ, ◌/◌, ◌%◌, ◌<◌, ◌≤◌, Bool, true, false, ◌&&◌, ◌||◌, eqb, leb}
-use Rattle.std.proofs.Common.{List, [], length, replicate, Option, Some, None, refl, sym, ap, ◌∙◌, subst}
-use Rattle.std.proofs.Common.{arith}
+use Rattle.std.proofs.Common.{⊎_elim}
+use Rattle.std.proofs.Common.{◌≡◌, ℕ, ◌/◌, ◌%◌, ◌<◌, ◌≤◌, Bool, true, false, ◌&&◌, ◌||◌, eqb, leb, List, [], length}
+use Rattle.std.proofs.Common.{replicate, Option, Some, None, refl, sym, ap, ◌∙◌, subst, arith}
 use Rattle.std.specs.Prelude.{unwrap_or}
 use Rattle.std.specs.Ordering.{nat_cmp}
 use Rattle.std.specs.FinMap.{FinMap, entries, get-entries}
 use Rattle.std.proofs.lemmas.List.{length-replicate}
-use Rattle.std.proofs.lemmas.Bool.{leb-true, eqb-true}
+use Rattle.std.proofs.lemmas.Bool.{and_parts, or_cases, leb-true, eqb-true}
 use Rattle.line_sets.specs.Order.{find}
 use Rattle.dram_mts.specs.Lines.{words_of}
 use Rattle.llc_bank.specs.declared.entry.Entry.{Entry}
 use Rattle.llc_bank.specs.BankTable.{entry_of}
 use Rattle.machine_table.specs.declared.config.Config.{Config}
 use Rattle.machine_table.specs.SetUp.{is_within, is_good}
-use Rattle.machine_table.specs.Opening.{dram_of, open_bank, open_core}
-use Rattle.machine_table.specs.Opening.{at_start}
+use Rattle.machine_table.specs.Opening.{dram_of, open_bank, open_core, at_start}
 use Rattle.machine_table.proofs.Lemmas.{row_many}
 use Rattle.protocol.specs.Machine as by_line
 use Rattle.protocol.specs.Machine.{OpensWith, at_first}
@@ -22,7 +21,6 @@ use Rattle.machine_theorem.specs.PastWords.{IsReached}
 use Rattle.machine_theorem.specs.States.{State, initial_state, seen}
 use Rattle.machine_theorem.specs.View.{entry_seen, copy_or_none, copy_in, set_up, view}
 use Rattle.machine_theorem.specs.Kept.{IsKept, Invariant}
-use Rattle.machine_theorem.proofs.Routes.{left_of, ownership_of}
 use Rattle.machine_theorem.proofs.Turns.{machine_same, line_same}
 use Rattle.machine_theorem.proofs.KeptSteps.{kept_same}
 use Rattle.machine_theorem.proofs.InitialStates.{opening_same}
@@ -40,14 +38,11 @@ pub record Fair (c : Config) : Type 0 where
   pub most_words : c.line_words ≤ 8
 
 some_of : (n most : ℕ) → is_within n most ≡ true → 0 < n
-some_of n most h = let le = leb-true 1 n (left_of (leb 1 n) (leb n most) h) in omega arith
+some_of n most h = let le = leb-true 1 n (and_parts (leb 1 n) (leb n most) h).0 in omega arith
 
 one_or_eight : (n : ℕ) → (eqb n 1 || eqb n 8) ≡ true → (0 < n) × (n ≤ 8)
-one_or_eight n h = go (eqb n 1) refl h
-  where
-    go : (b : Bool) → eqb n 1 ≡ b → (b || eqb n 8) ≡ true → (0 < n) × (n ≤ 8)
-    go true e k = let q = eqb-true n 1 e in (omega arith, omega arith)
-    go false e k = let q = eqb-true n 8 k in (omega arith, omega arith)
+one_or_eight n h = ⊎_elim (λ (e : eqb n 1 ≡ true). let q = eqb-true n 1 e in (omega arith, omega arith))
+    (λ (e : eqb n 8 ≡ true). let q = eqb-true n 8 e in (omega arith, omega arith)) (or_cases (eqb n 1) (eqb n 8) h)
 
 pub fair : (c : Config) → is_good c ≡ true → Fair c
 fair c good =
@@ -59,22 +54,21 @@ fair c good =
     let parts = parts_of shape caches banks words lease good in
     let line = one_or_eight c.line_words parts.3 in
     record {
-      some_banks = some_of c.banks 8 (ownership_of (is_within c.cores 64) (is_within c.banks 8)
-          (left_of (is_within c.cores 64 && is_within c.banks 8) (is_within c.messages 65536) parts.0));
-      some_sets = some_of c.sets 1024 (left_of _ (is_within c.ways 16) parts.1);
-      some_ways = some_of c.ways 16 (ownership_of (is_within c.sets 1024) _ parts.1);
-      some_bank_sets = some_of c.bank_sets 1024 (left_of _ (is_within c.bank_ways 16) parts.2);
-      some_bank_ways = some_of c.bank_ways 16 (ownership_of (is_within c.bank_sets 1024) _ parts.2);
+      some_banks = some_of c.banks 8 (and_parts (is_within c.cores 64) (is_within c.banks 8)
+          (and_parts (is_within c.cores 64 && is_within c.banks 8) (is_within c.messages 65536) parts.0).0).1;
+      some_sets = some_of c.sets 1024 (and_parts _ (is_within c.ways 16) parts.1).0;
+      some_ways = some_of c.ways 16 (and_parts (is_within c.sets 1024) _ parts.1).1;
+      some_bank_sets = some_of c.bank_sets 1024 (and_parts _ (is_within c.bank_ways 16) parts.2).0;
+      some_bank_ways = some_of c.bank_ways 16 (and_parts (is_within c.bank_sets 1024) _ parts.2).1;
       some_words = line.0;
       most_words = line.1;
     }
   where
     parts_of : (a b d e g : Bool) → (a && b && d && e && g) ≡ true → (a ≡ true) × (b ≡ true) × (d ≡ true) × (e ≡ true)
     parts_of a b d e g h =
-        let k = left_of (a && b && d && e) g h in
-        let l = left_of (a && b && d) e k in
-        let n = left_of (a && b) d l in
-        (left_of a b n, ownership_of a b n, ownership_of (a && b) d l, ownership_of (a && b && d) e k)
+        let k = and_parts (a && b && d) e (and_parts (a && b && d && e) g h).0 in
+        let l = and_parts (a && b) d k.0 in
+        let n = and_parts a b l.0 in (n.0, n.1, l.1, k.1)
 
 module _ (c : Config) where
   pub no_copy : (i l : ℕ) → copy_in (open_core c i) l ≡ None

@@ -1,6 +1,6 @@
 -- No turn of the protocol writes a word that lines don't have.
-use Rattle.std.proofs.Common.{◌≡◌, ◌≢◌, ℕ, ◌%◌, ◌<◌, Bool, true, List, set, Option, Some, None, ◌∙◌}
-use Rattle.std.proofs.Common.{subst, arith, get_or-set_other}
+use Rattle.std.proofs.Common.{◌≡◌, ◌≢◌, ℕ, ◌%◌, ◌<◌, Bool, true, List, set, Option, Some, None, ◌∙◌, subst, arith}
+use Rattle.std.proofs.Common.{get_or-set_other}
 use Rattle.std.specs.List.{AllByRecursion as Each}
 use Rattle.std.specs.List.Sorted.{IsPermutation}
 use Rattle.std.proofs.Math.Nat.{mod-lt}
@@ -10,11 +10,10 @@ use Rattle.physiological_order.specs.declared.operation.Op.{Op}
 use Rattle.physiological_order.specs.Order.{address}
 use Rattle.protocol.specs.Machine.{Config, Timed, Copy, Shared, Message, Line, Machine, with_at, line_of}
 use Rattle.protocol.specs.Machine.{LineTransition, evict_shared, evict_exclusive, dropped, wb_dropped, flushed}
-use Rattle.protocol.specs.Machine.{written_back, renewed, leased, upgraded, granted}
-use Rattle.protocol.specs.Machine.{flush_returns, wb_returns, loaded, stored, evict_clean, evict_dirty}
-use Rattle.protocol.specs.Machine.{shuffled, dram_loads, dram_stores, Answers, shared, exclusive, renews, upgrades}
-use Rattle.protocol.specs.Machine.{Asks, to_read, to_write, Uses, load_hit, load_own, store_own, swap_own}
-use Rattle.protocol.specs.Machine.{Transition, issue, advance, ask, answer, complete, line_changes}
+use Rattle.protocol.specs.Machine.{written_back, renewed, leased, upgraded, granted, flush_returns, wb_returns, loaded}
+use Rattle.protocol.specs.Machine.{stored, evict_clean, evict_dirty, shuffled, dram_loads, dram_stores, Answers, shared}
+use Rattle.protocol.specs.Machine.{exclusive, renews, upgrades, Asks, to_read, to_write, Uses, load_hit, load_own}
+use Rattle.protocol.specs.Machine.{store_own, swap_own, Transition, issue, advance, ask, answer, complete, line_changes}
 use Rattle.protocol.specs.Machine as by_line
 use Rattle.protocol.proofs.Lemmas.{with_at_cases, Some_injective}
 use Rattle.machine_theorem.specs.PastWords.{ZerosFrom, EntryEnds, MessageEnds, HasZeros, IsReached}
@@ -26,93 +25,69 @@ module _ (n : ℕ) where
       record { copies = copies; entry = entry; messages = messages; dram = dram }
 
   -- a core's copies after one changed
-  copied : (x : Line) (c : ℕ) (new : Copy) → ZerosFrom n new.line.words → HasZeros n x → (d : ℕ) (copy : Copy) →
+  copied : {x : Line} (c : ℕ) (new : Copy) → ZerosFrom n new.line.words → HasZeros n x → (d : ℕ) (copy : Copy) →
       with_at x.copies c (Some new) d ≡ Some copy → ZerosFrom n copy.line.words
-  copied x c new zeros k = with_at_cases (λ d (y : Option Copy). (copy : Copy) → y ≡ Some copy →
+  copied {x} c new zeros k = with_at_cases (λ d (y : Option Copy). (copy : Copy) → y ≡ Some copy →
       ZerosFrom n copy.line.words) x.copies c (Some new)
       (λ copy e. subst (λ (y : Copy). ZerosFrom n y.line.words) (Some_injective new copy e) zeros)
       (λ d ne. k.copies d)
 
-  left : (x : Line) (c : ℕ) → HasZeros n x → (d : ℕ) (copy : Copy) → with_at x.copies c None d ≡ Some copy →
+  left : {x : Line} (c : ℕ) → HasZeros n x → (d : ℕ) (copy : Copy) → with_at x.copies c None d ≡ Some copy →
       ZerosFrom n copy.line.words
-  left x c k = with_at_cases (λ d (y : Option Copy). (copy : Copy) → y ≡ Some copy → ZerosFrom n copy.line.words)
+  left {x} c k = with_at_cases (λ d (y : Option Copy). (copy : Copy) → y ≡ Some copy → ZerosFrom n copy.line.words)
       x.copies c None (λ copy e. absurd (let z : ◌≡◌ {A = Option Copy} None (Some copy) = e in cc)) (λ d ne. k.copies d)
 
   -- messages in another order
-  taken : (xs ys : List Message) → IsPermutation xs ys → Each (MessageEnds n) xs → Each (MessageEnds n) ys
-  taken xs ys p each = recursion_from_All (MessageEnds n) ys (All-permutation (MessageEnds n) xs ys p
+  taken : {xs ys : List Message} → IsPermutation xs ys → Each (MessageEnds n) xs → Each (MessageEnds n) ys
+  taken {xs} {ys} p each = recursion_from_All (MessageEnds n) ys (All-permutation (MessageEnds n) xs ys p
       (All-from_recursion (MessageEnds n) xs each))
 
   -- the words of a Shared entry
-  entered : (x : Line) (dirty : Bool) (line : Timed) → x.entry ≡ Shared dirty line → HasZeros n x →
+  entered : {x : Line} (dirty : Bool) (line : Timed) → x.entry ≡ Shared dirty line → HasZeros n x →
       ZerosFrom n line.words
-  entered x dirty line is k = subst (EntryEnds n) is k.entry
+  entered dirty line is k = subst (EntryEnds n) is k.entry
 
-  moved : (lease : ℕ) (loses : Bool) (pinned : ℕ → Type 0) (t u : ℕ) (x y : Line) → LineTransition lease loses pinned t x u y →
-      HasZeros n x → HasZeros n y
-  moved lease loses pinned t u x y (evict_shared c copy un is sh) k =
-      zeros_by (left x c k) k.entry k.messages k.dram
-  moved lease loses pinned t u x y (evict_exclusive c copy un is ex) k =
-      zeros_by (left x c k) k.entry (k.copies c copy is, k.messages) k.dram
-  moved lease loses pinned t u x y (dropped c rest p may) k =
-      zeros_by k.copies k.entry ((taken _ _ p k.messages).1) k.dram
-  moved lease loses pinned t u x y (wb_dropped c until rest p may) k =
-      zeros_by k.copies k.entry ((taken _ _ p k.messages).1) k.dram
-  moved lease loses pinned t u x y (flushed c rest copy p un is ex) k =
-      zeros_by (left x c k) k.entry (k.copies c copy is, (taken _ _ p k.messages).1) k.dram
-  moved lease loses pinned t u x y (written_back c until rest copy p un is ex) k =
-      zeros_by (copied x c _ (k.copies c copy is) k) k.entry (k.copies c copy is, (taken _ _ p k.messages).1)
-      k.dram
-  moved lease loses pinned t u x y (renewed c pts dirty line rest is p) k =
-      zeros_by k.copies (entered x dirty line is k) (tt, (taken _ _ p k.messages).1) k.dram
-  moved lease loses pinned t u x y (leased c pts version dirty line rest is p) k =
-      zeros_by k.copies (entered x dirty line is k) (entered x dirty line is k, (taken _ _ p k.messages).1)
-      k.dram
-  moved lease loses pinned t u x y (upgraded c dirty line rest is p) k =
-      zeros_by k.copies tt (tt, (taken _ _ p k.messages).1) k.dram
-  moved lease loses pinned t u x y (granted c version dirty line rest is p) k =
-      zeros_by k.copies tt (entered x dirty line is k, (taken _ _ p k.messages).1) k.dram
-  moved lease loses pinned t u x y (flush_returns c line rest p) k =
-      let each = taken _ _ p k.messages in
-      zeros_by k.copies each.0 each.1 k.dram
-  moved lease loses pinned t u x y (wb_returns c line rest p) k =
-      let each = taken _ _ p k.messages in
-      zeros_by k.copies each.0 each.1 k.dram
-  moved lease loses pinned t u x y (loaded words rest p) k =
-      let each = taken _ _ p k.messages in
-      zeros_by k.copies each.0 each.1 k.dram
-  moved lease loses pinned t u x y (stored rest p) k =
-      zeros_by k.copies tt ((taken _ _ p k.messages).1) k.dram
-  moved lease loses pinned t u x y (evict_clean line is) k =
-      zeros_by k.copies tt k.messages k.dram
-  moved lease loses pinned t u x y (evict_dirty line is) k =
-      zeros_by k.copies tt (entered x true line is k, k.messages) k.dram
-  moved lease loses pinned t u x y (shuffled messages p) k =
-      zeros_by k.copies k.entry (taken _ _ p k.messages) k.dram
-  moved lease loses pinned t u x y (dram_loads rest p) k =
-      zeros_by k.copies k.entry (k.dram, (taken _ _ p k.messages).1) k.dram
-  moved lease loses pinned t u x y (dram_stores words rest p) k =
-      let each = taken _ _ p k.messages in
-      zeros_by k.copies k.entry (tt, each.1) each.0
-  moved lease loses pinned t u x y _ k = zeros_by k.copies tt (tt, k.messages) k.dram
+  moved : {lease : ℕ} {loses : Bool} {pinned : ℕ → Type 0} {t u : ℕ} {x y : Line} →
+      LineTransition lease loses pinned t x u y → HasZeros n x → HasZeros n y
+  moved (evict_shared c copy un is sh) k = zeros_by (left c k) k.entry k.messages k.dram
+  moved (evict_exclusive c copy un is ex) k = zeros_by (left c k) k.entry (k.copies c copy is, k.messages) k.dram
+  moved (dropped c rest p may) k = zeros_by k.copies k.entry ((taken p k.messages).1) k.dram
+  moved (wb_dropped c until rest p may) k = zeros_by k.copies k.entry ((taken p k.messages).1) k.dram
+  moved (flushed c rest copy p un is ex) k =
+      zeros_by (left c k) k.entry (k.copies c copy is, (taken p k.messages).1) k.dram
+  moved (written_back c until rest copy p un is ex) k =
+      zeros_by (copied c _ (k.copies c copy is) k) k.entry (k.copies c copy is, (taken p k.messages).1) k.dram
+  moved (renewed c pts dirty line rest is p) k =
+      zeros_by k.copies (entered dirty line is k) (tt, (taken p k.messages).1) k.dram
+  moved (leased c pts version dirty line rest is p) k =
+      zeros_by k.copies (entered dirty line is k) (entered dirty line is k, (taken p k.messages).1) k.dram
+  moved (upgraded c dirty line rest is p) k = zeros_by k.copies tt (tt, (taken p k.messages).1) k.dram
+  moved (granted c version dirty line rest is p) k =
+      zeros_by k.copies tt (entered dirty line is k, (taken p k.messages).1) k.dram
+  moved (flush_returns c line rest p) k = let each = taken p k.messages in zeros_by k.copies each.0 each.1 k.dram
+  moved (wb_returns c line rest p) k = let each = taken p k.messages in zeros_by k.copies each.0 each.1 k.dram
+  moved (loaded words rest p) k = let each = taken p k.messages in zeros_by k.copies each.0 each.1 k.dram
+  moved (stored rest p) k = zeros_by k.copies tt ((taken p k.messages).1) k.dram
+  moved (evict_clean line is) k = zeros_by k.copies tt k.messages k.dram
+  moved (evict_dirty line is) k = zeros_by k.copies tt (entered true line is k, k.messages) k.dram
+  moved (shuffled messages p) k = zeros_by k.copies k.entry (taken p k.messages) k.dram
+  moved (dram_loads rest p) k = zeros_by k.copies k.entry (k.dram, (taken p k.messages).1) k.dram
+  moved (dram_stores words rest p) k = let each = taken p k.messages in zeros_by k.copies k.entry (tt, each.1) each.0
+  moved _ k = zeros_by k.copies tt (tt, k.messages) k.dram
 
-  answered : (c : ℕ) (x y : Line) → Answers c x y → HasZeros n x → HasZeros n y
-  answered c x y (shared line rest p) k =
-      let each = taken _ _ p k.messages in
-      zeros_by (copied x c _ each.0 k) k.entry each.1 k.dram
-  answered c x y (exclusive line rest p) k =
-      let each = taken _ _ p k.messages in
-      zeros_by (copied x c _ each.0 k) k.entry each.1 k.dram
-  answered c x y (renews rts copy rest p is) k =
-      zeros_by (copied x c _ (k.copies c copy is) k) k.entry ((taken _ _ p k.messages).1) k.dram
-  answered c x y (upgrades rts copy rest p is) k =
-      zeros_by (copied x c _ (k.copies c copy is) k) k.entry ((taken _ _ p k.messages).1) k.dram
+  answered : {c : ℕ} {x y : Line} → Answers c x y → HasZeros n x → HasZeros n y
+  answered {c} (shared line rest p) k =
+      let each = taken p k.messages in zeros_by (copied c _ each.0 k) k.entry each.1 k.dram
+  answered {c} (exclusive line rest p) k =
+      let each = taken p k.messages in zeros_by (copied c _ each.0 k) k.entry each.1 k.dram
+  answered {c} (renews rts copy rest p is) k =
+      zeros_by (copied c _ (k.copies c copy is) k) k.entry ((taken p k.messages).1) k.dram
+  answered {c} (upgrades rts copy rest p is) k =
+      zeros_by (copied c _ (k.copies c copy is) k) k.entry ((taken p k.messages).1) k.dram
 
-  asked : (c pts : ℕ) (op : Op) (x y : Line) → Asks c pts op x y → HasZeros n x → HasZeros n y
-  asked c pts op x y (to_read a cannot) k =
-      zeros_by k.copies k.entry (tt, k.messages) k.dram
-  asked c pts op x y (to_write cannot) k =
-      zeros_by k.copies k.entry (tt, k.messages) k.dram
+  asked : {c pts : ℕ} {op : Op} {x y : Line} → Asks c pts op x y → HasZeros n x → HasZeros n y
+  asked (to_read a cannot) k = zeros_by k.copies k.entry (tt, k.messages) k.dram
+  asked (to_write cannot) k = zeros_by k.copies k.entry (tt, k.messages) k.dram
 
 module _ (f : Config) (some : 0 < f.line_words) where
   -- a write of a word that the line has
@@ -122,13 +97,13 @@ module _ (f : Config) (some : 0 < f.line_words) where
       let apart : k ≢ a % f.line_words = λ e. let lt = mod-lt a some in omega (arith, le, e, lt) in
       get_or-set_other words (a % f.line_words) k v 0 apart ∙ zeros k le
 
-  used : (pts : ℕ) (copy : Copy) (op : Op) (received : Option ℕ) (ts : ℕ) (new : Copy) →
+  used : {pts : ℕ} {copy : Copy} {op : Op} {received : Option ℕ} {ts : ℕ} {new : Copy} →
       Uses f pts copy op received ts new → ZerosFrom f.line_words copy.line.words →
       ZerosFrom f.line_words new.line.words
-  used pts copy op received ts new (load_hit a sh le) zeros = zeros
-  used pts copy op received ts new (load_own a ex) zeros = zeros
-  used pts copy op received ts new (store_own a v ex) zeros = written copy.line.words a v zeros
-  used pts copy op received ts new (swap_own a v ex) zeros = written copy.line.words a v zeros
+  used (load_hit a sh le) zeros = zeros
+  used (load_own a ex) zeros = zeros
+  used {copy = copy} (store_own a v ex) zeros = written copy.line.words a v zeros
+  used {copy = copy} (swap_own a v ex) zeros = written copy.line.words a v zeros
 
   -- each line of a machine
   abbrev All : by_line.Machine → Type 0
@@ -142,15 +117,14 @@ module _ (f : Config) (some : 0 < f.line_words) where
   kept m n (issue c op none) k = k
   kept m n (advance c) k = k
   kept m n (ask c op y opens quiet a) k =
-      changed m (line_of f (address op)) y (asked f.line_words c _ op _ y a (k (line_of f (address op)))) k
-  kept m n (answer c l y a) k = changed m l y (answered f.line_words c _ y a (k l)) k
+      changed m (line_of f (address op)) y (asked f.line_words a (k (line_of f (address op)))) k
+  kept m n (answer c l y a) k = changed m l y (answered f.line_words a (k l)) k
   kept m n (complete c op copy new received ts opens quiet is u) k =
       let l = line_of f (address op) in
       let x = k l in
-      changed m l _ (zeros_by f.line_words
-      (copied f.line_words (m.lines l) c new (used _ copy op received ts new u (x.copies c copy is)) x)
+      changed m l _ (zeros_by f.line_words (copied f.line_words c new (used u (x.copies c copy is)) x)
       x.entry x.messages x.dram) k
-  kept m n (line_changes l t y move) k = changed m l y (moved f.line_words _ _ _ _ t _ y move (k l)) k
+  kept m n (line_changes l t y move) k = changed m l y (moved f.line_words move (k l)) k
 
 -- one more turn of the protocol
 pub goes_on : {f : Config} {m n : by_line.Machine} → IsReached f m → Transition f m n → IsReached f n

@@ -1,6 +1,6 @@
 -- The records of a reached state: how many each core has, and their order.
-use Rattle.std.proofs.Common.{◌≡◌, ℕ, zero, suc, ◌+◌, cond, List, [], ◌∷◌, ◌++◌, length, length-append, map}
-use Rattle.std.proofs.Common.{Option, Some, None, ◌⊎◌, inl, inr, refl, sym, ap, ◌∙◌, subst, arith, ⊎_elim}
+use Rattle.std.proofs.Common.{◌≡◌, ℕ, zero, suc, ◌+◌, cond, List, [], ◌∷◌, ◌++◌, length, length-append, map, Option}
+use Rattle.std.proofs.Common.{Some, None, ◌⊎◌, inl, inr, refl, sym, ap, ◌∙◌, subst, arith, ⊎_elim}
 use Rattle.std.proofs.lemmas.List.{length-map}
 use Rattle.std.specs.List.{slice_get}
 use Rattle.std.specs.Ordering.{nat_cmp}
@@ -10,9 +10,8 @@ use Rattle.physiological_order.specs.declared.operation.Record.{Record}
 use Rattle.physiological_order.specs.Order.{of_core}
 use Rattle.network.specs.declared.message.Message.{Message}
 use Rattle.machine_table.specs.declared.config.Config.{Config}
-use Rattle.machine_table.specs.Step.{record_of}
+use Rattle.machine_table.specs.Step.{record_of, Step}
 use Rattle.machine_table.specs.Step as step
-use Rattle.machine_table.specs.Step.{Step}
 use Rattle.machine_theorem.specs.Kept.{IsKept}
 use Rattle.protocol.specs.Issued.{listed}
 use Rattle.machine_theorem.specs.States.{State}

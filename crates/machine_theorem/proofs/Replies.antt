@@ -1,14 +1,9 @@
 -- The bank of a line that a core asks for makes room, loads the line, gets it back, and replies.
-use Rattle.std.proofs.Common.{◌≡◌, ◌≢◌, ℕ, suc, ◌+◌, ◌/◌, ◌%◌, ◌≤◌, max, Bool, true, false, ◌&&◌, cond}
-use Rattle.std.proofs.Common.{List, ◌∷◌, length, Option, Some, None, ◌⊎◌, inl, inr, refl, sym, ap, ◌∙◌}
-use Rattle.std.proofs.Common.{subst, arith, ⊎_elim}
-use Rattle.std.specs.Ordering.{nat_cmp}
-use Rattle.std.specs.FinMap.{FinMap}
+use Rattle.std.proofs.Common.{◌≡◌, ◌≢◌, ℕ, suc, ◌+◌, ◌/◌, ◌%◌, ◌≤◌, max, Bool, true, false, ◌&&◌, cond, List, ◌∷◌}
+use Rattle.std.proofs.Common.{length, Option, Some, None, refl, sym, ap, ◌∙◌, subst, arith, ⊎_elim}
 use Rattle.std.specs.Option.{is_some}
-use Rattle.std.proofs.lemmas.Bool.{cases_eq, lt-ltb}
-use Rattle.std.proofs.lemmas.Bool.{ltb-false}
-use Rattle.physiological_order.specs.declared.operation.Op.{Op}
-use Rattle.physiological_order.specs.Order.{address, of_core}
+use Rattle.std.proofs.lemmas.Bool.{cases_Bool, cond_both, cases_eq, lt-ltb, ltb-false}
+use Rattle.physiological_order.specs.Order.{of_core}
 use Rattle.network.specs.declared.message.Node.TheVariants as node
 use Rattle.network.specs.declared.message.Body.{Body}
 use Rattle.network.specs.declared.message.Body.TheVariants as body
@@ -21,86 +16,56 @@ use Rattle.llc_bank.specs.declared.decision.Decision.{Decision}
 use Rattle.llc_bank.specs.declared.decision.Decision.TheVariants as decision
 use Rattle.llc_bank.specs.OnEntry as on_entry
 use Rattle.llc_bank.specs.BankTable as bank_table
-use Rattle.llc_bank.specs.BankTable.{BankState, core_of, entry_of, with_changed, without_entry, from_bank, is_owned}
-use Rattle.llc_bank.specs.BankTable.{comes_to_bank, bank_has_case, is_this_bank}
+use Rattle.llc_bank.specs.BankTable.{BankState, core_of, entry_of, from_bank, bank_has_case}
 use Rattle.network.specs.Mail.{counted}
-use Rattle.timestamp_manager.specs.Lease.{shared_lease, is_version}
-use Rattle.timestamp_manager.specs.Lease.{fits as fits_time}
+use Rattle.timestamp_manager.specs.Lease.{shared_lease, is_version, fits as fits_time}
 use Rattle.core_pts.specs.CoreTable as core_table
-use Rattle.core_pts.specs.CoreTable.{CoreState, pinned_line, core_has_case, is_shared_copy}
+use Rattle.core_pts.specs.CoreTable.{CoreState, comes_to_core}
 use Rattle.dram_mts.specs.Table.{comes_to_dram}
-use Rattle.machine_table.specs.declared.config.Config.{Config}
-use Rattle.machine_table.specs.declared.event.Answer.TheVariants.{Delivered, Started}
-use Rattle.machine_table.specs.SetUp.{is_good}
-use Rattle.machine_table.specs.Step.{Makes, Exhausts, Getting, bank_step}
-use Rattle.machine_table.specs.Step.{reacted}
-use Rattle.protocol.specs.Machine as by_line
-use Rattle.protocol.specs.Machine.{with_at, tally, waits}
+use Rattle.machine_table.specs.declared.event.Answer.TheVariants.{Delivered}
+use Rattle.machine_table.specs.Step.{Makes, Getting, bank_step, reacted}
 use Rattle.protocol.proofs.Lemmas.{Some_injective}
 use Rattle.machine_theorem.specs.Bags.{SameBag}
 use Rattle.machine_theorem.specs.States.{State}
-use Rattle.machine_theorem.specs.Moves.{with_bank, Move, bank_steps}
-use Rattle.machine_theorem.specs.Moves.{Reached, goes_on}
-use Rattle.machine_theorem.specs.View.{core_seen, set_up}
-use Rattle.machine_theorem.proofs.Services.{Serves, nothing, first, IsLate, a_bank}
+use Rattle.machine_theorem.specs.Moves.{with_bank, Move, bank_steps, Reached, goes_on, AreBeside}
+use Rattle.machine_theorem.specs.View.{core_seen}
+use Rattle.machine_theorem.proofs.Services.{a_bank, LeadsTo, leads_after, leads_for, leads_here, leads_late, leads_on}
+use Rattle.machine_theorem.proofs.Services.{leads_within}
 use Rattle.machine_theorem.proofs.Bags.{as_many}
-use Rattle.machine_theorem.proofs.Lookups.{put_now}
 use Rattle.machine_theorem.proofs.SetSizes.{Fits}
 use Rattle.machine_theorem.proofs.Sizes.{reached_sized, lines_fewer, first_there}
 use Rattle.machine_theorem.proofs.Openings.{fair}
 use Rattle.machine_theorem.proofs.Deliveries.{Found, found, ToBank, to_bank}
 use Rattle.line_sets.specs.Order.{is_there}
-use Rattle.machine_theorem.proofs.Ways.{Setting, IsAsk, IsRequest}
-use Rattle.machine_theorem.proofs.Ways.{Stands, Comes, Way, way_after, way_here, kept, own, some_sets, banks_beside}
-use Rattle.machine_theorem.proofs.Ways.{IsShared, IsGone, decided, by_loading, by_storing, serves_on, Path, path_of}
-use Rattle.machine_theorem.proofs.Ways.{path_within, path_then}
+use Rattle.machine_theorem.proofs.Ways.{Setting, IsAsk, IsRequest, Stands, Comes, Way, way_here, kept, IsShared, IsGone}
+use Rattle.machine_theorem.proofs.Ways.{decided, by_loading, by_storing, Path, path_of, path_then, bank_moves, put}
 use Rattle.machine_theorem.proofs.Recalled.{Waits, by_recalling, by_exclusive, emptied}
 
+module _ (who : Setting) where
+  open who use {config, opening, n, c, l, K}
+
+  -- a reply that brings what was asked
+  pub record Replied (Suits : Body → Type 0) (b : State) : Type 0 where
+    pub reached : Reached config opening b
+    pub core_is : core_seen (b.cores c) ≡ K
+    pub few : length b.bag ≤ n
+    pub reply : Message
+    pub rest : List Message
+    pub taken : SameBag b.bag (reply ∷ rest)
+    pub line : reply.line ≡ l
+    pub to : reply.to ≡ node.Core c
+    pub suits : Suits reply.body
+
+  -- services that bring a reply
+  abbrev pub Answered : (Body → Type 0) → ℕ → State → Type 0
+  Answered Suits k a =
+      LeadsTo config (suc n) k (λ b. Replied Suits b × (of_core c b.records ≡ of_core c a.records)) a
+
 module _ (who : Setting) (how : Waits who) where
-  abbrev config : Config
-  config = who.config
-
-  abbrev good : is_good config ≡ true
-  good = who.good
-
-  abbrev opening : FinMap nat_cmp ℕ
-  opening = who.opening
-
-  abbrev n : ℕ
-  n = who.n
-
-  abbrev c : ℕ
-  c = who.c
-
-  abbrev l : ℕ
-  l = who.l
-
-  abbrev K : by_line.Core
-  K = who.K
-
-  abbrev w : Message → ℕ
-  w = who.w
-
-  abbrev f : by_line.Config
-  f = set_up config opening
+  open who use {config, good, opening, n, c, l, K, w}
 
   abbrev home : ℕ → ℕ
   home h = h % config.banks
-
-  abbrev op : Op
-  op = how.op
-
-  abbrev is_out : K.out ≡ true
-  is_out = how.is_out
-
-  abbrev opens : K.open_op ≡ Some op
-  opens = how.opens
-
-  abbrev on : by_line.line_of f (address op) ≡ l
-  on = how.on
-
-  abbrev one_needed : who.need ≡ 1
-  one_needed = how.one_needed
 
   -- room for the line of the core's request in its bank, which doesn't have it
   abbrev pub HasRoom : State → Type 0
@@ -148,9 +113,8 @@ module _ (who : Setting) (how : Waits who) where
       by_line' : (h : ℕ) → is_there (set_at bank'.sets i) h ≡ true → Path who 8 HasRoom a
       by_line' h there =
           let its = in_set a st b i h there in
-          path_of who h 8 (IsGone who h) HasRoom a (emptied who how a st size h)
-          (λ s x. cleared s x its.2 (λ e. let z : true ≡ false = sym its.1 ∙ ap is_some
-          (ap (entry_of (a.banks b)) e ∙ gone) in cc) there)
+          path_of who (emptied who how a st size h) (λ s x. cleared s x its.2
+          (λ e. let z : true ≡ false = sym its.1 ∙ ap is_some (ap (entry_of (a.banks b)) e ∙ gone) in cc) there)
         where
           cleared : (s : State) → Comes who h (IsGone who h) a s → home h ≡ b → h ≢ l →
               is_there (set_at bank'.sets i) h ≡ true → HasRoom s
@@ -181,13 +145,7 @@ module _ (who : Setting) (how : Waits who) where
               )
 
       by_room : (r : Bool) → has_room bank' i ≡ r → Path who 8 HasRoom a
-      by_room true room = record {
-        services = 0;
-        few = omega arith;
-        to = a;
-        serves = nothing;
-        comes = inl (st, refl, size, (gone, room));
-      }
+      by_room true room = leads_here (record { stands = st; records = refl; few = size; goal = (gone, room) })
       by_room false full =
           let le = ltb-false (length (set_at bank'.sets i)) bank'.ways full in
           let some = (fair config good).some_bank_ways in
@@ -197,7 +155,7 @@ module _ (who : Setting) (how : Waits who) where
   -- the core's request is delivered
   module _ (a : State) (st : Stands who a) where
     request : Found w a.bag
-    request = found w a.bag (let z = st.asked in omega arith)
+    request = found w a.bag (let z = st.asked in let one = how.one_needed in omega arith)
 
     abbrev q : Message
     q = request.message
@@ -215,18 +173,18 @@ module _ (who : Setting) (how : Waits who) where
     at_bank = let z = asks_bank q.body is_request.asks in
         to_bank config opening a (kept who a st) q request.rest request.taken q.body refl z.0 z.1
 
+    -- what the bank of its line is decided to do
+    beside : AreBeside a.bag (node.Bank (home q.line)) (bank_has_case (a.banks (home q.line))) (Some q) request.rest
+    beside = (request.taken, at_bank.to, at_bank.has)
+
   -- the bank has room for its line, and loads it
   loads_it : (a : State) → Stands who a → length a.bag ≤ n → HasRoom a → Path who 3 (IsShared who l) a
   loads_it a st size room =
-      path_of who l 3 (IsShared who l) (IsShared who l) a
-      (subst (λ (i : ℕ). Way who i 3 (IsShared who i) a) line (go x.body refl (is_request a st).asks))
+      path_of who (subst (λ (i : ℕ). Way who i 3 (IsShared who i) a) line (go x.body refl (is_request a st).asks))
       (λ b k. k.goal)
     where
       x : Message
       x = q a st
-
-      at : ToBank config opening a (kept who a st) x (request a st).rest (request a st).taken
-      at = at_bank a st
 
       line : x.line ≡ l
       line = (is_request a st).line
@@ -234,41 +192,20 @@ module _ (who : Setting) (how : Waits who) where
       bank' : BankState
       bank' = a.banks (home x.line)
 
-      gone : entry_of bank' x.line ≡ None
-      gone = subst (λ (i : ℕ). entry_of (a.banks (home i)) i ≡ None) (sym line) room.0
-
-      has : has_room bank'.table (bank_table.set_of bank' x.line) ≡ true
-      has = subst (λ (i : ℕ). has_room (a.banks (home i)).table (bank_table.set_of (a.banks (home i)) i) ≡ true)
-          (sym line) room.1
-
       started : (b : Body) → x.body ≡ b →
           ((core : ℕ) → on_entry.at_bank bank'.lease bank'.mts true core None b ≡ decision.Loads) →
           Way who x.line 3 (IsShared who x.line) a
       started b is by =
-          let new : Sets Entry = (bank_table.with_used bank' x.line entry.Loading).table in
-          let sent = bank_table.to_dram bank' x.line body.DramLd in
-          let s : State = record (with_bank a (home x.line) (record bank' { table = new })) {
-            bag = sent ∷ a.bag;
-            counts = counted a.counts sent.body;
-          } in
-          let done : bank_step bank' (Getting x) ≡ Makes Started false (Some sent) (record bank' { table = new }) =
-          ap (λ (e : Decision). reacted (bank_table.after_decision bank' x e))
-          (ap (λ (d : Body). on_entry.at_bank bank'.lease bank'.mts
-          (has_room bank'.table (bank_table.set_of bank' x.line)) (core_of x.from) (entry_of bank' x.line) d) is
-          ∙ ap (λ (r : Bool). on_entry.at_bank bank'.lease bank'.mts r (core_of x.from) (entry_of bank' x.line) b) has
-          ∙ ap (λ (p : Option Entry). on_entry.at_bank bank'.lease bank'.mts true (core_of x.from) p b) gone
-          ∙ by (core_of x.from)) in
-          let move : Move config a s = bank_steps (home x.line) (Getting x) (request a st).rest
-          (Makes Started false (Some sent) (record bank' { table = new })) at.below
-          ((request a st).taken, at.to, at.has) done refl in
-          let after = banks_beside who a st x.line bank'.mts new (Some entry.Loading) s
-          (put_now (own who a st x.line) bank'.table.sets (some_sets who a st x.line) x.line entry.Loading) refl refl in
-          way_after who x.line 2 (IsShared who x.line) a s move tt (omega arith) after.0
-          (by_loading who s (record {
-            reached = goes_on st.reached move;
-            core_is = st.core_is;
-            asked = let z = st.asked in omega arith;
-          }) (omega arith) x.line after.1)
+          let room' : (entry_of bank' x.line ≡ None) × (has_room bank'.table (bank_table.set_of bank' x.line) ≡ true) =
+          subst (λ (i : ℕ). (entry_of (a.banks (home i)) i ≡ None)
+          × (has_room (a.banks (home i)).table (bank_table.set_of (a.banks (home i)) i) ≡ true)) (sym line) room in
+          let loads : on_entry.at_bank bank'.lease bank'.mts (has_room bank'.table (bank_table.set_of bank' x.line))
+          (core_of x.from) (entry_of bank' x.line) x.body ≡ decision.Loads =
+          rw (is, room'.1, room'.0) (by (core_of x.from)) in
+          bank_moves who a st x.line (Getting x) (request a st).rest (beside a st)
+          (ap (λ (e : Decision). reacted (bank_table.after_decision bank' x e)) loads)
+          (put who a st x.line entry.Loading) st.asked size
+          (λ s same ss less now. by_loading who s ss less x.line now)
 
       go : (b : Body) → x.body ≡ b → IsAsk b → Way who x.line 3 (IsShared who x.line) a
       go (body.ShReq pts version) is ask = started (body.ShReq pts version) is (λ core. refl)
@@ -281,24 +218,22 @@ module _ (who : Setting) (how : Waits who) where
     where
       loaded : (s : State) → Stands who s → length s.bag ≤ n → IsGone who l s → Path who 11 (IsShared who l) s
       loaded s ss less gone =
-          path_then who 8 3 HasRoom (IsShared who l) s (room_made s ss less gone)
-          (λ t tt' few room. loads_it t tt' few room)
+          path_then who (room_made s ss less gone) (λ t x. loads_it t x.stands x.few x.goal) (omega arith)
 
-      way : (k : ℕ) → k ≤ 13 → Way who l k (IsShared who l) a → Path who 13 (IsShared who l) a
-      way k le x = path_within who k 13 (IsShared who l) a le (path_of who l k (IsShared who l) (IsShared who l) a x
-          (λ b y. y.goal))
+      way : {k : ℕ} {G : State → Type 0} → Way who l k G a → Path who k G a
+      way x = path_of who x (λ b y. y.goal)
 
       by_entry : (e : Option Entry) → entry_of (a.banks (home l)) l ≡ e → Path who 13 (IsShared who l) a
-      by_entry None is = path_within who 11 13 (IsShared who l) a (omega arith) (loaded a st size is)
-      by_entry (Some entry.Loading) is = way 2 (omega arith) (by_loading who a st (omega arith) l is)
-      by_entry (Some (entry.Shared dirty line)) is =
-          way 0 (omega arith) (way_here who l (IsShared who l) a st size (dirty, line, is))
-      by_entry (Some (entry.Exclusive o)) is = way 5 (omega arith) (by_exclusive who how a st size l o is)
-      by_entry (Some (entry.Recalling o)) is = way 4 (omega arith) (by_recalling who how a st (omega arith) l o is)
+      by_entry None is = leads_within (loaded a st size is) (omega arith)
+      by_entry (Some entry.Loading) is = leads_within (way (by_loading who a st (omega arith) l is)) (omega arith)
+      by_entry (Some (entry.Shared dirty line)) is = way (way_here who st size (dirty, line, is))
+      by_entry (Some (entry.Exclusive o)) is =
+          leads_within (way (by_exclusive who how a st size l o is)) (omega arith)
+      by_entry (Some (entry.Recalling o)) is =
+          leads_within (way (by_recalling who how a st (omega arith) l o is)) (omega arith)
       by_entry (Some entry.Storing) is =
-          path_then who 2 11 (IsGone who l) (IsShared who l) a
-          (path_of who l 2 (IsGone who l) (IsGone who l) a (by_storing who a st (omega arith) l is)
-          (λ b x. x.goal)) loaded
+          path_then who (way (by_storing who a st (omega arith) l is)) (λ b x. loaded b x.stands x.few x.goal)
+          (omega arith)
 
   -- what a reply must bring, given what was asked
   module _ (Suits : Body → Type 0)
@@ -306,26 +241,7 @@ module _ (who : Setting) (how : Waits who) where
       (x : TimedLine) → pts ≤ x.rts → Suits (body.ShRep x) × Suits (body.RenewRep x.rts))
       (owner_suits : (m : Message) → 1 ≤ w m → (version : Option ℕ) → m.body ≡ body.ExReq version →
       ((x : TimedLine) → Suits (body.ExRep x)) × ((rts : ℕ) → Suits (body.UpgradeRep rts))) where
-    pub record Replied (a : State) : Type 0 where
-      pub reached : Reached config opening a
-      pub core_is : core_seen (a.cores c) ≡ K
-      pub reply : Message
-      pub rest : List Message
-      pub taken : SameBag a.bag (reply ∷ rest)
-      pub line : reply.line ≡ l
-      pub to : reply.to ≡ node.Core c
-      pub suits : Suits reply.body
-
-    -- services that bring a reply
-    pub record Answer' (k : ℕ) (a : State) : Type 0 where
-      pub services : ℕ
-      pub few : services ≤ k
-      pub to : State
-      pub serves : Serves config (suc n) services a to
-      pub comes : (Replied to × (of_core c to.records ≡ of_core c a.records) × (length to.bag ≤ n))
-          ⊎ IsLate config to
-
-    replies : (a : State) → Stands who a → length a.bag ≤ n → IsShared who l a → Answer' 1 a
+    replies : (a : State) → Stands who a → length a.bag ≤ n → IsShared who l a → Answered who Suits 1 a
     replies a st size (dirty, line', is) = go x.body refl (is_request a st).asks
       where
         x : Message
@@ -334,9 +250,6 @@ module _ (who : Setting) (how : Waits who) where
         rest : List Message
         rest = (request a st).rest
 
-        at : ToBank config opening a (kept who a st) x rest (request a st).taken
-        at = at_bank a st
-
         bank' : BankState
         bank' = a.banks (home x.line)
 
@@ -344,125 +257,67 @@ module _ (who : Setting) (how : Waits who) where
         there = subst (λ (i : ℕ). entry_of (a.banks (home i)) i ≡ Some (entry.Shared dirty line'))
             (sym (is_request a st).line) is
 
-        answered : (e : Entry) (sent : Body) → Suits sent →
+        granted : (e : Entry) (sent : Body) → Suits sent →
             bank_step bank' (Getting x) ≡ reacted (bank_table.after_decision bank' x (decision.Grants e sent)) →
-            Answer' 1 a
-        answered e sent suits done =
+            Answered who Suits 1 a
+        granted e sent suits done =
             let new : BankState = bank_table.with_used bank' x.line e in
             let r = from_bank bank' x.line x.from sent in
             let s : State = record (with_bank a (home x.line) new) { bag = r ∷ rest; counts = counted a.counts sent } in
             let move : Move config a s = bank_steps (home x.line) (Getting x) rest (Makes Delivered true (Some r) new)
-            at.below ((request a st).taken, at.to, at.has) done refl in
+            (at_bank a st).below (beside a st) done refl in
             let few = as_many a.bag (x ∷ rest) (request a st).taken in
-            record {
-              services = 1;
-              few = omega arith;
-              to = s;
-              serves = first move tt (omega arith) nothing;
-              comes = inl (
-                record {
-                  reached = goes_on st.reached move;
-                  core_is = st.core_is;
-                  reply = r;
-                  rest = rest;
-                  taken = λ h. refl;
-                  line = (is_request a st).line;
-                  to = (is_request a st).from;
-                  suits = suits;
-                },
-                refl,
-                omega arith,
-              );
-            }
+            leads_after move tt (omega arith) (leads_here (
+              record {
+                reached = goes_on st.reached move;
+                core_is = st.core_is;
+                few = omega arith;
+                reply = r;
+                rest = rest;
+                taken = λ h. refl;
+                line = (is_request a st).line;
+                to = (is_request a st).from;
+                suits = suits;
+              },
+              refl {a = of_core c a.records},
+            ))
 
-        too_late : (b : Body) → x.body ≡ b → bank_step bank' (Getting x) ≡ Exhausts → Answer' 1 a
-        too_late b e done = record {
-          services = 0;
-          few = omega arith;
-          to = a;
-          serves = nothing;
-          comes = inr (a_bank (home x.line) (Getting x) rest at.below ((request a st).taken, at.to, at.has) done);
-        }
-
-        go : (b : Body) → x.body ≡ b → IsAsk b → Answer' 1 a
+        go : (b : Body) → x.body ≡ b → IsAsk b → Answered who Suits 1 a
         go (body.ShReq pts version) e ask = by_lease _ refl
           where
             by_lease : (o : Option (ℕ × Bool)) →
-                shared_lease line'.wts line'.rts pts version bank'.lease ≡ o → Answer' 1 a
-            by_lease None t = too_late (body.ShReq pts version) e
+                shared_lease line'.wts line'.rts pts version bank'.lease ≡ o → Answered who Suits 1 a
+            by_lease None t =
+                leads_late (a_bank (home x.line) (Getting x) rest (at_bank a st).below (beside a st)
                 (decided who bank' x (body.ShReq pts version) (Some (entry.Shared dirty line')) decision.TooLate e there
-                (λ room. ap (on_entry.leased dirty line') t))
+                (λ room. ap (on_entry.leased dirty line') t)))
             by_lease (Some lease) t =
                 let longer : TimedLine = record line' { rts = lease.0 } in
                 let suits = shared_suits x (request a st).weighs pts version e longer
                 (lease_reaches line'.wts line'.rts pts version bank'.lease lease t) in
-                answered (entry.Shared dirty longer) (on_entry.read_answer lease.1 longer)
-                (either lease.1 longer suits)
+                granted (entry.Shared dirty longer) (on_entry.read_answer lease.1 longer)
+                (cond_both lease.1 _ _ Suits (λ renewed. suits.1) (λ read. suits.0))
                 (decided who bank' x (body.ShReq pts version) (Some (entry.Shared dirty line'))
                 (decision.Grants (entry.Shared dirty longer) (on_entry.read_answer lease.1 longer)) e there
                 (λ room. ap (on_entry.leased dirty line') t))
               where
-                either : (r : Bool) (longer : TimedLine) →
-                    Suits (body.ShRep longer) × Suits (body.RenewRep longer.rts) → Suits (on_entry.read_answer r longer)
-                either true longer s = s.1
-                either false longer s = s.0
-
                 lease_reaches : (wts rts pts : ℕ) (version : Option ℕ) (lease : ℕ) (given : ℕ × Bool) →
                     shared_lease wts rts pts version lease ≡ Some given → pts ≤ given.0
-                lease_reaches wts rts pts version lease given t = by_fit (fits_time (wts + lease) && fits_time
-                    (pts + lease)) t
-                  where
-                    by_fit : (b : Bool) → cond b (Some (
-                      max (max rts (wts + lease)) (pts + lease),
-                      is_version wts version,
-                    ))
-                        None ≡ Some given → pts ≤ given.0
-                    by_fit true k =
-                        let z = ap (λ (g : ℕ × Bool). g.0) (Some_injective _ given k) in omega arith
-                    by_fit false k = absurd (cc)
+                lease_reaches wts rts pts version lease given t = ⊎_elim
+                    (λ (fit : (fits_time (wts + lease) && fits_time (pts + lease)) ≡ true).
+                    let z = ap (λ (g : ℕ × Bool). g.0) (Some_injective _ given (rw fit at t)) in omega arith)
+                    (λ (late : (fits_time (wts + lease) && fits_time (pts + lease)) ≡ false).
+                    absurd (let z = rw late at t in cc)) (cases_Bool _)
         go (body.ExReq version) e ask =
-            answered (entry.Exclusive (core_of x.from))
-            (cond (is_version line'.wts version) (body.UpgradeRep line'.rts) (body.ExRep line'))
-            (either (is_version line'.wts version) (owner_suits x (request a st).weighs version e))
+            let its = owner_suits x (request a st).weighs version e in
+            let sent = cond (is_version line'.wts version) (body.UpgradeRep line'.rts) (body.ExRep line') in
+            granted (entry.Exclusive (core_of x.from)) sent
+            (cond_both (is_version line'.wts version) _ _ Suits (λ upgraded. its.1 line'.rts) (λ sent. its.0 line'))
             (decided who bank' x (body.ExReq version) (Some (entry.Shared dirty line'))
-            (decision.Grants (entry.Exclusive (core_of x.from))
-            (cond (is_version line'.wts version) (body.UpgradeRep line'.rts) (body.ExRep line'))) e there
-            (λ room. refl))
-          where
-            either : (r : Bool) → ((y : TimedLine) → Suits (body.ExRep y)) × ((rts : ℕ) → Suits (body.UpgradeRep rts)) →
-                Suits (cond r (body.UpgradeRep line'.rts) (body.ExRep line'))
-            either true s = s.1 line'.rts
-            either false s = s.0 line'
+            (decision.Grants (entry.Exclusive (core_of x.from)) sent) e there (λ room. refl))
         go _ e ask = absurd ask
 
     -- whatever the entry is, a reply comes
-    pub reply_comes : (a : State) → Stands who a → length a.bag ≤ n → Answer' 14 a
-    reply_comes a st size = ⊎_elim goes late p.comes
-      where
-        p : Path who 13 (IsShared who l) a
-        p = comes_to_share a st size
-
-        late : IsLate config p.to → Answer' 14 a
-        late x = record {
-          services = p.services;
-          few = let z = p.few in omega arith;
-          to = p.to;
-          serves = p.serves;
-          comes = inr x;
-        }
-
-        goes : Stands who p.to × (of_core c p.to.records ≡ of_core c a.records) ×
-            (length p.to.bag ≤ n) × IsShared who l p.to →
-            Answer' 14 a
-        goes x =
-            let more = replies p.to x.0 x.2 x.3 in
-            record {
-              services = p.services + more.services;
-              few = let z = p.few in let y = more.few in omega arith;
-              to = more.to;
-              serves = serves_on who p.services more.services a p.to more.to p.serves more.serves;
-              comes = ⊎_elim
-                  (λ (y : Replied more.to × (of_core c more.to.records ≡ of_core c p.to.records)
-                  × (length more.to.bag ≤ n)). inl (y.0, y.1 ∙ x.1, y.2))
-                  (λ (y : IsLate config more.to). inr y) more.comes;
-            }
+    pub reply_comes : (a : State) → Stands who a → length a.bag ≤ n → Answered who Suits 14 a
+    reply_comes a st size = leads_on (comes_to_share a st size)
+        (λ b x. leads_for (replies b x.stands x.few x.goal) (λ d y. (y.0, y.1 ∙ x.records))) (omega arith)

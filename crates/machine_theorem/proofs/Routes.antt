@@ -1,18 +1,10 @@
 -- Between which nodes the messages go that parts send.
 use Rattle.std.proofs.Common.{◌≡◌, ℕ, ◌<◌, Bool, true, false, ◌&&◌, refl}
-use Rattle.std.proofs.lemmas.Bool.{lt-ltb, ltb-true}
+use Rattle.std.proofs.lemmas.Bool.{and_parts, lt-ltb, ltb-true}
 use Rattle.network.specs.declared.message.Node.{Node}
 use Rattle.network.specs.declared.message.Node.TheVariants.{Core, Bank, Dram}
 use Rattle.network.specs.declared.message.Body.{Body}
 use Rattle.network.specs.Routes.{is_core_to_bank, is_bank_to_dram, has_route}
-
-pub left_of : (a b : Bool) → (a && b) ≡ true → a ≡ true
-left_of true b h = refl
-left_of false b h = absurd (let z : false ≡ true = h in cc)
-
-pub ownership_of : (a b : Bool) → (a && b) ≡ true → b ≡ true
-ownership_of true b h = h
-ownership_of false b h = absurd (let z : false ≡ true = h in cc)
 
 pub both : (a b : Bool) → a ≡ true → b ≡ true → (a && b) ≡ true
 both true b p q = q
@@ -48,8 +40,8 @@ up_ends cores banks (Core c) (Bank b) h = record {
   from_core = refl;
   to_bank = refl;
   some_core =
-      ltb-true c cores (left_of _ _ h);
-  some_bank = ltb-true b banks (ownership_of _ _ h);
+      ltb-true c cores (and_parts _ _ h).0;
+  some_bank = ltb-true b banks (and_parts _ _ h).1;
 }
 up_ends cores banks _ _ h = absurd (let z : false ≡ true = h in cc)
 
@@ -63,5 +55,5 @@ pub record BackEnds (banks : ℕ) (from to : Node) : Type 0 where
 
 pub back_ends : (banks : ℕ) (from to : Node) → is_bank_to_dram banks from to ≡ true → BackEnds banks from to
 back_ends banks (Bank b) (Dram d) h =
-    record { bank = b; dram = d; from_bank = refl; to_dram = refl; some_bank = ltb-true b banks (left_of _ _ h) }
+    record { bank = b; dram = d; from_bank = refl; to_dram = refl; some_bank = ltb-true b banks (and_parts _ _ h).0 }
 back_ends banks _ _ h = absurd (let z : false ≡ true = h in cc)

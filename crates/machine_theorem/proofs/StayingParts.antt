@@ -1,6 +1,7 @@
 -- A part that holds or drops a message stays as it is; a core starts nothing, a bank drops nothing that it has a case
 -- for, and a DRAM answers each message that it has a case for.
 use Rattle.std.proofs.Common.{◌≡◌, ◌≢◌, ℕ, true, false, List, [], ◌∷◌, Option, Some, None, refl, subst}
+use Rattle.std.proofs.lemmas.Bool.{and_parts}
 use Rattle.std.specs.Ordering.{nat_cmp}
 use Rattle.std.specs.FinMap.{FinMap}
 use Rattle.std.proofs.lemmas.List.Sorted.{IsPermutation-refl}
@@ -23,7 +24,6 @@ use Rattle.machine_table.specs.Step.{Step, Drops, Makes, Stays, reacted}
 use Rattle.protocol.specs.Machine.{Line}
 use Rattle.machine_theorem.specs.View.{body_seen, entry_seen}
 use Rattle.machine_theorem.proofs.OnEntries.{AtRequest, bank_goes}
-use Rattle.machine_theorem.proofs.Routes.{ownership_of}
 
 -- Cores
 
@@ -81,7 +81,7 @@ bank_drops bank m has e =
     (λ d. DropsNothing (reacted d)) refl tt tt (λ moves. tt)
     (λ owner sent goes at moves. tt) (λ entry sent goes own up moves. tt) (λ dirty new old at moves. tt) (λ moves. tt)
     (has_room bank.table (banks.set_of bank m.line)) m.body
-    (ownership_of (is_this_bank bank.number m.to) (comes_to_bank m.from m.body (entry_of bank m.line)) has)
+    (and_parts (is_this_bank bank.number m.to) (comes_to_bank m.from m.body (entry_of bank m.line)) has).1
     (any_request m.body) (IsPermutation-refl line.messages))
 
 -- DRAMs
@@ -98,4 +98,4 @@ answers lines m _ has = absurd (let z : false ≡ true = has in cc)
 
 pub dram_answers : (lines : FinMap nat_cmp (List ℕ)) (m : Message) → dram_has_case lines m ≡ true →
     Answered lines m m.body
-dram_answers lines m has = answers lines m m.body (ownership_of (is_dram m.to) (comes_to_dram m.body) has)
+dram_answers lines m has = answers lines m m.body (and_parts (is_dram m.to) (comes_to_dram m.body) has).1

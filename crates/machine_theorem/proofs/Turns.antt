@@ -1,4 +1,6 @@
 -- What one core, one bank or one DRAM does to one line is a turn of the protocol by lines.
+use Rattle.std.proofs.Common.{⊎_elim}
+use Rattle.std.proofs.lemmas.Bool.{cases_Bool}
 use Rattle.std.proofs.Common.{◌≡◌, ◌≢◌, ℕ, ◌%◌, Bool, true, false, cond, eqb, List, Option, refl, sym, ap, ◌∙◌, subst}
 use Rattle.std.specs.Ordering.{nat_cmp}
 use Rattle.std.specs.FinMap.{FinMap}
@@ -40,11 +42,8 @@ line_same x y entry copies messages dram =
 -- what is seen of functions that are changed at one number
 pub seen_at : {X Y : Type 0} (see : X → Y) (f : ℕ → X) (i : ℕ) (x : X) (j : ℕ) →
     with_at (λ k. see (f k)) i (see x) j ≡ see (with_at f i x j)
-seen_at {X} {Y} see f i x j = go (eqb j i)
-  where
-    go : (b : Bool) → cond b (see x) (see (f j)) ≡ see (cond b x (f j))
-    go true = refl
-    go false = refl
+seen_at see f i x j =
+    ⊎_elim (λ (e : eqb j i ≡ true). rw e) (λ (e : eqb j i ≡ false). rw e) (cases_Bool (eqb j i))
 
 -- and what is the same where the new part looks as the old one
 pub seen_alike : {X Y : Type 0} (see : X → Y) (f : ℕ → X) (i : ℕ) (x : X) → see x ≡ see (f i) → (j : ℕ) →
@@ -60,7 +59,8 @@ module _ (config : Config) (opening : FinMap nat_cmp ℕ) (a : State) where
 
   -- one line's transition, with this time of its bank
   abbrev pub Moves : ℕ → ℕ → Line → Type 0
-  Moves l t y = LineTransition config.lease false (IsPinned (set_up config opening) v.cores l) (v.mts (l % config.banks))
+  Moves l t y =
+      LineTransition config.lease false (IsPinned (set_up config opening) v.cores l) (v.mts (l % config.banks))
       (line_seen config a l) t y
 
   -- a core's turn: its line, its core, the messages and the records

@@ -16,32 +16,31 @@ pub record BlockedOk (f : Config) (cores : ℕ → Core) (lines : ℕ → Line) 
       CannotUse op (cores c).pts ((lines (line_of f (address op))).copies c)
 
 -- no move changes a copy of a core that is pinned on the line
-moves_pinned : (lease : ℕ) (loses : Bool) (pinned : ℕ → Type 0) (t u : ℕ) (x y : Line) →
-    LineTransition lease loses pinned t x u y →
-    (c : ℕ) → pinned c → y.copies c ≡ x.copies c
-moves_pinned lease loses pinned t u x y (evict_shared d copy un is sh) c p =
+moves_pinned : {lease : ℕ} {loses : Bool} {pinned : ℕ → Type 0} {t u : ℕ} {x y : Line} →
+    LineTransition lease loses pinned t x u y → (c : ℕ) → pinned c → y.copies c ≡ x.copies c
+moves_pinned {pinned = pinned} {x = x} (evict_shared d copy un is sh) c p =
     with_at_other x.copies d None c (λ e. un (subst pinned e p))
-moves_pinned lease loses pinned t u x y (evict_exclusive d copy un is ex) c p =
+moves_pinned {pinned = pinned} {x = x} (evict_exclusive d copy un is ex) c p =
     with_at_other x.copies d None c (λ e. un (subst pinned e p))
-moves_pinned lease loses pinned t u x y (flushed d rest copy q un is ex) c p =
+moves_pinned {pinned = pinned} {x = x} (flushed d rest copy q un is ex) c p =
     with_at_other x.copies d None c (λ e. un (subst pinned e p))
-moves_pinned lease loses pinned t u x y (written_back d until rest copy q un is ex) c p =
+moves_pinned {pinned = pinned} {x = x} (written_back d until rest copy q un is ex) c p =
     with_at_other x.copies d _ c (λ e. un (subst pinned e p))
-moves_pinned lease loses pinned t u x y _ c p = refl
+moves_pinned _ c p = refl
 
-asks_copies : (c pts : ℕ) (op : Op) (x y : Line) → Asks c pts op x y → (d : ℕ) → y.copies d ≡ x.copies d
-asks_copies c pts op x y (to_read a w) d = refl
-asks_copies c pts op x y (to_write w) d = refl
+asks_copies : {c pts : ℕ} {op : Op} {x y : Line} → Asks c pts op x y → (d : ℕ) → y.copies d ≡ x.copies d
+asks_copies (to_read a w) d = refl
+asks_copies (to_write w) d = refl
 
-asks_blocked : (c pts : ℕ) (op : Op) (x y : Line) → Asks c pts op x y → CannotUse op pts (y.copies c)
-asks_blocked c pts op x y (to_read a w) = w
-asks_blocked c pts op x y (to_write w) = w
+asks_blocked : {c pts : ℕ} {op : Op} {x y : Line} → Asks c pts op x y → CannotUse op pts (y.copies c)
+asks_blocked (to_read a w) = w
+asks_blocked (to_write w) = w
 
-answers_copies : (c : ℕ) (x y : Line) → Answers c x y → (d : ℕ) → d ≢ c → y.copies d ≡ x.copies d
-answers_copies c x y (shared line rest p) d ne = with_at_other x.copies c _ d ne
-answers_copies c x y (exclusive line rest p) d ne = with_at_other x.copies c _ d ne
-answers_copies c x y (renews rts copy rest p is) d ne = with_at_other x.copies c _ d ne
-answers_copies c x y (upgrades rts copy rest p is) d ne = with_at_other x.copies c _ d ne
+answers_copies : {c : ℕ} {x y : Line} → Answers c x y → (d : ℕ) → d ≢ c → y.copies d ≡ x.copies d
+answers_copies {c} {x} (shared line rest p) d ne = with_at_other x.copies c _ d ne
+answers_copies {c} {x} (exclusive line rest p) d ne = with_at_other x.copies c _ d ne
+answers_copies {c} {x} (renews rts copy rest p is) d ne = with_at_other x.copies c _ d ne
+answers_copies {c} {x} (upgrades rts copy rest p is) d ne = with_at_other x.copies c _ d ne
 
 past_later : (op : Op) (pts rts : ℕ) → IsPast op pts rts → IsPast op (pts + 1) rts
 past_later (Load a) pts rts h = omega arith
@@ -83,14 +82,11 @@ transition_blocked f m n (ask c op y opens quiet a) k =
     core_changes k c (record (m.cores c) { out = true }) (with_at m.lines (line_of f (address op)) y)
     (λ e. absurd (let z : Some op ≡ None = sym opens ∙ e in cc))
     (λ o e q. let same : op ≡ o = Some_injective op o (sym opens ∙ e) in
-    subst (λ (o' : Op). CannotUse o' (m.cores c).pts
-    ((with_at m.lines (line_of f (address op)) y (line_of f (address o'))).copies c)) same
-    (subst (λ (x : Line). CannotUse op (m.cores c).pts (x.copies c))
-    (sym (with_at_same m.lines (line_of f (address op)) y)) (asks_blocked c _ op _ y a)))
-    (λ d ne. copies_stay m.lines (line_of f (address op)) y d (asks_copies c _ op _ y a d))
+    rw (← same, with_at_same m.lines (line_of f (address op)) y) (asks_blocked a))
+    (λ d ne. copies_stay m.lines (line_of f (address op)) y d (asks_copies a d))
 transition_blocked f m n (answer c l y a) k =
     core_changes k c (record (m.cores c) { out = false }) (with_at m.lines l y) (λ e. refl) (λ o e q. absurd (cc))
-    (λ d ne. copies_stay m.lines l y d (answers_copies c _ y a d ne))
+    (λ d ne. copies_stay m.lines l y d (answers_copies a d ne))
 transition_blocked f m n (complete c op copy new received ts opens quiet is used) k =
     let l = line_of f (address op) in
     let y : Line = record (m.lines l) { copies = with_at ((m.lines l).copies) c (Some new) } in
@@ -102,7 +98,7 @@ transition_blocked f m n (line_changes l t y mv) k =
       idle = k.idle;
       blocked = λ d o e q. subst (CannotUse o (m.cores d).pts)
           (with_at_cases (λ i (x : Line). i ≡ line_of f (address o) → (m.lines i).copies d ≡ x.copies d) m.lines l y
-          (λ r. sym (moves_pinned _ _ _ _ _ _ y mv d (o, e, sym r))) (λ i nl r. refl) (line_of f (address o)) refl)
+          (λ r. sym (moves_pinned mv d (o, e, sym r))) (λ i nl r. refl) (line_of f (address o)) refl)
           (k.blocked d o e q);
     }
 

@@ -4,11 +4,9 @@ use Rattle.std.specs.List.{AllByRecursion as Each}
 use Rattle.std.proofs.lemmas.Bool.{eqb-true}
 use Rattle.physiological_order.specs.declared.operation.Op.{Op}
 use Rattle.physiological_order.specs.Order.{Memory, address}
-use Rattle.protocol.specs.Machine.{Config, Timed, Copy, Entry, Exclusive, Recalling}
-use Rattle.protocol.specs.Machine.{Message, ShRep, ExRep, RenewRep, UpgradeRep}
-use Rattle.protocol.specs.Machine.{FlushRep, WbRep, DramLdRep, DramStRep, Machine, Reachable, line_of}
-use Rattle.protocol.specs.Machine.{waits, WaitsFor, IsShared, IsGranted, HasCase}
-use Rattle.protocol.specs.Machine.{tally}
+use Rattle.protocol.specs.Machine.{Config, Timed, Copy, Entry, Exclusive, Recalling, Message, ShRep, ExRep, RenewRep}
+use Rattle.protocol.specs.Machine.{UpgradeRep, FlushRep, WbRep, DramLdRep, DramStRep, Machine, Reachable, line_of}
+use Rattle.protocol.specs.Machine.{waits, WaitsFor, IsShared, IsGranted, HasCase, tally}
 use Rattle.protocol.proofs.Lines.{Holder, Bank, Flying, flying, right, load, store, about, about_itself, loading}
 use Rattle.protocol.proofs.Lines.{storing, HasShared, MessageOk, EntryOk, LineOk}
 use Rattle.protocol.proofs.LineChanges.{flying_one, at_most_one, loading_one, loads_at_most_one, storing_one}

@@ -1,15 +1,14 @@
-use Rattle.std.proofs.Common.{◌≡◌, ℕ, zero, suc, ◌<◌, ◌≤◌, max, Bool, true, false, cond, List, [], ◌∷◌, map, Option}
-use Rattle.std.proofs.Common.{Some, None, IfSome, refl, sym, ap, ◌∙◌, subst, arith, ⊎_elim}
+use Rattle.std.proofs.Common.{◌≡◌, ℕ, zero, suc, ◌<◌, ◌≤◌, max, List, [], ◌∷◌, map, Option, Some, None, IfSome, refl}
+use Rattle.std.proofs.Common.{sym, ap, ◌∙◌, subst, arith, ⊎_elim}
 use Rattle.std.specs.List.{AllByRecursion as Each}
-use Rattle.std.proofs.lemmas.Bool.{cases_eq, cond-true, cases_lt}
+use Rattle.std.proofs.lemmas.Bool.{cond_both, cases_eq, cond-true, cases_lt}
 use Rattle.physiological_order.specs.declared.operation.Record.{Record}
 use Rattle.physiological_order.specs.Order.{Memory, replay_end}
 use Rattle.physiological_order.proofs.Lemmas.{memory_at-end, each_weaker}
 use Rattle.protocol.specs.Machine.{Config, Timed, Copy, Entry, Absent, Loading, Shared, Exclusive, Recalling, Storing}
 use Rattle.protocol.specs.Machine.{Message, ExRep, UpgradeRep, FlushRep, WbRep, DramSt, DramStRep, Line, Machine}
-use Rattle.protocol.specs.Machine.{Reachable, line_of, word_at, or_else, owner_or, owner_words, words_of}
-use Rattle.protocol.specs.Machine.{granted_words, entry_words, stored_words, coherent_words, coherent}
-use Rattle.protocol.specs.Machine.{tally}
+use Rattle.protocol.specs.Machine.{Reachable, line_of, word_at, or_else, owner_or, owner_words, words_of, granted_words}
+use Rattle.protocol.specs.Machine.{entry_words, stored_words, coherent_words, coherent, tally}
 use Rattle.protocol.proofs.Lines.{Holder, Bank, At, Flying, flying, right, store, storing, MessageOk, EntryOk, LineOk}
 use Rattle.protocol.proofs.Headline.{reachable_ok}
 use Rattle.physiological_order.specs.Completion.{arranged}
@@ -23,11 +22,8 @@ module _ (f : Config) (h : ℕ → Memory) (l : ℕ) (records : List Record) (bu
   owner_step : (c : ℕ) (y : Option Copy) (o : Option (List ℕ)) → x.copies c ≡ y → IfSome o (λ w. w ≡ s.words) →
       IfSome (owner_or y o) (λ w. w ≡ s.words)
   owner_step c None o is i = i
-  owner_step c (Some copy) o is i = go copy.exclusive refl
-    where
-      go : (e : Bool) → copy.exclusive ≡ e → IfSome (cond e (Some copy.line.words) o) (λ w. w ≡ s.words)
-      go true ex = ap (λ (y : Timed). y.words) ((k.copies c copy is).0 ex).1
-      go false ex = i
+  owner_step c (Some copy) o is i = cond_both copy.exclusive _ _ (λ v. IfSome v (λ w. w ≡ s.words))
+      (λ ex. ap (λ (y : Timed). y.words) ((k.copies c copy is).0 ex).1) (λ sh. i)
 
   owner_tells : (n : ℕ) → IfSome (owner_words x.copies n) (λ w. w ≡ s.words)
   owner_tells zero = tt
@@ -48,11 +44,8 @@ module _ (f : Config) (h : ℕ → Memory) (l : ℕ) (records : List Record) (bu
     where
       passed : (y : Option Copy) (o : Option (List ℕ)) → owner_or y o ≡ None → o ≡ None
       passed None o e = e
-      passed (Some copy) o e = go copy.exclusive e
-        where
-          go : (q : Bool) → cond q (Some copy.line.words) o ≡ None → o ≡ None
-          go true e = absurd (let z : ◌≡◌ {A = Option (List ℕ)} (Some copy.line.words) None = e in cc)
-          go false e = e
+      passed (Some copy) o e = cond_both copy.exclusive (Some copy.line.words) o (λ v. v ≡ None → o ≡ None)
+          (λ ex z. absurd (cc)) (λ sh z. z) e
 
   granted_tells : (ms : List Message) → Each (MessageOk f h l k.top s x.copies x.dram) ms →
       IfSome (granted_words x.copies ms) (λ w. w ≡ s.words)

@@ -1,7 +1,6 @@
 use Rattle.std.proofs.Common.{◌≡◌, ◌≢◌, ℕ, ◌+◌, ◌*◌, ◌/◌, ◌%◌, ◌<◌, ◌≤◌, max, Bool, true, false, ◌&&◌, cond, List, []}
 use Rattle.std.proofs.Common.{◌∷◌, ◌++◌, set, get_or, Option, Some, None, inl, inr, refl, sym, ap, ◌∙◌, subst, arith}
-use Rattle.std.proofs.Common.{le_trans, le_refl, lt_of_le_of_lt, ⊎_elim, length-set, get_or-set_same}
-use Rattle.std.proofs.Common.{get_or-set_other}
+use Rattle.std.proofs.Common.{le_trans, le_refl, lt_of_le_of_lt, ⊎_elim, length-set, get_or-set_same, get_or-set_other}
 use Rattle.std.specs.Prelude.{slice_set}
 use Rattle.std.proofs.Math.Nat.{mod-lt, div-add-mod}
 use Rattle.std.specs.List.{AllByRecursion as Each}
@@ -15,8 +14,7 @@ use Rattle.physiological_order.proofs.Lemmas.{Sorted, memory_at-placed_before, m
 use Rattle.physiological_order.proofs.Lemmas.{memory_at-placed_writes, Keeps-load, Keeps-other, Keeps, each_weaker}
 use Rattle.physiological_order.proofs.Lemmas.{arranged-push, each_push, each_arranged}
 use Rattle.protocol.specs.Machine.{Config, Timed, Copy, Line, line_of, word_at, with_at, write_time, Uses, load_hit}
-use Rattle.protocol.specs.Machine.{load_own, store_own, swap_own}
-use Rattle.protocol.specs.Machine.{tally}
+use Rattle.protocol.specs.Machine.{load_own, store_own, swap_own, tally}
 use Rattle.protocol.proofs.Lease.{Current}
 use Rattle.protocol.proofs.Lines.{Holder, Bank, flying, right, CopyOk, LineOk, with_at_same, with_at_cases}
 use Rattle.protocol.proofs.Lines.{messages_keep, copy_keeps}

@@ -1,19 +1,18 @@
-use Rattle.std.proofs.Common.{◌≡◌, ◌≢◌, ℕ, ◌+◌, ◌≤◌, true, false, eqb, List, ◌∷◌, Option, Some, None, IfSome, inl}
-use Rattle.std.proofs.Common.{refl, sym, ap, ◌∙◌, subst, arith, le_refl}
+use Rattle.std.proofs.Common.{◌≡◌, ◌≢◌, ℕ, ◌+◌, ◌≤◌, true, false, eqb, List, ◌∷◌, Option, Some, None, IfSome, inl, refl}
+use Rattle.std.proofs.Common.{sym, ap, ◌∙◌, subst, arith, le_refl}
 use Rattle.std.specs.List.Sorted.{IsPermutation}
 use Rattle.std.proofs.lemmas.Bool.{ne_eqb}
 use Rattle.physiological_order.specs.declared.operation.Op.{Op}
 use Rattle.physiological_order.specs.declared.operation.Op.TheVariants.{Load}
 use Rattle.physiological_order.specs.declared.operation.Record.{Record}
 use Rattle.physiological_order.specs.Order.{Memory}
-use Rattle.protocol.specs.Machine.{Config, Timed, Copy, Message, ShReq, ExReq, ShRep, ExRep, RenewRep, UpgradeRep}
-use Rattle.protocol.specs.Machine.{Line, with_at, version_of, CannotUse, Answers, shared, exclusive, renews, upgrades}
-use Rattle.protocol.specs.Machine.{Asks, to_read, to_write, NotOwned}
-use Rattle.protocol.specs.Machine.{tally}
+use Rattle.protocol.specs.Machine.{Config, Timed, Copy, Message, ShReq, ExReq, ShRep, ExRep, RenewRep, UpgradeRep, Line}
+use Rattle.protocol.specs.Machine.{with_at, version_of, CannotUse, Answers, shared, exclusive, renews, upgrades, Asks}
+use Rattle.protocol.specs.Machine.{to_read, to_write, NotOwned, tally}
 use Rattle.protocol.proofs.Lease.{Leased}
-use Rattle.protocol.proofs.Lines.{Holder, Bank, At, Flying, right, load, store, about, one_if, about_itself}
-use Rattle.protocol.proofs.Lines.{HasShared, MessageOk, CopyOk, LineOk, with_at_same, with_at_other}
-use Rattle.protocol.proofs.Lines.{with_at_cases, with_bag, copy_keeps, flying, loading, storing}
+use Rattle.protocol.proofs.Lines.{Holder, Bank, At, Flying, right, load, store, about, one_if, about_itself, HasShared}
+use Rattle.protocol.proofs.Lines.{MessageOk, CopyOk, LineOk, with_at_same, with_at_other, with_at_cases, with_bag}
+use Rattle.protocol.proofs.Lines.{copy_keeps, flying, loading, storing}
 use Rattle.protocol.proofs.LineChanges.{At≢Bank, At_injective, flying_one, at_most_one, owned, keep, lost, Goes}
 use Rattle.protocol.proofs.LineChanges.{ok_shuffled}
 
@@ -115,7 +114,7 @@ module _ (f : Config) (h : ℕ → Memory) (l : ℕ) (records : List Record) whe
     where
       has : (m : Message) (rest : List Message) → IsPermutation x.messages (m ∷ rest) →
           LineOk f h l records busy t (record x { messages = m ∷ rest }) k.0 k.1
-      has m rest p = ok_shuffled f h l records busy t x k.0 k.1 (m ∷ rest) p k.2
+      has m rest p = ok_shuffled f h l records busy x (m ∷ rest) p k.2
 
       by_answer : (y : Line) → Answers c x y → Goes f h l records (with_at busy c 0) t y
       by_answer y (shared line rest p) = (

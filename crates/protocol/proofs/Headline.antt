@@ -1,6 +1,6 @@
-use Rattle.std.proofs.Common.{◌≡◌, ◌≢◌, ℕ, ◌+◌, ◌%◌, ◌<◌, ◌≤◌, Bool, true, false, cond, eqb, List, []}
-use Rattle.std.proofs.Common.{◌∷◌, ◌++◌, length, Option, Some, None, refl, sym, ap, ◌∙◌, subst, arith}
-use Rattle.std.proofs.Common.{le_trans, le_refl, ⊎_elim, append-nil, length-append}
+use Rattle.std.proofs.Common.{◌≡◌, ◌≢◌, ℕ, ◌+◌, ◌%◌, ◌<◌, ◌≤◌, Bool, true, false, cond, eqb, List, [], ◌∷◌, ◌++◌}
+use Rattle.std.proofs.Common.{length, Option, Some, None, refl, sym, ap, ◌∙◌, subst, arith, le_trans, le_refl, ⊎_elim}
+use Rattle.std.proofs.Common.{append-nil, length-append}
 use Rattle.std.specs.Prelude.{slice_get}
 use Rattle.std.proofs.Math.Seq.{get_or-append_seam}
 use Rattle.std.proofs.lemmas.Option.{slice_get-get_or}
@@ -12,14 +12,12 @@ use Rattle.physiological_order.specs.declared.operation.Record.{Record}
 use Rattle.physiological_order.specs.Order.{Memory, address, of_core, Legal}
 use Rattle.physiological_order.proofs.Lemmas.{each_push, Sorted-from_Ascends, Kept-none, Kept-issue, Kept-push}
 use Rattle.physiological_order.proofs.Lemmas.{Legal-from_Kept}
-use Rattle.protocol.specs.Machine.{Config, Timed, Copy, Entry, Absent, Loading, Storing}
-use Rattle.protocol.specs.Machine.{Line, Core, Machine, line_of, with_at, word_at, waits, OpensWith, opened, IsPinned}
-use Rattle.protocol.specs.Machine.{LineTransition, evict_clean, evict_dirty, Answers, shared, exclusive, renews}
-use Rattle.protocol.specs.Machine.{upgrades, Asks, Uses, Transition, issue, advance, ask, answer, complete}
-use Rattle.protocol.specs.Machine.{line_changes}
-use Rattle.protocol.specs.Machine.{Reachable, at_first, goes_on}
+use Rattle.protocol.specs.Machine.{Config, Timed, Copy, Entry, Absent, Loading, Storing, Line, Core, Machine, line_of}
+use Rattle.protocol.specs.Machine.{with_at, word_at, waits, OpensWith, opened, IsPinned, LineTransition, evict_clean}
+use Rattle.protocol.specs.Machine.{evict_dirty, Answers, shared, exclusive, renews, upgrades, Asks, Uses, Transition}
+use Rattle.protocol.specs.Machine.{issue, advance, ask, answer, complete, line_changes, Reachable, at_first, goes_on}
 use Rattle.protocol.proofs.Bags.{tally-taken, each_map}
-use Rattle.protocol.proofs.Lines.{Holder, Bank, about, about_itself, EntryOk, with_at_same, with_at_other}
+use Rattle.protocol.proofs.Lines.{one_at_most, Holder, Bank, about, about_itself, EntryOk, with_at_same, with_at_other}
 use Rattle.protocol.proofs.Lines.{with_at_cases, with_bag}
 use Rattle.protocol.proofs.LineChanges.{Goes, moves_keep}
 use Rattle.protocol.proofs.Cores.{answers_keep, asks_keep}
@@ -59,11 +57,7 @@ waits_none f l false op e = refl
 
 waits_at_most : (f : Config) (l : ℕ) (out : Bool) (op : Option Op) → waits f l out op ≤ 1
 waits_at_most f l true None = omega arith
-waits_at_most f l true (Some op) = go (eqb (line_of f (address op)) l)
-  where
-    go : (b : Bool) → cond b 1 0 ≤ 1
-    go true = omega arith
-    go false = omega arith
+waits_at_most f l true (Some op) = one_at_most (eqb (line_of f (address op)) l)
 waits_at_most f l false op = omega arith
 
 pub waits_here : (f : Config) (op : Op) → waits f (line_of f (address op)) true (Some op) ≡ 1
@@ -117,22 +111,23 @@ goes_later {f} {h} {l} {records} {p} {t} {u} {x} le k = (
 )
 
 -- a reply comes only to a core that waits for it
-answers_busy : (f : Config) (h : ℕ → Memory) (l : ℕ) (records : List Record) (p : ℕ → ℕ) (t c : ℕ) (x y : Line) →
+answers_busy : {f : Config} {h : ℕ → Memory} {l : ℕ} {records : List Record} {p : ℕ → ℕ} {t c : ℕ} {x y : Line} →
     p c ≤ 1 → Answers c x y → Goes f h l records p t x → p c ≡ 1
-answers_busy f h l records p t c x y one (shared line rest q) k = let e =
-    tally-taken (about c) x.messages _ q in let a = k.2.asks c in let i = about_itself c in omega arith
-answers_busy f h l records p t c x y one (exclusive line rest q) k = let e =
-    tally-taken (about c) x.messages _ q in let a = k.2.asks c in let i = about_itself c in omega arith
-answers_busy f h l records p t c x y one (renews rts copy rest q is) k = let e =
-    tally-taken (about c) x.messages _ q in let a = k.2.asks c in let i = about_itself c in omega arith
-answers_busy f h l records p t c x y one (upgrades rts copy rest q is) k = let e =
-    tally-taken (about c) x.messages _ q in let a = k.2.asks c in let i = about_itself c in omega arith
+answers_busy {c = c} {x = x} one (shared line rest q) k = let e = tally-taken (about c) x.messages _ q in
+    let a = k.2.asks c in let i = about_itself c in omega arith
+answers_busy {c = c} {x = x} one (exclusive line rest q) k = let e = tally-taken (about c) x.messages _ q in
+    let a = k.2.asks c in let i = about_itself c in omega arith
+answers_busy {c = c} {x = x} one (renews rts copy rest q is) k = let e = tally-taken (about c) x.messages _ q in
+    let a = k.2.asks c in let i = about_itself c in omega arith
+answers_busy {c = c} {x = x} one (upgrades rts copy rest q is) k = let e = tally-taken (about c) x.messages _ q in
+    let a = k.2.asks c in let i = about_itself c in omega arith
 
 -- no move lowers the time of a bank
-moves_rise : (lease : ℕ) (loses : Bool) (pinned : ℕ → Type 0) (t u : ℕ) (x y : Line) → LineTransition lease loses pinned t x u y → t ≤ u
-moves_rise lease loses pinned t u x y (evict_clean line is) = omega arith
-moves_rise lease loses pinned t u x y (evict_dirty line is) = omega arith
-moves_rise lease loses pinned t u x y _ = omega arith
+moves_rise : {lease : ℕ} {loses : Bool} {pinned : ℕ → Type 0} {t u : ℕ} {x y : Line} →
+    LineTransition lease loses pinned t x u y → t ≤ u
+moves_rise (evict_clean line is) = omega arith
+moves_rise (evict_dirty line is) = omega arith
+moves_rise _ = omega arith
 
 -- the opening
 opened_line : (f : Config) (pts mts : ℕ → ℕ) (drams : ℕ → List ℕ) → OpensWith f drams → (l : ℕ) →
@@ -179,8 +174,7 @@ issue_ok : (f : Config) (m : Machine) (c : ℕ) (op : Op) → (m.cores c).open_o
 issue_ok f m c op none k =
     let core : Core = record (m.cores c) { open_op = Some op } in
     let idle = (k.cores c).idle none in
-    let at : length (m.issued c) ≡ length (of_core c m.records) =
-    subst (Opened (m.issued c) (length (of_core c m.records))) none (k.cores c).opened in
+    let at : length (m.issued c) ≡ length (of_core c m.records) = rw none at (k.cores c).opened in
     record {
       kept = Kept-issue f.opening m.issued (with_at m.issued c (m.issued c ++ op ∷ [])) m.records
           (with_at_cases (λ d ops. (more : List Op) × (ops ≡ m.issued d ++ more)) m.issued c (m.issued c ++ op ∷ [])
@@ -267,8 +261,7 @@ answer_ok : (f : Config) (m : Machine) (c l : ℕ) (y : Line) → Answers c (m.l
 answer_ok f m c l y a k =
     let core : Core = record (m.cores c) { out = false } in
     let one = waits_at_most f l (m.cores c).out (m.cores c).open_op in
-    let waited = answers_busy f (values f m.records) l m.records (busy f m.cores l) (m.mts (l % f.banks)) c
-    (m.lines l) y one a (k.lines l) in
+    let waited = answers_busy one a (k.lines l) in
     record {
       kept = k.kept;
       lines = with_at_cases (λ i x. Goes f (values f m.records) i m.records (busy f (with_at m.cores c core) i)
@@ -286,24 +279,22 @@ answer_ok f m c l y a k =
           (λ d ne. k.cores d);
     }
 
-move_ok : (f : Config) (m : Machine) (l t : ℕ) (y : Line) → LineTransition f.lease f.loses_recalls (IsPinned f m.cores l)
-    (m.mts (l % f.banks)) (m.lines l) t y → MachineOk f m →
+move_ok : (f : Config) (m : Machine) (l t : ℕ) (y : Line) → LineTransition f.lease f.loses_recalls
+    (IsPinned f m.cores l) (m.mts (l % f.banks)) (m.lines l) t y → MachineOk f m →
     MachineOk f (record m { mts = with_at m.mts (l % f.banks) t; lines = with_at m.lines l y })
 move_ok f m l t y mv k =
-    let up = moves_rise f.lease f.loses_recalls (IsPinned f m.cores l) (m.mts (l % f.banks)) t (m.lines l) y mv in
+    let up = moves_rise mv in
     record {
       kept = k.kept;
       lines = with_at_cases (λ i x. Goes f (values f m.records) i m.records (busy f m.cores i)
           (with_at m.mts (l % f.banks) t (i % f.banks)) x) m.lines l y
           (subst (λ (u : ℕ). Goes f (values f m.records) l m.records (busy f m.cores l) u y)
           (sym (with_at_same m.mts (l % f.banks) t))
-          (moves_keep f (values f m.records) l m.records (busy f m.cores l) f.lease f.loses_recalls (IsPinned f m.cores l)
-          (λ c un. waits_unpinned f l (m.cores c).out (m.cores c).open_op un) (m.mts (l % f.banks)) (m.lines l)
-          t y mv (k.lines l)))
+          (moves_keep f (values f m.records) l m.records (busy f m.cores l)
+          (λ c un. waits_unpinned f l (m.cores c).out (m.cores c).open_op un) mv (k.lines l)))
           (λ i ne. with_at_cases (λ b u. b ≡ i % f.banks → Goes f (values f m.records) i m.records (busy f m.cores i)
           u (m.lines i)) m.mts (l % f.banks) t
-          (λ e. goes_later
-          (subst (λ (b : ℕ). m.mts b ≤ t) e up) (k.lines i))
+          (λ e. goes_later (subst (λ (b : ℕ). m.mts b ≤ t) e up) (k.lines i))
           (λ b nb e. subst (λ (b' : ℕ). Goes f (values f m.records) i m.records (busy f m.cores i) (m.mts b')
           (m.lines i)) (sym e) (k.lines i))
           (i % f.banks) refl);

@@ -52,7 +52,9 @@ Current-raise f h records l s rts le c =
     }
 
 -- it may be held to begin later
-pub Current-fill : (f : Config) (h : ℕ → Memory) (records : List Record) (l : ℕ) (s : Timed) (t : ℕ) (words : List ℕ) → s.rts ≤ t → words ≡ s.words → Current f h records l s → Current f h records l (record { wts = t; rts = t; words = words })
+pub Current-fill : (f : Config) (h : ℕ → Memory) (records : List Record) (l : ℕ) (s : Timed) (t : ℕ)
+    (words : List ℕ) → s.rts ≤ t → words ≡ s.words → Current f h records l s →
+    Current f h records l (record { wts = t; rts = t; words = words })
 Current-fill f h records l s t words le e c =
     record {
       order = (le_refl _);

@@ -6,13 +6,12 @@ use Rattle.std.proofs.lemmas.Bool.{cases_eq}
 use Rattle.physiological_order.specs.declared.operation.Record.{Record}
 use Rattle.physiological_order.specs.Order.{Memory}
 use Rattle.protocol.specs.Machine.{Config, Timed, Copy, Entry, Absent, Loading, Shared, Exclusive, Recalling, Storing}
-use Rattle.protocol.specs.Machine.{Message, ShReq, ExReq, ShRep, ExRep, RenewRep, UpgradeRep, FlushReq, WbReq}
-use Rattle.protocol.specs.Machine.{FlushRep, WbRep, DramLd, DramLdRep, DramSt, DramStRep, Line, with_at}
-use Rattle.protocol.specs.Machine.{LineTransition, evict_shared, evict_exclusive, dropped, wb_dropped, flushed}
-use Rattle.protocol.specs.Machine.{written_back, load_starts, renewed, leased, upgraded, granted, wb_starts}
-use Rattle.protocol.specs.Machine.{flush_starts, flush_returns, wb_returns, loaded, stored, evict_clean, evict_dirty}
-use Rattle.protocol.specs.Machine.{shuffled, dram_loads, dram_stores}
-use Rattle.protocol.specs.Machine.{tally}
+use Rattle.protocol.specs.Machine.{Message, ShReq, ExReq, ShRep, ExRep, RenewRep, UpgradeRep, FlushReq, WbReq, FlushRep}
+use Rattle.protocol.specs.Machine.{WbRep, DramLd, DramLdRep, DramSt, DramStRep, Line, with_at, LineTransition}
+use Rattle.protocol.specs.Machine.{evict_shared, evict_exclusive, dropped, wb_dropped, flushed, written_back}
+use Rattle.protocol.specs.Machine.{load_starts, renewed, leased, upgraded, granted, wb_starts, flush_starts}
+use Rattle.protocol.specs.Machine.{flush_returns, wb_returns, loaded, stored, evict_clean, evict_dirty, shuffled}
+use Rattle.protocol.specs.Machine.{dram_loads, dram_stores, tally}
 use Rattle.protocol.proofs.Bags.{tally-taken, each_taken}
 use Rattle.protocol.proofs.Lease.{Current, Leased, Leased-from_Current, Current-raise, Current-fill, Leased-renew}
 use Rattle.protocol.proofs.Lease.{Current-upgrade}
@@ -81,10 +80,10 @@ module _ (f : Config) (h : ℕ → Memory) (l : ℕ) (records : List Record) (bu
   lost x ms c y e d = ⊎_elim (λ (q : d ≡ c). inl (subst (λ (i : ℕ). tally (about i) ms ≡ 0) (sym q) e))
       (λ (n : d ≡ c → ⊥). inr (sym (with_at_other x.copies c y d n))) (cases_eq d c)
 
-  ok_evict_shared : (t : ℕ) (x : Line) (s : Timed) (b : Holder) (c : ℕ) (copy : Copy) → busy c ≡ 0 →
+  ok_evict_shared : {t : ℕ} (x : Line) {s : Timed} {b : Holder} (c : ℕ) (copy : Copy) → busy c ≡ 0 →
       x.copies c ≡ Some copy → copy.exclusive ≡ false → Ok t x s b →
       Ok t (record x { copies = with_at x.copies c None }) s b
-  ok_evict_shared t x s b c copy free is sh k =
+  ok_evict_shared {t} x {s} {b} c copy free is sh k =
       record {
         current = k.current;
         top = k.top;
@@ -105,9 +104,9 @@ module _ (f : Config) (h : ℕ → Memory) (l : ℕ) (records : List Record) (bu
       }
 
   -- messages are a bag
-  pub ok_shuffled : (t : ℕ) (x : Line) (s : Timed) (b : Holder) (ms : List Message) → IsPermutation x.messages ms →
+  pub ok_shuffled : {t : ℕ} (x : Line) {s : Timed} {b : Holder} (ms : List Message) → IsPermutation x.messages ms →
       Ok t x s b → Ok t (record x { messages = ms }) s b
-  ok_shuffled t x s b ms p k =
+  ok_shuffled {t} x {s} {b} ms p k =
       with_bag f h l k x.entry ms x.dram
       (each_taken (MessageOk f h l k.top s x.copies x.dram) x.messages ms p k.messages)
       (sym (tally-taken right x.messages ms p) ∙ k.owner_count) (sym (tally-taken load x.messages ms p) ∙ k.loads)
@@ -119,19 +118,19 @@ module _ (f : Config) (h : ℕ → Memory) (l : ℕ) (records : List Record) (bu
   Has t x m rest s b = Ok t (record x { messages = m ∷ rest }) s b
 
   -- a message that counts as nothing may go
-  ok_without : (t : ℕ) (x : Line) (s : Timed) (b : Holder) (m : Message) (rest : List Message) → right m ≡ 0 →
+  ok_without : {t : ℕ} (x : Line) {s : Timed} {b : Holder} (m : Message) (rest : List Message) → right m ≡ 0 →
       load m ≡ 0 → store m ≡ 0 → ((c : ℕ) → about c m ≡ 0) → Has t x m rest s b →
       Ok t (record x { messages = rest }) s b
-  ok_without t x s b m rest r d w a k =
+  ok_without {t} x {s} {b} m rest r d w a k =
       with_bag f h l k x.entry rest x.dram k.messages.1 (let q = k.owner_count in omega arith)
       (let q = k.loads in omega arith) (let q = k.stores in omega arith)
       (λ c. let q = k.asks c in let z = a c in omega arith) k.entry
 
   -- the owner sends the line back, as it stands or leased longer
-  ok_evict_exclusive : (t : ℕ) (x : Line) (s : Timed) (b : Holder) (c : ℕ) (copy : Copy) → busy c ≡ 0 →
+  ok_evict_exclusive : {t : ℕ} (x : Line) {s : Timed} {b : Holder} (c : ℕ) (copy : Copy) → busy c ≡ 0 →
       x.copies c ≡ Some copy → copy.exclusive ≡ true → Ok t x s b →
       Ok t (record x { copies = with_at x.copies c None; messages = FlushRep c copy.line ∷ x.messages }) s Flying
-  ok_evict_exclusive t x s b c copy free is ex k =
+  ok_evict_exclusive {t} x {s} {b} c copy free is ex k =
       let own = (k.copies c copy is).0 ex in
       let away : b ≢ Bank = λ e. At≢Bank c (sym own.0 ∙ e) in
       let no_owner : tally right x.messages ≡ 0 = k.owner_count ∙ ap flying own.0 in
@@ -157,7 +156,7 @@ module _ (f : Config) (h : ℕ → Memory) (l : ℕ) (records : List Record) (bu
         entry = e.2 s Flying (λ q. cc);
       }
 
-  ok_written_back : (t : ℕ) (x : Line) (s : Timed) (b : Holder) (c rts : ℕ) (copy : Copy) → busy c ≡ 0 →
+  ok_written_back : {t : ℕ} (x : Line) {s : Timed} {b : Holder} (c rts : ℕ) (copy : Copy) → busy c ≡ 0 →
       x.copies c ≡ Some copy → copy.exclusive ≡ true → copy.line.rts ≤ rts → Ok t x s b →
       Ok t (record x {
         copies =
@@ -166,7 +165,7 @@ module _ (f : Config) (h : ℕ → Memory) (l : ℕ) (records : List Record) (bu
         messages =
             WbRep c (record (copy.line) { rts = rts }) ∷ x.messages;
       }) (record (copy.line) { rts = rts }) Flying
-  ok_written_back t x s b c rts copy free is ex le k =
+  ok_written_back {t} x {s} {b} c rts copy free is ex le k =
       let own = (k.copies c copy is).0 ex in
       let u : Timed = record (copy.line) { rts = rts } in
       let new : Option Copy = Some (record { exclusive = false; written = false; line = u }) in
@@ -205,19 +204,19 @@ module _ (f : Config) (h : ℕ → Memory) (l : ℕ) (records : List Record) (bu
       }
 
   -- a recall is only a request
-  ok_recalls : (t : ℕ) (x : Line) (s : Timed) (b : Holder) (owner : ℕ) (m : Message) → x.entry ≡ Exclusive owner →
+  ok_recalls : {t : ℕ} (x : Line) {s : Timed} {b : Holder} (owner : ℕ) (m : Message) → x.entry ≡ Exclusive owner →
       ((top : ℕ) → MessageOk f h l top s x.copies x.dram m) → right m ≡ 0 → load m ≡ 0 → store m ≡ 0 →
       ((c : ℕ) → about c m ≡ 0) → Ok t x s b → Ok t (record x { entry = Recalling owner; messages = m ∷ x.messages })
       s b
-  ok_recalls t x s b owner m is fine r d w a k =
+  ok_recalls {t} x {s} {b} owner m is fine r d w a k =
       with_bag f h l k (Recalling owner) (m ∷ x.messages) x.dram (fine k.top, k.messages)
       (let q = k.owner_count in omega arith) (let q = k.loads ∙ ap loading is in omega arith)
       (let q = k.stores ∙ ap storing is in omega arith) (λ c. let q = k.asks c in let z = a c in omega arith)
       (subst (EntryOk s b t x.dram) is k.entry)
 
-  ok_load_starts : (t : ℕ) (x : Line) (s : Timed) (b : Holder) → x.entry ≡ Absent → Ok t x s b →
+  ok_load_starts : {t : ℕ} (x : Line) {s : Timed} {b : Holder} → x.entry ≡ Absent → Ok t x s b →
       Ok t (record x { entry = Loading; messages = DramLd ∷ x.messages }) s b
-  ok_load_starts t x s b is k =
+  ok_load_starts {t} x {s} {b} is k =
       with_bag f h l k Loading (DramLd ∷ x.messages) x.dram (tt, k.messages) (zero_more _ _ k.owner_count)
       (let q = k.loads ∙ ap loading is in omega arith) (let q = k.stores ∙ ap storing is in omega arith)
       (λ c. zero_more _ _ (k.asks c)) (subst (EntryOk s b t x.dram) is k.entry)
@@ -227,14 +226,14 @@ module _ (f : Config) (h : ℕ → Memory) (l : ℕ) (records : List Record) (bu
   at_bank s b e c q = At≢Bank c (sym q ∙ e)
 
   -- a Shared line is leased longer, whatever reply goes out
-  ok_leases : (t : ℕ) (x : Line) (s : Timed) (b : Holder) (dirty : Bool) (line : Timed) (rts : ℕ) (m n : Message)
+  ok_leases : {t : ℕ} (x : Line) {s : Timed} {b : Holder} (dirty : Bool) (line : Timed) (rts : ℕ) (m n : Message)
       (rest : List Message) → x.entry ≡ Shared dirty line → line.rts ≤ rts → right m ≡ 0 → right n ≡ 0 → load m ≡ 0 →
       load n ≡ 0 → store m ≡ 0 → store n ≡ 0 → ((c : ℕ) → about c m ≡ about c n) →
       ((top : ℕ) → Current f h records l line → MessageOk f h l top line x.copies x.dram m →
       MessageOk f h l rts (record line { rts = rts }) x.copies x.dram n) →
       Has t x m rest s b → Ok t (record x { entry = Shared dirty (record line { rts = rts }); messages = n ∷ rest })
       (record line { rts = rts }) Bank
-  ok_leases t x s b dirty line rts m n rest is le rm rn dm dn wm wn a answer k =
+  ok_leases {t} x {s} {b} dirty line rts m n rest is le rm rn dm dn wm wn a answer k =
       let u : Timed = record line { rts = rts } in
       let e : EntryOk s b t x.dram (Shared dirty line) = subst (EntryOk s b t x.dram) is k.entry in
       let no_owners : right m + tally right rest ≡ 0 = k.owner_count ∙ ap flying e.0 in
@@ -264,12 +263,12 @@ module _ (f : Config) (h : ℕ → Memory) (l : ℕ) (records : List Record) (bu
       }
 
   -- the right goes out to a core, with the line or with a word that the core's own copy stands
-  ok_grants : (t : ℕ) (x : Line) (s u : Timed) (b : Holder) (owner : ℕ) (dirty : Bool) (line : Timed) (m n : Message)
-      (rest : List Message) → x.entry ≡ Shared dirty line → right m ≡ 0 → right n ≡ 1 → load m ≡ 0 → load n ≡ 0 →
-      store m ≡ 0 → store n ≡ 0 → ((c : ℕ) → about c m ≡ about c n) →
+  ok_grants : {t : ℕ} (x : Line) {s : Timed} (u : Timed) {b : Holder} (owner : ℕ) (dirty : Bool) (line : Timed)
+      (m n : Message) (rest : List Message) → x.entry ≡ Shared dirty line → right m ≡ 0 → right n ≡ 1 → load m ≡ 0 →
+      load n ≡ 0 → store m ≡ 0 → store n ≡ 0 → ((c : ℕ) → about c m ≡ about c n) →
       Current f h records l u → s.rts ≤ u.rts → MessageOk f h l u.rts u x.copies x.dram n →
       Has t x m rest s b → Ok t (record x { entry = Exclusive owner; messages = n ∷ rest }) u Flying
-  ok_grants t x s u b owner dirty line m n rest is rm rn dm dn wm wn a st up answer k =
+  ok_grants {t} x {s} u {b} owner dirty line m n rest is rm rn dm dn wm wn a st up answer k =
       let e : EntryOk s b t x.dram (Shared dirty line) = subst (EntryOk s b t x.dram) is k.entry in
       let no_owners : right m + tally right rest ≡ 0 = k.owner_count ∙ ap flying e.0 in
       let no_loads : load m + tally load rest ≡ 0 = k.loads ∙ ap loading is in
@@ -295,11 +294,11 @@ module _ (f : Config) (h : ℕ → Memory) (l : ℕ) (records : List Record) (bu
       }
 
   -- the right comes back
-  ok_returns : (t : ℕ) (x : Line) (s : Timed) (b : Holder) (line : Timed) (m : Message) (rest : List Message) →
+  ok_returns : {t : ℕ} (x : Line) {s : Timed} {b : Holder} (line : Timed) (m : Message) (rest : List Message) →
       right m ≡ 1 → load m ≡ 0 → store m ≡ 0 → ((c : ℕ) → about c m ≡ 0) →
       ((top : ℕ) → MessageOk f h l top s x.copies x.dram m → line ≡ s) →
       Has t x m rest s b → Ok t (record x { entry = Shared true line; messages = rest }) s Bank
-  ok_returns t x s b line m rest r d w a tells k =
+  ok_returns {t} x {s} {b} line m rest r d w a tells k =
       let one = at_most_one b in
       let all : right m + tally right rest ≡ flying b = k.owner_count in
       let fl : b ≡ Flying = flying_one b (omega arith) in
@@ -322,11 +321,11 @@ module _ (f : Config) (h : ℕ → Memory) (l : ℕ) (records : List Record) (bu
       }
 
   -- the words come from DRAM, at the bank's time
-  ok_loaded : (t : ℕ) (x : Line) (s : Timed) (b : Holder) (words : List ℕ) (rest : List Message) →
+  ok_loaded : {t : ℕ} (x : Line) {s : Timed} {b : Holder} (words : List ℕ) (rest : List Message) →
       Has t x (DramLdRep words) rest s b →
       let u : Timed = record { wts = t; rts = t; words = words } in
       Ok t (record x { entry = Shared false u; messages = rest }) u Bank
-  ok_loaded t x s b words rest k =
+  ok_loaded {t} x {s} {b} words rest k =
       let u : Timed = record { wts = t; rts = t; words = words } in
       let one = loads_at_most_one x.entry in
       let all : 1 + tally load rest ≡ loading x.entry = k.loads in
@@ -351,9 +350,9 @@ module _ (f : Config) (h : ℕ → Memory) (l : ℕ) (records : List Record) (bu
         entry = (refl, refl, λ z. e.2 ∙ sym told);
       }
 
-  ok_stored : (t : ℕ) (x : Line) (s : Timed) (b : Holder) (rest : List Message) → Has t x DramStRep rest s b →
+  ok_stored : {t : ℕ} (x : Line) {s : Timed} {b : Holder} (rest : List Message) → Has t x DramStRep rest s b →
       Ok t (record x { entry = Absent; messages = rest }) s b
-  ok_stored t x s b rest k =
+  ok_stored {t} x {s} {b} rest k =
       let one = stores_at_most_one x.entry in
       let all : 1 + tally store rest ≡ storing x.entry = k.stores in
       let is = storing_one x.entry (omega arith) in
@@ -362,17 +361,17 @@ module _ (f : Config) (h : ℕ → Memory) (l : ℕ) (records : List Record) (bu
       (let q = k.loads ∙ ap loading is in omega arith) (omega arith) (λ c. let q = k.asks c in omega arith)
       (e.0, e.1, k.messages.0)
 
-  ok_evict_clean : (t : ℕ) (x : Line) (s : Timed) (b : Holder) (line : Timed) → x.entry ≡ Shared false line →
+  ok_evict_clean : {t : ℕ} (x : Line) {s : Timed} {b : Holder} (line : Timed) → x.entry ≡ Shared false line →
       Ok t x s b → Ok (max t line.rts) (record x { entry = Absent }) s b
-  ok_evict_clean t x s b line is k =
+  ok_evict_clean {t} x {s} {b} line is k =
       let e : EntryOk s b t x.dram (Shared false line) = subst (EntryOk s b t x.dram) is k.entry in
       let r : line.rts ≡ s.rts = ap (λ (y : Timed). y.rts) e.1 in
       with_bag f h l k Absent x.messages x.dram k.messages k.owner_count (k.loads ∙ ap loading is)
       (k.stores ∙ ap storing is) k.asks (e.0, omega arith, e.2 refl)
 
-  ok_evict_dirty : (t : ℕ) (x : Line) (s : Timed) (b : Holder) (line : Timed) → x.entry ≡ Shared true line →
+  ok_evict_dirty : {t : ℕ} (x : Line) {s : Timed} {b : Holder} (line : Timed) → x.entry ≡ Shared true line →
       Ok t x s b → Ok (max t line.rts) (record x { entry = Storing; messages = DramSt line.words ∷ x.messages }) s b
-  ok_evict_dirty t x s b line is k =
+  ok_evict_dirty {t} x {s} {b} line is k =
       let e : EntryOk s b t x.dram (Shared true line) = subst (EntryOk s b t x.dram) is k.entry in
       let r : line.rts ≡ s.rts = ap (λ (y : Timed). y.rts) e.1 in
       with_bag f h l k Storing (DramSt line.words ∷ x.messages) x.dram
@@ -380,9 +379,9 @@ module _ (f : Config) (h : ℕ → Memory) (l : ℕ) (records : List Record) (bu
       (zero_more _ _ (k.loads ∙ ap loading is)) (let q = k.stores ∙ ap storing is in omega arith)
       (λ c. zero_more _ _ (k.asks c)) (e.0, omega arith)
 
-  ok_dram_loads : (t : ℕ) (x : Line) (s : Timed) (b : Holder) (rest : List Message) → Has t x DramLd rest s b →
+  ok_dram_loads : {t : ℕ} (x : Line) {s : Timed} {b : Holder} (rest : List Message) → Has t x DramLd rest s b →
       Ok t (record x { messages = DramLdRep x.dram ∷ rest }) s b
-  ok_dram_loads t x s b rest k =
+  ok_dram_loads {t} x {s} {b} rest k =
       let one = loads_at_most_one x.entry in
       let all : 1 + tally load rest ≡ loading x.entry = k.loads in
       let is = loading_one x.entry (omega arith) in
@@ -390,9 +389,9 @@ module _ (f : Config) (h : ℕ → Memory) (l : ℕ) (records : List Record) (bu
       with_bag f h l k x.entry (DramLdRep x.dram ∷ rest) x.dram (e.2, k.messages.1) k.owner_count k.loads k.stores
       k.asks k.entry
 
-  ok_dram_stores : (t : ℕ) (x : Line) (s : Timed) (b : Holder) (words : List ℕ) (rest : List Message) →
+  ok_dram_stores : {t : ℕ} (x : Line) {s : Timed} {b : Holder} (words : List ℕ) (rest : List Message) →
       Has t x (DramSt words) rest s b → Ok t (record x { dram = words; messages = DramStRep ∷ rest }) s b
-  ok_dram_stores t x s b words rest k =
+  ok_dram_stores {t} x {s} {b} words rest k =
       let one = stores_at_most_one x.entry in
       let all : 1 + tally store rest ≡ storing x.entry = k.stores in
       let is = storing_one x.entry (omega arith) in
@@ -417,10 +416,10 @@ module _ (f : Config) (h : ℕ → Memory) (l : ℕ) (records : List Record) (bu
             (le_trans st.order le),
       )
 
-  ok_upgraded : (t : ℕ) (x : Line) (s : Timed) (b : Holder) (c : ℕ) (dirty : Bool) (line : Timed)
+  ok_upgraded : {t : ℕ} (x : Line) {s : Timed} {b : Holder} (c : ℕ) (dirty : Bool) (line : Timed)
       (rest : List Message) → x.entry ≡ Shared dirty line → Has t x (ExReq c (Some line.wts)) rest s b →
       Goes t (record x { entry = Exclusive c; messages = UpgradeRep c line.rts ∷ rest })
-  ok_upgraded t x s b c dirty line rest is k =
+  ok_upgraded {t} x {s} {b} c dirty line rest is k =
       let e : EntryOk s b t x.dram (Shared dirty line) = subst (EntryOk s b t x.dram) is k.entry in
       let a = k.messages.0 in
       let u : Timed = record (a.0.line) { rts = s.rts } in
@@ -428,58 +427,50 @@ module _ (f : Config) (h : ℕ → Memory) (l : ℕ) (records : List Record) (bu
       (a.3 ∙ ap (λ (y : Timed). y.wts) e.1) in (
         u,
         Flying,
-        ok_grants t x s u b c dirty line (ExReq c (Some line.wts)) (UpgradeRep c line.rts) rest is refl refl refl
+        ok_grants x u c dirty line (ExReq c (Some line.wts)) (UpgradeRep c line.rts) rest is refl refl refl
             refl refl refl (λ d. refl) st (le_refl _)
             (a.0, a.1, a.2, ap (λ (r : ℕ). record (a.0.line) { rts = r }) (ap (λ (y : Timed). y.rts) e.1)) k,
       )
 
   -- every move of one line keeps it
-  pub moves_keep : (lease : ℕ) (loses : Bool) (pinned : ℕ → Type 0) → ((c : ℕ) → (pinned c → ⊥) → busy c ≡ 0) →
-      (t : ℕ) (x : Line) (u : ℕ) (y : Line) → LineTransition lease loses pinned t x u y → Goes t x → Goes u y
-  moves_keep lease loses pinned free t x u y move k = by_move u y move
+  pub moves_keep : {lease : ℕ} {loses : Bool} {pinned : ℕ → Type 0} {t : ℕ} {x : Line} {u : ℕ} {y : Line} →
+      ((c : ℕ) → (pinned c → ⊥) → busy c ≡ 0) → LineTransition lease loses pinned t x u y → Goes t x → Goes u y
+  moves_keep {lease} {loses} {pinned} {t} {x} free move k = by_move move
     where
       -- a message that is taken comes first
       has : (m : Message) (rest : List Message) → IsPermutation x.messages (m ∷ rest) → Has t x m rest k.0 k.1
-      has m rest p = ok_shuffled t x k.0 k.1 (m ∷ rest) p k.2
+      has m rest p = ok_shuffled x (m ∷ rest) p k.2
 
-      by_move : (u : ℕ) (y : Line) → LineTransition lease loses pinned t x u y → Goes u y
-      by_move u y (evict_shared c copy un is sh) =
-          (k.0, k.1, ok_evict_shared t x k.0 k.1 c copy (free c un) is sh k.2)
-      by_move u y (evict_exclusive c copy un is ex) =
-          (k.0, Flying, ok_evict_exclusive t x k.0 k.1 c copy (free c un) is ex k.2)
-      by_move u y (dropped c rest p may) =
-          (k.0, k.1, ok_without t x k.0 k.1 (FlushReq c) rest refl refl refl (λ d. refl) (has _ rest p))
-      by_move u y (wb_dropped c until rest p may) =
-          (k.0, k.1, ok_without t x k.0 k.1 (WbReq c until) rest refl refl refl (λ d. refl) (has _ rest p))
-      by_move u y (flushed c rest copy p un is ex) = (
-        k.0,
-        Flying,
-        ok_evict_exclusive t (record x { messages = rest }) k.0 k.1 c copy (free c un) is ex
-            (ok_without t x k.0 k.1 (FlushReq c) rest refl refl refl (λ d. refl) (has _ rest p)),
-      )
-      by_move u y (written_back c until rest copy p un is ex) = (
-        _,
-        Flying,
-        ok_written_back t (record x { messages = rest }) k.0 k.1 c
-            (max (max copy.line.rts (copy.line.wts + lease)) until) copy (free c un) is ex (omega arith)
-            (ok_without t x k.0 k.1 (WbReq c until) rest refl refl refl (λ d. refl) (has _ rest p)),
-      )
-      by_move u y (load_starts is) = (k.0, k.1, ok_load_starts t x k.0 k.1 is k.2)
-      by_move u y (renewed c pts dirty line rest is p) =
+      by_move : {u : ℕ} {y : Line} → LineTransition lease loses pinned t x u y → Goes u y
+      by_move (evict_shared c copy un is sh) = (k.0, k.1, ok_evict_shared x c copy (free c un) is sh k.2)
+      by_move (evict_exclusive c copy un is ex) = (k.0, Flying, ok_evict_exclusive x c copy (free c un) is ex k.2)
+      by_move (dropped c rest p may) =
+          (k.0, k.1, ok_without x (FlushReq c) rest refl refl refl (λ d. refl) (has _ rest p))
+      by_move (wb_dropped c until rest p may) =
+          (k.0, k.1, ok_without x (WbReq c until) rest refl refl refl (λ d. refl) (has _ rest p))
+      by_move (flushed c rest copy p un is ex) =
+          let gone = ok_without x (FlushReq c) rest refl refl refl (λ d. refl) (has _ rest p) in
+          (k.0, Flying, ok_evict_exclusive (record x { messages = rest }) c copy (free c un) is ex gone)
+      by_move (written_back c until rest copy p un is ex) =
+          let gone = ok_without x (WbReq c until) rest refl refl refl (λ d. refl) (has _ rest p) in
+          let rts = max (max copy.line.rts (copy.line.wts + lease)) until in
+          (_, Flying, ok_written_back (record x { messages = rest }) c rts copy (free c un) is ex (omega arith) gone)
+      by_move (load_starts is) = (k.0, k.1, ok_load_starts x is k.2)
+      by_move (renewed c pts dirty line rest is p) =
           let rts = max (max line.rts (line.wts + lease)) (pts + lease) in (
             _,
             Bank,
-            ok_leases t x k.0 k.1 dirty line rts (ShReq c pts (Some line.wts)) (RenewRep c rts) rest is (omega arith)
+            ok_leases x dirty line rts (ShReq c pts (Some line.wts)) (RenewRep c rts) rest is (omega arith)
                 refl refl refl refl refl refl (λ d. refl)
                 (renewed_ok x c pts k.2.top line rts (omega arith) (λ cp i sh. (k.2.copies c cp i).1 sh))
                 (has _ rest p),
           )
-      by_move u y (leased c pts version dirty line rest is p) =
+      by_move (leased c pts version dirty line rest is p) =
           let rts = max (max line.rts (line.wts + lease)) (pts + lease) in
           let le : line.rts ≤ rts = omega arith in (
             _,
             Bank,
-            ok_leases t x k.0 k.1 dirty line rts (ShReq c pts version) (ShRep c (record line { rts = rts })) rest is le
+            ok_leases x dirty line rts (ShReq c pts version) (ShRep c (record line { rts = rts })) rest is le
                 refl refl refl refl refl refl (λ d. refl)
                 (λ top st q. (
                   q.0,
@@ -487,27 +478,26 @@ module _ (f : Config) (h : ℕ → Memory) (l : ℕ) (records : List Record) (bu
                       (Current-raise f h records l line rts le st),
                 )) (has _ rest p),
           )
-      by_move u y (upgraded c dirty line rest is p) = ok_upgraded t x k.0 k.1 c dirty line rest is (has _ rest p)
-      by_move u y (granted c version dirty line rest is p) =
+      by_move (upgraded c dirty line rest is p) = ok_upgraded x c dirty line rest is (has _ rest p)
+      by_move (granted c version dirty line rest is p) =
           let e : EntryOk k.0 k.1 t x.dram (Shared dirty line) = subst (EntryOk k.0 k.1 t x.dram) is k.2.entry in (
             k.0,
             Flying,
-            ok_grants t x k.0 k.0 k.1 c dirty line (ExReq c version) (ExRep c line) rest is refl refl refl
+            ok_grants x k.0 c dirty line (ExReq c version) (ExRep c line) rest is refl refl refl
                 refl refl refl (λ d. refl) k.2.current (le_refl _) e.1 (has _ rest p),
           )
-      by_move u y (wb_starts owner until is) =
-          (k.0, k.1, ok_recalls t x k.0 k.1 owner (WbReq owner until) is (λ n. tt) refl refl refl (λ d. refl) k.2)
-      by_move u y (flush_starts owner is) =
-          (k.0, k.1, ok_recalls t x k.0 k.1 owner (FlushReq owner) is (λ n. tt) refl refl refl (λ d. refl) k.2)
-      by_move u y (flush_returns c line rest p) =
-          (k.0, Bank, ok_returns t x k.0 k.1 line _ rest refl refl refl (λ d. refl) (λ n e. e) (has _ rest p))
-      by_move u y (wb_returns c line rest p) =
-          (k.0, Bank, ok_returns t x k.0 k.1 line _ rest refl refl refl (λ d. refl) (λ n e. e) (has _ rest p))
-      by_move u y (loaded words rest p) = (_, Bank, ok_loaded t x k.0 k.1 words rest (has _ rest p))
-      by_move u y (stored rest p) = (k.0, k.1, ok_stored t x k.0 k.1 rest (has _ rest p))
-      by_move u y (evict_clean line is) = (k.0, k.1, ok_evict_clean t x k.0 k.1 line is k.2)
-      by_move u y (evict_dirty line is) = (k.0, k.1, ok_evict_dirty t x k.0 k.1 line is k.2)
-      by_move u y (shuffled ms p) = (k.0, k.1, ok_shuffled t x k.0 k.1 ms p k.2)
-      by_move u y (dram_loads rest p) = (k.0, k.1, ok_dram_loads t x k.0 k.1 rest (has _ rest p))
-      by_move u y (dram_stores words rest p) =
-          (k.0, k.1, ok_dram_stores t x k.0 k.1 words rest (has _ rest p))
+      by_move (wb_starts owner until is) =
+          (k.0, k.1, ok_recalls x owner (WbReq owner until) is (λ n. tt) refl refl refl (λ d. refl) k.2)
+      by_move (flush_starts owner is) =
+          (k.0, k.1, ok_recalls x owner (FlushReq owner) is (λ n. tt) refl refl refl (λ d. refl) k.2)
+      by_move (flush_returns c line rest p) =
+          (k.0, Bank, ok_returns x line _ rest refl refl refl (λ d. refl) (λ n e. e) (has _ rest p))
+      by_move (wb_returns c line rest p) =
+          (k.0, Bank, ok_returns x line _ rest refl refl refl (λ d. refl) (λ n e. e) (has _ rest p))
+      by_move (loaded words rest p) = (_, Bank, ok_loaded x words rest (has _ rest p))
+      by_move (stored rest p) = (k.0, k.1, ok_stored x rest (has _ rest p))
+      by_move (evict_clean line is) = (k.0, k.1, ok_evict_clean x line is k.2)
+      by_move (evict_dirty line is) = (k.0, k.1, ok_evict_dirty x line is k.2)
+      by_move (shuffled ms p) = (k.0, k.1, ok_shuffled x ms p k.2)
+      by_move (dram_loads rest p) = (k.0, k.1, ok_dram_loads x rest (has _ rest p))
+      by_move (dram_stores words rest p) = (k.0, k.1, ok_dram_stores x words rest (has _ rest p))

@@ -1,12 +1,11 @@
-use Rattle.std.proofs.Common.{◌≡◌, ◌≢◌, ℕ, zero, suc, ◌+◌, ◌<◌, ◌≤◌, Bool, true, false, cond, List, [], ◌∷◌, Option}
-use Rattle.std.proofs.Common.{Some, None, refl, sym, ap, ap₂, ◌∙◌, arith, ⊎_elim}
-use Rattle.std.proofs.lemmas.Bool.{cases_eq}
+use Rattle.std.proofs.Common.{◌≡◌, ◌≢◌, ℕ, zero, suc, ◌+◌, ◌<◌, ◌≤◌, List, [], ◌∷◌, Option, Some, None, refl, sym, ap}
+use Rattle.std.proofs.Common.{ap₂, ◌∙◌, arith, ⊎_elim}
+use Rattle.std.proofs.lemmas.Bool.{cond_both, cases_eq}
 use Rattle.physiological_order.specs.declared.operation.Record.{Record}
 use Rattle.physiological_order.specs.Order.{Memory}
 use Rattle.protocol.specs.Machine.{Config, Timed, Copy, Message, Line, Machine, Reachable, owns, owned_below}
-use Rattle.protocol.specs.Machine.{carries_ownership, owners_in, owners}
-use Rattle.protocol.specs.Machine.{tally}
-use Rattle.protocol.proofs.Lines.{Holder, Bank, At, Flying, right, LineOk}
+use Rattle.protocol.specs.Machine.{carries_ownership, owners_in, owners, tally}
+use Rattle.protocol.proofs.Lines.{one_at_most, Holder, Bank, At, Flying, right, LineOk}
 use Rattle.protocol.proofs.Headline.{reachable_ok}
 
 owner_count-tally : (ms : List Message) → owners_in ms ≡ tally right ms
@@ -15,11 +14,7 @@ owner_count-tally (m ∷ ms) = ap (λ n. carries_ownership m + n) (owner_count-t
 
 owns_at_most : (y : Option Copy) → owns y ≤ 1
 owns_at_most None = omega arith
-owns_at_most (Some copy) = go copy.exclusive
-  where
-    go : (b : Bool) → cond b 1 0 ≤ 1
-    go true = omega arith
-    go false = omega arith
+owns_at_most (Some copy) = one_at_most copy.exclusive
 
 none_below : (copies : ℕ → Option Copy) (n : ℕ) → ((d : ℕ) → d < n → owns (copies d) ≡ 0) → owned_below copies n ≡ 0
 none_below copies zero h = refl
@@ -39,13 +34,10 @@ module _ (f : Config) (h : ℕ → Memory) (l : ℕ) (records : List Record) (bu
   owns_none : (b : Holder) → LineOk f h l records busy t x s b → (d : ℕ) → b ≢ At d → owns (x.copies d) ≡ 0
   owns_none b k d ne = go (x.copies d) refl
     where
-      shared : (copy : Copy) (e : Bool) → copy.exclusive ≡ e → x.copies d ≡ Some copy → ◌≡◌ {A = ℕ} (cond e 1 0) 0
-      shared copy true ex is = absurd (ne ((k.copies d copy is).0 ex).0)
-      shared copy false ex is = refl
-
       go : (y : Option Copy) → x.copies d ≡ y → owns y ≡ 0
       go None e = refl
-      go (Some copy) e = shared copy copy.exclusive refl e
+      go (Some copy) e = cond_both copy.exclusive _ _ (λ n. ◌≡◌ {A = ℕ} n 0)
+          (λ ex. absurd (ne ((k.copies d copy e).0 ex).0)) (λ sh. refl)
 
   one_owner : (b : Holder) (cores : ℕ) → LineOk f h l records busy t x s b → owners cores x ≤ 1
   one_owner Bank cores k = let r = owner_count-tally x.messages ∙ k.owner_count in let z =

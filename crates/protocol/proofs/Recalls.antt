@@ -1,25 +1,23 @@
-use Rattle.std.proofs.Common.{◌%◌, ◌≡◌, ◌≢◌, ℕ, ◌+◌, ◌<◌, ◌≤◌, Bool, true, false, cond, eqb, List, [], ◌∷◌, Option, Some, None}
-use Rattle.std.proofs.Common.{inl, inr, refl, sym, ap, ◌∙◌, subst, arith, le_trans, le_refl, ⊎_elim}
+use Rattle.std.proofs.Common.{◌%◌, ◌≡◌, ◌≢◌, ℕ, ◌+◌, ◌<◌, ◌≤◌, Bool, true, false, cond, eqb, List, [], ◌∷◌, Option}
+use Rattle.std.proofs.Common.{Some, None, inl, inr, refl, sym, ap, ◌∙◌, subst, arith, le_trans, le_refl, ⊎_elim}
 use Rattle.std.specs.List.Sorted.{IsPermutation}
-use Rattle.std.proofs.lemmas.Bool.{cases_eq, cond-true, cond-false, eq-eqb, ne_eqb}
+use Rattle.std.proofs.lemmas.Bool.{true_from_ne_false, cases_eq, cond-true, cond-false, eq-eqb, ne_eqb}
 use Rattle.physiological_order.specs.declared.operation.Op.{Op}
 use Rattle.physiological_order.specs.declared.operation.Record.{Record}
 use Rattle.physiological_order.specs.Order.{Memory, address}
-use Rattle.protocol.specs.Machine.{Config, Timed, Copy, Entry, Exclusive, Recalling}
-use Rattle.protocol.specs.Machine.{Message, ShRep, ExRep, RenewRep, UpgradeRep, FlushReq, WbReq}
-use Rattle.protocol.specs.Machine.{FlushRep, WbRep, DramLd, DramLdRep, DramSt, DramStRep, Line, with_at, tally, owns}
-use Rattle.protocol.specs.Machine.{LineTransition, evict_shared, evict_exclusive, dropped, wb_dropped, flushed}
-use Rattle.protocol.specs.Machine.{written_back, load_starts, renewed, leased, upgraded, granted, wb_starts}
-use Rattle.protocol.specs.Machine.{flush_starts, flush_returns, wb_returns, loaded, stored, evict_clean, evict_dirty}
-use Rattle.protocol.specs.Machine.{shuffled, dram_loads, dram_stores, NotOwned}
-use Rattle.protocol.specs.Machine.{Answers, shared, exclusive, renews, upgrades, Asks, to_read, to_write}
-use Rattle.protocol.specs.Machine.{Uses, load_hit, load_own, store_own, swap_own, Machine, Transition, issue, advance}
-use Rattle.protocol.specs.Machine.{ask, answer, complete, line_changes, Reachable, at_first, goes_on, line_of, IsPinned}
+use Rattle.protocol.specs.Machine.{Config, Timed, Copy, Entry, Exclusive, Recalling, Message, ShRep, ExRep, RenewRep}
+use Rattle.protocol.specs.Machine.{UpgradeRep, FlushReq, WbReq, FlushRep, WbRep, DramLd, DramLdRep, DramSt, DramStRep}
+use Rattle.protocol.specs.Machine.{Line, with_at, tally, owns, LineTransition, evict_shared, evict_exclusive, dropped}
+use Rattle.protocol.specs.Machine.{wb_dropped, flushed, written_back, upgraded, granted, wb_starts, flush_starts}
+use Rattle.protocol.specs.Machine.{shuffled, dram_loads, dram_stores, NotOwned, Answers, shared, exclusive, renews}
+use Rattle.protocol.specs.Machine.{upgrades, Asks, to_read, to_write, Uses, load_hit, load_own, store_own, swap_own}
+use Rattle.protocol.specs.Machine.{Machine, Transition, issue, advance, ask, answer, complete, line_changes, Reachable}
+use Rattle.protocol.specs.Machine.{at_first, goes_on, line_of, IsPinned}
 use Rattle.protocol.specs.Recalls.{recall_to, grant_to, return_of, OwnsOrWill, OwnerAnswers}
 use Rattle.protocol.proofs.Bags.{tally-taken}
-use Rattle.protocol.proofs.Lines.{Holder, flying, right, about, one_if, LineOk}
-use Rattle.protocol.proofs.Lines.{with_at_same, with_at_other, with_at_cases}
-use Rattle.protocol.proofs.LineChanges.{At_injective, at_most_one, ok_shuffled, Goes}
+use Rattle.protocol.proofs.Lines.{one_at_most, Holder, flying, right, about, one_if, LineOk, with_at_same}
+use Rattle.protocol.proofs.Lines.{with_at_other, with_at_cases}
+use Rattle.protocol.proofs.LineChanges.{At_injective, at_most_one, ok_shuffled}
 use Rattle.protocol.proofs.Cores.{Some_injective}
 use Rattle.protocol.proofs.Headline.{MachineOk, reachable_ok, waits_unpinned}
 
@@ -33,16 +31,12 @@ tally_both : {X : Type 0} (u v w : X → ℕ) → ((x : X) → u x + v x ≤ w x
 tally_both u v w le [] = omega arith
 tally_both u v w le (x ∷ xs) = let a = le x in let b = tally_both u v w le xs in omega arith
 
-at_most : (b : Bool) → cond b 1 0 ≤ 1
-at_most true = omega arith
-at_most false = omega arith
-
 -- grants and returns of one core have the right; a grant answers a request of its core
 rights : (c : ℕ) (m : Message) → grant_to c m + return_of c m ≤ right m
-rights c (ExRep d x) = let z = at_most (eqb d c) in omega arith
-rights c (UpgradeRep d r) = let z = at_most (eqb d c) in omega arith
-rights c (FlushRep d x) = let z = at_most (eqb d c) in omega arith
-rights c (WbRep d x) = let z = at_most (eqb d c) in omega arith
+rights c (ExRep d x) = let z = one_at_most (eqb d c) in omega arith
+rights c (UpgradeRep d r) = let z = one_at_most (eqb d c) in omega arith
+rights c (FlushRep d x) = let z = one_at_most (eqb d c) in omega arith
+rights c (WbRep d x) = let z = one_at_most (eqb d c) in omega arith
 rights c _ = omega arith
 
 one_if_cond : (b : Bool) → one_if b ≡ cond b 1 0
@@ -59,11 +53,12 @@ own c = cond-true (eqb c c) 1 0 (eq-eqb c c refl)
 
 pub owns_some : (y : Option Copy) → owns y ≡ 1 → (copy : Copy) × (y ≡ Some copy) × (copy.exclusive ≡ true)
 owns_some None e = absurd (omega arith)
-owns_some (Some copy) e = go copy.exclusive refl
-  where
-    go : (b : Bool) → copy.exclusive ≡ b → (k : Copy) × (Some copy ≡ Some k) × (k.exclusive ≡ true)
-    go true is = (copy, refl, is)
-    go false is = absurd (let z : owns (Some copy) ≡ 0 = cond-false copy.exclusive 1 0 is in omega arith)
+owns_some (Some copy) e = (
+  copy,
+  refl,
+  true_from_ne_false copy.exclusive
+      (λ is. let z : owns (Some copy) ≡ 0 = cond-false copy.exclusive 1 0 is in omega arith),
+)
 
 owns_one : (y : Option Copy) (copy : Copy) → y ≡ Some copy → copy.exclusive ≡ true → owns y ≡ 1
 owns_one y copy is ex = ap owns is ∙ cond-true copy.exclusive 1 0 ex
@@ -99,23 +94,29 @@ answers_stay x y s (Recalling c) (inl r) = inl (le_trans r (s.returns c))
 answers_stay x y s (Recalling c) (inr o) = inr (le_trans o.0 (s.recalls c), owns_or_will x y s c o.1)
 answers_stay x y s _ k = tt
 
+recall_other : (c d : ℕ) → d ≢ c → ◌≡◌ {A = ℕ} (cond (eqb c d) 1 0) 0
+recall_other c d n = cond-false (eqb c d) 1 0 (ne_eqb c d (λ e. n (sym e)))
+
+not_exclusive : (y : Option Copy) (copy : Copy) → y ≡ Some copy → copy.exclusive ≡ false → NotOwned y
+not_exclusive y copy is sh other e = ap (λ (k : Copy). k.exclusive) (Some_injective other copy (sym e ∙ is)) ∙ sh
+
 module _ (f : Config) (h : ℕ → Memory) (l : ℕ) (records : List Record) (busy : ℕ → ℕ) (t : ℕ) (x : Line) (s : Timed)
-    (b : Holder) (k : LineOk f h l records busy t x s b) where
+    (b : Holder) (ok : LineOk f h l records busy t x s b) where
   all_rights : (c : ℕ) → tally (grant_to c) x.messages + tally (return_of c) x.messages ≤ flying b
   all_rights c = let z = tally_both (grant_to c) (return_of c) right (rights c) x.messages in
-      let e = k.owner_count in omega arith
+      let e = ok.owner_count in omega arith
 
   -- the owner is the one that the entry names
   owner_at : (c o : ℕ) (copy : Copy) → x.copies c ≡ Some copy → copy.exclusive ≡ true → OwnsOrWill o x → o ≡ c
   owner_at c o copy is ex (inl owns_it) =
       let there = owns_some (x.copies o) owns_it in
-      At_injective o c (sym ((k.copies o there.0 there.1).0 there.2).0 ∙ ((k.copies c copy is).0 ex).0)
+      At_injective o c (sym ((ok.copies o there.0 there.1).0 there.2).0 ∙ ((ok.copies c copy is).0 ex).0)
   owner_at c o copy is ex (inr grants) =
-      absurd (let z = all_rights o in let e = ap flying ((k.copies c copy is).0 ex).0 in omega arith)
+      absurd (let z = all_rights o in let e = ap flying ((ok.copies c copy is).0 ex).0 in omega arith)
 
   none_returns : (c o : ℕ) (copy : Copy) → x.copies c ≡ Some copy → copy.exclusive ≡ true →
       tally (return_of o) x.messages ≡ 0
-  none_returns c o copy is ex = let z = all_rights o in let e = ap flying ((k.copies c copy is).0 ex).0 in omega arith
+  none_returns c o copy is ex = let z = all_rights o in let e = ap flying ((ok.copies c copy is).0 ex).0 in omega arith
 
   -- where an owner is, it is the core that the entry names
   named : (c : ℕ) (copy : Copy) → x.copies c ≡ Some copy → copy.exclusive ≡ true → (e : Entry) → OwnerAnswers x e →
@@ -132,7 +133,7 @@ module _ (f : Config) (h : ℕ → Memory) (l : ℕ) (records : List Record) (bu
   no_owner : (c : ℕ) → busy c ≡ 0 → NotOwned (x.copies c) → OwnsOrWill c x → ⊥
   no_owner c free not (inl o) = let z = owns_not (x.copies c) not in omega arith
   no_owner c free not (inr g) =
-      let z = tally_le (grant_to c) (about c) (granted_asks c) x.messages in let e = k.asks c in omega arith
+      let z = tally_le (grant_to c) (about c) (granted_asks c) x.messages in let e = ok.asks c in omega arith
 
   -- a bag with one message more, and with one exchanged for another
   more : (m : Message) (e : Entry) → Stays x (record x { entry = e; messages = m ∷ x.messages })
@@ -190,166 +191,143 @@ module _ (f : Config) (h : ℕ → Memory) (l : ℕ) (records : List Record) (bu
       go (inl z) = inl (omega arith)
       go (inr z) = inr (omega arith, owns_or_will x _ (more m (Recalling owner)) owner z)
 
-recall_other : (c d : ℕ) → d ≢ c → ◌≡◌ {A = ℕ} (cond (eqb c d) 1 0) 0
-recall_other c d n = cond-false (eqb c d) 1 0 (ne_eqb c d (λ e. n (sym e)))
+  module _ (q : OwnerAnswers x x.entry) where
+    -- every move of one line keeps what the entry says of the owner
+    pub moves_answer : {lease : ℕ} {pinned : ℕ → Type 0} → ((c : ℕ) → (pinned c → ⊥) → busy c ≡ 0) →
+        {u : ℕ} {y : Line} → LineTransition lease false pinned t x u y → OwnerAnswers y y.entry
+    moves_answer free {y = y} (evict_shared c copy un is sh) =
+        answers_stay x y (record {
+          owners = owns_same x.copies c None (sym (owns_not (x.copies c) (not_exclusive (x.copies c) copy is sh)));
+          grants = λ d. le_refl _;
+          returns = λ d. le_refl _;
+          recalls = λ d. le_refl _;
+        }) x.entry q
+    moves_answer free {y = y} (evict_exclusive c copy un is ex) =
+        named c copy is ex x.entry q y (let i = own c in omega arith)
+    moves_answer free (dropped c rest p may) =
+        without c (FlushReq c) rest p (λ d. refl) (λ d. refl) (recall_other c) (no_owner c (free c may.0) may.1)
+        x.entry q
+    moves_answer free (wb_dropped c until rest p may) =
+        without c (WbReq c until) rest p (λ d. refl) (λ d. refl) (recall_other c) (no_owner c (free c may.0) may.1)
+        x.entry q
+    moves_answer free {y = y} (flushed c rest copy p un is ex) =
+        named c copy is ex x.entry q y (let i = own c in omega arith)
+    moves_answer free {y = y} (written_back c until rest copy p un is ex) =
+        named c copy is ex x.entry q y (let i = own c in omega arith)
+    moves_answer free (upgraded c dirty line rest is p) = inr (inr (let i = own c in omega arith))
+    moves_answer free (granted c version dirty line rest is p) = inr (inr (let i = own c in omega arith))
+    moves_answer free (wb_starts owner until is) = recalled owner (WbReq owner until) is (own owner) q
+    moves_answer free (flush_starts owner is) = recalled owner (FlushReq owner) is (own owner) q
+    moves_answer free {y = y} (shuffled ms p) =
+        answers_stay x y (record {
+          owners = λ c. refl;
+          grants = λ c. let e = tally-taken (grant_to c) x.messages ms p in omega arith;
+          returns = λ c. let e = tally-taken (return_of c) x.messages ms p in omega arith;
+          recalls = λ c. let e = tally-taken (recall_to c) x.messages ms p in omega arith;
+        }) x.entry q
+    moves_answer free {y = y} (dram_loads rest p) =
+        answers_stay x y (exchanged DramLd (DramLdRep x.dram) rest x.dram p (λ c. refl) (λ c. refl) (λ c. refl))
+        x.entry q
+    moves_answer free {y = y} (dram_stores words rest p) =
+        answers_stay x y (exchanged (DramSt words) DramStRep rest words p (λ c. refl) (λ c. refl) (λ c. refl))
+        x.entry q
+    moves_answer free _ = tt
 
-not_exclusive : (y : Option Copy) (copy : Copy) → y ≡ Some copy → copy.exclusive ≡ false → NotOwned y
-not_exclusive y copy is sh other e = ap (λ (k : Copy). k.exclusive) (Some_injective other copy (sym e ∙ is)) ∙ sh
+    -- a request is no recall, grant or return
+    pub asks_answer : (c pts : ℕ) (op : Op) (y : Line) → Asks c pts op x y → OwnerAnswers y y.entry
+    asks_answer c pts op y (to_read a w) = answers_stay x y (more _ x.entry) x.entry q
+    asks_answer c pts op y (to_write w) = answers_stay x y (more _ x.entry) x.entry q
 
-module _ (f : Config) (h : ℕ → Memory) (l : ℕ) (records : List Record) (busy : ℕ → ℕ) (t : ℕ) (x : Line)
-    (goes : Goes f h l records busy t x) (q : OwnerAnswers x x.entry) where
-  ok : LineOk f h l records busy t x goes.0 goes.1
-  ok = goes.2
+    -- a reply that gives no right
+    replied : (c : ℕ) (m : Message) (rest : List Message) (new : Copy) → IsPermutation x.messages (m ∷ rest) →
+        ((d : ℕ) → grant_to d m ≡ 0) → ((d : ℕ) → return_of d m ≡ 0) → ((d : ℕ) → recall_to d m ≡ 0) →
+        owns (Some new) ≡ owns (x.copies c) →
+        Stays x (record x { copies = with_at x.copies c (Some new); messages = rest })
+    replied c m rest new p g r a same = record {
+      owners = owns_same x.copies c (Some new) same;
+      grants = λ d. let e = tally-taken (grant_to d) x.messages (m ∷ rest) p in let z = g d in omega arith;
+      returns = λ d. let e = tally-taken (return_of d) x.messages (m ∷ rest) p in let z = r d in omega arith;
+      recalls = λ d. let e = tally-taken (recall_to d) x.messages (m ∷ rest) p in let z = a d in omega arith;
+    }
 
-  -- every move of one line keeps what the entry says of the owner
-  pub moves_answer : (lease : ℕ) (pinned : ℕ → Type 0) → ((c : ℕ) → (pinned c → ⊥) → busy c ≡ 0) →
-      (u : ℕ) (y : Line) → LineTransition lease false pinned t x u y → OwnerAnswers y y.entry
-  moves_answer lease pinned free u y (evict_shared c copy un is sh) =
-      answers_stay x y (record {
-        owners = owns_same x.copies c None (sym (owns_not (x.copies c) (not_exclusive (x.copies c) copy is sh)));
-        grants = λ d. le_refl _;
-        returns = λ d. le_refl _;
-        recalls = λ d. le_refl _;
-      }) x.entry q
-  moves_answer lease pinned free u y (evict_exclusive c copy un is ex) =
-      named f h l records busy t x goes.0 goes.1 ok c copy is ex x.entry q y (let i = own c in omega arith)
-  moves_answer lease pinned free u y (dropped c rest p may) =
-      without f h l records busy t x goes.0 goes.1 ok c (FlushReq c) rest p (λ d. refl) (λ d. refl) (recall_other c)
-      (no_owner f h l records busy t x goes.0 goes.1 ok c (free c may.0) may.1) x.entry q
-  moves_answer lease pinned free u y (wb_dropped c until rest p may) =
-      without f h l records busy t x goes.0 goes.1 ok c (WbReq c until) rest p (λ d. refl) (λ d. refl)
-      (recall_other c) (no_owner f h l records busy t x goes.0 goes.1 ok c (free c may.0) may.1) x.entry q
-  moves_answer lease pinned free u y (flushed c rest copy p un is ex) =
-      named f h l records busy t x goes.0 goes.1 ok c copy is ex x.entry q y (let i = own c in omega arith)
-  moves_answer lease pinned free u y (written_back c until rest copy p un is ex) =
-      named f h l records busy t x goes.0 goes.1 ok c copy is ex x.entry q y (let i = own c in omega arith)
-  moves_answer lease pinned free u y (upgraded c dirty line rest is p) = inr (inr (let i = own c in omega arith))
-  moves_answer lease pinned free u y (granted c version dirty line rest is p) =
-      inr (inr (let i = own c in omega arith))
-  moves_answer lease pinned free u y (wb_starts owner until is) =
-      recalled f h l records busy t x goes.0 goes.1 ok owner (WbReq owner until) is (own owner) q
-  moves_answer lease pinned free u y (flush_starts owner is) =
-      recalled f h l records busy t x goes.0 goes.1 ok owner (FlushReq owner) is (own owner) q
-  moves_answer lease pinned free u y (shuffled ms p) =
-      answers_stay x y (record {
-        owners = λ c. refl;
-        grants = λ c. let e = tally-taken (grant_to c) x.messages ms p in omega arith;
-        returns = λ c. let e = tally-taken (return_of c) x.messages ms p in omega arith;
-        recalls = λ c. let e = tally-taken (recall_to c) x.messages ms p in omega arith;
-      }) x.entry q
-  moves_answer lease pinned free u y (dram_loads rest p) =
-      answers_stay x y (exchanged f h l records busy t x goes.0 goes.1 ok DramLd (DramLdRep x.dram) rest x.dram p
-      (λ c. refl) (λ c. refl) (λ c. refl)) x.entry q
-  moves_answer lease pinned free u y (dram_stores words rest p) =
-      answers_stay x y (exchanged f h l records busy t x goes.0 goes.1 ok (DramSt words) DramStRep rest words p
-      (λ c. refl) (λ c. refl) (λ c. refl)) x.entry q
-  moves_answer lease pinned free u y (load_starts is) = tt
-  moves_answer lease pinned free u y (renewed c pts dirty line rest is p) = tt
-  moves_answer lease pinned free u y (leased c pts version dirty line rest is p) = tt
-  moves_answer lease pinned free u y (flush_returns c line rest p) = tt
-  moves_answer lease pinned free u y (wb_returns c line rest p) = tt
-  moves_answer lease pinned free u y (loaded words rest p) = tt
-  moves_answer lease pinned free u y (stored rest p) = tt
-  moves_answer lease pinned free u y (evict_clean line is) = tt
-  moves_answer lease pinned free u y (evict_dirty line is) = tt
+    -- a grant that comes makes the core that the entry names the owner
+    became_owner : (c : ℕ) (m : Message) (rest : List Message) (new : Copy) → IsPermutation x.messages (m ∷ rest) →
+        right m ≡ 1 → ((d : ℕ) → d ≢ c → grant_to d m ≡ 0) → ((d : ℕ) → return_of d m ≡ 0) →
+        ((d : ℕ) → recall_to d m ≡ 0) → owns (Some new) ≡ 1 → (e : Entry) → OwnerAnswers x e →
+        OwnerAnswers (record x { copies = with_at x.copies c (Some new); messages = rest }) e
+    became_owner c m rest new p one others none calm has e z = by_entry e z
+      where
+        y : Line
+        y = record x { copies = with_at x.copies c (Some new); messages = rest }
 
-  -- a request is no recall, grant or return
-  pub asks_answer : (c pts : ℕ) (op : Op) (y : Line) → Asks c pts op x y → OwnerAnswers y y.entry
-  asks_answer c pts op y (to_read a w) = answers_stay x y
-      (more f h l records busy t x goes.0 goes.1 ok _ x.entry) x.entry q
-  asks_answer c pts op y (to_write w) = answers_stay x y
-      (more f h l records busy t x goes.0 goes.1 ok _ x.entry) x.entry q
+        alone : tally right rest ≡ 0
+        alone = let i = tally-taken right x.messages (m ∷ rest) p in let j = ok.owner_count in
+            let k = at_most_one b in omega arith
 
-  -- a reply that gives no right
-  replied : (c : ℕ) (m : Message) (rest : List Message) (new : Copy) → IsPermutation x.messages (m ∷ rest) →
-      ((d : ℕ) → grant_to d m ≡ 0) → ((d : ℕ) → return_of d m ≡ 0) → ((d : ℕ) → recall_to d m ≡ 0) →
-      owns (Some new) ≡ owns (x.copies c) →
-      Stays x (record x { copies = with_at x.copies c (Some new); messages = rest })
-  replied c m rest new p g r a same = record {
-    owners = owns_same x.copies c (Some new) same;
-    grants = λ d. let e = tally-taken (grant_to d) x.messages (m ∷ rest) p in let z = g d in omega arith;
-    returns = λ d. let e = tally-taken (return_of d) x.messages (m ∷ rest) p in let z = r d in omega arith;
-    recalls = λ d. let e = tally-taken (recall_to d) x.messages (m ∷ rest) p in let z = a d in omega arith;
-  }
+        no_return : (o : ℕ) → 1 ≤ tally (return_of o) x.messages → ⊥
+        no_return o i = let j = tally-taken (return_of o) x.messages (m ∷ rest) p in let k = none o in
+            let n = tally_both (grant_to o) (return_of o) right (rights o) rest in let a = alone in omega arith
 
-  -- a grant that comes makes the core that the entry names the owner
-  became_owner : (c : ℕ) (m : Message) (rest : List Message) (new : Copy) → IsPermutation x.messages (m ∷ rest) →
-      right m ≡ 1 → ((d : ℕ) → d ≢ c → grant_to d m ≡ 0) → ((d : ℕ) → return_of d m ≡ 0) →
-      ((d : ℕ) → recall_to d m ≡ 0) → owns (Some new) ≡ 1 → (e : Entry) → OwnerAnswers x e →
-      OwnerAnswers (record x { copies = with_at x.copies c (Some new); messages = rest }) e
-  became_owner c m rest new p one others none calm has e z = by_entry e z
-    where
-      y : Line
-      y = record x { copies = with_at x.copies c (Some new); messages = rest }
+        is_named : (o : ℕ) → OwnsOrWill o x → o ≡ c
+        is_named o (inl i) =
+            let there = owns_some (x.copies o) i in
+            absurd (let a = ap flying ((ok.copies o there.0 there.1).0 there.2).0 in
+            let j = tally-taken right x.messages (m ∷ rest) p in let k = ok.owner_count in omega arith)
+        is_named o (inr i) =
+            ⊎_elim (λ (e : o ≡ c). e)
+            (λ (n : o ≡ c → ⊥). absurd (let j = tally-taken (grant_to o) x.messages (m ∷ rest) p in
+            let k = others o n in
+            let b = tally_both (grant_to o) (return_of o) right (rights o) rest in let a = alone in omega arith))
+            (cases_eq o c)
 
-      alone : tally right rest ≡ 0
-      alone = let i = tally-taken right x.messages (m ∷ rest) p in let j = ok.owner_count in
-          let k = at_most_one goes.1 in omega arith
+        owns_now : (o : ℕ) → o ≡ c → OwnsOrWill o y
+        owns_now o i = inl (subst (λ (d : ℕ). owns (with_at x.copies c (Some new) d) ≡ 1) (sym i)
+            (ap owns (with_at_same x.copies c (Some new)) ∙ has))
 
-      no_return : (o : ℕ) → 1 ≤ tally (return_of o) x.messages → ⊥
-      no_return o i = let j = tally-taken (return_of o) x.messages (m ∷ rest) p in let k = none o in
-          let n = tally_both (grant_to o) (return_of o) right (rights o) rest in let a = alone in omega arith
+        by_entry : (e : Entry) → OwnerAnswers x e → OwnerAnswers y e
+        by_entry (Exclusive o) (inl i) = absurd (no_return o i)
+        by_entry (Exclusive o) (inr i) = inr (owns_now o (is_named o i))
+        by_entry (Recalling o) (inl i) = absurd (no_return o i)
+        by_entry (Recalling o) (inr i) = inr (
+          let j = tally-taken (recall_to o) x.messages (m ∷ rest) p in let k = calm o in let a = i.0 in omega arith,
+          owns_now o (is_named o i.1),
+        )
+        by_entry _ i = tt
 
-      is_named : (o : ℕ) → OwnsOrWill o x → o ≡ c
-      is_named o (inl i) =
-          let there = owns_some (x.copies o) i in
-          absurd (let a = ap flying ((ok.copies o there.0 there.1).0 there.2).0 in
-          let j = tally-taken right x.messages (m ∷ rest) p in let k = ok.owner_count in omega arith)
-      is_named o (inr i) =
-          ⊎_elim (λ (e : o ≡ c). e)
-          (λ (n : o ≡ c → ⊥). absurd (let j = tally-taken (grant_to o) x.messages (m ∷ rest) p in
-          let k = others o n in
-          let b = tally_both (grant_to o) (return_of o) right (rights o) rest in let a = alone in omega arith))
-          (cases_eq o c)
+    pub replies_answer : (c : ℕ) (y : Line) → Answers c x y → OwnerAnswers y y.entry
+    replies_answer c y (shared line rest p) =
+        let k = ok_shuffled f h l records busy x (ShRep c line ∷ rest) p ok in
+        answers_stay x y (replied c (ShRep c line) rest (record { exclusive = false; written = false; line = line }) p
+        (λ d. refl) (λ d. refl) (λ d. refl) (sym (owns_not (x.copies c) (k.messages.0).0))) x.entry q
+    replies_answer c y (renews rts copy rest p is) =
+        answers_stay x y (replied c (RenewRep c rts) rest (record copy { line = record (copy.line) { rts = rts } }) p
+        (λ d. refl) (λ d. refl) (λ d. refl) (ap owns (sym is))) x.entry q
+    replies_answer c y (exclusive line rest p) =
+        became_owner c (ExRep c line) rest (record { exclusive = true; written = false; line = line }) p refl
+        (recall_other c) (λ d. refl) (λ d. refl) refl x.entry q
+    replies_answer c y (upgrades rts copy rest p is) =
+        became_owner c (UpgradeRep c rts) rest
+        (record { exclusive = true; written = false; line = record (copy.line) { rts = rts } }) p refl
+        (recall_other c) (λ d. refl) (λ d. refl) refl x.entry q
 
-      owns_now : (o : ℕ) → o ≡ c → OwnsOrWill o y
-      owns_now o i = inl (subst (λ (d : ℕ). owns (with_at x.copies c (Some new) d) ≡ 1) (sym i)
-          (ap owns (with_at_same x.copies c (Some new)) ∙ has))
+    -- an operation leaves its core the owner, or not, as it was
+    uses_owns : {pts : ℕ} {copy : Copy} {op : Op} {received : Option ℕ} {ts : ℕ} {new : Copy} →
+        Uses f pts copy op received ts new → owns (Some new) ≡ owns (Some copy)
+    uses_owns (load_hit a sh le) = refl
+    uses_owns (load_own a ex) = refl
+    uses_owns (store_own a v ex) = refl
+    uses_owns (swap_own a v ex) = refl
 
-      by_entry : (e : Entry) → OwnerAnswers x e → OwnerAnswers y e
-      by_entry (Exclusive o) (inl i) = absurd (no_return o i)
-      by_entry (Exclusive o) (inr i) = inr (owns_now o (is_named o i))
-      by_entry (Recalling o) (inl i) = absurd (no_return o i)
-      by_entry (Recalling o) (inr i) = inr (
-        let j = tally-taken (recall_to o) x.messages (m ∷ rest) p in let k = calm o in let a = i.0 in omega arith,
-        owns_now o (is_named o i.1),
-      )
-      by_entry _ i = tt
-
-  pub replies_answer : (c : ℕ) (y : Line) → Answers c x y → OwnerAnswers y y.entry
-  replies_answer c y (shared line rest p) =
-      let k = ok_shuffled f h l records busy t x goes.0 goes.1 (ShRep c line ∷ rest) p ok in
-      answers_stay x y (replied c (ShRep c line) rest (record { exclusive = false; written = false; line = line }) p
-      (λ d. refl) (λ d. refl) (λ d. refl) (sym (owns_not (x.copies c) (k.messages.0).0))) x.entry q
-  replies_answer c y (renews rts copy rest p is) =
-      answers_stay x y (replied c (RenewRep c rts) rest (record copy { line = record (copy.line) { rts = rts } }) p
-      (λ d. refl) (λ d. refl) (λ d. refl) (ap owns (sym is))) x.entry q
-  replies_answer c y (exclusive line rest p) =
-      became_owner c (ExRep c line) rest (record { exclusive = true; written = false; line = line }) p refl
-      (recall_other c) (λ d. refl) (λ d. refl) refl x.entry q
-  replies_answer c y (upgrades rts copy rest p is) =
-      became_owner c (UpgradeRep c rts) rest
-      (record { exclusive = true; written = false; line = record (copy.line) { rts = rts } }) p refl
-      (recall_other c) (λ d. refl) (λ d. refl) refl x.entry q
-
-  -- an operation leaves its core the owner, or not, as it was
-  uses_owns : {pts : ℕ} {copy : Copy} {op : Op} {received : Option ℕ} {ts : ℕ} {new : Copy} →
-      Uses f pts copy op received ts new → owns (Some new) ≡ owns (Some copy)
-  uses_owns (load_hit a sh le) = refl
-  uses_owns (load_own a ex) = refl
-  uses_owns (store_own a v ex) = refl
-  uses_owns (swap_own a v ex) = refl
-
-  pub uses_answer : (pts ts c : ℕ) (copy new : Copy) (op : Op) (received : Option ℕ) → x.copies c ≡ Some copy →
-      Uses f pts copy op received ts new →
-      OwnerAnswers (record x { copies = with_at x.copies c (Some new) }) x.entry
-  uses_answer pts ts c copy new op received is used =
-      answers_stay x (record x { copies = with_at x.copies c (Some new) }) (record {
-        owners = owns_same x.copies c (Some new) (uses_owns used ∙ ap owns (sym is));
-        grants = λ d. le_refl _;
-        returns = λ d. le_refl _;
-        recalls = λ d. le_refl _;
-      }) x.entry q
+    pub uses_answer : (pts ts c : ℕ) (copy new : Copy) (op : Op) (received : Option ℕ) → x.copies c ≡ Some copy →
+        Uses f pts copy op received ts new →
+        OwnerAnswers (record x { copies = with_at x.copies c (Some new) }) x.entry
+    uses_answer pts ts c copy new op received is used =
+        answers_stay x (record x { copies = with_at x.copies c (Some new) }) (record {
+          owners = owns_same x.copies c (Some new) (uses_owns used ∙ ap owns (sym is));
+          grants = λ d. le_refl _;
+          returns = λ d. le_refl _;
+          recalls = λ d. le_refl _;
+        }) x.entry q
 
 -- a machine whose line answers
 abbrev Answer : Machine → Type 0
@@ -368,16 +346,16 @@ change_answers f strict m n ok so_far change = by_change n change
     by_change n (advance c) = so_far
     by_change n (ask c op y opens quiet a) =
         let here = line_of f (address op) in
-        at here y (asks_answer f _ here m.records _ _ (m.lines here) (ok.lines here) (so_far here) c _ op y a)
+        at here y (asks_answer f _ here m.records _ _ (m.lines here) _ _ (ok.lines here).2 (so_far here) c _ op y a)
     by_change n (answer c here y a) =
-        at here y (replies_answer f _ here m.records _ _ (m.lines here) (ok.lines here) (so_far here) c y a)
+        at here y (replies_answer f _ here m.records _ _ (m.lines here) _ _ (ok.lines here).2 (so_far here) c y a)
     by_change n (complete c op copy new received ts opens quiet is used) =
         let here = line_of f (address op) in
-        at here _ (uses_answer f _ here m.records _ _ (m.lines here) (ok.lines here) (so_far here) _ ts c copy
+        at here _ (uses_answer f _ here m.records _ _ (m.lines here) _ _ (ok.lines here).2 (so_far here) _ ts c copy
         new op received is used)
     by_change n (line_changes here u y mv) =
-        at here y (moves_answer f _ here m.records _ _ (m.lines here) (ok.lines here) (so_far here) f.lease
-        (IsPinned f m.cores here) (λ c un. waits_unpinned f here (m.cores c).out (m.cores c).open_op un) u y
+        at here y (moves_answer f _ here m.records _ _ (m.lines here) _ _ (ok.lines here).2 (so_far here)
+        (λ c un. waits_unpinned f here (m.cores c).out (m.cores c).open_op un)
         (subst (λ b. LineTransition f.lease b (IsPinned f m.cores here) (m.mts (here % f.banks)) (m.lines here) u y)
         strict mv))
 

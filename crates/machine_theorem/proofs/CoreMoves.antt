@@ -1,11 +1,11 @@
 -- The moves of a core keep the invariant: issues, attempts, evictions and advances.
 use Rattle.std.proofs.Common.{◌≡◌, ◌≢◌, ℕ, ◌+◌, ◌-◌, ◌%◌, ◌/◌, ◌<◌, ◌≤◌, Bool, true, false, cond, eqb, List, [], ◌∷◌}
-use Rattle.std.proofs.Common.{◌++◌, length, Option, Some, None, refl, sym, ap, ◌∙◌, subst, arith, ⊎_elim, length-append}
+use Rattle.std.proofs.Common.{◌++◌, length, Option, Some, None, refl, sym, ap, ◌∙◌, subst, arith, inl, inr, length-append}
 use Rattle.std.specs.Prelude.{Result, Ok, Err, option_map}
 use Rattle.std.specs.Ordering.{nat_cmp}
 use Rattle.std.specs.FinMap.{FinMap}
 use Rattle.std.specs.List.{AllByRecursion as Each}
-use Rattle.std.proofs.lemmas.Bool.{cases_Bool, eq-eqb}
+use Rattle.std.proofs.lemmas.Bool.{cases_Bool, cond_both, eq-eqb}
 use Rattle.std.proofs.Math.Nat.{mod-lt}
 use Rattle.physiological_order.specs.declared.operation.Op.{Op}
 use Rattle.physiological_order.specs.declared.operation.Op.TheVariants.{Load, Store, Swap}
@@ -43,7 +43,7 @@ use Rattle.machine_theorem.proofs.PastWords.{goes_on}
 use Rattle.machine_theorem.specs.States.{State}
 use Rattle.machine_theorem.specs.Moves.{with_core}
 use Rattle.machine_theorem.specs.View.{copy_seen, copy_or_none, body_seen, messages_of, copy_in, core_seen, set_up}
-use Rattle.machine_theorem.specs.View.{line_seen, view}
+use Rattle.machine_theorem.specs.View.{view}
 use Rattle.machine_theorem.specs.Shape.{IsCore, GoesHome, HasShape}
 use Rattle.machine_theorem.specs.Kept.{IsKept}
 use Rattle.machine_theorem.proofs.KeptSteps.{Goes, Tries}
@@ -76,10 +76,7 @@ complete_at : (f : by_line.Config) (n : by_line.Machine) (c l place : ℕ) (op :
     Uses f (n.cores c).pts copy op received ts new → IsReached f n →
     IsReached f (completed_on n c l place op new received ts)
 complete_at f n c l place op copy new received ts on count opens quiet is u r =
-    subst (λ (k : ℕ). IsReached f (completed_on n c k place op new received ts)) on
-    (subst (λ (p : ℕ). IsReached f (completed_on n c (line_of f (address op)) p op new received ts)) count
-    (goes_on r (complete {m = n} c op copy new received ts opens quiet
-    (subst (λ (k : ℕ). (n.lines k).copies c ≡ Some copy) (sym on) is) u)))
+    rw (← on, ← count) (goes_on r (complete {m = n} c op copy new received ts opens quiet (rw on is) u))
 
 ask_at : (f : by_line.Config) (n : by_line.Machine) (c l : ℕ) (op : Op) (y : Line) → line_of f (address op) ≡ l →
     (n.cores c).open_op ≡ Some op → (n.cores c).out ≡ false → Asks c (n.cores c).pts op (n.lines l) y →
@@ -88,24 +85,19 @@ ask_at : (f : by_line.Config) (n : by_line.Machine) (c l : ℕ) (op : Op) (y : L
       lines = with_at n.lines l y;
     })
 ask_at f n c l op y on opens quiet a r =
-    subst (λ (k : ℕ). Asks c (n.cores c).pts op (n.lines k) y → IsReached f (record n {
-      cores = with_at n.cores c (record (n.cores c) { out = true });
-      lines = with_at n.lines k y;
-    })) on (λ asks. goes_on r (ask {m = n} c op y opens quiet asks)) a
+    rw (← on) (goes_on r (ask {m = n} c op y opens quiet (rw on a)))
 
 -- the request of an operation
 reads : (c pts a : ℕ) (x : Line) (version : Option ℕ) (y : Option Copy) → x.copies c ≡ y → CannotUse (Load a) pts y →
     version_of y ≡ version → Asks c pts (Load a) x (record x { messages = ShReq c pts version ∷ x.messages })
 reads c pts a x version y is cannot v =
-    subst (λ (w : Option ℕ). Asks c pts (Load a) x (record x { messages = ShReq c pts w ∷ x.messages }))
-    (ap version_of is ∙ v) (to_read a (subst (CannotUse (Load a) pts) (sym is) cannot))
+    rw (← v, ← is) (to_read {x = x} a (rw is cannot))
 
 writes : (c pts : ℕ) (op : Op) (x : Line) (version : Option ℕ) (y : Option Copy) → x.copies c ≡ y →
     CannotUse op pts y → version_of y ≡ version →
     Asks c pts op x (record x { messages = ExReq c version ∷ x.messages })
 writes c pts op x version y is cannot v =
-    subst (λ (w : Option ℕ). Asks c pts op x (record x { messages = ExReq c w ∷ x.messages })) (ap version_of is ∙ v)
-    (to_write (subst (CannotUse op pts) (sym is) cannot))
+    rw (← v, ← is) (to_write {op = op} {x = x} (rw is cannot))
 
 module _ (config : Config) (opening : FinMap nat_cmp ℕ) (a : State) (s : IsKept config opening a) (c : ℕ)
     (below : c < config.cores) where
@@ -250,12 +242,11 @@ module _ (config : Config) (opening : FinMap nat_cmp ℕ) (a : State) (s : IsKep
     -- an operation that its copy serves has no request out
     quiet : (copy : LineCopy) → copy_of core.cache l ≡ Some copy → serves op core.pts copy ≡ true →
         core.is_out ≡ false
-    quiet copy there can = ⊎_elim
-        (λ (o : core.is_out ≡ true). absurd (serves_clash op core.pts copy can
-        (subst (CannotUse op core.pts) (ap copy_or_none there)
-        (subst (λ (k : ℕ). CannotUse op core.pts ((line_seen config a k).copies c)) on
-        ((reachable_blocked f v s.reached.reachable).blocked c op opens o)))))
-        (λ (o : core.is_out ≡ false). o) (cases_Bool core.is_out)
+    quiet copy there can = elim (cases_Bool core.is_out) [
+      | inl o ↦ absurd (serves_clash op core.pts copy can (subst (CannotUse op core.pts) (ap copy_or_none there)
+          (rw on at ((reachable_blocked f v s.reached.reachable).blocked c op opens o))))
+      | inr o ↦ o
+    ]
 
     completed_goes : (copy : LineCopy) → copy_of core.cache l ≡ Some copy → serves op core.pts copy ≡ true →
         (time : Option ℕ) → time_of core.private_write core.pts op copy ≡ time →
@@ -325,34 +316,17 @@ module _ (config : Config) (opening : FinMap nat_cmp ℕ) (a : State) (s : IsKep
             (writes c core.pts op (v.lines l) version (copy_or_none o) copy cannot ver)
 
     attempt_on_goes : (o : Option LineCopy) → copy_of core.cache l ≡ o → Attempts (core_table.attempt_on core op o)
-    attempt_on_goes None there = by_out core.is_out refl
-      where
-        by_place : core.is_out ≡ false → (b : Bool) → place_for core.cache l ≡ b →
-            Attempts (Some (cond b (core_table.need core.pts op None) attempted.NoRoom), core)
-        by_place out true place = need_goes None None there refl place out tt
-        by_place out false place = tt
-
-        by_out : (b : Bool) → core.is_out ≡ b →
-            Attempts (
-              Some (cond b attempted.Waiting (cond (place_for core.cache l) (core_table.need core.pts op None)
-                  attempted.NoRoom)),
-              core,
-            )
-        by_out true out = tt
-        by_out false out = by_place out (place_for core.cache l) refl
-    attempt_on_goes (Some copy) there = by_use (serves op core.pts copy) refl
-      where
-        by_out : serves op core.pts copy ≡ false → (b : Bool) → core.is_out ≡ b →
-            Attempts (Some (cond b attempted.Waiting (core_table.need core.pts op (Some copy.wts))), core)
-        by_out no_use true out = tt
-        by_out no_use false out = need_goes (Some copy.wts) (Some copy) there refl
-            (place-there core.cache l copy there) out (serves_not op core.pts copy no_use)
-
-        by_use : (b : Bool) → serves op core.pts copy ≡ b →
-            Attempts (cond b (completed_at core op copy (time_of core.private_write core.pts op copy))
-            (Some (core_table.attempt_unserved core op copy.wts), core))
-        by_use true can = completed_goes copy there can _ refl
-        by_use false can = by_out can core.is_out refl
+    attempt_on_goes None there =
+        cond_both core.is_out attempted.Waiting _ (λ t. Attempts (Some t, core)) (λ e. tt) (λ out.
+        cond_both (place_for core.cache l) (core_table.need core.pts op None) attempted.NoRoom
+        (λ t. Attempts (Some t, core)) (λ place. need_goes None None there refl place out tt) (λ e. tt))
+    attempt_on_goes (Some copy) there =
+        cond_both (serves op core.pts copy) (completed_at core op copy (time_of core.private_write core.pts op copy))
+        (Some (core_table.attempt_unserved core op copy.wts), core) Attempts
+        (λ can. completed_goes copy there can _ refl) (λ no_use.
+        cond_both core.is_out attempted.Waiting (core_table.need core.pts op (Some copy.wts))
+        (λ t. Attempts (Some t, core)) (λ e. tt) (λ out. need_goes (Some copy.wts) (Some copy) there refl
+        (place-there core.cache l copy there) out (serves_not op core.pts copy no_use)))
 
   pub attempt_goes : (o : Option Op) → core.open_op ≡ o → Tries config opening a c a.bag (step.attempt_open core o)
   attempt_goes None e = tt
@@ -365,7 +339,10 @@ module _ (config : Config) (opening : FinMap nat_cmp ℕ) (a : State) (s : IsKep
       Goes config opening a (with_core a c) a.bag (step.copy_evicted
       (core_table.sent_back core l (cache.evicted core.cache l (pinned_line core) o)))
   eviction_goes l None there = tt
-  eviction_goes l (Some copy) there = by_pin (is_pinned (pinned_line core) l) refl
+  eviction_goes l (Some copy) there =
+      cond_both (is_pinned (pinned_line core) l) (Err Pinned, core.cache) (Ok copy, without_copy core.cache l)
+      (λ r. Goes config opening a (with_core a c) a.bag (step.copy_evicted (core_table.sent_back core l r))) (λ e. tt)
+      (λ off. by_state off (is_exclusive copy.state) refl)
     where
       new : CoreState
       new = record core { cache = without_copy core.cache l }
@@ -411,9 +388,3 @@ module _ (config : Config) (opening : FinMap nat_cmp ℕ) (a : State) (s : IsKep
         reached = left (messages_of a.bag l) a.bag refl (λ k ne. refl)
             (evict_shared c (copy_seen copy) (unpinned l off) (ap copy_or_none there) sh);
       }
-
-      by_pin : (b : Bool) → is_pinned (pinned_line core) l ≡ b →
-          Goes config opening a (with_core a c) a.bag (step.copy_evicted
-          (core_table.sent_back core l (cond b (Err Pinned, core.cache) (Ok copy, without_copy core.cache l))))
-      by_pin true p = tt
-      by_pin false off = by_state off (is_exclusive copy.state) refl

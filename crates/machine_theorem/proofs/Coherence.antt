@@ -25,6 +25,7 @@ use Rattle.machine_theorem.specs.View.{copy_or_none, copy_in, entry_seen, entry_
 use Rattle.machine_theorem.specs.Bags.{bag_of, weigh}
 use Rattle.machine_theorem.specs.Ownership.{ownership_in}
 use Rattle.machine_theorem.specs.Kept.{Invariant}
+use Rattle.machine_theorem.proofs.Lists.{of_cond}
 use Rattle.machine_theorem.proofs.Turns.{line_same}
 use Rattle.machine_theorem.proofs.Openings.{no_copy, no_entry}
 use Rattle.machine_theorem.specs.Coherence.{owner_in, exclusive_copies, owners, or_other, or_else, owned_words}
@@ -102,13 +103,8 @@ owner_first copies (suc n) = ap (owner_or (copies (suc n))) (owner_first copies 
         (owner_or (copies 0) None)) ≡ or_other (owner_or y (by_line.owner_words (λ k. copies (suc k)) n))
         (owner_or (copies 0) None)
     passed None = refl
-    passed (Some copy) = go copy.exclusive
-      where
-        go : (b : Bool) → cond b (Some copy.line.words) (or_other (by_line.owner_words (λ k. copies (suc k)) n)
-            (owner_or (copies 0) None)) ≡ or_other
-            (cond b (Some copy.line.words) (by_line.owner_words (λ k. copies (suc k)) n)) (owner_or (copies 0) None)
-        go true = refl
-        go false = refl
+    passed (Some copy) = sym (of_cond (λ o. or_other o (owner_or (copies 0) None)) copy.exclusive
+        (Some copy.line.words) (by_line.owner_words (λ k. copies (suc k)) n))
 
 none_owns : (cores : List CoreState) (line : ℕ) → exclusive_copies cores line ≡ 0 → owner_words cores line ≡ None
 none_owns [] line h = refl
@@ -170,11 +166,6 @@ module _ (cores : List CoreState) (line : ℕ) where
   with_ownership m ms found n (body.WbRep y) rest = refl
   with_ownership m ms found n _ rest = rest
 
-  granted_if : (b : Bool) (x : ℕ × Message) (found : Option (ℕ × Message)) → granted_words cores line
-      (cond b (Some x) found) ≡ cond b (words_with cores line x.1 x.1.body) (granted_words cores line found)
-  granted_if true x found = refl
-  granted_if false x found = refl
-
   granted_is : (ms : List (ℕ × Message)) → by_line.granted_words copies (messages_of (bag_of ms) line) ≡
       granted_words cores line (first_message (is_ownership_of line) ms)
   granted_is [] = refl
@@ -187,7 +178,8 @@ module _ (cores : List CoreState) (line : ℕ) where
           (cond (b && right.carries_ownership x.1.body) (Some x) (first_message (is_ownership_of line) xs))
       go true rest = with_ownership x.1 (messages_of (bag_of xs) line) (first_message (is_ownership_of line) xs) x.0
           x.1.body rest
-          ∙ sym (granted_if (right.carries_ownership x.1.body) x (first_message (is_ownership_of line) xs))
+          ∙ sym (of_cond (granted_words cores line) (right.carries_ownership x.1.body) (Some x)
+          (first_message (is_ownership_of line) xs))
       go false rest = rest
 
 -- words in a bank
@@ -201,11 +193,6 @@ bank_is (Some bank) line = go (entry_of bank line)
     go _ = refl
 
 -- words on their way to DRAM
-stored_if : (b : Bool) (x : ℕ × Message) (found : Option (ℕ × Message)) → stored_words (cond b (Some x) found) ≡ cond
-    b (words_to_store x.1.body) (stored_words found)
-stored_if true x found = refl
-stored_if false x found = refl
-
 with_store : (from to : ℕ) (ms : List by_line.Message) (found : Option (ℕ × Message)) (b : Body) →
     by_line.stored_words ms ≡ stored_words found → by_line.stored_words (body_seen from to b ∷ ms) ≡ cond
     (right.is_dram_store b) (words_to_store b) (stored_words found)
@@ -224,7 +211,7 @@ stored_is (x ∷ xs) line = go (eqb x.1.line line) (stored_is xs line)
         stored_words (cond (b && right.is_dram_store x.1.body) (Some x) (first_message (is_store_of line) xs))
     go true rest = with_store (core_of x.1.from) (core_of x.1.to) (messages_of (bag_of xs) line)
         (first_message (is_store_of line) xs) x.1.body rest
-        ∙ sym (stored_if (right.is_dram_store x.1.body) x (first_message (is_store_of line) xs))
+        ∙ sym (of_cond stored_words (right.is_dram_store x.1.body) (Some x) (first_message (is_store_of line) xs))
     go false rest = rest
 
 same_else : (o : Option (List ℕ)) (d : List ℕ) → by_line.or_else o d ≡ or_else o d

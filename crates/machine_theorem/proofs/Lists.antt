@@ -1,10 +1,15 @@
 -- Parts by number: one of them changed, and the first of them in a list.
-use Rattle.std.proofs.Common.{◌≡◌, ℕ, zero, suc, ◌<◌, ◌≤◌, List, length, set, get_or, Some, refl, sym, ap}
-use Rattle.std.proofs.Common.{◌∙◌, arith, get_or-set_same, get_or-set_other}
+use Rattle.std.proofs.Common.{◌≡◌, ℕ, zero, suc, ◌<◌, ◌≤◌, Bool, true, false, cond, List, length, set, get_or, Some}
+use Rattle.std.proofs.Common.{refl, sym, ap, ◌∙◌, arith, get_or-set_same, get_or-set_other}
 use Rattle.std.specs.List.{slice_get}
 use Rattle.protocol.specs.Machine.{with_at}
 use Rattle.protocol.proofs.Lemmas.{with_at_cases}
 use Rattle.machine_theorem.specs.States.{first}
+
+-- what is made of one of two
+pub of_cond : {X Y : Type 0} (f : X → Y) (b : Bool) (x y : X) → f (cond b x y) ≡ cond b (f x) (f y)
+of_cond f true x y = refl
+of_cond f false x y = refl
 
 module _ {X : Type 0} where
   -- one part is changed in a function and in a list of the same parts

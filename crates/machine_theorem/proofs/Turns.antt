@@ -1,5 +1,5 @@
 -- What one core, one bank or one DRAM does to one line is a turn of the protocol by lines.
-use Rattle.std.proofs.Common.{◌≡◌, ◌≢◌, ℕ, ◌%◌, Bool, true, false, cond, eqb, List, Option, refl, sym, ap, ◌∙◌, subst}
+use Rattle.std.proofs.Common.{◌≡◌, ◌≢◌, ℕ, ◌%◌, false, eqb, List, Option, refl, sym, ap, ◌∙◌, subst}
 use Rattle.std.specs.Ordering.{nat_cmp}
 use Rattle.std.specs.FinMap.{FinMap}
 use Rattle.physiological_order.specs.declared.operation.Op.{Op}
@@ -14,6 +14,7 @@ use Rattle.protocol.specs.Machine as by_line
 use Rattle.protocol.specs.Machine.{Copy, Line, Core, with_at, IsPinned, LineTransition, line_changes}
 use Rattle.protocol.proofs.Lemmas.{with_at_same, with_at_cases, with_at_id}
 use Rattle.machine_theorem.specs.PastWords.{IsReached}
+use Rattle.machine_theorem.proofs.Lists.{of_cond}
 use Rattle.machine_theorem.proofs.PastWords.{goes_on}
 use Rattle.machine_theorem.specs.States.{State}
 use Rattle.machine_theorem.specs.View.{copy_or_none, copy_in, core_seen, entry_seen, entry_in, messages_of, set_up}
@@ -40,11 +41,7 @@ line_same x y entry copies messages dram =
 -- what is seen of functions that are changed at one number
 pub seen_at : {X Y : Type 0} (see : X → Y) (f : ℕ → X) (i : ℕ) (x : X) (j : ℕ) →
     with_at (λ k. see (f k)) i (see x) j ≡ see (with_at f i x j)
-seen_at {X} {Y} see f i x j = go (eqb j i)
-  where
-    go : (b : Bool) → cond b (see x) (see (f j)) ≡ see (cond b x (f j))
-    go true = refl
-    go false = refl
+seen_at see f i x j = sym (of_cond see (eqb j i) x (f j))
 
 -- and what is the same where the new part looks as the old one
 pub seen_alike : {X Y : Type 0} (see : X → Y) (f : ℕ → X) (i : ℕ) (x : X) → see x ≡ see (f i) → (j : ℕ) →

@@ -59,7 +59,8 @@ module _ (config : Config) (opening : FinMap nat_cmp ℕ) (a : State) (s : IsKep
       (kept_reordered config opening a (message ∷ rest) given.0 s) (ap core_of given.1) (rw here at given.2)))
   bank_goes i (step.Evicting line) rest all =
       elim (cases_eq (line % config.banks) i) [
-        | inl e ↦ rw (all, ← e) (entry_goes config opening a s line (entry_of (a.banks (line % config.banks)) line) refl)
+        | inl e ↦
+            rw (all, ← e) (entry_goes config opening a s line (entry_of (a.banks (line % config.banks)) line) refl)
         | inr ne ↦
             subst (λ (o : Option Entry). Goes config opening a (with_bank a i) rest
             (step.entry_evicted (after_eviction (a.banks i) line (on_entry.evicted o))))

@@ -3,7 +3,7 @@
 use Rattle.std.proofs.Common.{◌≡◌, ℕ, ◌+◌, ◌%◌, ◌<◌, max, Bool, true, false, ◌||◌, ◌&&◌, cond, leb, List, ◌∷◌, Option}
 use Rattle.std.proofs.Common.{Some, None, refl, sym, ap, ◌∙◌, subst, arith}
 use Rattle.std.specs.List.Sorted.{IsPermutation}
-use Rattle.std.proofs.lemmas.Bool.{leb-true, leb-false}
+use Rattle.std.proofs.lemmas.Bool.{cond_both, leb-true, leb-false}
 use Rattle.physiological_order.specs.declared.operation.Op.{Op}
 use Rattle.physiological_order.specs.declared.operation.Op.TheVariants.{Load, Store, Swap}
 use Rattle.physiological_order.specs.Order.{address}
@@ -123,18 +123,20 @@ module _ (lease : ℕ) (pinned : ℕ → Type 0) (t c : ℕ) (x : Line) (rest : 
   flush_fits : (o : Option LineCopy) → x.copies c ≡ copy_or_none o → b ≡ false → (pinned c → ⊥) →
       IsPermutation x.messages (FlushReq c ∷ rest) → CoreFits lease pinned t c x rest b o (on_copy.flushed o)
   flush_fits None is off un p = dropped c rest p (un, without_copy is)
-  flush_fits (Some copy) is off un p = go (is_exclusive copy.state) refl
-    where
-      go : (e : Bool) → is_exclusive copy.state ≡ e → CoreFits lease pinned t c x rest b (Some copy)
-          (cond e (Returns None (body.FlushRep (words_of_copy copy))) Drops)
-      go true ex = ((copy, refl), off, (λ cores banks from to. refl), flushed c rest (copy_seen copy) p un is ex)
-      go false sh = dropped c rest p (un, with_shared copy is sh)
+  flush_fits (Some copy) is off un p =
+      cond_both (is_exclusive copy.state) (Returns None (body.FlushRep (words_of_copy copy))) Drops
+      (CoreFits lease pinned t c x rest b (Some copy))
+      (λ ex. ((copy, refl), off, (λ cores banks from to. refl), flushed c rest (copy_seen copy) p un is ex))
+      (λ sh. dropped c rest p (un, with_shared copy is sh))
 
   back_fits : (until : ℕ) (o : Option LineCopy) → x.copies c ≡ copy_or_none o → b ≡ false → (pinned c → ⊥) →
       IsPermutation x.messages (WbReq c until ∷ rest) → CoreFits lease pinned t c x rest b o
       (on_copy.written_back lease until o)
   back_fits until None is off un p = wb_dropped c until rest p (un, without_copy is)
-  back_fits until (Some copy) is off un p = go (is_exclusive copy.state) refl
+  back_fits until (Some copy) is off un p =
+      cond_both (is_exclusive copy.state) (on_copy.returned copy (returned_lease copy.wts copy.rts until lease)) Drops
+      (CoreFits lease pinned t c x rest b (Some copy)) (λ ex. by_time ex (fits (copy.wts + lease)))
+      (λ sh. wb_dropped c until rest p (un, with_shared copy is sh))
     where
       by_time : is_exclusive copy.state ≡ true → (fit : Bool) → CoreFits lease pinned t c x rest b (Some copy)
           (on_copy.returned copy (cond fit (Some (max (max copy.rts (copy.wts + lease)) until)) None))
@@ -142,15 +144,9 @@ module _ (lease : ℕ) (pinned : ℕ → Type 0) (t c : ℕ) (x : Line) (rest : 
           ((copy, refl), off, (λ cores banks from to. refl), written_back c until rest (copy_seen copy) p un is ex)
       by_time ex false = tt
 
-      go : (e : Bool) → is_exclusive copy.state ≡ e → CoreFits lease pinned t c x rest b (Some copy)
-          (cond e (on_copy.returned copy (returned_lease copy.wts copy.rts until lease)) Drops)
-      go true ex = by_time ex (fits (copy.wts + lease))
-      go false sh = wb_dropped c until rest p (un, with_shared copy is sh)
-
   unless_open : (q : Bool) (o : Option LineCopy) (r : CoreReaction) →
       (q ≡ false → CoreFits lease pinned t c x rest b o r) → CoreFits lease pinned t c x rest b o (cond q Holds r)
-  unless_open true o r h = tt
-  unless_open false o r h = h refl
+  unless_open q o r h = cond_both q Holds r (CoreFits lease pinned t c x rest b o) (λ e. tt) h
 
   pub core_fits : (core : CoreState) (line : ℕ) (m : Body) → (b ≡ false → pinned c → ⊥) → comes_to_core core line
       m ≡ true → x.copies c ≡ copy_or_none (copy_of core.cache line) → IsPermutation x.messages

@@ -57,7 +57,8 @@ module _ (config : Config) (opening : FinMap nat_cmp ℕ) (a : State) where
 
   -- one line's transition, with this time of its bank
   abbrev pub Moves : ℕ → ℕ → Line → Type 0
-  Moves l t y = LineTransition config.lease false (IsPinned (set_up config opening) v.cores l) (v.mts (l % config.banks))
+  Moves l t y =
+      LineTransition config.lease false (IsPinned (set_up config opening) v.cores l) (v.mts (l % config.banks))
       (line_seen config a l) t y
 
   -- a core's turn: its line, its core, the messages and the records

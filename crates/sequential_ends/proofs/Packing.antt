@@ -188,8 +188,8 @@ none_missing (x ∷ xs) (suc i) lt e = none_missing xs i (omega (arith, lt)) e
 
 -- one turn more, in rows
 pub turn_added : (test : Litmus) (p : Point) (t : ℕ) (points : List Point) (x : Op) (next : List (List ℕ))
-    (row : List ℕ) → next ≡ map packed (with_turns test p t points) → row ≡ packed (turned p t x) → operation_at test p t ≡ Some x →
-    with_row next row ≡ map packed (with_turns test p (t + 1) points)
+    (row : List ℕ) → next ≡ map packed (with_turns test p t points) → row ≡ packed (turned p t x) →
+    operation_at test p t ≡ Some x → with_row next row ≡ map packed (with_turns test p (t + 1) points)
 turn_added test p t points x next row e f g =
     ap₂ with_row e f ∙ point_added (with_turns test p t points) (turned p t x)
     ∙ ap (map packed) (sym (turns_next test p t points (Some x) g))

@@ -275,7 +275,8 @@ module _ (test : Litmus) (s : SequentialState) (k : ℕ) (p : Point) (r : Reache
 
   parts : (s.registers t ≡ Now.registers) × (cell ∷ rest ≡ cells_of t Now.rest)
   parts = same_parts (s.registers t, cell ∷ rest) (Now.registers, cells_of t Now.rest)
-      (sym (settle_memory cell rest (s.registers t) is) ∙ ap (λ (xs : List Cell). settle xs (s.registers t)) (sym l) ∙ (f.threads t lt).comes)
+      (sym (settle_memory cell rest (s.registers t) is)
+      ∙ ap (λ (xs : List Cell). settle xs (s.registers t)) (sym l) ∙ (f.threads t lt).comes)
 
   wait : Waits t Now.registers Now.rest cell rest
   wait = waits t Now.registers Now.rest cell rest (f.threads t lt).ready (sym parts.1)

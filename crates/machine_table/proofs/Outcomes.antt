@@ -1,10 +1,10 @@
 -- What each event comes to: the one walk over the machine's table that the proofs about events stand on.
 use Rattle.std.proofs.Common.{◌≡◌, ◌≢◌, ℕ, Bool, true, false, cond, List, [], ◌∷◌, ◌++◌, Option, Some, None}
-use Rattle.std.proofs.Common.{Result, Ok, Err, refl, ap, ◌∙◌, subst}
+use Rattle.std.proofs.Common.{Result, Ok, Err, refl, sym, ap, ◌∙◌, subst}
 use Rattle.std.proofs.lemmas.Bool.{cond_both, cond-true}
 use Rattle.std.specs.Ordering.{nat_cmp}
 use Rattle.std.specs.FinMap.{FinMap}
-use Rattle.std.specs.Prelude.{slice_get, slice_set, slice_index_or}
+use Rattle.std.specs.Prelude.{slice_get, slice_set, slice_index_or, unwrap_or}
 use Rattle.physiological_order.specs.declared.operation.Op.{Op}
 use Rattle.network.specs.declared.message.Node.{Node}
 use Rattle.network.specs.declared.message.Node.TheVariants.{Core, Bank, Dram}
@@ -67,6 +67,17 @@ pub data Outcome (m : Machine) : Event → Answer × Machine → Type 0 where
       IsGiven m (Dram b) (dram_has_case lines) (message_of act) n → dram_step lines act ≡ step →
       Fits step → Outcome m event (changed m (with_dram m b) n step)
 
+-- the event of an act of a core, and of a bank; the number is that of the message that it gets
+abbrev pub core_event : ℕ → Act → Option ℕ → Event
+core_event c step.Attempting n = AttemptOf c
+core_event c (step.Getting message) n = Deliver (unwrap_or n 0)
+core_event c (step.Evicting line) n = EvictCache c line
+core_event c step.Advancing n = Advance c
+
+abbrev pub bank_event : ℕ → Act → Option ℕ → Event
+bank_event b (step.Evicting line) n = EvictBank b line
+bank_event b _ n = Deliver (unwrap_or n 0)
+
 module _ (m : Machine) where
   -- by what is there: a part of the number, or a message
   on : {X : Type 0} {event : Event} (o : Option X) (does : X → Answer × Machine) →
@@ -122,10 +133,6 @@ module _ (m : Machine) where
       cond_both m.is_stopped (refused m refusal.Stopped) (on_event m event) (Outcome m event)
       (λ e. refuses refusal.Stopped refl) (λ e. outcome event)
 
-  -- and the event at which a part takes a step
-  abbrev pub Happens : Answer × Machine → Type 0
-  Happens o = (event : Event) × (on_event m event ≡ o)
-
   pub finds : {X : Type 0} {o : Option X} {x : X} (does : X → Answer × Machine) → o ≡ Some x →
       if_there m o does ≡ does x
   finds does at = ap (λ o. if_there m o does) at
@@ -147,49 +154,43 @@ module _ (m : Machine) where
   done_in (Completes op received ts core) = step.Exhausts
   done_in (Does done) = done
 
+  -- what happens at the event of a part's act
   pub core_acts : (c : ℕ) (core : CoreState) → slice_get m.cores c ≡ Some core → (act : Act) (n : Option ℕ)
       (done : Step CoreState) → IsGiven m (Core c) (core_has_case core) (message_of act) n →
-      core_step core act ≡ Does done → Happens (changed m (with_core m c) n done)
+      core_step core act ≡ Does done → on_event m (core_event c act n) ≡ changed m (with_core m c) n done
   core_acts c core at step.Attempting None done given is =
-      (AttemptOf c, finds (λ x. tried m c x (core_step x step.Attempting)) at ∙ ap (tried m c core) is)
-  core_acts c core at (step.Getting message) (Some n) done given is = (
-    Deliver n,
-    delivers n message (Core c) given.0 given.1 (with_core m c) (slice_get m.cores c) core at core_has_case
-        core_table.core_table given.2 refl ∙ ap (λ t. changed m (with_core m c) (Some n) (done_in t)) is,
-  )
-  core_acts c core at (step.Evicting line) None done given is = (
-    EvictCache c line,
-    finds (λ x. changed m (with_core m c) None (done_in (core_step x (step.Evicting line)))) at
-        ∙ ap (λ t. changed m (with_core m c) None (done_in t)) is,
-  )
-  core_acts c core at step.Advancing None done given is = (
-    Advance c,
-    finds (λ x. changed m (with_core m c) None (done_in (core_step x step.Advancing))) at
-        ∙ ap (λ t. changed m (with_core m c) None (done_in t)) is,
-  )
+      finds (λ x. tried m c x (core_step x step.Attempting)) at ∙ ap (tried m c core) is
+  core_acts c core at (step.Getting message) (Some n) done given is =
+      delivers n message (Core c) given.0 given.1 (with_core m c) (slice_get m.cores c) core at core_has_case
+      core_table.core_table given.2 refl ∙ ap (λ t. changed m (with_core m c) (Some n) (done_in t)) is
+  core_acts c core at (step.Evicting line) None done given is =
+      finds (λ x. changed m (with_core m c) None (done_in (core_step x (step.Evicting line)))) at
+      ∙ ap (λ t. changed m (with_core m c) None (done_in t)) is
+  core_acts c core at step.Advancing None done given is =
+      finds (λ x. changed m (with_core m c) None (done_in (core_step x step.Advancing))) at
+      ∙ ap (λ t. changed m (with_core m c) None (done_in t)) is
   core_acts c core at _ _ done given is = absurd given
 
-  pub bank_acts : (b : ℕ) (bank : BankState) → slice_get m.banks b ≡ Some bank → (act : Act) (n : Option ℕ) →
-      IsGiven m (Bank b) (bank_has_case bank) (message_of act) n → bank_step bank act ≢ step.Keeps Idle →
-      Happens (changed m (with_bank m b) n (bank_step bank act))
-  bank_acts b bank at (step.Getting message) (Some n) given does = (
-    Deliver n,
-    delivers n message (Bank b) given.0 given.1 (with_bank m b) (slice_get m.banks b) bank at bank_has_case bank_table
-        given.2 refl,
-  )
-  bank_acts b bank at (step.Evicting line) None given does =
-      (EvictBank b line, finds (λ x. changed m (with_bank m b) None (bank_step x (step.Evicting line))) at)
-  bank_acts b bank at step.Attempting n given does = absurd (does refl)
-  bank_acts b bank at step.Advancing n given does = absurd (does refl)
-  bank_acts b bank at _ _ given does = absurd given
+  pub bank_acts : (b : ℕ) (bank : BankState) → slice_get m.banks b ≡ Some bank → (act : Act) (n : Option ℕ)
+      (done : Step BankState) → IsGiven m (Bank b) (bank_has_case bank) (message_of act) n →
+      bank_step bank act ≡ done → done ≢ step.Keeps Idle →
+      on_event m (bank_event b act n) ≡ changed m (with_bank m b) n done
+  bank_acts b bank at (step.Getting message) (Some n) done given is does =
+      delivers n message (Bank b) given.0 given.1 (with_bank m b) (slice_get m.banks b) bank at bank_has_case bank_table
+      given.2 refl ∙ ap (changed m (with_bank m b) (Some n)) is
+  bank_acts b bank at (step.Evicting line) None done given is does =
+      finds (λ x. changed m (with_bank m b) None (bank_step x (step.Evicting line))) at
+      ∙ ap (changed m (with_bank m b) None) is
+  bank_acts b bank at step.Attempting n done given is does = absurd (does (sym is))
+  bank_acts b bank at step.Advancing n done given is does = absurd (does (sym is))
+  bank_acts b bank at _ _ done given is does = absurd given
 
   pub dram_acts : (b : ℕ) (lines : FinMap nat_cmp (List ℕ)) → slice_get m.drams b ≡ Some lines → (act : Act)
-      (n : Option ℕ) → IsGiven m (Dram b) (dram_has_case lines) (message_of act) n →
-      dram_step lines act ≢ step.Keeps Idle → Happens (changed m (with_dram m b) n (dram_step lines act))
-  dram_acts b lines at (step.Getting message) (Some n) given does = (
-    Deliver n,
-    delivers n message (Dram b) given.0 given.1 (with_dram m b) (slice_get m.drams b) lines at dram_has_case dram_table
-        given.2 refl,
-  )
-  dram_acts b lines at (step.Getting message) None given does = absurd given
-  dram_acts b lines at _ n given does = absurd (does refl)
+      (n : Option ℕ) (done : Step (FinMap nat_cmp (List ℕ))) →
+      IsGiven m (Dram b) (dram_has_case lines) (message_of act) n → dram_step lines act ≡ done →
+      done ≢ step.Keeps Idle → on_event m (Deliver (unwrap_or n 0)) ≡ changed m (with_dram m b) n done
+  dram_acts b lines at (step.Getting message) (Some n) done given is does =
+      delivers n message (Dram b) given.0 given.1 (with_dram m b) (slice_get m.drams b) lines at dram_has_case
+      dram_table given.2 refl ∙ ap (changed m (with_dram m b) (Some n)) is
+  dram_acts b lines at (step.Getting message) None done given is does = absurd given
+  dram_acts b lines at _ n done given is does = absurd (does (sym is))

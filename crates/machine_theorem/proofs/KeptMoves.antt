@@ -1,6 +1,5 @@
 -- Every move keeps the invariant.
-use Rattle.std.proofs.Common.{◌≡◌, ℕ, ◌+◌, ◌%◌, ◌<◌, true, List, ◌∷◌, Option, refl, sym, ap, subst, ⊎_elim}
-use Rattle.std.specs.Prelude.{Result}
+use Rattle.std.proofs.Common.{◌≡◌, ℕ, ◌+◌, ◌%◌, ◌<◌, List, ◌∷◌, Option, refl, sym, ap, subst, inl, inr}
 use Rattle.std.specs.Ordering.{nat_cmp}
 use Rattle.std.specs.FinMap.{FinMap}
 use Rattle.std.proofs.lemmas.Bool.{cases_eq}
@@ -9,9 +8,7 @@ use Rattle.network.specs.declared.message.Node.TheVariants as node
 use Rattle.network.specs.declared.message.Message.{Message}
 use Rattle.timestamp_manager.specs.Lease.{fits}
 use Rattle.private_cache.specs.CopyTable.{copy_of}
-use Rattle.core_pts.specs.declared.attempt.IssueError.{IssueError}
-use Rattle.core_pts.specs.CoreTable as core_table
-use Rattle.core_pts.specs.CoreTable.{CoreState, core_has_case}
+use Rattle.core_pts.specs.CoreTable.{core_has_case}
 use Rattle.llc_bank.specs.declared.entry.Entry.{Entry}
 use Rattle.llc_bank.specs.OnEntry as on_entry
 use Rattle.llc_bank.specs.BankTable.{core_of, entry_of, bank_has_case, after_eviction}
@@ -26,7 +23,7 @@ use Rattle.machine_theorem.specs.Moves.{core_steps, bank_steps, dram_steps}
 use Rattle.machine_theorem.specs.Shape.{IsHome}
 use Rattle.machine_theorem.specs.Kept.{IsKept}
 use Rattle.machine_theorem.proofs.KeptSteps.{kept_reordered, Goes, Tries, goes_to, found_anywhere}
-use Rattle.machine_theorem.proofs.CoreMoves.{Issues, issue_goes, attempt_goes, eviction_goes, advance_goes}
+use Rattle.machine_theorem.proofs.CoreMoves.{issue_goes, attempt_goes, eviction_goes, advance_goes}
 use Rattle.machine_theorem.proofs.CoreDeliveries.{core_delivery}
 use Rattle.machine_theorem.proofs.BankMoves.{entry_goes, bank_delivery, dram_delivery}
 
@@ -35,25 +32,21 @@ module _ (config : Config) (opening : FinMap nat_cmp ℕ) (a : State) (s : IsKep
       AreBeside a.bag (node.Core c) (core_has_case (a.cores c)) (message_of act) rest →
       Tries config opening a c rest (core_step (a.cores c) act)
   core_goes c below step.Attempting rest all =
-      subst (λ xs. Tries config opening a c xs (core_step (a.cores c) step.Attempting)) (sym all)
-      (attempt_goes config opening a s c below (a.cores c).open_op refl)
+      rw all (attempt_goes config opening a s c below (a.cores c).open_op refl)
   core_goes c below (step.Getting message) rest given =
       found_anywhere config opening a (with_core a c) message rest given.0 _
       (core_delivery config opening a message rest (kept_reordered config opening a (message ∷ rest) given.0 s) c below
       given.1 given.2)
   core_goes c below (step.Evicting line) rest all =
-      subst (λ xs. Goes config opening a (with_core a c) xs (step.copy_evicted (core_table.evict (a.cores c) line)))
-      (sym all) (eviction_goes config opening a s c below line (copy_of (a.cores c).cache line) refl)
+      rw all (eviction_goes config opening a s c below line (copy_of (a.cores c).cache line) refl)
   core_goes c below step.Advancing rest all =
-      subst (λ xs. Goes config opening a (with_core a c) xs (step.advanced (core_table.advance (a.cores c)))) (sym all)
-      (advance_goes config opening a s c below (fits ((a.cores c).pts + 1)))
+      rw all (advance_goes config opening a s c below (fits ((a.cores c).pts + 1)))
 
   -- a delivered message is one of the home of its line
   home : (message : Message) (rest : List Message) → SameBag a.bag (message ∷ rest) → (to : Node) →
       message.to ≡ to → IsHome (message.line % config.banks) to
   home message rest same to is =
-      subst (IsHome (message.line % config.banks)) is
-      (kept_reordered config opening a (message ∷ rest) same s).shape.each_message.0.1
+      rw is at ((kept_reordered config opening a (message ∷ rest) same s).shape.each_message.0.1)
 
   bank_goes : (i : ℕ) (act : Act) (rest : List Message) →
       AreBeside a.bag (node.Bank i) (bank_has_case (a.banks i)) (message_of act) rest →
@@ -62,20 +55,17 @@ module _ (config : Config) (opening : FinMap nat_cmp ℕ) (a : State) (s : IsKep
   bank_goes i (step.Getting message) rest given =
       let here : i ≡ message.line % config.banks = home message rest given.0 (node.Bank i) given.1 in
       found_anywhere config opening a (with_bank a i) message rest given.0 _
-      (subst (λ (k : ℕ). Goes config opening (record a { bag = message ∷ rest })
-      (with_bank (record a { bag = message ∷ rest }) k) rest (bank_step (a.banks k) (step.Getting message))) (sym here)
-      (bank_delivery config opening a message rest (kept_reordered config opening a (message ∷ rest) given.0 s)
-      (ap core_of given.1) (subst (λ (k : ℕ). bank_has_case (a.banks k) message ≡ true) here given.2)))
+      (rw here (bank_delivery config opening a message rest
+      (kept_reordered config opening a (message ∷ rest) given.0 s) (ap core_of given.1) (rw here at given.2)))
   bank_goes i (step.Evicting line) rest all =
-      subst (λ xs. Goes config opening a (with_bank a i) xs (bank_step (a.banks i) (step.Evicting line))) (sym all)
-      (⊎_elim
-      (λ (e : line % config.banks ≡ i). subst (λ (k : ℕ). Goes config opening a (with_bank a k) a.bag
-      (bank_step (a.banks k) (step.Evicting line))) e
-      (entry_goes config opening a s line (entry_of (a.banks (line % config.banks)) line) refl))
-      (λ (ne : line % config.banks ≡ i → ⊥). subst (λ (o : Option Entry). Goes config opening a (with_bank a i) a.bag
-      (step.entry_evicted (after_eviction (a.banks i) line (on_entry.evicted o))))
-      (sym ((s.shape.each_bank i).own line ne)) tt)
-      (cases_eq (line % config.banks) i))
+      elim (cases_eq (line % config.banks) i) [
+        | inl e ↦
+            rw (all, ← e) (entry_goes config opening a s line (entry_of (a.banks (line % config.banks)) line) refl)
+        | inr ne ↦
+            subst (λ (o : Option Entry). Goes config opening a (with_bank a i) rest
+            (step.entry_evicted (after_eviction (a.banks i) line (on_entry.evicted o))))
+            (sym ((s.shape.each_bank i).own line ne)) tt
+      ]
   bank_goes i step.Advancing rest all = tt
 
   dram_goes : (i : ℕ) (act : Act) (rest : List Message) →
@@ -85,25 +75,22 @@ module _ (config : Config) (opening : FinMap nat_cmp ℕ) (a : State) (s : IsKep
   dram_goes i (step.Getting message) rest given =
       let here : i ≡ message.line % config.banks = home message rest given.0 (node.Dram i) given.1 in
       found_anywhere config opening a (with_dram a i) message rest given.0 _
-      (subst (λ (k : ℕ). Goes config opening (record a { bag = message ∷ rest })
-      (with_dram (record a { bag = message ∷ rest }) k) rest (dram_step (a.drams k) (step.Getting message))) (sym here)
-      (dram_delivery config opening a message rest (kept_reordered config opening a (message ∷ rest) given.0 s)
-      (subst (λ (k : ℕ). dram_has_case (a.drams k) message ≡ true) here given.2)))
+      (rw here (dram_delivery config opening a message rest
+      (kept_reordered config opening a (message ∷ rest) given.0 s) given.2))
   dram_goes i (step.Evicting line) rest all = tt
   dram_goes i step.Advancing rest all = tt
 
   pub move_kept : (b : State) → Move config a b → IsKept config opening b
   move_kept b (issues c op core below is) =
-      subst (λ (r : Result (Unit {0}) IssueError × CoreState). Issues config opening a s c below op r) is
-      (issue_goes config opening a s c below op (a.cores c).open_op refl)
+      rw is at (issue_goes config opening a s c below op (a.cores c).open_op refl)
   move_kept b (completes c op received ts core below is) =
-      subst (Tries config opening a c a.bag) is (attempt_goes config opening a s c below (a.cores c).open_op refl)
+      rw is at (attempt_goes config opening a s c below (a.cores c).open_op refl)
   move_kept b (core_steps c act rest done below beside is to) =
       goes_to config opening a b (with_core a c) rest done
-      (subst (Tries config opening a c rest) is (core_goes c below act rest beside)) to
+      (rw is at (core_goes c below act rest beside)) to
   move_kept b (bank_steps i act rest done below beside is to) =
       goes_to config opening a b (with_bank a i) rest done
-      (subst (Goes config opening a (with_bank a i) rest) is (bank_goes i act rest beside)) to
+      (rw is at (bank_goes i act rest beside)) to
   move_kept b (dram_steps i act rest done below beside is to) =
       goes_to config opening a b (with_dram a i) rest done
-      (subst (Goes config opening a (with_dram a i) rest) is (dram_goes i act rest beside)) to
+      (rw is at (dram_goes i act rest beside)) to

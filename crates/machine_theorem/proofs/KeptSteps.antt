@@ -64,8 +64,8 @@ module _ (config : Config) (opening : FinMap nat_cmp ℕ) where
       Reaches a (before ++ xs) → Reaches a (before ++ ys)
   reached_reordered a none before r = r
   reached_reordered a (behind {xs} {ys} x same) before r =
-      subst (Reaches a) (append_assoc before (x ∷ []) ys) (reached_reordered a same (before ++ x ∷ [])
-      (subst (Reaches a) (sym (append_assoc before (x ∷ []) xs)) r))
+      rw (append_assoc before (x ∷ []) ys) at (reached_reordered a same (before ++ x ∷ [])
+      (rw (append_assoc before (x ∷ []) xs) r))
   reached_reordered a (swapped x y xs) before r =
       bag_turn config opening (record a { bag = before ++ x ∷ y ∷ xs }) x.line (before ++ y ∷ x ∷ xs)
       (line_kept before x y xs) (shuffled _ (line_reordered before x y xs x.line)) r
@@ -110,8 +110,8 @@ module _ (config : Config) (opening : FinMap nat_cmp ℕ) where
 
   pub goes_to : {S : Type 0} (a b : State) (put : S → State) (rest : List Message) (step : Step S) →
       Goes a put rest step → StepsTo a put rest step b → IsKept config opening b
-  goes_to a b put rest Drops goes to = subst (IsKept config opening) (sym to) goes
-  goes_to a b put rest (Makes did consumes sends part) goes to = subst (IsKept config opening) (sym to) goes
+  goes_to a b put rest Drops goes to = rw to goes
+  goes_to a b put rest (Makes did consumes sends part) goes to = rw to goes
   goes_to a b put rest _ goes to = absurd to
 
   -- so does what an attempt of a core comes to

@@ -1,24 +1,24 @@
--- Services of a state are events of a machine in that state, if it has capacity and numbers for what they send.
-use Rattle.std.proofs.Common.{◌≡◌, ◌≢◌, ℕ, zero, suc, ◌+◌, ◌-◌, ◌^◌, ◌<◌, ◌≤◌, Bool, true, false, ◌&&◌, cond, eqb, List}
-use Rattle.std.proofs.Common.{[], ◌∷◌, ◌++◌, length, Option, Some, None, inl, inr, refl, sym, ap, ◌∙◌, subst}
-use Rattle.std.proofs.Common.{arith, ⊎_elim, length-set, length-append}
+-- Moves of a state are events of a machine in that state, if it has capacity and numbers for what they send. Services
+-- are events that serve.
+use Rattle.std.proofs.Common.{◌≡◌, ◌≢◌, ℕ, zero, suc, ◌+◌, ◌-◌, ◌^◌, ◌<◌, ◌≤◌, Bool, true, false, cond, eqb, List}
+use Rattle.std.proofs.Common.{[], ◌∷◌, ◌++◌, length, Option, Some, None, Ok, ◌⊎◌, inl, inr, refl, sym, ap, ◌∙◌, subst}
+use Rattle.std.proofs.Common.{arith, ⊎_elim}
 use Rattle.std.specs.List.{slice_get, AllByRecursion as Each}
-use Rattle.std.specs.Ordering.{nat_cmp}
-use Rattle.std.specs.FinMap.{FinMap}
-use Rattle.std.proofs.lemmas.Bool.{cond-true, cond-false, eq-eqb, ne_eqb, lt-ltb}
+use Rattle.std.specs.Option.{unwrap_or}
+use Rattle.std.proofs.Math.Nat.{zero-add, suc-add}
+use Rattle.std.proofs.lemmas.Bool.{cases_Bool, cond_both, cond-false, eq-eqb, ne_eqb, lt-ltb}
 use Rattle.std.proofs.lemmas.Option.{slice_get-get_or}
 use Rattle.physiological_order.specs.declared.operation.Op.{Op}
 use Rattle.physiological_order.specs.Order.{of_core}
 use Rattle.network.specs.declared.message.Node.{Node}
 use Rattle.network.specs.declared.message.Node.TheVariants as node
 use Rattle.network.specs.declared.message.Message.{Message}
-use Rattle.network.specs.Mail.{Mail, has_number}
+use Rattle.network.specs.Mail.{Mail}
 use Rattle.network.specs.NumberedMessages.{IsRising, at_number, without_number}
 use Rattle.core_pts.specs.CoreTable as core_table
-use Rattle.core_pts.specs.CoreTable.{CoreState, core_has_case}
-use Rattle.llc_bank.specs.BankTable as bank_table
-use Rattle.llc_bank.specs.BankTable.{BankState, bank_has_case}
-use Rattle.dram_mts.specs.Table.{dram_table, dram_has_case}
+use Rattle.core_pts.specs.CoreTable.{core_has_case}
+use Rattle.llc_bank.specs.BankTable.{bank_has_case}
+use Rattle.dram_mts.specs.Table.{dram_has_case}
 use Rattle.machine_table.specs.declared.config.Config.{Config}
 use Rattle.machine_table.specs.declared.event.Answer.{Answer}
 use Rattle.machine_table.specs.declared.event.Answer.TheVariants.{Idle}
@@ -29,23 +29,24 @@ use Rattle.machine_table.specs.Machine.{Machine, with_core, with_bank, with_dram
 use Rattle.machine_table.specs.Posted.{can_post, left, posted}
 use Rattle.machine_table.specs.Runs.{after_all}
 use Rattle.machine_table.specs.Step as step
-use Rattle.machine_table.specs.Step.{Step, Makes, Drops, Keeps, Exhausts, Tried, Completes, Does, Act, message_of}
-use Rattle.machine_table.specs.Step.{core_step}
-use Rattle.machine_table.specs.Step.{bank_step, dram_step, reacted}
-use Rattle.machine_table.specs.Transition.{changed, refused, tried, transition, on_event}
-use Rattle.machine_table.proofs.Lemmas.{finds, delivers, Outcome, refuses, transition_outcome}
-use Rattle.machine_table.proofs.Lemmas as outcomes
+use Rattle.machine_table.specs.Step.{Step, Makes, Drops, Keeps, Exhausts, Completes, Act, message_of, core_step}
+use Rattle.machine_table.specs.Transition.{changed, issued, refused, tried, transition, on_event}
+use Rattle.machine_table.proofs.Lemmas.{IsGiven, Outcome, core_steps as core_comes, bank_steps as bank_comes}
+use Rattle.machine_table.proofs.Lemmas.{dram_steps as dram_comes, transition_outcome, core_event, bank_event, finds}
+use Rattle.machine_table.proofs.Lemmas.{core_acts, bank_acts, dram_acts}
 use Rattle.machine_theorem.specs.Bags.{weigh, SameBag, bag_of}
 use Rattle.machine_theorem.specs.States.{State, Same, seen}
 use Rattle.machine_theorem.specs.Moves as moves
 use Rattle.machine_theorem.specs.Moves.{Move, AreBeside, StepsTo, issues, completes, core_steps, bank_steps, dram_steps}
+use Rattle.machine_theorem.specs.Unstuck.{IsServing, CompletesIn, IsServed}
 use Rattle.machine_theorem.proofs.Services as defined
 use Rattle.machine_theorem.proofs.Services.{IsService, Serves, nothing, first, IsLate, a_core, a_bank, EndsWithin}
-use Rattle.machine_theorem.specs.Unstuck.{IsServing, IsServed}
 use Rattle.machine_theorem.proofs.Bags.{as_many, bag-taken}
-use Rattle.machine_theorem.proofs.PartChanges.{core_put, bank_put, dram_put, completion_put, bag_put, posted_put}
+use Rattle.machine_theorem.proofs.PartChanges.{core_put, bank_put, dram_put, issue_put, completion_put, bag_put}
+use Rattle.machine_theorem.proofs.PartChanges.{posted_put}
 use Rattle.machine_theorem.proofs.Reorderings.{hit, hit-itself, is_same, is_same-true}
-use Rattle.protocol.proofs.Lemmas.{Some_injective}
+use Rattle.machine_theorem.proofs.Routes.{both}
+use Rattle.machine_theorem.proofs.SetUps.{as_many_parts}
 
 -- numbers go on rising where a message is taken and another sent
 module _ {X : Type 0} where
@@ -55,40 +56,52 @@ module _ {X : Type 0} where
 
   still_rising : (n low high : ℕ) (xs : List (ℕ × X)) → IsRising low xs high → IsRising low (without_number n xs) high
   still_rising n low high [] rising = rising
-  still_rising n low high (y ∷ ys) rising = go (eqb y.0 n) (still_rising n (y.0 + 1) high ys rising.1)
-    where
-      go : (b : Bool) → IsRising (y.0 + 1) (without_number n ys) high →
-          IsRising low (cond b ys (y ∷ without_number n ys)) high
-      go true k = lower (y.0 + 1) low high ys rising.1 (omega (arith, rising.0))
-      go false k = (rising.0, k)
+  still_rising n low high (y ∷ ys) rising =
+      cond_both (eqb y.0 n) ys (y ∷ without_number n ys) (λ zs. IsRising low zs high)
+      (λ e. lower (y.0 + 1) low high ys rising.1 (omega (arith, rising.0)))
+      (λ e. (rising.0, still_rising n (y.0 + 1) high ys rising.1))
 
   rising_on : (low high : ℕ) (x : X) (xs : List (ℕ × X)) → IsRising low xs high →
       IsRising low (xs ++ (high, x) ∷ []) (high + 1)
   rising_on low high x [] rising = (rising, omega arith)
   rising_on low high x (y ∷ ys) rising = (rising.0, rising_on (y.0 + 1) high x ys rising.1)
 
-posted_rising : (mail : Mail) (n : Option ℕ) (consumes : Bool) (sends : Option Message) →
-    IsRising 0 mail.messages mail.next →
-    IsRising 0 (posted mail n consumes sends).messages (posted mail n consumes sends).next
-posted_rising mail None true None rising = rising
-posted_rising mail (Some k) true None rising = still_rising k 0 mail.next mail.messages rising
-posted_rising mail n false None rising = rising
-posted_rising mail None true (Some q) rising = rising_on 0 mail.next q mail.messages rising
-posted_rising mail (Some k) true (Some q) rising =
-    rising_on 0 mail.next q (without_number k mail.messages) (still_rising k 0 mail.next mail.messages rising)
-posted_rising mail n false (Some q) rising = rising_on 0 mail.next q mail.messages rising
+module _ (m : Machine) (rising : IsRising 0 m.mail.messages m.mail.next) where
+  -- so at each event, which gives at most one number
+  abbrev Rises : Mail → Type 0
+  Rises mail = IsRising 0 mail.messages mail.next × (mail.next ≤ m.mail.next + 1)
 
-left_rising : (mail : Mail) (n : Option ℕ) → IsRising 0 mail.messages mail.next →
-    IsRising 0 (left mail n).messages (left mail n).next
-left_rising mail None rising = rising
-left_rising mail (Some k) rising = still_rising k 0 mail.next mail.messages rising
+  left_rises : (n : Option ℕ) → IsRising 0 (left m.mail n).messages m.mail.next
+  left_rises None = rising
+  left_rises (Some k) = still_rising k 0 m.mail.next m.mail.messages rising
 
-posted_next : (mail : Mail) (n : Option ℕ) (consumes : Bool) (sends : Option Message) →
-    (posted mail n consumes sends).next ≤ mail.next + 1
-posted_next mail n true None = omega arith
-posted_next mail n false None = omega arith
-posted_next mail n true (Some q) = omega arith
-posted_next mail n false (Some q) = omega arith
+  posted_rises : (n : Option ℕ) (consumes : Bool) (sends : Option Message) → Rises (posted m.mail n consumes sends)
+  posted_rises n true None = (left_rises n, omega arith)
+  posted_rises n false None = (rising, omega arith)
+  posted_rises n true (Some q) = (rising_on 0 m.mail.next q (left m.mail n).messages (left_rises n), omega arith)
+  posted_rises n false (Some q) = (rising_on 0 m.mail.next q m.mail.messages rising, omega arith)
+
+  changed_rises : {S : Type 0} (put : S → Machine) (n : Option ℕ) (done : Step S) → Rises (changed m put n done).1.mail
+  changed_rises put n Drops = posted_rises n true None
+  changed_rises put n (Makes answer consumes sends part) =
+      cond_both (can_post m.config.messages m.mail consumes sends)
+      (answer, record (put part) { mail = posted m.mail n consumes sends }) (refused m refusal.NetworkFull)
+      (λ o. Rises o.1.mail) (λ e. posted_rises n consumes sends) (λ e. (rising, omega arith))
+  changed_rises put n _ = (rising, omega arith)
+
+  outcome_rises : (e : Event) (o : Answer × Machine) → Outcome m e o → Rises o.1.mail
+  outcome_rises e o (core_comes c core act n done at given is fits) = changed_rises (with_core m c) n done
+  outcome_rises e o (bank_comes b bank act n done at given is fits) = changed_rises (with_bank m b) n done
+  outcome_rises e o (dram_comes b lines act n done at given is fits) = changed_rises (with_dram m b) n done
+  outcome_rises e o _ = (rising, omega arith)
+
+  event_rises : (e : Event) → Rises (transition m e).1.mail
+  event_rises e = outcome_rises e (transition m e) (transition_outcome m e)
+
+pub rising_after : (m : Machine) (events : List Event) → IsRising 0 m.mail.messages m.mail.next →
+    IsRising 0 (after_all m events).mail.messages (after_all m events).mail.next
+rising_after m [] rising = rising
+rising_after m (e ∷ es) rising = rising_after (transition m e).1 es (event_rises m rising e).0
 
 -- a message that is in flight has a number
 record Numbered (ms : List (ℕ × Message)) (x : Message) (low : ℕ) : Type 0 where
@@ -99,24 +112,23 @@ record Numbered (ms : List (ℕ × Message)) (x : Message) (low : ℕ) : Type 0 
 number_of : (x : Message) (low high : ℕ) (ms : List (ℕ × Message)) → IsRising low ms high →
     1 ≤ weigh (hit x) (bag_of ms) → Numbered ms x low
 number_of x low high [] rising some = absurd (omega arith)
-number_of x low high (y ∷ ys) rising some = go (is_same x y.1) refl (number_of x (y.0 + 1) high ys rising.1)
-  where
-    go : (b : Bool) → is_same x y.1 ≡ b → (1 ≤ weigh (hit x) (bag_of ys) → Numbered ys x (y.0 + 1)) →
-        Numbered (y ∷ ys) x low
-    go true e later = record {
-      number = y.0;
-      at = cond-true (eqb y.0 y.0) (Some y.1) (at_number y.0 ys) (eq-eqb y.0 y.0 refl) ∙ ap Some (sym
-          (is_same-true x y.1 e));
-      least = rising.0;
-    }
-    go false e later =
-        let k = later (let z : hit x y.1 ≡ 0 = cond-false (is_same x y.1) 1 0 e in omega arith) in
-        record {
-          number = k.number;
-          at = cond-false (eqb y.0 k.number) (Some y.1) (at_number k.number ys)
-              (ne_eqb y.0 k.number (λ q. let z = k.least in omega (arith, q, z))) ∙ k.at;
-          least = let z = k.least in let r = rising.0 in omega (arith, z, r);
-        }
+number_of x low high (y ∷ ys) rising some =
+    elim (cases_Bool (is_same x y.1)) [
+      | inl e ↦
+          record {
+            number = y.0;
+            at = rw (eq-eqb y.0 y.0 refl) (ap Some (sym (is_same-true x y.1 e)));
+            least = rising.0;
+          }
+      | inr e ↦
+          let k = number_of x (y.0 + 1) high ys rising.1
+          (let z : hit x y.1 ≡ 0 = cond-false (is_same x y.1) 1 0 e in omega arith) in
+          record {
+            number = k.number;
+            at = rw (ne_eqb y.0 k.number (λ q. let z = k.least in omega (arith, q, z))) k.at;
+            least = let z = k.least in let r = rising.0 in omega (arith, z, r);
+          }
+    ]
 
 -- a machine in a state, which runs, with numbers for so many more messages
 pub record IsIn (config : Config) (a : State) (m : Machine) (more : ℕ) : Type 0 where
@@ -133,396 +145,221 @@ pub bag_length : (ms : List (ℕ × Message)) → length (bag_of ms) ≡ length 
 bag_length [] = refl
 bag_length (m ∷ ms) = ap suc (bag_length ms)
 
--- the delivered message's number, if one is delivered
-record Given (m : Machine) (to : Node) (has_case : Message → Bool) (message : Option Message) (rest : List Message)
-    : Type 0 where
-  number : Option ℕ
-  others : SameBag rest (bag_of (left m.mail number).messages)
-  is : (x : Message) → message ≡ Some x → (n : ℕ) × (number ≡ Some n) × (at_number n m.mail.messages ≡ Some x)
-      × (x.to ≡ to) × (has_case x ≡ true)
-  isnt : message ≡ None → number ≡ None
+-- which of these events serve
+core_serves : (c : ℕ) (act : Act) (n : Option ℕ) → act ≢ step.Advancing → IsServing (core_event c act n)
+core_serves c step.Advancing n serves = absurd (serves refl)
+core_serves c step.Attempting n serves = tt
+core_serves c (step.Getting x) n serves = tt
+core_serves c (step.Evicting line) n serves = tt
 
-given_so : (config : Config) (a : State) (m : Machine) (k : ℕ) → IsIn config a m k → (to : Node)
-    (has_case : Message → Bool) (message : Option Message) (rest : List Message) →
-    AreBeside a.bag to has_case message rest → Given m to has_case message rest
-given_so config a m k i to has_case None rest is = record {
-  number = None;
-  others = λ h. ap (weigh h) is ∙ i.same.bag h;
-  is = λ x e. absurd (cc);
-  isnt = λ e. refl;
-}
-given_so config a m k i to has_case (Some x) rest is =
-    let n = number_of x 0 m.mail.next m.mail.messages i.rising
-    (let e = i.same.bag (hit x) in let s = is.0 (hit x) in let z = hit-itself x in omega arith) in
-    let taken = bag-taken n.number m.mail.messages x n.at in
-    record {
-      number = Some n.number;
-      others = λ h. let e = i.same.bag h in let s = is.0 h in let t = taken h in omega arith;
-      is = λ y e. let q = Some_injective x y e in (
-        n.number,
-        refl,
-        n.at ∙ e,
-        ap (λ (z : Message). z.to) (sym q) ∙ is.1,
-        ap has_case (sym q) ∙ is.2,
-      );
-      isnt = λ e. absurd (cc);
-    }
+bank_serves : (b : ℕ) (act : Act) (n : Option ℕ) → IsServing (bank_event b act n)
+bank_serves b (step.Evicting line) n = tt
+bank_serves b _ n = tt
 
-module _ (config : Config) (most : ℕ) (room : most ≤ config.messages) where
-  -- what a part is put into
-  record Puts (a : State) (m : Machine) {S : Type 0} (put : S → Machine) (puts : S → State) : Type 0 where
-    same : (part : S) → Same (puts part) (seen (put part))
-    bag : (part : S) → (puts part).bag ≡ a.bag
-    counts : (part : S) → (puts part).counts ≡ a.counts
-    runs : (part : S) → (put part).is_stopped ≡ false
-    set_up : (part : S) → (put part).config ≡ config
-    cores : (part : S) → length (put part).cores ≡ config.cores
-    banks : (part : S) → length (put part).banks ≡ config.banks
-    drams : (part : S) → length (put part).drams ≡ config.banks
+module _ (config : Config) (a : State) (m : Machine) (k : ℕ) (i : IsIn config a m (suc k)) where
+  -- the delivered message's number, if one is delivered
+  record Given (to : Node) (has_case : Message → Bool) (message : Option Message) (rest : List Message) : Type 0 where
+    number : Option ℕ
+    others : SameBag rest (bag_of (left m.mail number).messages)
+    is : IsGiven m to has_case message number
 
-  module _ (a : State) (m : Machine) (k : ℕ) (i : IsIn config a m (suc k)) where
-    some : m.mail.next < 2 ^ 64 - 1
-    some = let z = i.numbers in omega (arith, z)
-
-    as_many_messages : length m.mail.messages ≡ length a.bag
-    as_many_messages = sym (bag_length m.mail.messages) ∙ sym (as_many a.bag (bag_of m.mail.messages) i.same.bag)
-
-    can : (consumes : Bool) (sends : Option Message) (rest : List Message) (puts : State) → puts.bag ≡ a.bag →
-        length (moves.with_answer puts (cond consumes rest a.bag) sends).bag ≤ most →
-        can_post m.config.messages m.mail consumes sends ≡ true
-    can true None rest puts e le = refl
-    can false None rest puts e le = refl
-    can true (Some q) rest puts e le = lt-ltb m.mail.next (2 ^ 64 - 1) some
-    can false (Some q) rest puts e le =
-        let few : length m.mail.messages < m.config.messages =
-        (let z = as_many_messages in let s = ap (λ (c : Config). c.messages) i.set_up in let r = room in
-        omega (arith, z, s, le, r)) in
-        ap (λ (p : Bool). p && has_number m.mail) (lt-ltb (length m.mail.messages) m.config.messages few)
-        ∙ lt-ltb m.mail.next (2 ^ 64 - 1) some
-
-    step_in : {S : Type 0} (put : S → Machine) (puts : S → State) → Puts a m put puts → (n : Option ℕ)
-        (rest : List Message) → SameBag rest (bag_of (left m.mail n).messages) → (done : Step S) (b : State) →
-        StepsTo a puts rest done b → length b.bag ≤ most → IsIn config b (changed m put n done).1 k
-    step_in put puts p n rest others Exhausts b to le = absurd to
-    step_in put puts p n rest others (Keeps kept) b to le = absurd to
-    step_in put puts p n rest others Drops b to le =
-        subst (λ (x : State). IsIn config x (record m { mail = left m.mail n }) k) (sym to) (record {
-          same = bag_put a m i.same rest (left m.mail n) others i.same.counts;
-          runs = i.runs;
-          set_up = i.set_up;
-          cores = i.cores;
-          banks = i.banks;
-          drams = i.drams;
-          rising = left_rising m.mail n i.rising;
-          numbers = let z = i.numbers in by_number n;
-        })
-      where
-        by_number : (n : Option ℕ) → (left m.mail n).next + k ≤ 2 ^ 64 - 1
-        by_number n = let z = i.numbers in omega (arith, z)
-    step_in put puts p n rest others (Makes did consumes sends part) b to le =
-        subst (λ (x : State). IsIn config x (changed m put n (Makes did consumes sends part)).1 k) (sym to)
-        (subst (λ (o : Answer × Machine). IsIn config (moves.with_answer (puts part)
-        (cond consumes rest a.bag) sends) o.1 k)
-        (sym (cond-true (can_post m.config.messages m.mail consumes sends) _ _
-        (can consumes sends rest (puts part) (p.bag part) (subst (λ (x : State). length x.bag ≤ most) to le))))
-        (record {
-          same = posted_put (puts part) (put part) (p.same part) a.bag rest m.mail n i.same.bag others
-              (p.counts part ∙ i.same.counts) consumes sends;
-          runs = p.runs part;
-          set_up = p.set_up part;
-          cores = p.cores part;
-          banks = p.banks part;
-          drams = p.drams part;
-          rising = posted_rising m.mail n consumes sends i.rising;
-          numbers = let z = i.numbers in let y = posted_next m.mail n consumes sends in omega (arith, z, y);
-        }))
-
-    core_puts : (c : ℕ) → c < config.cores → Puts a m (with_core m c) (moves.with_core a c)
-    core_puts c lt = record {
-      same = λ core. core_put a m i.same c core (let z = i.cores in omega (arith, z, lt));
-      bag = λ part. refl;
-      counts = λ part. refl;
-      runs = λ part. i.runs;
-      set_up = λ part. i.set_up;
-      cores = λ part. length-set m.cores c part ∙ i.cores;
-      banks = λ part. i.banks;
-      drams = λ part. i.drams;
-    }
-
-    bank_puts : (b : ℕ) → b < config.banks → Puts a m (with_bank m b) (moves.with_bank a b)
-    bank_puts b lt = record {
-      same = λ bank. bank_put a m i.same b bank (let z = i.banks in omega (arith, z, lt));
-      bag = λ part. refl;
-      counts = λ part. refl;
-      runs = λ part. i.runs;
-      set_up = λ part. i.set_up;
-      cores = λ part. i.cores;
-      banks = λ part. length-set m.banks b part ∙ i.banks;
-      drams = λ part. i.drams;
-    }
-
-    dram_puts : (b : ℕ) → b < config.banks → Puts a m (with_dram m b) (moves.with_dram a b)
-    dram_puts b lt = record {
-      same = λ lines. dram_put a m i.same b lines (let z = i.drams in omega (arith, z, lt));
-      bag = λ part. refl;
-      counts = λ part. refl;
-      runs = λ part. i.runs;
-      set_up = λ part. i.set_up;
-      cores = λ part. i.cores;
-      banks = λ part. i.banks;
-      drams = λ part. length-set m.drams b part ∙ i.drams;
-    }
-
-    core_there : (c : ℕ) → c < config.cores → slice_get m.cores c ≡ Some (a.cores c)
-    core_there c lt = slice_get-get_or m.cores c _ (let z = i.cores in omega (arith, z, lt)) ∙ ap Some (sym
-        (i.same.cores c))
-
-    bank_there : (b : ℕ) → b < config.banks → slice_get m.banks b ≡ Some (a.banks b)
-    bank_there b lt = slice_get-get_or m.banks b _ (let z = i.banks in omega (arith, z, lt)) ∙ ap Some (sym
-        (i.same.banks b))
-
-    dram_there : (b : ℕ) → b < config.banks → slice_get m.drams b ≡ Some (a.drams b)
-    dram_there b lt = slice_get-get_or m.drams b _ (let z = i.drams in omega (arith, z, lt)) ∙ ap Some (sym
-        (i.same.drams b))
-
-    -- an event that leads to this
-    record Leads (o : Answer × Machine) : Type 0 where
-      event : Event
-      serving : IsServing event
-      is : (transition m event).1 ≡ o.1
-
-    by_event : (e : Event) (o : Answer × Machine) → IsServing e → on_event m e ≡ o → Leads o
-    by_event e o serving is = record {
-      event = e;
-      serving = serving;
-      is = ap (λ (r : Answer × Machine). r.1) (cond-false m.is_stopped _ (on_event m e) i.runs ∙ is);
-    }
-
-    abbrev done_in : Tried → Step CoreState
-    done_in (Completes op received ts core) = Exhausts
-    done_in (Does done) = done
-
-    core_leads : (c : ℕ) → c < config.cores → (act : Act) → act ≢ step.Advancing → (rest : List Message) →
-        (g : Given m (node.Core c) (core_has_case (a.cores c)) (message_of act) rest) → (done : Step CoreState) →
-        core_step (a.cores c) act ≡ Does done → Leads (changed m (with_core m c) g.number done)
-    core_leads c lt step.Attempting serves rest g done is =
-        by_event (event.Attempt c) _ tt (
-        finds m (λ x. tried m c x (core_step x step.Attempting)) (core_there c lt) ∙ ap (tried m c (a.cores c)) is
-        ∙ ap (λ (n : Option ℕ). changed m (with_core m c) n done) (sym (g.isnt refl)))
-    core_leads c lt (step.Getting x) serves rest g done is =
-        let q = g.is x refl in
-        by_event (event.Deliver q.0) _ tt
-        (delivers m q.0 x (node.Core c) q.2 q.3 (with_core m c) (slice_get m.cores c) (a.cores c) (core_there c lt)
-        core_has_case core_table.core_table q.4 refl
-        ∙ ap (λ (t : Step CoreState). changed m (with_core m c) (Some q.0) t) (ap done_in is)
-        ∙ ap (λ (n : Option ℕ). changed m (with_core m c) n done) (sym q.1))
-    core_leads c lt (step.Evicting line) serves rest g done is =
-        by_event (event.EvictCache c line) _ tt
-        (finds m (λ x. changed m (with_core m c) None (done_in (core_step x (step.Evicting line)))) (core_there c lt)
-        ∙ ap (λ (t : Step CoreState). changed m (with_core m c) None t) (ap done_in is)
-        ∙ ap (λ (n : Option ℕ). changed m (with_core m c) n done) (sym (g.isnt refl)))
-    core_leads c lt step.Advancing serves rest g done is = absurd (serves refl)
-
-    bank_leads : (b : ℕ) → b < config.banks → (act : Act) (rest : List Message) →
-        (g : Given m (node.Bank b) (bank_has_case (a.banks b)) (message_of act) rest) → (done : Step BankState) →
-        bank_step (a.banks b) act ≡ done → done ≢ Keeps Idle → Leads (changed m (with_bank m b) g.number done)
-    bank_leads b lt (step.Getting x) rest g done is ne =
-        let q = g.is x refl in
-        by_event (event.Deliver q.0) _ tt
-        (delivers m q.0 x (node.Bank b) q.2 q.3 (with_bank m b) (slice_get m.banks b) (a.banks b) (bank_there b lt)
-        bank_has_case bank_table.bank_table q.4 refl
-        ∙ ap (λ (t : Step BankState). changed m (with_bank m b) (Some q.0) t) is
-        ∙ ap (λ (n : Option ℕ). changed m (with_bank m b) n done) (sym q.1))
-    bank_leads b lt (step.Evicting line) rest g done is ne =
-        by_event (event.EvictBank b line) _ tt
-        (finds m (λ x. changed m (with_bank m b) None (bank_step x (step.Evicting line))) (bank_there b lt)
-        ∙ ap (λ (t : Step BankState). changed m (with_bank m b) None t) is
-        ∙ ap (λ (n : Option ℕ). changed m (with_bank m b) n done) (sym (g.isnt refl)))
-    bank_leads b lt step.Attempting rest g done is ne = absurd (ne (sym is))
-    bank_leads b lt step.Advancing rest g done is ne = absurd (ne (sym is))
-
-    dram_leads : (b : ℕ) → b < config.banks → (act : Act) (rest : List Message) →
-        (g : Given m (node.Dram b) (dram_has_case (a.drams b)) (message_of act) rest) →
-        (done : Step (FinMap nat_cmp (List ℕ))) → dram_step (a.drams b) act ≡ done → done ≢ Keeps Idle →
-        Leads (changed m (with_dram m b) g.number done)
-    dram_leads b lt (step.Getting x) rest g done is ne =
-        let q = g.is x refl in
-        by_event (event.Deliver q.0) _ tt
-        (delivers m q.0 x (node.Dram b) q.2 q.3 (with_dram m b) (slice_get m.drams b) (a.drams b) (dram_there b lt)
-        dram_has_case dram_table q.4 refl
-        ∙ ap (λ (t : Step (FinMap nat_cmp (List ℕ))). changed m (with_dram m b) (Some q.0) t) is
-        ∙ ap (λ (n : Option ℕ). changed m (with_dram m b) n done) (sym q.1))
-    dram_leads b lt (step.Evicting line) rest g done is ne = absurd (ne (sym is))
-    dram_leads b lt step.Attempting rest g done is ne = absurd (ne (sym is))
-    dram_leads b lt step.Advancing rest g done is ne = absurd (ne (sym is))
-
-    -- so each service is an event
-    record Served (b : State) : Type 0 where
-      event : Event
-      serving : IsServing event
-      is_in : IsIn config b (transition m event).1 k
-
-    served : (b : State) (o : Answer × Machine) → Leads o → IsIn config b o.1 k → Served b
-    served b o l is = record {
-      event = l.event;
-      serving = l.serving;
-      is_in = subst (λ (n : Machine). IsIn config b n k) (sym l.is) is;
-    }
-
-    no_idle : {S : Type 0} (puts : S → State) (rest : List Message) (b : State) (done : Step S) →
-        StepsTo a puts rest done b → done ≢ Keeps Idle
-    no_idle puts rest b done to e = subst (λ s. StepsTo a puts rest s b) e to
-
-    service_event : (b : State) (move : Move config a b) → IsService move → length b.bag ≤ most → Served b
-    service_event b (issues c op core lt is) serves le = absurd serves
-    service_event b (completes c op received ts core lt is) serves le =
-        let there = core_there c lt in
-        let new : Machine = record (with_core m c core) {
-          records = m.records ++ step.record_of c (length m.records) (a.cores c) op received ts ∷ [];
-        } in
-        served b (tried m c (a.cores c) (Completes op received ts core))
-        (by_event (event.Attempt c) _ tt (
-        finds m (λ x. tried m c x (core_step x step.Attempting)) there ∙ ap (tried m c (a.cores c)) is))
-        (record {
-          same = completion_put a m i.same c op received ts (a.cores c) core (let z = i.cores in omega (arith, z, lt));
-          runs = i.runs;
-          set_up = i.set_up;
-          cores = length-set m.cores c core ∙ i.cores;
-          banks = i.banks;
-          drams = i.drams;
-          rising = i.rising;
-          numbers = let z = i.numbers in omega (arith, z);
-        })
-    service_event b (core_steps c act rest done lt beside is to) serves le =
-        let g = given_so config a m (suc k) i (node.Core c) (core_has_case (a.cores c)) (message_of act) rest beside in
-        served b _ (core_leads c lt act serves rest g done is)
-        (step_in (with_core m c) (moves.with_core a c) (core_puts c lt) g.number rest g.others done b to le)
-    service_event b (bank_steps j act rest done lt beside is to) serves le =
-        let g = given_so config a m (suc k) i (node.Bank j) (bank_has_case (a.banks j)) (message_of act) rest beside in
-        served b _ (bank_leads j lt act rest g done is (no_idle (moves.with_bank a j) rest b done to))
-        (step_in (with_bank m j) (moves.with_bank a j) (bank_puts j lt) g.number rest g.others done b to le)
-    service_event b (dram_steps j act rest done lt beside is to) serves le =
-        let g = given_so config a m (suc k) i (node.Dram j) (dram_has_case (a.drams j)) (message_of act) rest beside in
-        served b _ (dram_leads j lt act rest g done is (no_idle (moves.with_dram a j) rest b done to))
-        (step_in (with_dram m j) (moves.with_dram a j) (dram_puts j lt) g.number rest g.others done b to le)
-
-  -- a list of services is one of events
-  record Ran (j more : ℕ) (b : State) (m : Machine) : Type 0 where
-    events : List Event
-    few : length events ≤ j
-    serving : Each IsServing events
-    is_in : IsIn config b (after_all m events) more
-
-  runs_on : (j more : ℕ) (a b : State) (m : Machine) → Serves config most j a b → IsIn config a m (j + more) →
-      Ran j more b m
-  runs_on zero more a _ m nothing i =
+  given : (to : Node) (has_case : Message → Bool) (message : Option Message) (rest : List Message) →
+      AreBeside a.bag to has_case message rest → Given to has_case message rest
+  given to has_case None rest beside = record {
+    number = None;
+    others = λ h. ap (weigh h) beside ∙ i.same.bag h;
+    is = tt;
+  }
+  given to has_case (Some x) rest beside =
+      let n = number_of x 0 m.mail.next m.mail.messages i.rising
+      (let e = i.same.bag (hit x) in let s = beside.0 (hit x) in let z = hit-itself x in omega arith) in
+      let taken = bag-taken n.number m.mail.messages x n.at in
       record {
-        events = [];
-        few = omega arith;
-        serving = tt;
-        is_in = let e : zero + more ≡ more = omega arith in
-            subst (IsIn config a m) e i;
+        number = Some n.number;
+        others = λ h. let e = i.same.bag h in let s = beside.0 h in let t = taken h in omega arith;
+        is = (n.at, beside.1, beside.2);
       }
-  runs_on (suc j) more a b m (first move is few rest) i =
-      let e : suc j + more ≡ suc (j + more) = omega arith in
-      let s = service_event a m (j + more) (subst (IsIn config a m) e i) _ move is few in
-      let k = runs_on j more _ b (transition m s.event).1 rest s.is_in in
+
+  core_there : (c : ℕ) → c < config.cores → slice_get m.cores c ≡ Some (a.cores c)
+  core_there c lt = slice_get-get_or m.cores c _ (rw i.cores lt) ∙ ap Some (sym (i.same.cores c))
+
+  bank_there : (b : ℕ) → b < config.banks → slice_get m.banks b ≡ Some (a.banks b)
+  bank_there b lt = slice_get-get_or m.banks b _ (rw i.banks lt) ∙ ap Some (sym (i.same.banks b))
+
+  dram_there : (b : ℕ) → b < config.banks → slice_get m.drams b ≡ Some (a.drams b)
+  dram_there b lt = slice_get-get_or m.drams b _ (rw i.drams lt) ∙ ap Some (sym (i.same.drams b))
+
+  -- what is in flight afterwards fits, or one message more does
+  abbrev pub HasRoom : State → Type 0
+  HasRoom b = (length b.bag ≤ config.messages) ⊎ (length a.bag < config.messages)
+
+  can : (consumes : Bool) (sends : Option Message) (rest : List Message) (b : State) →
+      HasRoom (moves.with_answer b (cond consumes rest a.bag) sends) →
+      can_post m.config.messages m.mail consumes sends ≡ true
+  can true None rest b room = refl
+  can false None rest b room = refl
+  can true (Some q) rest b room = lt-ltb m.mail.next (2 ^ 64 - 1) (let z = i.numbers in omega (arith, z))
+  can false (Some q) rest b room =
+      let few : length a.bag < config.messages = ⊎_elim (λ le. omega (arith, le)) (λ lt. lt) room in
+      let many = as_many a.bag (bag_of m.mail.messages) i.same.bag in
+      both _ _
+      (lt-ltb (length m.mail.messages) m.config.messages
+      (let z = bag_length m.mail.messages in rw i.set_up (omega (arith, z, many, few))))
+      (lt-ltb m.mail.next (2 ^ 64 - 1) (let z = i.numbers in omega (arith, z)))
+
+  -- the machine afterwards is in this state, and runs
+  abbrev Led : State → Answer × Machine → Type 0
+  Led b o = Same b (seen o.1) × (o.1.is_stopped ≡ false)
+
+  step_led : {S : Type 0} (put : S → Machine) (puts : S → State) → ((part : S) → Same (puts part) (seen (put part))) →
+      ((part : S) → (puts part).counts ≡ m.mail.counts) → ((part : S) → (put part).is_stopped ≡ false) →
+      (n : Option ℕ) (rest : List Message) → SameBag rest (bag_of (left m.mail n).messages) → (done : Step S)
+      (b : State) → StepsTo a puts rest done b → HasRoom b → Led b (changed m put n done)
+  step_led put puts same counts runs n rest others Exhausts b to room = absurd to
+  step_led put puts same counts runs n rest others (Keeps kept) b to room = absurd to
+  step_led put puts same counts runs n rest others Drops b to room =
+      rw to (bag_put a m i.same rest (left m.mail n) others i.same.counts, i.runs)
+  step_led put puts same counts runs n rest others (Makes did consumes sends part) b to room =
+      rw (to, can consumes sends rest (puts part) (rw to at room)) (
+        posted_put (puts part) (put part) (same part) a.bag rest m.mail n i.same.bag others (counts part) consumes
+            sends,
+        runs part,
+      )
+
+  -- an event that serves where the move does, and leads to the state
+  pub record Leads (b : State) (serves : Type 0) : Type 0 where
+    pub event : Event
+    pub serving : serves → IsServing event
+    pub is_in : IsIn config b (transition m event).1 k
+
+  happens : (e : Event) (o : Answer × Machine) → on_event m e ≡ o → transition m e ≡ o
+  happens e o is = cond-false m.is_stopped _ (on_event m e) i.runs ∙ is
+
+  leads : {b : State} {serves : Type 0} (e : Event) (o : Answer × Machine) → (serves → IsServing e) →
+      on_event m e ≡ o → Led b o → Leads b serves
+  leads {b} e o serving is led =
+      let parts = as_many_parts m e (transition m e) (transition_outcome m e) in
+      let mail = event_rises m i.rising e in
+      let there : Led b (transition m e) = rw (happens e o is) led in
       record {
-        events = s.event ∷ k.events;
-        few = let z = k.few in omega arith;
-        serving = (s.serving, k.serving);
-        is_in = k.is_in;
+        event = e;
+        serving = serving;
+        is_in = record {
+          same = there.0;
+          runs = there.1;
+          set_up = parts.config ∙ i.set_up;
+          cores = parts.cores ∙ i.cores;
+          banks = parts.banks ∙ i.banks;
+          drams = parts.drams ∙ i.drams;
+          rising = mail.0;
+          numbers = let y = mail.1 in let z = i.numbers in omega (arith, y, z);
+        };
       }
+
+  -- a step that leads to a state does something
+  does : {S : Type 0} (puts : S → State) (rest : List Message) (b : State) (done : Step S) →
+      StepsTo a puts rest done b → done ≢ Keeps Idle
+  does puts rest b done to is = subst (λ s. StepsTo a puts rest s b) is to
+
+  pub move_leads : (b : State) (move : Move config a b) → IsService move ⊎ (length m.issued ≡ config.cores) →
+      HasRoom b → Leads b (IsService move)
+  move_leads b (issues c op core lt is) (inl serves) room = absurd serves
+  move_leads b (issues c op core lt is) (inr lists) room =
+      leads (event.Issue c op) (issued m c op (Ok tt, core)) (λ serves. serves)
+      (finds m (λ x. issued m c op (core_table.issue x op)) (core_there c lt) ∙ ap (issued m c op) is)
+      (issue_put a m i.same c op core (rw i.cores lt) (rw lists lt), i.runs)
+  move_leads b (completes c op received ts core lt is) lists room =
+      leads (event.Attempt c) (tried m c (a.cores c) (Completes op received ts core)) (λ serves. tt)
+      (finds m (λ x. tried m c x (core_step x step.Attempting)) (core_there c lt) ∙ ap (tried m c (a.cores c)) is)
+      (completion_put a m i.same c op received ts (a.cores c) core (rw i.cores lt), i.runs)
+  move_leads b (core_steps c act rest done lt beside is to) lists room =
+      let g = given (node.Core c) (core_has_case (a.cores c)) (message_of act) rest beside in
+      leads (core_event c act g.number) (changed m (with_core m c) g.number done) (core_serves c act g.number)
+      (core_acts m c (a.cores c) (core_there c lt) act g.number done g.is is)
+      (step_led (with_core m c) (moves.with_core a c) (λ core. core_put a m i.same c core (rw i.cores lt))
+      (λ core. i.same.counts) (λ core. i.runs) g.number rest g.others done b to room)
+  move_leads b (bank_steps j act rest done lt beside is to) lists room =
+      let g = given (node.Bank j) (bank_has_case (a.banks j)) (message_of act) rest beside in
+      leads (bank_event j act g.number) (changed m (with_bank m j) g.number done)
+      (λ serves. bank_serves j act g.number)
+      (bank_acts m j (a.banks j) (bank_there j lt) act g.number done g.is is
+      (does (moves.with_bank a j) rest b done to))
+      (step_led (with_bank m j) (moves.with_bank a j) (λ bank. bank_put a m i.same j bank (rw i.banks lt))
+      (λ bank. i.same.counts) (λ bank. i.runs) g.number rest g.others done b to room)
+  move_leads b (dram_steps j act rest done lt beside is to) lists room =
+      let g = given (node.Dram j) (dram_has_case (a.drams j)) (message_of act) rest beside in
+      leads (event.Deliver (unwrap_or g.number 0)) (changed m (with_dram m j) g.number done) (λ serves. tt)
+      (dram_acts m j (a.drams j) (dram_there j lt) act g.number done g.is is
+      (does (moves.with_dram a j) rest b done to))
+      (step_led (with_dram m j) (moves.with_dram a j) (λ lines. dram_put a m i.same j lines (rw i.drams lt))
+      (λ lines. i.same.counts) (λ lines. i.runs) g.number rest g.others done b to room)
 
   -- a service whose time doesn't fit stops the machine
-  stops : (a : State) (m : Machine) (k : ℕ) → IsIn config a m (suc k) → IsLate config a →
-      (e : Event) × IsServing e × ((transition m e).1.is_stopped ≡ true)
-  stops a m k i (a_core c act rest lt serves beside is) =
-      let g = given_so config a m (suc k) i (node.Core c) (core_has_case (a.cores c)) (message_of act) rest beside in
-      let l = core_leads a m k i c lt act serves rest g Exhausts is in
-      (l.event, l.serving, ap (λ (n : Machine). n.is_stopped) l.is)
-  stops a m k i (a_bank b act rest lt beside is) =
-      let g = given_so config a m (suc k) i (node.Bank b) (bank_has_case (a.banks b)) (message_of act) rest beside in
-      let l = bank_leads a m k i b lt act rest g Exhausts is (λ e. cc) in
-      (l.event, l.serving, ap (λ (n : Machine). n.is_stopped) l.is)
+  stops : IsLate config a → (e : Event) × IsServing e × ((transition m e).1.is_stopped ≡ true)
+  stops (a_core c act rest lt serves beside is) =
+      let g = given (node.Core c) (core_has_case (a.cores c)) (message_of act) rest beside in
+      let acts = core_acts m c (a.cores c) (core_there c lt) act g.number Exhausts g.is is in
+      (core_event c act g.number, core_serves c act g.number serves, ap (λ o. o.1.is_stopped) (happens _ _ acts))
+  stops (a_bank b act rest lt beside is) =
+      let g = given (node.Bank b) (bank_has_case (a.banks b)) (message_of act) rest beside in
+      let acts = bank_acts m b (a.banks b) (bank_there b lt) act g.number Exhausts g.is is (λ e. cc) in
+      (bank_event b act g.number, bank_serves b act g.number, ap (λ o. o.1.is_stopped) (happens _ _ acts))
 
-  -- events one after the other
-  each_then : (xs ys : List Event) → Each IsServing xs → Each IsServing ys → Each IsServing (xs ++ ys)
-  each_then [] ys k l = l
-  each_then (x ∷ xs) ys k l = (k.0, each_then xs ys k.1 l)
+-- at most so many events that serve lead to a machine of which this holds
+record Ran (j : ℕ) (m : Machine) (P : Machine → Type 0) : Type 0 where
+  events : List Event
+  few : length events ≤ j
+  serving : Each IsServing events
+  ends : P (after_all m events)
 
-  after_then : (m : Machine) (xs ys : List Event) → after_all m (xs ++ ys) ≡ after_all (after_all m xs) ys
-  after_then m [] ys = refl
-  after_then m (x ∷ xs) ys = after_then (transition m x).1 xs ys
+runs_first : (j : ℕ) (m : Machine) (P : Machine → Type 0) (e : Event) → IsServing e → Ran j (transition m e).1 P →
+    Ran (suc j) m P
+runs_first j m P e serving r = record {
+  events = e ∷ r.events;
+  few = let z = r.few in omega arith;
+  serving = (serving, r.serving);
+  ends = r.ends;
+}
+
+module _ (config : Config) (most : ℕ) (room : most ≤ config.messages) where
+  -- a list of services is one of events, with further ones behind them
+  runs_on : (j more : ℕ) (a b : State) (m : Machine) (P : Machine → Type 0) → Serves config most j a b →
+      IsIn config a m (j + more) → ((n : Machine) → IsIn config b n more → Ran more n P) → Ran (j + more) m P
+  runs_on zero more a _ m P nothing i then = rw zero-add (then m (rw zero-add at i))
+  runs_on (suc j) more a b m P (first {b = d} move is few rest) i then =
+      let s = move_leads config a m (j + more) (rw suc-add at i) d move (inl is) (inl (omega (arith, few, room))) in
+      rw suc-add (runs_first (j + more) m P s.event (s.serving is)
+      (runs_on j more d b (transition m s.event).1 P rest s.is_in then))
+
+  -- a core's operation is completed since the machine, or the machine is stopped
+  abbrev Ends : ℕ → Op → Machine → Machine → Type 0
+  Ends c op m n = CompletesIn c op m n ⊎ (n.is_stopped ≡ true)
 
   pub served_in : (services c : ℕ) (op : Op) (a : State) (m : Machine) → EndsWithin config most services c op a →
       c < config.cores → IsIn config a m (services + 1) → IsServed (services + 1) c op m
-  served_in services c op a m e lt i = ⊎_elim completed late e.ends
+  served_in services c op a m e lt i =
+      let many : services + 1 ≡ e.made + suc (services - e.made) = (let f = e.few in omega (arith, f)) in
+      let r : Ran (services + 1) m (Ends c op m) = rw many (runs_on e.made (suc (services - e.made)) a e.after m
+      (Ends c op m) e.serves (rw many at i) (⊎_elim completed late e.ends)) in
+      record { events = r.events; few = r.few; serving = r.serving; ends = r.ends }
     where
-      more : ℕ
-      more = (services - e.made) + 1
-
-      k : Ran e.made more e.after m
-      k = runs_on e.made more a e.after m e.serves
-          (let z : services + 1 ≡ e.made + more = (let f = e.few in omega (arith, f)) in subst (IsIn config a m) z i)
-
-      completed : defined.Completes c op a e.after → IsServed (services + 1) c op m
-      completed x = record {
-        events = k.events;
-        few = let z = k.few in let y = e.few in omega arith;
-        serving = k.serving;
+      completed : defined.Completes c op a e.after → (n : Machine) → IsIn config e.after n (suc (services - e.made)) →
+          Ran (suc (services - e.made)) n (Ends c op m)
+      completed x n is = record {
+        events = [];
+        few = omega arith;
+        serving = tt;
         ends = inl (record {
           completion = x.completion;
           its_operation = x.its_operation;
-          records = ap (of_core c) (sym k.is_in.same.records) ∙ x.records
+          records = ap (of_core c) (sym is.same.records) ∙ x.records
               ∙ ap (λ rs. of_core c rs ++ x.completion ∷ []) i.same.records;
-          closed = ap operation_of (slice_get-get_or (after_all m k.events).cores c _
-              (let z = k.is_in.cores in omega (arith, z, lt)) ∙ ap Some (sym (k.is_in.same.cores c))) ∙ x.closed;
+          closed = ap operation_of (core_there config e.after n (services - e.made) is c lt) ∙ x.closed;
         });
       }
 
-      late : IsLate config e.after → IsServed (services + 1) c op m
-      late x =
-          let e1 : more ≡ suc (services - e.made) = omega arith in
-          let s = stops e.after (after_all m k.events) (services - e.made)
-          (subst (IsIn config e.after (after_all m k.events)) e1 k.is_in) x in
-          record {
-            events = k.events ++ s.0 ∷ [];
-            few = let z = k.few in let y = e.few in let n = length-append k.events (s.0 ∷ []) in omega arith;
-            serving = each_then k.events (s.0 ∷ []) k.serving (s.1, tt);
-            ends = inr (ap (λ (n : Machine). n.is_stopped) (after_then m k.events (s.0 ∷ [])) ∙ s.2);
-          }
-
--- numbers rise after any events
-module _ (m : Machine) (rising : IsRising 0 m.mail.messages m.mail.next) where
-  abbrev Rises : Answer × Machine → Type 0
-  Rises o = IsRising 0 o.1.mail.messages o.1.mail.next
-
-  changed_rises : {S : Type 0} (put : S → Machine) → ((part : S) → (put part).mail ≡ m.mail) → (n : Option ℕ)
-      (done : Step S) → Rises (changed m put n done)
-  changed_rises put same n Exhausts = rising
-  changed_rises put same n (Keeps answer) = rising
-  changed_rises put same n Drops = left_rising m.mail n rising
-  changed_rises put same n (Makes answer consumes sends part) = go (can_post m.config.messages m.mail consumes sends)
-    where
-      go : (b : Bool) → Rises (cond b (answer, record (put part) { mail = posted m.mail n consumes sends })
-          (refused m refusal.NetworkFull))
-      go true = posted_rising m.mail n consumes sends rising
-      go false = rising
-
-  outcome_rises : (e : Event) (o : Answer × Machine) → Outcome m e o → Rises o
-  outcome_rises e o (refuses why so) = rising
-  outcome_rises e o (outcomes.issues c op core after at is) = rising
-  outcome_rises e o (outcomes.completes c core op received ts after at is) = rising
-  outcome_rises e o (outcomes.core_steps c core act n done at given is fit) =
-      changed_rises (with_core m c) (λ part. refl) n done
-  outcome_rises e o (outcomes.bank_steps b bank act n done at given is fit) =
-      changed_rises (with_bank m b) (λ part. refl) n done
-  outcome_rises e o (outcomes.dram_steps b lines act n done at given is fit) =
-      changed_rises (with_dram m b) (λ part. refl) n done
-
-pub rising_after : (m : Machine) (events : List Event) → IsRising 0 m.mail.messages m.mail.next →
-    IsRising 0 (after_all m events).mail.messages (after_all m events).mail.next
-rising_after m [] rising = rising
-rising_after m (e ∷ es) rising =
-    rising_after (transition m e).1 es (outcome_rises m rising e (transition m e) (transition_outcome m e))
+      late : IsLate config e.after → (n : Machine) → IsIn config e.after n (suc (services - e.made)) →
+          Ran (suc (services - e.made)) n (Ends c op m)
+      late x n is =
+          let s = stops config e.after n (services - e.made) is x in
+          record { events = s.0 ∷ []; few = omega arith; serving = (s.1, tt); ends = inr s.2 }

@@ -1,11 +1,11 @@
 -- Every reached state's sets have their sizes.
-use Rattle.std.proofs.Common.{◌≡◌, ◌≢◌, ℕ, ◌+◌, ◌/◌, ◌%◌, ◌<◌, ◌≤◌, Bool, true, false, ◌||◌, ◌&&◌, cond, eqb, ltb, List}
+use Rattle.std.proofs.Common.{◌≡◌, ◌≢◌, ℕ, ◌+◌, ◌/◌, ◌%◌, ◌<◌, ◌≤◌, Bool, true, false, ◌||◌, ◌&&◌, cond, eqb, List}
 use Rattle.std.proofs.Common.{[], ◌∷◌, length, set, length-set, Option, Some, None, refl, sym, ap}
-use Rattle.std.proofs.Common.{◌∙◌, subst, arith, ⊎_elim, length-append, replicate}
+use Rattle.std.proofs.Common.{◌∙◌, subst, arith, inl, inr, length-append, replicate}
 use Rattle.std.proofs.lemmas.List.{length-replicate}
 use Rattle.std.specs.Option.{is_some}
 use Rattle.std.proofs.Math.Nat.{mod-lt}
-use Rattle.std.proofs.lemmas.Bool.{cases_eq, cases_Bool, ltb-true, eq-eqb, ne_eqb, cond-true, cond-false, eqb-true}
+use Rattle.std.proofs.lemmas.Bool.{cases_eq, cases_Bool, cond_both, ltb-true, eq-eqb, ne_eqb, eqb-true, eqb-false}
 use Rattle.line_sets.specs.Order.{find, is_there, put_last, put_in_place, without, IsDistinct}
 use Rattle.line_sets.specs.SetTable.{Sets, set_at, put, put_within, drop_line, has_room, has_place}
 use Rattle.line_sets.proofs.Lemmas.{set_at-set_same, set_at-set_other, length-put_in_place, length-without_le}
@@ -15,13 +15,15 @@ use Rattle.std.specs.Ordering.{nat_cmp}
 use Rattle.std.specs.FinMap.{FinMap}
 use Rattle.std.specs.Prelude.{Result, Ok, Err}
 use Rattle.physiological_order.specs.declared.operation.Op.{Op}
-use Rattle.physiological_order.specs.declared.operation.Op.TheVariants as operation
+use Rattle.network.specs.declared.message.Node.{Node}
 use Rattle.network.specs.declared.message.Node.TheVariants as node
+use Rattle.network.specs.declared.message.TimedLine.{TimedLine}
 use Rattle.network.specs.declared.message.Message.{Message}
 use Rattle.network.specs.declared.message.Body.{Body}
 use Rattle.network.specs.declared.message.Body.TheVariants as body
 use Rattle.private_cache.specs.declared.line_copy.LineCopy.{LineCopy}
 use Rattle.private_cache.specs.declared.cache.CacheError.TheVariants as not_left
+use Rattle.core_pts.specs.declared.attempt.Attempt.{Attempt}
 use Rattle.core_pts.specs.declared.attempt.Attempt.TheVariants as tries
 use Rattle.private_cache.specs.CopyTable as cache
 use Rattle.private_cache.specs.CopyTable.{copy_of, place_for, is_pinned}
@@ -41,15 +43,13 @@ use Rattle.llc_bank.specs.BankTable as bank_table
 use Rattle.llc_bank.specs.BankTable.{BankState, entry_of}
 use Rattle.machine_table.specs.declared.config.Config.{Config}
 use Rattle.core_pts.specs.declared.attempt.IssueError.{IssueError}
-use Rattle.core_pts.specs.declared.attempt.IssueError.TheVariants as not_issued
 use Rattle.timestamp_manager.specs.Lease as lease
-use Rattle.machine_table.specs.declared.event.Answer.{Answer}
 use Rattle.machine_table.specs.Step as step
 use Rattle.machine_table.specs.Step.{Step, Makes, Drops, Exhausts, Keeps, Tried, Completes, Does, Act, message_of}
 use Rattle.machine_table.specs.Step.{core_step}
 use Rattle.machine_table.specs.Step.{bank_step, reacted, entry_evicted, copy_evicted, attempted}
 use Rattle.protocol.specs.Machine.{with_at}
-use Rattle.protocol.proofs.Lemmas.{with_at_cases, Some_injective}
+use Rattle.protocol.proofs.Lemmas.{with_at_cases}
 use Rattle.machine_theorem.specs.States.{State}
 use Rattle.machine_theorem.specs.Moves as moves
 use Rattle.machine_theorem.specs.Moves.{AreBeside, StepsTo, Move, issues, completes, core_steps, bank_steps, dram_steps}
@@ -64,24 +64,17 @@ IsDistinct-put_in_place : {X : Type 0} (ps : List (ℕ × X)) (line : ℕ) (x : 
     IsDistinct (put_in_place ps line x)
 IsDistinct-put_in_place [] line x d = tt
 IsDistinct-put_in_place (p ∷ ps) line x d =
-    go (eqb p.0 line) refl (IsDistinct-put_in_place ps line x d.1)
-  where
-    go : (b : Bool) → eqb p.0 line ≡ b → IsDistinct (put_in_place ps line x) →
-        IsDistinct (cond b ((line, x) ∷ ps) (p ∷ put_in_place ps line x))
-    go true e k = (subst (λ (i : ℕ). is_there ps i ≡ false) (eqb-true p.0 line e) d.0, d.1)
-    go false e k = (
-      ap is_some (find-put_in_place_other ps line p.0 x (λ q. let z : true ≡ false =
-          sym (eq-eqb p.0 line q) ∙ e in cc)) ∙ d.0,
-      k,
-    )
+    cond_both (eqb p.0 line) ((line, x) ∷ ps) (p ∷ put_in_place ps line x) IsDistinct
+    (λ e. (rw (eqb-true p.0 line e) at d.0, d.1))
+    (λ e. (
+      ap is_some (find-put_in_place_other ps line p.0 x (eqb-false p.0 line e)) ∙ d.0,
+      IsDistinct-put_in_place ps line x d.1,
+    ))
 
 module _ {X : Type 0} (n ways : ℕ) (some : 0 < n) (home : ℕ → ℕ) (table : Sets X) (fits : Fits n ways home table)
     (line : ℕ) where
   abbrev its_set : ℕ
   its_set = home line % length table.sets
-
-  within : its_set < length table.sets
-  within = mod-lt (home line) (subst (λ (i : ℕ). 0 < i) (sym fits.as_many_sets) some)
 
   -- the line's set is another list, of no more lines than ways, and no line but this one is new
   rewritten : (ps : List (ℕ × X)) → length ps ≤ table.ways → IsDistinct ps →
@@ -90,36 +83,27 @@ module _ {X : Type 0} (n ways : ℕ) (some : 0 < n) (home : ℕ → ℕ) (table 
   rewritten ps few distinct others = record {
     as_many_sets = length-set table.sets its_set ps ∙ fits.as_many_sets;
     as_many_ways = fits.as_many_ways;
-    distinct = λ j. ⊎_elim
-        (λ (e : j ≡ its_set). subst (λ (k : ℕ). IsDistinct (set_at (set table.sets its_set ps) k)) (sym e)
-        (subst IsDistinct (sym (set_at-set_same table.sets its_set ps within)) distinct))
-        (λ (m : j ≡ its_set → ⊥). subst IsDistinct (sym (set_at-set_other table.sets its_set j ps m))
-        (fits.distinct j))
-        (cases_eq j its_set);
-    sizes = λ j. ⊎_elim
-        (λ (e : j ≡ its_set). subst (λ (k : ℕ). length (set_at (set table.sets its_set ps) k) ≤ table.ways) (sym e)
-        (subst (λ (xs : List (ℕ × X)). length xs ≤ table.ways) (sym (set_at-set_same table.sets its_set ps within))
-        few))
-        (λ (n : j ≡ its_set → ⊥). subst (λ (xs : List (ℕ × X)). length xs ≤ table.ways)
-        (sym (set_at-set_other table.sets its_set j ps n)) (fits.sizes j))
-        (cases_eq j its_set);
-    homes = λ j k there. subst (λ (n : ℕ). home k % n ≡ j) (sym (length-set table.sets its_set ps)) (belongs j k there);
+    distinct = of_each (λ j. IsDistinct) distinct fits.distinct;
+    sizes = of_each (λ j xs. length xs ≤ table.ways) few fits.sizes;
+    homes = λ j k. rw (length-set table.sets its_set ps)
+        (of_each (λ j xs. is_there xs k ≡ true → home k % length table.sets ≡ j) (here k) (λ j. fits.homes j k) j);
   }
     where
-      here : (k : ℕ) → is_there ps k ≡ true → home k % length table.sets ≡ its_set
-      here k there =
-          ⊎_elim (λ (e : k ≡ line). ap (λ (n : ℕ). home n % length table.sets) e)
-          (λ (n : k ≡ line → ⊥). fits.homes its_set k (sym (ap is_some (others k n)) ∙ there)) (cases_eq k line)
+      -- what holds of this list, and of the set of any number, does so of each set
+      of_each : (P : ℕ → List (ℕ × X) → Type 0) → P its_set ps → ((j : ℕ) → P j (set_at table.sets j)) → (j : ℕ) →
+          P j (set_at (set table.sets its_set ps) j)
+      of_each P own each j = elim (cases_eq j its_set) [
+        | inl e ↦
+            let within = mod-lt (home line) (rw fits.as_many_sets some) in
+            rw (e, set_at-set_same table.sets its_set ps within) own
+        | inr ne ↦ rw (set_at-set_other table.sets its_set j ps ne) (each j)
+      ]
 
-      belongs : (j k : ℕ) → is_there (set_at (set table.sets its_set ps) j) k ≡ true → home k % length table.sets ≡ j
-      belongs j k there =
-          ⊎_elim
-          (λ (e : j ≡ its_set). here k (subst (λ (xs : List (ℕ × X)). is_there xs k ≡ true)
-          (set_at-set_same table.sets its_set ps within)
-          (subst (λ (n : ℕ). is_there (set_at (set table.sets its_set ps) n) k ≡ true) e there)) ∙ sym e)
-          (λ (n : j ≡ its_set → ⊥). fits.homes j k (subst (λ (xs : List (ℕ × X)). is_there xs k ≡ true)
-          (set_at-set_other table.sets its_set j ps n) there))
-          (cases_eq j its_set)
+      here : (k : ℕ) → is_there ps k ≡ true → home k % length table.sets ≡ its_set
+      here k there = elim (cases_eq k line) [
+        | inl e ↦ ap (λ (n : ℕ). home n % length table.sets) e
+        | inr ne ↦ fits.homes its_set k (sym (ap is_some (others k ne)) ∙ there)
+      ]
 
   abbrev old : List (ℕ × X)
   old = set_at table.sets its_set
@@ -132,14 +116,13 @@ module _ {X : Type 0} (n ways : ℕ) (some : 0 < n) (home : ℕ → ℕ) (table 
       (λ k n. find-put_last_other old line k x n)
     where
       fewer : length (without old line) < table.ways
-      fewer = ⊎_elim
-          (λ (t : is_there old line ≡ true). let a = length-without_there old line t in let b = fits.sizes its_set in
-          omega arith)
-          (λ (f : is_there old line ≡ false).
-          let room = ltb-true (length old) table.ways
-          (subst (λ (p : Bool). (p || ltb (length old) table.ways) ≡ true) f place) in
-          let a = length-without_le old line in omega arith)
-          (cases_Bool (is_there old line))
+      fewer = elim (cases_Bool (is_there old line)) [
+        | inl there ↦
+            let a = length-without_there old line there in let b = fits.sizes its_set in omega arith
+        | inr missing ↦
+            let room = ltb-true (length old) table.ways (rw missing at place) in
+            let a = length-without_le old line in omega arith
+      ]
 
   pub fits-change : (x : X) → Fits n ways home (record table { sets = put_within table.sets its_set line x })
   fits-change x = rewritten (put_in_place old line x)
@@ -153,272 +136,193 @@ module _ {X : Type 0} (n ways : ℕ) (some : 0 < n) (home : ℕ → ℕ) (table 
       (IsDistinct-without old line (fits.distinct its_set))
       (λ k n. find-without_other old line k n)
 
--- a bank
-abbrev BankFits : Config → BankState → Type 0
-BankFits config bank = Fits config.bank_sets config.bank_ways (λ line. line / bank.banks) bank.table
-
-or_true : (p q : Bool) → q ≡ true → (p || q) ≡ true
-or_true true q e = refl
-or_true false q e = e
+-- what holds of the part that a step makes
+abbrev Made : {S : Type 0} → (S → Type 0) → Step S → Type 0
+Made P (Makes answer consumes sends part) = P part
+Made P _ = Unit {0}
 
 and_right : (p q : Bool) → (p && q) ≡ true → q ≡ true
 and_right true q e = e
 and_right false q e = absurd (cc)
 
+-- a bank
+abbrev BankFits : Config → BankState → Type 0
+BankFits config bank = Fits config.bank_sets config.bank_ways (λ line. line / bank.banks) bank.table
+
 module _ (config : Config) (some : 0 < config.bank_sets) (bank : BankState) (fits : BankFits config bank) where
-  abbrev StepFits : Step BankState → Type 0
-  StepFits (Makes answer consumes sends part) = BankFits config part
-  StepFits _ = Unit {0}
+  module _ (line : ℕ) where
+    abbrev room : Bool
+    room = has_room bank.table (bank_table.set_of bank line)
+
+    bank_used : (e : Entry) → (is_some (entry_of bank line) || room) ≡ true →
+        BankFits config (bank_table.with_used bank line e)
+    bank_used e place =
+        fits-put config.bank_sets config.bank_ways some (λ line. line / bank.banks) bank.table fits line e place
+
+    bank_changed : (e : Entry) → BankFits config (bank_table.with_changed bank line e)
+    bank_changed e =
+        fits-change config.bank_sets config.bank_ways some (λ line. line / bank.banks) bank.table fits line e
+
+    bank_without : BankFits config (bank_table.without_entry bank line)
+    bank_without = fits-drop config.bank_sets config.bank_ways some (λ line. line / bank.banks) bank.table fits line
+
+    evicted_fits : (e : Eviction) → Made (BankFits config) (entry_evicted (bank_table.after_eviction bank line e))
+    evicted_fits (eviction.Drops rts) = bank_without
+    evicted_fits (eviction.Stores rts words) = bank_changed entry.Storing
+    evicted_fits (eviction.AsksBack owner) = bank_changed (entry.Recalling owner)
+    evicted_fits _ = tt
 
   module _ (m : Message) where
-    abbrev room : Bool
-    room = has_room bank.table (bank_table.set_of bank m.line)
+    -- what a decision writes has a place, where an entry is this one
+    abbrev Placed : Option Entry → Decision → Type 0
+    Placed e d = entry_of bank m.line ≡ e → Made (BankFits config) (reacted (bank_table.after_decision bank m d))
 
-    decided_fits : (d : Decision) → on_entry.finds_place (is_some (entry_of bank m.line)) room d ≡ true →
-        StepFits (reacted (bank_table.after_decision bank m d))
-    decided_fits decision.Waits place = tt
-    decided_fits decision.Loads place =
-        fits-put config.bank_sets config.bank_ways some (λ line. line / bank.banks) bank.table fits m.line entry.Loading
-        (or_true (is_some (entry_of bank m.line)) room (and_right _ room place))
-    decided_fits (decision.Recalls owner sent) place =
-        fits-change config.bank_sets config.bank_ways some (λ line. line / bank.banks) bank.table fits m.line
-        (entry.Recalling owner)
-    decided_fits (decision.Grants e sent) place =
-        fits-put config.bank_sets config.bank_ways some (λ line. line / bank.banks) bank.table fits m.line e (ap
-        (λ (p : Bool). p || room) place)
-    decided_fits (decision.Becomes e) place =
-        fits-change config.bank_sets config.bank_ways some (λ line. line / bank.banks) bank.table fits m.line e
-    decided_fits decision.Leaves place = fits-drop config.bank_sets config.bank_ways some
-        (λ line. line / bank.banks) bank.table fits m.line
-    decided_fits decision.TooLate place = tt
-    decided_fits decision.NoCase place = tt
+    asked : (o : ℕ) (e : Option Entry) (until : Option ℕ) → Placed e (on_entry.asked_back o until)
+    asked o e None is = tt
+    asked o e (Some until) is = bank_changed m.line (entry.Recalling o)
 
-    places : (r : Bool) (core : ℕ) (e : Option Entry) (b : Body) →
-        on_entry.finds_place (is_some e) r (on_entry.at_bank bank.lease bank.mts r core e b) ≡ true
-    places true core None (body.ShReq pts version) = refl
-    places false core None (body.ShReq pts version) = refl
-    places r core (Some (entry.Shared dirty line)) (body.ShReq pts version) = go _
-      where
-        go : (lease : Option (ℕ × Bool)) → on_entry.finds_place true r (on_entry.leased dirty line lease) ≡ true
-        go None = refl
-        go (Some lease) = refl
-    places r core (Some (entry.Exclusive o)) (body.ShReq pts version) = go _
-      where
-        go : (until : Option ℕ) → on_entry.finds_place true r (on_entry.asked_back o until) ≡ true
-        go None = refl
-        go (Some until) = refl
-    places r core (Some entry.Loading) (body.ShReq pts version) = refl
-    places r core (Some (entry.Recalling o)) (body.ShReq pts version) = refl
-    places r core (Some entry.Storing) (body.ShReq pts version) = refl
-    places true core None (body.ExReq version) = refl
-    places false core None (body.ExReq version) = refl
-    places r core (Some (entry.Shared dirty line)) (body.ExReq version) = refl
-    places r core (Some (entry.Exclusive o)) (body.ExReq version) = refl
-    places r core (Some entry.Loading) (body.ExReq version) = refl
-    places r core (Some (entry.Recalling o)) (body.ExReq version) = refl
-    places r core (Some entry.Storing) (body.ExReq version) = refl
-    places r core e (body.FlushRep line) = given e
-      where
-        given : (e : Option Entry) → on_entry.finds_place (is_some e) r (on_entry.given_back line e) ≡ true
-        given (Some (entry.Exclusive o)) = refl
-        given (Some (entry.Recalling o)) = refl
-        given _ = refl
-    places r core e (body.WbRep line) = given e
-      where
-        given : (e : Option Entry) → on_entry.finds_place (is_some e) r (on_entry.given_back line e) ≡ true
-        given (Some (entry.Exclusive o)) = refl
-        given (Some (entry.Recalling o)) = refl
-        given _ = refl
-    places r core e (body.DramLdRep words) = filled e
-      where
-        filled : (e : Option Entry) → on_entry.finds_place (is_some e) r (on_entry.filled bank.mts words e) ≡ true
-        filled (Some entry.Loading) = refl
-        filled _ = refl
-    places r core e body.DramStRep = stored e
-      where
-        stored : (e : Option Entry) → on_entry.finds_place (is_some e) r (on_entry.stored e) ≡ true
-        stored (Some entry.Storing) = refl
-        stored _ = refl
-    places r core e _ = refl
+    leased : (dirty : Bool) (line : TimedLine) (e : Entry) (lease : Option (ℕ × Bool)) →
+        Placed (Some e) (on_entry.leased dirty line lease)
+    leased dirty line e None is = tt
+    leased dirty line e (Some lease) is = bank_used m.line _ (rw is refl)
 
-  evicted_fits : (line : ℕ) (e : Eviction) → StepFits (entry_evicted (bank_table.after_eviction bank line e))
-  evicted_fits line eviction.NotThere = tt
-  evicted_fits line eviction.IsBusy = tt
-  evicted_fits line (eviction.Drops rts) =
-      let k = fits-drop config.bank_sets config.bank_ways some (λ line. line / bank.banks) bank.table fits line in
-      record {
-        as_many_sets = k.as_many_sets;
-        as_many_ways = k.as_many_ways;
-        distinct = k.distinct;
-        sizes = k.sizes;
-        homes = k.homes;
-      }
-  evicted_fits line (eviction.Stores rts words) =
-      let k = fits-change config.bank_sets config.bank_ways some (λ line. line / bank.banks) bank.table fits line
-      entry.Storing in
-      record {
-        as_many_sets = k.as_many_sets;
-        as_many_ways = k.as_many_ways;
-        distinct = k.distinct;
-        sizes = k.sizes;
-        homes = k.homes;
-      }
-  evicted_fits line (eviction.AsksBack owner) =
-      fits-change config.bank_sets config.bank_ways some (λ line. line / bank.banks) bank.table fits line
-      (entry.Recalling owner)
+    loaded : Placed None (on_entry.loaded (room m.line))
+    loaded is = cond_both (room m.line) decision.Loads decision.Waits (Placed None)
+        (λ free e. bank_used m.line entry.Loading (rw (is, free) refl)) (λ full e. tt) is
 
-  bank_fits : (act : Act) → StepFits (bank_step bank act)
-  bank_fits step.Attempting = tt
-  bank_fits (step.Getting m) = decided_fits m (bank_table.decided bank m)
-      (places m (room m) (bank_table.core_of m.from) (entry_of bank m.line) m.body)
+    given : (line : TimedLine) (e : Option Entry) → Placed e (on_entry.given_back line e)
+    given line (Some (entry.Exclusive o)) is = bank_changed m.line (entry.Shared true line)
+    given line (Some (entry.Recalling o)) is = bank_changed m.line (entry.Shared true line)
+    given line _ is = tt
+
+    decided_fits : (core : ℕ) (e : Option Entry) (b : Body) →
+        Placed e (on_entry.at_bank bank.lease bank.mts (room m.line) core e b)
+    decided_fits core None (body.ShReq pts version) = loaded
+    decided_fits core (Some (entry.Shared dirty line)) (body.ShReq pts version) =
+        leased dirty line (entry.Shared dirty line) _
+    decided_fits core (Some (entry.Exclusive o)) (body.ShReq pts version) = asked o (Some (entry.Exclusive o)) _
+    decided_fits core (Some e) (body.ShReq pts version) = λ is. tt
+    decided_fits core None (body.ExReq version) = loaded
+    decided_fits core (Some (entry.Shared dirty line)) (body.ExReq version) =
+        λ is. bank_used m.line (entry.Exclusive core) (rw is refl)
+    decided_fits core (Some (entry.Exclusive o)) (body.ExReq version) =
+        λ is. bank_changed m.line (entry.Recalling o)
+    decided_fits core (Some e) (body.ExReq version) = λ is. tt
+    decided_fits core e (body.FlushRep line) = given line e
+    decided_fits core e (body.WbRep line) = given line e
+    decided_fits core (Some entry.Loading) (body.DramLdRep words) = λ is. bank_changed m.line _
+    decided_fits core (Some entry.Storing) body.DramStRep = λ is. bank_without m.line
+    decided_fits core e _ = λ is. tt
+
+  bank_fits : (act : Act) → Made (BankFits config) (bank_step bank act)
+  bank_fits (step.Getting m) = decided_fits m (bank_table.core_of m.from) (entry_of bank m.line) m.body refl
   bank_fits (step.Evicting line) = evicted_fits line (on_entry.evicted (entry_of bank line))
-  bank_fits step.Advancing = tt
+  bank_fits _ = tt
 
 -- a core
 abbrev CoreFits : Config → CoreState → Type 0
 CoreFits config core = Fits config.sets config.ways (λ line. line) core.cache
 
+abbrev TriedFits : Config → Tried → Type 0
+TriedFits config (Completes op received ts after) = CoreFits config after
+TriedFits config (Does done) = Made (CoreFits config) done
+
 module _ (config : Config) (some : 0 < config.sets) (core : CoreState) (fits : CoreFits config core) where
-  abbrev CoreStepFits : Step CoreState → Type 0
-  CoreStepFits (Makes answer consumes sends part) = CoreFits config part
-  CoreStepFits _ = Unit {0}
+  cache_used : (line : ℕ) (copy : LineCopy) → place_for core.cache line ≡ true →
+      Fits config.sets config.ways (λ line. line) (cache.with_used core.cache line copy)
+  cache_used line copy place =
+      fits-put config.sets config.ways some (λ line. line) core.cache fits line copy place
 
-  abbrev TriedFits : Tried → Type 0
-  TriedFits (Completes op received ts after) = CoreFits config after
-  TriedFits (Does done) = CoreStepFits done
+  cache_changed : (line : ℕ) (copy : LineCopy) →
+      Fits config.sets config.ways (λ line. line) (cache.with_changed core.cache line copy)
+  cache_changed line copy = fits-change config.sets config.ways some (λ line. line) core.cache fits line copy
 
-  attempt_fits : (op : Op) → TriedFits (attempted core op (core_table.attempt_open core (Some op)))
+  cache_without : (line : ℕ) → Fits config.sets config.ways (λ line. line) (cache.without_copy core.cache line)
+  cache_without line = fits-drop config.sets config.ways some (λ line. line) core.cache fits line
+
+  attempt_fits : (op : Op) → TriedFits config (attempted core op (core_table.attempt_open core (Some op)))
   attempt_fits op = go (copy_of core.cache (core_table.line_of core op)) refl
     where
-      line : ℕ
-      line = core_table.line_of core op
+      unchanged : (a : Attempt) → TriedFits config (attempted core op (Some a, core))
+      unchanged (tries.Completed received ts) = fits
+      unchanged (tries.NeedShared pts version) = fits
+      unchanged (tries.NeedExclusive version) = fits
+      unchanged _ = tt
 
-      needs : (p : Op) (version : Option ℕ) →
-          TriedFits (attempted core op (Some (core_table.need core.pts p version), core))
-      needs (operation.Load a) version = fits
-      needs (operation.Store a v) version = fits
-      needs (operation.Swap a v) version = fits
-
-      without : (out place : Bool) → TriedFits (attempted core op
-          (Some (cond out tries.Waiting (cond place (core_table.need core.pts op None) tries.NoRoom)), core))
-      without true place = tt
-      without false true = needs op None
-      without false false = tt
-
-      unserved : (version : ℕ) (out : Bool) → TriedFits (attempted core op
-          (Some (cond out tries.Waiting (core_table.need core.pts op (Some version))), core))
-      unserved version true = tt
-      unserved version false = needs op (Some version)
-
-      served : (copy : LineCopy) → copy_of core.cache line ≡ Some copy → (ts : Option ℕ) →
-          TriedFits (attempted core op (core_table.completed_at core op copy ts))
+      served : (copy : LineCopy) → copy_of core.cache (core_table.line_of core op) ≡ Some copy → (ts : Option ℕ) →
+          TriedFits config (attempted core op (core_table.completed_at core op copy ts))
       served copy is None = tt
       served copy is (Some ts) =
-          fits-put config.sets config.ways some (λ line. line) core.cache fits line (on_copy.copy_after
-          (core_table.index_of core op) ts op copy)
-          (ap (λ (p : Bool). p || has_room core.cache (cache.set_of core.cache line)) (ap is_some is))
+          cache_used (core_table.line_of core op) (on_copy.copy_after (core_table.index_of core op) ts op copy)
+          (rw is refl)
 
-      go : (o : Option LineCopy) → copy_of core.cache line ≡ o →
-          TriedFits (attempted core op (core_table.attempt_on core op o))
-      go None is = without core.is_out (place_for core.cache line)
-      go (Some copy) is = by_serving (on_copy.serves op core.pts copy)
-        where
-          by_serving : (b : Bool) → TriedFits (attempted core op (cond b
-              (core_table.completed_at core op copy (on_copy.time_of core.private_write core.pts op copy))
-              (Some (core_table.attempt_unserved core op copy.wts), core)))
-          by_serving true = served copy is (on_copy.time_of core.private_write core.pts op copy)
-          by_serving false = unserved copy.wts core.is_out
-
-  reaction_fits : (line : ℕ) (r : CoreReaction) → ((copy : LineCopy) → r ≡ on_core.Arrives copy →
-      place_for core.cache line ≡ true) → CoreStepFits (reacted (core_table.after_reaction core line r))
-  reaction_fits line (on_core.Arrives copy) place = fits-put config.sets config.ways some
-      (λ line. line) core.cache fits line copy (place copy refl)
-  reaction_fits line (on_core.Grants copy) place = fits-change config.sets config.ways some
-      (λ line. line) core.cache fits line copy
-  reaction_fits line (on_core.Returns None sent) place = fits-drop config.sets config.ways some
-      (λ line. line) core.cache fits line
-  reaction_fits line (on_core.Returns (Some copy) sent) place = fits-change config.sets config.ways some
-      (λ line. line) core.cache fits line copy
-  reaction_fits line on_core.Drops place = tt
-  reaction_fits line on_core.Holds place = tt
-  reaction_fits line on_core.TooLate place = tt
-  reaction_fits line on_core.NoCase place = tt
+      go : (o : Option LineCopy) → copy_of core.cache (core_table.line_of core op) ≡ o →
+          TriedFits config (attempted core op (core_table.attempt_on core op o))
+      go None is = unchanged (core_table.attempt_without core op)
+      go (Some copy) is =
+          cond_both (on_copy.serves op core.pts copy)
+          (core_table.completed_at core op copy (on_copy.time_of core.private_write core.pts op copy))
+          (Some (core_table.attempt_unserved core op copy.wts), core) (λ r. TriedFits config (attempted core op r))
+          (λ e. served copy is _) (λ e. unchanged (core_table.attempt_unserved core op copy.wts))
 
   eviction_fits : (line : ℕ) (pinned : Option ℕ) (o : Option LineCopy) →
-      CoreStepFits (copy_evicted (core_table.sent_back core line (cache.evicted core.cache line pinned o)))
+      Made (CoreFits config) (copy_evicted (core_table.sent_back core line (cache.evicted core.cache line pinned o)))
   eviction_fits line pinned None = tt
-  eviction_fits line pinned (Some copy) = go (is_pinned pinned line)
-    where
-      go : (b : Bool) → CoreStepFits (copy_evicted (core_table.sent_back core line
-          (cond b (Err not_left.Pinned, core.cache) (Ok copy, cache.without_copy core.cache line))))
-      go true = tt
-      go false = fits-drop config.sets config.ways some (λ line. line) core.cache fits line
+  eviction_fits line pinned (Some copy) =
+      cond_both (is_pinned pinned line) (Err not_left.Pinned, core.cache) (Ok copy, cache.without_copy core.cache line)
+      (λ r. Made (CoreFits config) (copy_evicted (core_table.sent_back core line r))) (λ e. tt)
+      (λ e. cache_without line)
 
-  -- what arrives has a place
-  arrives : (line : ℕ) (b : Body) → comes_to_core core line b ≡ true → (copy : LineCopy) →
-      core_table.decided core line b ≡ on_core.Arrives copy → place_for core.cache line ≡ true
-  arrives line (body.ShRep x) comes copy e = and_right (waits_for core line) (place_for core.cache line) comes
-  arrives line (body.ExRep x) comes copy e = and_right (waits_for core line) (place_for core.cache line) comes
-  arrives line (body.RenewRep rts) comes copy e = absurd (grants (copy_of core.cache line) e)
-    where
-      grants : (o : Option LineCopy) → on_copy.with_copy (cache.renewed rts) o ≡ on_core.Arrives copy → ⊥
-      grants None q = cc
-      grants (Some held) q = cc
-  arrives line (body.UpgradeRep rts) comes copy e = absurd (grants (copy_of core.cache line) e)
-    where
-      grants : (o : Option LineCopy) → on_copy.with_copy (cache.upgraded rts) o ≡ on_core.Arrives copy → ⊥
-      grants None q = cc
-      grants (Some held) q = cc
-  arrives line body.FlushReq comes copy e =
-      absurd (returns (is_pinned (core_table.pinned_line core) line) (copy_of core.cache line) e)
-    where
-      by_state : (held : LineCopy) (b : Bool) → cond b (on_core.Returns None (body.FlushRep
-          (on_copy.words_of_copy held)))
-          on_core.Drops ≡ on_core.Arrives copy → ⊥
-      by_state held true q = cc
-      by_state held false q = cc
+  module _ (line : ℕ) where
+    abbrev Reacts : CoreReaction → Type 0
+    Reacts r = Made (CoreFits config) (reacted (core_table.after_reaction core line r))
 
-      returns : (open_here : Bool) (o : Option LineCopy) →
-          cond open_here on_core.Holds (on_copy.flushed o) ≡ on_core.Arrives copy → ⊥
-      returns true o q = cc
-      returns false None q = cc
-      returns false (Some held) q = by_state held (on_copy.is_exclusive held.state) q
-  arrives line (body.WbReq until) comes copy e =
-      absurd (returns (is_pinned (core_table.pinned_line core) line) (copy_of core.cache line) e)
+    with_copy : (change : LineCopy → LineCopy) (o : Option LineCopy) → Reacts (on_copy.with_copy change o)
+    with_copy change None = tt
+    with_copy change (Some copy) = cache_changed line (change copy)
+
+    returned : (copy : LineCopy) (o : Option ℕ) → Reacts (on_copy.returned copy o)
+    returned copy None = tt
+    returned copy (Some rts) = cache_changed line (cache.downgraded rts copy)
+
+    flushed : (o : Option LineCopy) → Reacts (on_copy.flushed o)
+    flushed None = tt
+    flushed (Some copy) =
+        cond_both (on_copy.is_exclusive copy.state) _ on_core.Drops Reacts (λ e. cache_without line) (λ e. tt)
+
+    written_back : (until : ℕ) (o : Option LineCopy) → Reacts (on_copy.written_back core.lease until o)
+    written_back until None = tt
+    written_back until (Some copy) =
+        cond_both (on_copy.is_exclusive copy.state) _ on_core.Drops Reacts (λ e. returned copy _) (λ e. tt)
+
+    held_or : (r : CoreReaction) → Reacts r →
+        Reacts (cond (is_pinned (core_table.pinned_line core) line) on_core.Holds r)
+    held_or r k = cond_both (is_pinned (core_table.pinned_line core) line) on_core.Holds r Reacts (λ e. tt) (λ e. k)
+
+    reaction_fits : (b : Body) → comes_to_core core line b ≡ true → Reacts (core_table.decided core line b)
+    reaction_fits (body.ShRep x) comes = cache_used line _ (and_right (waits_for core line) _ comes)
+    reaction_fits (body.ExRep x) comes = cache_used line _ (and_right (waits_for core line) _ comes)
+    reaction_fits (body.RenewRep rts) comes = with_copy (cache.renewed rts) (copy_of core.cache line)
+    reaction_fits (body.UpgradeRep rts) comes = with_copy (cache.upgraded rts) (copy_of core.cache line)
+    reaction_fits body.FlushReq comes = held_or _ (flushed (copy_of core.cache line))
+    reaction_fits (body.WbReq until) comes = held_or _ (written_back until (copy_of core.cache line))
+    reaction_fits _ comes = tt
+
+  core_fits : (act : Act) (bag rest : List Message) (to : Node) →
+      AreBeside bag to (core_has_case core) (message_of act) rest → TriedFits config (core_step core act)
+  core_fits step.Attempting bag rest to beside = go core.open_op refl
     where
-      by_time : (held : LineCopy) (rts : Option ℕ) → on_copy.returned held rts ≡ on_core.Arrives copy → ⊥
-      by_time held None q = cc
-      by_time held (Some rts) q = cc
-
-      by_state : (held : LineCopy) (b : Bool) → (rts : Option ℕ) →
-          cond b (on_copy.returned held rts) on_core.Drops ≡ on_core.Arrives copy → ⊥
-      by_state held true rts q = by_time held rts q
-      by_state held false rts q = cc
-
-      returns : (open_here : Bool) (o : Option LineCopy) →
-          cond open_here on_core.Holds (on_copy.written_back core.lease until o) ≡ on_core.Arrives copy → ⊥
-      returns true o q = cc
-      returns false None q = cc
-      returns false (Some held) q = by_state held (on_copy.is_exclusive held.state) _ q
-  arrives line _ comes copy e = absurd (let z : false ≡ true = comes in cc)
-
-  core_fits : (act : Act) → ((m : Message) → message_of act ≡ Some m → core_has_case core m ≡ true) →
-      TriedFits (core_step core act)
-  core_fits step.Attempting has = go core.open_op refl
-    where
-      go : (o : Option Op) → core.open_op ≡ o → TriedFits (step.attempt_open core o)
+      go : (o : Option Op) → core.open_op ≡ o → TriedFits config (step.attempt_open core o)
       go None e = tt
-      go (Some op) e = subst (λ (i : Option Op). TriedFits (attempted core op (core_table.attempt_open core i)))
-          (sym e) (attempt_fits op)
-  core_fits (step.Getting m) has = reaction_fits m.line (core_table.decided core m.line m.body)
-      (λ copy e. arrives m.line m.body (and_right (is_this_core core.number m.to) _ (has m refl)) copy e)
-  core_fits (step.Evicting line) has =
+      go (Some op) e = subst (λ i. TriedFits config (attempted core op (core_table.attempt_open core i))) (sym e)
+          (attempt_fits op)
+  core_fits (step.Getting m) bag rest to beside =
+      reaction_fits m.line m.body (and_right (is_this_core core.number m.to) _ beside.2)
+  core_fits (step.Evicting line) bag rest to beside =
       eviction_fits line (core_table.pinned_line core) (copy_of core.cache line)
-  core_fits step.Advancing has = go (lease.fits (core.pts + 1))
-    where
-      go : (b : Bool) → CoreStepFits (step.advanced (cond b (Some tt, record core { pts = core.pts + 1 }) (None, core)))
-      go true = fits
-      go false = tt
+  core_fits step.Advancing bag rest to beside =
+      cond_both (lease.fits (core.pts + 1)) _ (None, core) (λ r. Made (CoreFits config) (step.advanced r)) (λ e. fits)
+      (λ e. tt)
 
 -- a state
 module _ (config : Config) (f : Fair config) (a : State) (sized : IsSized config a) where
@@ -434,76 +338,50 @@ module _ (config : Config) (f : Fair config) (a : State) (sized : IsSized config
 
   answer_sized : (new : State) → IsSized config new → (rest : List Message) (sends : Option Message) →
       IsSized config (moves.with_answer new rest sends)
-  answer_sized new k rest None = record { caches = k.caches; banks = k.banks }
-  answer_sized new k rest (Some message) = record { caches = k.caches; banks = k.banks }
+  answer_sized new k rest None = sized_by k.caches k.banks
+  answer_sized new k rest (Some message) = sized_by k.caches k.banks
 
   steps_sized : {S : Type 0} (put : S → State) (P : S → Type 0) → ((part : S) → P part → IsSized config (put part)) →
-      (rest : List Message) (done : Step S) (b : State) → ((answer : Answer) (consumes : Bool)
-      (sends : Option Message) (part : S) → done ≡ Makes answer consumes sends part → P part) →
-      StepsTo a put rest done b → IsSized config b
-  steps_sized put P keeps rest Exhausts b k to = absurd to
-  steps_sized put P keeps rest (Keeps answer) b k to = absurd to
-  steps_sized put P keeps rest Drops b k to =
-      subst (IsSized config) (sym to) (record { caches = sized.caches; banks = sized.banks })
+      (rest : List Message) (done : Step S) (b : State) → Made P done → StepsTo a put rest done b → IsSized config b
+  steps_sized put P keeps rest Drops b k to = rw to (sized_by sized.caches sized.banks)
   steps_sized put P keeps rest (Makes answer consumes sends part) b k to =
-      subst (IsSized config) (sym to) (answer_sized (put part) (keeps part (k answer consumes sends part refl))
-      (cond consumes rest a.bag) sends)
+      rw to (answer_sized (put part) (keeps part k) (cond consumes rest a.bag) sends)
+  steps_sized put P keeps rest _ b k to = absurd to
 
-  given_case : (c : ℕ) (act : Act) (rest : List Message) →
-      AreBeside a.bag (node.Core c) (core_has_case (a.cores c)) (message_of act) rest →
-      (m : Message) → message_of act ≡ Some m → core_has_case (a.cores c) m ≡ true
-  given_case c (step.Getting message) rest given m e =
-      subst (λ (x : Message). core_has_case (a.cores c) x ≡ true) (Some_injective message m e) given.2
-  given_case c step.Attempting rest given m e = absurd (cc)
-  given_case c (step.Evicting line) rest given m e = absurd (cc)
-  given_case c step.Advancing rest given m e = absurd (cc)
+  any : {S : Type 0} (done : Step S) → Made (λ part. Unit {0}) done
+  any (Makes answer consumes sends part) = tt
+  any _ = tt
 
   move_sized : (b : State) → Move config a b → IsSized config b
-  move_sized b (issues c op core below is) = sized_by (core_put c core (issued (a.cores c).open_op is)) sized.banks
+  move_sized b (issues c op core below is) =
+      sized_by (core_put c core (rw is at (issued (a.cores c).open_op))) sized.banks
     where
-      by_count : (n : Bool) → ◌≡◌ {A = Result (Unit {0}) IssueError × CoreState}
-          (cond n (Ok tt, record (a.cores c) { open_op = Some op; issued = (a.cores c).issued + 1 })
-          (Err not_issued.TooMany, a.cores c)) (Ok tt, core) → CoreFits config core
-      by_count true e = subst (λ (r : Result (Unit {0}) IssueError × CoreState). CoreFits config r.1) e (sized.caches c)
-      by_count false e = subst (λ (r : Result (Unit {0}) IssueError × CoreState). CoreFits config r.1) e
-          (sized.caches c)
-
-      issued : (o : Option Op) → core_table.issue_to (a.cores c) op o ≡ (Ok tt, core) → CoreFits config core
-      issued None e = by_count _ e
-      issued (Some other) e = subst (λ (r : Result (Unit {0}) IssueError × CoreState). CoreFits config r.1) e
-          (sized.caches c)
+      issued : (o : Option Op) → CoreFits config (core_table.issue_to (a.cores c) op o).1
+      issued (Some other) = sized.caches c
+      issued None = cond_both {A = Result (Unit {0}) IssueError × CoreState} _ _ _ (λ r. CoreFits config r.1)
+          (λ e. sized.caches c) (λ e. sized.caches c)
   move_sized b (completes c op received ts core below is) =
-      sized_by (core_put c core (subst (TriedFits config f.some_sets (a.cores c) (sized.caches c)) is
-      (core_fits config f.some_sets (a.cores c) (sized.caches c) step.Attempting (λ m e. absurd (cc))))) sized.banks
+      sized_by (core_put c core (rw is at (core_fits config f.some_sets (a.cores c) (sized.caches c) step.Attempting
+      a.bag a.bag (node.Core c) refl))) sized.banks
   move_sized b (core_steps c act rest done below beside is to) =
-      steps_sized (moves.with_core a c) (CoreFits config) (λ part k. sized_by
-      (core_put c part k) sized.banks) rest done b
-      (λ answer consumes sends part e. subst (CoreStepFits config f.some_sets (a.cores c) (sized.caches c)) e
-      (subst (TriedFits config f.some_sets (a.cores c) (sized.caches c)) is
-      (core_fits config f.some_sets (a.cores c) (sized.caches c) act (given_case c act rest beside)))) to
+      steps_sized (moves.with_core a c) (CoreFits config) (λ part k. sized_by (core_put c part k) sized.banks) rest done
+      b (rw is at (core_fits config f.some_sets (a.cores c) (sized.caches c) act a.bag rest (node.Core c) beside)) to
   move_sized b (bank_steps i act rest done below beside is to) =
-      steps_sized (moves.with_bank a i) (BankFits config) (λ part k. sized_by sized.caches
-      (bank_put i part k)) rest done b
-      (λ answer consumes sends part e. subst (StepFits config f.some_bank_sets (a.banks i) (sized.banks i)) (is ∙ e)
-      (bank_fits config f.some_bank_sets (a.banks i) (sized.banks i) act)) to
+      steps_sized (moves.with_bank a i) (BankFits config) (λ part k. sized_by sized.caches (bank_put i part k)) rest
+      done b (rw is at (bank_fits config f.some_bank_sets (a.banks i) (sized.banks i) act)) to
   move_sized b (dram_steps i act rest done below beside is to) =
       steps_sized (moves.with_dram a i) (λ part. Unit {0}) (λ part k. sized_by sized.caches sized.banks) rest done b
-      (λ answer consumes sends part e. tt) to
+      (any done) to
 
 module _ (config : Config) (good : is_good config ≡ true) (opening : FinMap nat_cmp ℕ) where
-  of_fair : Fair config
-  of_fair = fair config good
-
   empties : {X : Type 0} (home : ℕ → ℕ) (ways n : ℕ) →
       Fits n ways home (record { ways = ways; sets = replicate {A = List (ℕ × X)} n [] })
   empties {X} home ways n = record {
     as_many_sets = length-replicate n [];
     as_many_ways = refl;
-    distinct = λ i. subst IsDistinct (sym (get_replicate n i [])) tt;
-    sizes = λ i. let e : length (set_at (replicate {A = List (ℕ × X)} n []) i) ≡ 0 =
-        ap length (get_replicate n i []) in omega arith;
-    homes = λ i line there. absurd (let e : false ≡ true =
-        sym (ap (λ ps. is_there ps line) (get_replicate n i [])) ∙ there in cc);
+    distinct = λ i. rw (get_replicate {X = List (ℕ × X)} n i []) tt;
+    sizes = λ i. rw (get_replicate {X = List (ℕ × X)} n i []) (omega arith);
+    homes = λ i line. rw (get_replicate {X = List (ℕ × X)} n i []) (λ there. absurd (cc));
   }
 
   pub reached_sized : (a : State) → Reached config opening a → IsSized config a
@@ -511,7 +389,7 @@ module _ (config : Config) (good : is_good config ≡ true) (opening : FinMap na
     caches = λ c. empties (λ line. line) config.ways config.sets;
     banks = λ b. empties (λ line. line / config.banks) config.bank_ways config.bank_sets;
   }
-  reached_sized b (goes_on {a} r move) = move_sized config of_fair a (reached_sized a r) b move
+  reached_sized b (goes_on {a} r move) = move_sized config (fair config good) a (reached_sized a r) b move
   reached_sized b (same {a} r e) =
       let k = reached_sized a r in
       record {
@@ -524,18 +402,11 @@ lines_within : {X Y : Type 0} (ps : List (ℕ × X)) (qs : List (ℕ × Y)) → 
     ((k : ℕ) → is_there ps k ≡ true → is_there qs k ≡ true) → length ps ≤ length qs
 lines_within [] qs d among = omega arith
 lines_within (p ∷ ps) qs d among =
-    let fewer = length-without_there qs p.0 (among p.0 here) in
+    let fewer = length-without_there qs p.0 (among p.0 (rw (eq-eqb p.0 p.0 refl) refl)) in
     let le = lines_within ps (without qs p.0) d.1 (λ k there.
     let ne : k ≢ p.0 = λ e. let z : true ≡ false = sym there ∙ ap (is_there ps) e ∙ d.0 in cc in
-    ap is_some (find-without_other qs p.0 k ne) ∙ among k (behind k there ne)) in
+    ap is_some (find-without_other qs p.0 k ne) ∙ among k (rw (ne_eqb p.0 k (λ e. ne (sym e))) there)) in
     omega arith
-  where
-    here : is_there (p ∷ ps) p.0 ≡ true
-    here = ap is_some (cond-true (eqb p.0 p.0) (Some p.1) (find ps p.0) (eq-eqb p.0 p.0 refl))
-
-    behind : (k : ℕ) → is_there ps k ≡ true → k ≢ p.0 → is_there (p ∷ ps) k ≡ true
-    behind k there ne = ap is_some (cond-false (eqb p.0 k) (Some p.1) (find ps k) (ne_eqb p.0 k (λ e. ne (sym e)))) ∙
-        there
 
 -- and fewer, if one of these is missing
 pub lines_fewer : {X Y : Type 0} (ps : List (ℕ × X)) (qs : List (ℕ × Y)) (h : ℕ) → IsDistinct ps →
@@ -549,5 +420,4 @@ lines_fewer ps qs h d there among =
 -- a line that is there, where there are any
 pub first_there : {X : Type 0} (ps : List (ℕ × X)) → 0 < length ps → (h : ℕ) × (is_there ps h ≡ true)
 first_there [] some = absurd (omega arith)
-first_there (p ∷ ps) some =
-    (p.0, ap is_some (cond-true (eqb p.0 p.0) (Some p.1) (find ps p.0) (eq-eqb p.0 p.0 refl)))
+first_there (p ∷ ps) some = (p.0, rw (eq-eqb p.0 p.0 refl) refl)

@@ -1,9 +1,10 @@
 -- The ends of all layers, in any order, are the ends of the test.
 use Rattle.std.proofs.Common.{◌≡◌, ℕ, suc, ◌*◌, ◌<◌, ◌≤◌, List, [], ◌∷◌, length, map, Contains, refl, sym, ap, ◌∙◌}
-use Rattle.std.proofs.Common.{subst, arith, ⊎_elim}
+use Rattle.std.proofs.Common.{subst, arith, inl, inr}
 use Rattle.std.specs.List.{list_any, AllByRecursion as Each}
 use Rattle.std.specs.List.Sorted.{IsPermutation}
 use Rattle.std.specs.Str.{bytes_eq}
+use Rattle.std.proofs.lemmas.Bool.{cases_lt}
 use Rattle.std.proofs.lemmas.List.{length-map}
 use Rattle.std.proofs.lemmas.List.Sorted.{All-permutation, IsPermutation-sym}
 use Rattle.std.proofs.lemmas.List.Elements.{All-from_recursion, All-contains, All-contains_itself}
@@ -14,7 +15,7 @@ use Rattle.sequential_machine.specs.Turns.{Point, Reached, IsEnd}
 use Rattle.sequential_machine.proofs.Lemmas.{turns_few}
 use Rattle.sequential_ends.specs.Packed.{packed}
 use Rattle.sequential_ends.specs.Layers.{layer, ends_before, kept_at}
-use Rattle.sequential_ends.proofs.LayerPoints.{sound, ends_sound, every_end, empty_from, is_before}
+use Rattle.sequential_ends.proofs.LayerPoints.{sound, ends_sound, every_end, empty_from}
 
 first_few : (test : Litmus) (k : ℕ) (points : List Point) → Each (Reached test k) points → 0 < length points →
     k ≤ test.threads * length test.cells
@@ -50,11 +51,14 @@ module _ (test : Litmus) (k : ℕ) (none : layer test k ≡ []) (rows sorted : L
       Contains-list_any bytes_eq (λ x y h. (bytes_eq-Decides x y).0 h) rows values
       (ap (list_any (bytes_eq values)) are ∙ every_end test k values none e) in
       All-contains (Contains sorted) rows values
-      (All-permutation (Contains sorted) sorted rows (IsPermutation-sym rows sorted same) (All-contains_itself sorted)) there
+      (All-permutation (Contains sorted) sorted rows (IsPermutation-sym rows sorted same)
+      (All-contains_itself sorted)) there
 
   pub few_kept : (most : ℕ) → ((j : ℕ) → j < k → kept_at test j ≤ most) → (j : ℕ) → kept_at test j ≤ most
   few_kept most few j =
-      ⊎_elim (few j) (λ (le : k ≤ j).
-      let here = ap length (empty_from test k j none le) in
-      let next = ap length (empty_from test k (suc j) none (omega (arith, le))) in omega (arith, here, next))
-      (is_before j k)
+      elim (cases_lt j k) [
+        | inl lt ↦ few j lt
+        | inr le ↦
+            let here = ap length (empty_from test k j none le) in
+            let next = ap length (empty_from test k (suc j) none (omega (arith, le))) in omega (arith, here, next)
+      ]

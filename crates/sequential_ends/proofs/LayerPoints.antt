@@ -1,7 +1,7 @@
 -- What is in the layers of a test: the points that turns reach, and no others.
 use Rattle.std.proofs.Common.{◌≡◌, ℕ, zero, suc, ◌<◌, ◌≤◌, Bool, true, false, ◌||◌, if◌then◌else◌, List, [], ◌∷◌, ◌++◌}
 use Rattle.std.proofs.Common.{length, fold, take, Option, Some, None, refl, sym, ap, ◌∙◌, subst, arith, length-append}
-use Rattle.std.proofs.Common.{⊎_elim, ◌⊎◌, inl, inr, is_some, leb}
+use Rattle.std.proofs.Common.{◌⊎◌, inl, inr, is_some}
 use Rattle.std.specs.Prelude.{option_map}
 use Rattle.std.specs.Cmp.{IsEquivalence}
 use Rattle.std.proofs.lemmas.Cmp.{on_equiv, nat_list_eq_equiv}
@@ -9,18 +9,19 @@ use Rattle.std.specs.List.{list_any, Contains, IsDistinct, AllByRecursion as Eac
 use Rattle.std.proofs.lemmas.List.Elements.{All-from_recursion, All-contains, Contains-append_right}
 use Rattle.std.proofs.lemmas.Map.Keys.{IsDistinct-push}
 use Rattle.std.specs.Str.{bytes_eq}
-use Rattle.std.proofs.lemmas.Bool.{cond_both, cases_eq, leb-true, leb-false}
+use Rattle.std.proofs.lemmas.Bool.{cond_both, cases_eq, cases_lt, cases_Bool}
+use Rattle.std.proofs.lemmas.List.Folds.{list_any-append}
 use Rattle.std.proofs.lemmas.Slice.Eq.{bytes_eq-Decides}
 use Rattle.physiological_order.specs.declared.operation.Op.{Op}
 use Rattle.litmus_reader.specs.Litmus.{Litmus}
 use Rattle.sequential_machine.specs.Turns.{Point, operation_at, turned, point_opened, Reached, opened, turn}
 use Rattle.sequential_machine.specs.Turns.{values_at, IsEnd}
-use Rattle.sequential_machine.proofs.Lemmas.{lists_count}
+use Rattle.sequential_machine.proofs.Lemmas.{each_behind, lists_count}
 use Rattle.sequential_ends.specs.Packed.{packed}
 use Rattle.sequential_ends.specs.Rows.{with_row}
 use Rattle.sequential_ends.specs.Layers.{same_row}
 use Rattle.sequential_ends.specs.Layers.{with_some, with_turns, has_turn, behind, with_end, layer, ends_before}
-use Rattle.sequential_ends.proofs.Packing.{same_point}
+use Rattle.sequential_ends.proofs.Packing.{or_true, same_point}
 
 -- ---- lists that something is added to, if a test of their members by it finds none
 
@@ -32,21 +33,10 @@ module _ {X : Type 0} (same : X → X → Bool) (itself : (x : X) → same x x �
   Added xs x = if list_any (same x) xs then xs else xs ++ x ∷ []
 
   in_longer : (x : X) (xs ys : List X) → In x xs → In x (xs ++ ys)
-  in_longer x [] ys h = absurd cc
-  in_longer x (y ∷ xs) ys h = by (same x y) h (in_longer x xs ys)
-    where
-      by : (b : Bool) → (b || list_any (same x) xs) ≡ true → (In x xs → In x (xs ++ ys)) →
-          (b || list_any (same x) (xs ++ ys)) ≡ true
-      by true e further = refl
-      by false e further = further e
+  in_longer x xs ys h = list_any-append (same x) xs ys ∙ rw h refl
 
   in_last : (x : X) (xs : List X) → In x (xs ++ x ∷ [])
-  in_last x [] = ap (λ (b : Bool). b || false) (itself x)
-  in_last x (y ∷ xs) = by (same x y) (in_last x xs)
-    where
-      by : (b : Bool) → In x (xs ++ x ∷ []) → (b || list_any (same x) (xs ++ x ∷ [])) ≡ true
-      by true e = refl
-      by false e = e
+  in_last x xs = list_any-append (same x) xs (x ∷ []) ∙ rw (itself x) (sym (or_true (list_any (same x) xs)))
 
   pub still_in : (x y : X) (xs : List X) → In x xs → In x (Added xs y)
   still_in x y xs h =
@@ -54,10 +44,6 @@ module _ {X : Type 0} (same : X → X → Bool) (itself : (x : X) → same x x �
 
   pub added_in : (x : X) (xs : List X) → In x (Added xs x)
   added_in x xs = cond_both (list_any (same x) xs) xs (xs ++ x ∷ []) (In x) (λ e. e) (λ _. in_last x xs)
-
-  each_behind : (P : X → Type 0) (xs : List X) (x : X) → Each P xs → P x → Each P (xs ++ x ∷ [])
-  each_behind P [] x h p = (p, tt)
-  each_behind P (y ∷ xs) x h p = (h.0, each_behind P xs x h.1 p)
 
   pub each_added : (P : X → Type 0) (xs : List X) (x : X) → Each P xs → P x → Each P (Added xs x)
   each_added P xs x h p =
@@ -93,12 +79,11 @@ module _ (test : Litmus) (p : Point) where
   turns_have zero t x points lt e = absurd (omega (arith, lt))
   turns_have (suc n) t x points lt e =
       let before = with_turns test p n points in
-      ⊎_elim
-      (λ (same : t ≡ n). subst (λ (k : ℕ). Among (turned p t x) (with_some before (option_map (turned p k)
-      (operation_at test p k)))) same (subst (λ (o : Option Op). Among (turned p t x) (with_some before (option_map
-      (turned p t) o))) (sym e) (added_in same_row itself (turned p t x) before)))
-      (λ (ne : t ≡ n → ⊥). some_keep (turned p t x) before _ (turns_have n t x points (omega (arith, lt, ne)) e))
-      (cases_eq t n)
+      elim (cases_eq t n) [
+        | inl same ↦ rw (← same) (subst (λ (o : Option Op). Among (turned p t x) (with_some (with_turns test p t points)
+            (option_map (turned p t) o))) (sym e) (added_in same_row itself (turned p t x) _))
+        | inr ne ↦ some_keep (turned p t x) before _ (turns_have n t x points (omega (arith, lt, ne)) e)
+      ]
 
   some_each : (P : Point → Type 0) (points : List Point) (t : ℕ) (o : Option Op) → Each P points →
       ((x : Op) → o ≡ Some x → P (turned p t x)) → Each P (with_some points (option_map (turned p t) o))
@@ -119,18 +104,14 @@ module _ (test : Litmus) (p : Point) where
 
   pub turns_grow : (m n : ℕ) (points : List Point) → m ≤ n → length (with_turns test p m points) ≤
       length (with_turns test p n points)
-  turns_grow m zero points le = subst (λ (k : ℕ). length (with_turns test p k points) ≤ length points) (sym (none m le)) (omega arith)
-    where
-      none : (m : ℕ) → m ≤ 0 → m ≡ 0
-      none m le = omega (arith, le)
-  turns_grow m (suc n) points le =
-      ⊎_elim
-      (λ (e : m ≡ suc n). subst (λ (k : ℕ). length (with_turns test p k points) ≤ length (with_turns test p (suc n) points)) (sym e) (omega arith))
-      (λ (ne : m ≡ suc n → ⊥).
-      let before = turns_grow m n points (omega (arith, le, ne)) in
-      let more = some_grow (with_turns test p n points) (option_map (turned p n) (operation_at test p n)) in
-      omega (arith, before, more))
-      (cases_eq m (suc n))
+  turns_grow m zero points le = let none : m ≡ 0 = omega (arith, le) in rw none (omega arith)
+  turns_grow m (suc n) points le = elim (cases_eq m (suc n)) [
+    | inl e ↦ rw e (omega arith)
+    | inr ne ↦
+        let before = turns_grow m n points (omega (arith, le, ne)) in
+        let more = some_grow (with_turns test p n points) (option_map (turned p n) (operation_at test p n)) in
+        omega (arith, before, more)
+  ]
 
   turn_over : (n : ℕ) → has_turn test p n ≡ false → (t : ℕ) → t < n → operation_at test p t ≡ None
   turn_over zero e t lt = absurd (omega (arith, lt))
@@ -141,9 +122,10 @@ module _ (test : Litmus) (p : Point) where
           (has_turn test p n ≡ false → t < n → operation_at test p t ≡ None) → operation_at test p t ≡ None
       by true o h g f before = absurd cc
       by false (Some x) h g f before = absurd cc
-      by false None h g f before =
-          ⊎_elim (λ (same : t ≡ n). ap (operation_at test p) same ∙ g)
-          (λ (ne : t ≡ n → ⊥). before h (omega (arith, lt, ne))) (cases_eq t n)
+      by false None h g f before = elim (cases_eq t n) [
+        | inl same ↦ ap (operation_at test p) same ∙ g
+        | inr ne ↦ before h (omega (arith, lt, ne))
+      ]
 
   turns_over : (n : ℕ) → ((t : ℕ) → t < n → operation_at test p t ≡ None) → has_turn test p n ≡ false
   turns_over zero none = refl
@@ -151,10 +133,6 @@ module _ (test : Litmus) (p : Point) where
       let before = turns_over n (λ t lt. none t (omega (arith, lt))) in
       let last = none n (omega arith) in
       rw (before, last) refl
-
-pub is_before : (j k : ℕ) → (j < k) ⊎ (k ≤ j)
-is_before j k =
-    cond_both (leb k j) 0 1 (λ (_ : ℕ). (j < k) ⊎ (k ≤ j)) (λ e. inr (leb-true k j e)) (λ e. inl (leb-false k j e))
 
 -- ---- from layer to layer
 
@@ -174,19 +152,22 @@ module _ (test : Litmus) where
   is_first : (q p : Point) → HasLists q → HasLists p → same_row q p ≡ true → p ≡ q
   is_first q p a b e = same_point p q (b ∙ sym a) (sym ((bytes_eq-Decides (packed q) (packed p)).0 e))
 
+  first_or : (q p : Point) (points : List Point) → HasLists q → HasLists p → Among q (p ∷ points) →
+      (p ≡ q) ⊎ Among q points
+  first_or q p points a b h = elim (cases_Bool (same_row q p)) [
+    | inl same ↦ inl (is_first q p a b same)
+    | inr other ↦ inr (rw other at h)
+  ]
+
   next_have : (q : Point) (t : ℕ) (x : Op) → HasLists q → t < test.threads → operation_at test q t ≡ Some x →
       (points next : List Point) → Each HasLists points → Among q points → Among (turned q t x) (fold Next next points)
   next_have q t x has lt e [] next each h = absurd cc
-  next_have q t x has lt e (p ∷ points) next each h =
-      by (same_row q p) refl h (next_have q t x has lt e points (Next next p) each.1)
-    where
-      by : (b : Bool) → same_row q p ≡ b → (b || list_any (same_row q) points) ≡ true →
-          (Among q points → Among (turned q t x) (fold Next (Next next p) points)) →
-          Among (turned q t x) (fold Next (Next next p) points)
-      by true same h further = next_keep (turned q t x) points (Next next p)
-          (subst (λ (r : Point). Among (turned q t x) (Next next r)) (sym (is_first q p has each.0 same))
-          (turns_have test q test.threads t x next lt e))
-      by false same h further = further h
+  next_have q t x has lt e (p ∷ points) next each h = elim (first_or q p points has each.0 h) [
+    | inl same ↦
+        next_keep (turned q t x) points (Next next p)
+        (rw same (turns_have test q test.threads t x next lt e))
+    | inr there ↦ next_have q t x has lt e points (Next next p) each.1 there
+  ]
 
   next_each : (P : Point → Type 0) (Q : Point → Type 0) →
       ((p : Point) (t : ℕ) (x : Op) → Q p → t < test.threads → operation_at test p t ≡ Some x → P (turned p t x)) →
@@ -205,7 +186,8 @@ module _ (test : Litmus) where
   pub behind_grows : (points : List Point) (i : ℕ) → length (behind test (take i points)) ≤ length (behind test points)
   behind_grows points i = from [] points i
     where
-      from : (next points : List Point) (i : ℕ) → length (fold Next next (take i points)) ≤ length (fold Next next points)
+      from : (next points : List Point) (i : ℕ) →
+          length (fold Next next (take i points)) ≤ length (fold Next next points)
       from next points zero = next_grow points next
       from next [] (suc i) = omega arith
       from next (p ∷ points) (suc i) = from (Next next p) points i
@@ -231,21 +213,21 @@ module _ (test : Litmus) where
 
   find_in : (p : Point) → HasLists p → (points : List Point) → Each HasLists points → Among p points → Contains points p
   find_in p has [] each h = absurd cc
-  find_in p has (q ∷ points) each h = by (same_row p q) refl h (find_in p has points each.1)
-    where
-      by : (b : Bool) → same_row p q ≡ b → (b || list_any (same_row p) points) ≡ true →
-          (Among p points → Contains points p) → Contains (q ∷ points) p
-      by true same h further = (0, omega arith, is_first p q has each.0 same)
-      by false same h further = Contains-append_right (q ∷ []) points p (further h)
+  find_in p has (q ∷ points) each h = elim (first_or p q points has each.0 h) [
+    | inl same ↦ (0, omega arith, same)
+    | inr there ↦ Contains-append_right (q ∷ []) points p (find_in p has points each.1 there)
+  ]
 
   pub contains : (k : ℕ) (p : Point) → Reached test k p → Contains (layer test k) p
   contains k p r = find_in p (lists_count test k p r) (layer test k) (lists_in k) (complete k p r)
 
   pub reached : (k : ℕ) (p : Point) → Contains (layer test k) p → Reached test k p
   reached k p there =
-      All-contains (Reached test k) (layer test k) p (All-from_recursion (Reached test k) (layer test k) (sound k)) there
+      All-contains (Reached test k) (layer test k) p (All-from_recursion (Reached test k) (layer test k) (sound k))
+      there
 
-  once_some : (points : List Point) (o : Option Point) → IsDistinct same_row points → IsDistinct same_row (with_some points o)
+  once_some : (points : List Point) (o : Option Point) → IsDistinct same_row points →
+      IsDistinct same_row (with_some points o)
   once_some points None h = h
   once_some points (Some p) h =
       cond_both (list_any (same_row p) points) points (points ++ p ∷ []) (IsDistinct same_row) (λ _. h)
@@ -288,18 +270,12 @@ module _ (test : Litmus) where
       (ends : List (List ℕ)) → Each HasLists points → Among q points →
       In bytes_eq row_itself (values_at test q) (fold WithEnd ends points)
   ends_have q has over [] ends each h = absurd cc
-  ends_have q has over (p ∷ points) ends each h =
-      by (same_row q p) refl h (ends_have q has over points (WithEnd ends p) each.1)
-    where
-      by : (b : Bool) → same_row q p ≡ b → (b || list_any (same_row q) points) ≡ true →
-          (Among q points → In bytes_eq row_itself (values_at test q) (fold WithEnd (WithEnd ends p) points)) →
-          In bytes_eq row_itself (values_at test q) (fold WithEnd (WithEnd ends p) points)
-      by true same h further = ends_keep (values_at test q) points (WithEnd ends p)
-          (subst (λ (r : Point). In bytes_eq row_itself (values_at test q) (WithEnd ends r))
-          (sym (is_first q p has each.0 same))
-          (subst (λ (b : Bool). In bytes_eq row_itself (values_at test q) (if b then ends else with_row ends
-          (values_at test q))) (sym over) (added_in bytes_eq row_itself (values_at test q) ends)))
-      by false same h further = further h
+  ends_have q has over (p ∷ points) ends each h = elim (first_or q p points has each.0 h) [
+    | inl same ↦
+        ends_keep (values_at test q) points (WithEnd ends p)
+        (rw (same, over) (added_in bytes_eq row_itself (values_at test q) ends))
+    | inr there ↦ ends_have q has over points (WithEnd ends p) each.1 there
+  ]
 
   ends_each : (P : List ℕ → Type 0) (k : ℕ) →
       ((p : Point) → Reached test k p → has_turn test p test.threads ≡ false → P (values_at test p)) →
@@ -327,28 +303,26 @@ module _ (test : Litmus) where
       In bytes_eq row_itself e.0 (ends_before test k)
   ends_there zero e lt = absurd (omega (arith, lt))
   ends_there (suc k) e lt =
-      ⊎_elim
-      (λ (same : e.1.turns ≡ k). subst (λ (v : List ℕ). In bytes_eq row_itself v (ends_before test (suc k)))
-      (sym e.1.values_are) (ends_have e.1.point (lists_count test e.1.turns e.1.point e.1.reached)
-      (turns_over test e.1.point test.threads e.1.finished) (layer test k) (ends_before test k) (lists_in k)
-      (subst (λ (j : ℕ). Among e.1.point (layer test j)) same (complete e.1.turns e.1.point e.1.reached))))
-      (λ (ne : e.1.turns ≡ k → ⊥). ends_keep e.0 (layer test k) (ends_before test k)
-      (ends_there k e (omega (arith, lt, ne))))
-      (cases_eq e.1.turns k)
+      elim (cases_eq e.1.turns k) [
+        | inl same ↦
+            rw e.1.values_are (ends_have e.1.point (lists_count test e.1.turns e.1.point e.1.reached)
+            (turns_over test e.1.point test.threads e.1.finished) (layer test k) (ends_before test k) (lists_in k)
+            (subst (λ (j : ℕ). Among e.1.point (layer test j)) same (complete e.1.turns e.1.point e.1.reached)))
+        | inr ne ↦
+            ends_keep e.0 (layer test k) (ends_before test k) (ends_there k e (omega (arith, lt, ne)))
+      ]
 
   -- behind an empty layer all are empty
   pub empty_from : (k j : ℕ) → layer test k ≡ [] → k ≤ j → layer test j ≡ []
-  empty_from k zero none le = subst (λ (i : ℕ). layer test i ≡ []) (zero_at k le) none
-    where
-      zero_at : (k : ℕ) → k ≤ 0 → k ≡ 0
-      zero_at k le = omega (arith, le)
-  empty_from k (suc j) none le =
-      ⊎_elim (λ (e : k ≡ suc j). subst (λ (i : ℕ). layer test i ≡ []) e none)
-      (λ (ne : k ≡ suc j → ⊥). ap (behind test) (empty_from k j none (omega (arith, le, ne)))) (cases_eq k (suc j))
+  empty_from k zero none le = let e : k ≡ 0 = omega (arith, le) in rw e at none
+  empty_from k (suc j) none le = elim (cases_eq k (suc j)) [
+    | inl e ↦ rw e at none
+    | inr ne ↦ ap (behind test) (empty_from k j none (omega (arith, le, ne)))
+  ]
 
   pub every_end : (k : ℕ) (values : List ℕ) → layer test k ≡ [] → IsEnd test values →
       list_any (bytes_eq values) (ends_before test k) ≡ true
-  every_end k values none e = ends_there k (values, e) (before (is_before e.turns k))
+  every_end k values none e = ends_there k (values, e) (before (cases_lt e.turns k))
     where
       before : (e.turns < k) ⊎ (k ≤ e.turns) → e.turns < k
       before (inl lt) = lt

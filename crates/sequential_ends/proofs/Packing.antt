@@ -1,16 +1,17 @@
 -- Points in rows.
 use Rattle.std.proofs.Common.{◌≡◌, ℕ, zero, suc, ◌+◌, ◌-◌, ◌<◌, Bool, true, false, List, [], ◌∷◌, ◌++◌, length, map}
-use Rattle.std.proofs.Common.{Result, Err, Option, Some, None, is_some, fold, ◌||◌, if◌then◌else◌, take, drop, refl, sym, ap, ap₂, ◌∙◌, subst, arith, length-append, append_assoc}
+use Rattle.std.proofs.Common.{Result, Err, Option, Some, None, is_some, fold, ◌||◌, take, drop, refl, sym, ap, ap₂}
+use Rattle.std.proofs.Common.{◌∙◌, subst, arith, length-append, append_assoc}
 use Rattle.std.specs.Prelude.{slice_index_or, slice_get, replicate, option_map}
-use Rattle.std.specs.List.{list_any, AllByRecursion as Each}
+use Rattle.std.specs.List.{AllByRecursion as Each}
 use Rattle.litmus_reader.specs.Litmus.{Litmus}
-use Rattle.std.specs.Str.{bytes_eq}
 use Rattle.std.proofs.Math.Seq.{take-append_seam}
 use Rattle.physiological_order.specs.declared.operation.Op.{Op}
 use Rattle.sequential_machine.specs.Turns.{Point, value_for, words_after, with_received, turned}
 use Rattle.sequential_machine.specs.Turns.{operation_at, thread_at, threads_at}
 use Rattle.sequential_ends.specs.Packed.{packed, packed_lists}
 use Rattle.sequential_ends.specs.Rows.{with_row}
+use Rattle.sequential_ends.proofs.RowLists.{added_by}
 use Rattle.sequential_ends.specs.Layers.{with_point, with_some, with_turns, has_turn}
 
 pub zeros_next : (n : ℕ) → replicate {A = ℕ} (suc n) 0 ≡ replicate {A = ℕ} n 0 ++ 0 ∷ []
@@ -81,25 +82,9 @@ turned_packed p t x after lists left before list behind value lt a v l e b m h =
 
 -- ---- rows of points, each once
 
-any_packed : (row : List ℕ) (points : List Point) →
-    list_any (λ other. bytes_eq row other) (map packed points) ≡ list_any (λ other. bytes_eq row (packed other)) points
-any_packed row [] = refl
-any_packed row (p ∷ points) = ap (λ (b : Bool). bytes_eq row (packed p) || b) (any_packed row points)
-
-map_behind : (points : List Point) (p : Point) → map packed (points ++ p ∷ []) ≡ map packed points ++ packed p ∷ []
-map_behind [] p = refl
-map_behind (q ∷ points) p = ap (λ (rows : List (List ℕ)). packed q ∷ rows) (map_behind points p)
-
-either_packed : (points : List Point) (p : Point) (b : Bool) →
-    (if b then map packed points else map packed points ++ packed p ∷ []) ≡ map packed (if b then points else points ++ p ∷ [])
-either_packed points p true = refl
-either_packed points p false = sym (map_behind points p)
-
 pub point_added : (points : List Point) (p : Point) →
     with_row (map packed points) (packed p) ≡ map packed (with_point points p)
-point_added points p =
-    ap (λ (b : Bool). if b then map packed points else map packed points ++ packed p ∷ []) (any_packed (packed p) points)
-    ∙ either_packed points p (list_any (λ other. bytes_eq (packed p) (packed other)) points)
+point_added points p = added_by packed points p
 
 -- ---- one row is that of one point
 
@@ -147,9 +132,7 @@ plus_one n = omega arith
 pub list_next : (lists : List (List ℕ)) (t : ℕ) → t < length lists →
     packed_lists (drop t lists) ≡ length (slice_index_or lists t []) ∷ slice_index_or lists t []
     ++ packed_lists (drop (t + 1) lists)
-list_next lists t lt =
-    subst (λ (n : ℕ). packed_lists (drop t lists) ≡ length (slice_index_or lists t []) ∷ slice_index_or lists t []
-    ++ packed_lists (drop n lists)) (plus_one t) (list_there lists t lt)
+list_next lists t lt = rw (← plus_one t) (list_there lists t lt)
 
 pub turns_next : (test : Litmus) (p : Point) (t : ℕ) (points : List Point) (o : Option Op) → operation_at test p t ≡ o →
     with_turns test p (t + 1) points ≡ with_some (with_turns test p t points) (option_map (turned p t) o)
@@ -178,7 +161,7 @@ threads_next test p t = ap (threads_at test p) (plus_one t)
 pub fold_next : {X Y : Type 0} (f : Y → X → Y) (start : Y) (xs : List X) (i : ℕ) (x : X) → slice_get xs i ≡ Some x →
     fold f start (take (i + 1) xs) ≡ f (fold f start (take i xs)) x
 fold_next f start xs i x e =
-    subst (λ (n : ℕ). fold f start (take n xs) ≡ f (fold f start (take i xs)) x) (plus_one i) (one f start xs i x e)
+    rw (← plus_one i) (one f start xs i x e)
   where
     one : {X Y : Type 0} (f : Y → X → Y) (start : Y) (xs : List X) (i : ℕ) (x : X) → slice_get xs i ≡ Some x →
         fold f start (take (suc i) xs) ≡ f (fold f start (take i xs)) x
@@ -204,9 +187,9 @@ none_missing (x ∷ xs) zero lt e = cc
 none_missing (x ∷ xs) (suc i) lt e = none_missing xs i (omega (arith, lt)) e
 
 -- one turn more, in rows
-pub turn_added : (test : Litmus) (p : Point) (t : ℕ) (points : List Point) (x : Op) (next : List (List ℕ)) (row : List ℕ) →
-    next ≡ map packed (with_turns test p t points) → row ≡ packed (turned p t x) → operation_at test p t ≡ Some x →
-    with_row next row ≡ map packed (with_turns test p (t + 1) points)
+pub turn_added : (test : Litmus) (p : Point) (t : ℕ) (points : List Point) (x : Op) (next : List (List ℕ))
+    (row : List ℕ) → next ≡ map packed (with_turns test p t points) → row ≡ packed (turned p t x) →
+    operation_at test p t ≡ Some x → with_row next row ≡ map packed (with_turns test p (t + 1) points)
 turn_added test p t points x next row e f g =
     ap₂ with_row e f ∙ point_added (with_turns test p t points) (turned p t x)
     ∙ ap (map packed) (sym (turns_next test p t points (Some x) g))

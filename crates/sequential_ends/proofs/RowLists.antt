@@ -1,37 +1,36 @@
 -- The rows that an indexed set keeps.
-use Rattle.std.proofs.Common.{◌≡◌, Bool, true, false, ◌||◌, if◌then◌else◌, List, [], ◌∷◌, ◌++◌, ℕ, ◌+◌, map, refl, ap, ◌∙◌, arith}
+use Rattle.std.proofs.Common.{◌≡◌, Bool, true, false, ◌||◌, if◌then◌else◌, List, [], ◌∷◌, ◌++◌, ℕ, ◌+◌, map, refl}
+use Rattle.std.proofs.Common.{sym, ap, ◌∙◌, arith}
 use Rattle.std.specs.List.{list_any, IsDistinct, AllByRecursion as Each}
 use Rattle.std.specs.Str.{bytes_eq}
 use Rattle.std.specs.Global.{Vec}
 use Rattle.std.specs.List.Sorted.{IsSorted}
 use Rattle.std.specs.Ordering.{nat_cmp}
 use Rattle.std.specs.Cmp.Lexicographic.{slice_cmp}
-use Rattle.std.proofs.lemmas.List.{get_or-map, length-map}
+use Rattle.std.proofs.lemmas.List.{get_or-map, length-map, map-append}
 use Rattle.sequential_ends.specs.Rows.{with_row}
 
 abbrev pub rows_of : List (Vec ℕ) → List (List ℕ)
 rows_of = map (λ row. row.items)
 
-any_of : (row : List ℕ) (keys : List (Vec ℕ)) → list_any (λ key. bytes_eq row key.items) keys ≡
-    list_any (λ other. bytes_eq row other) (rows_of keys)
-any_of row [] = refl
-any_of row (key ∷ keys) = ap (λ (b : Bool). bytes_eq row key.items || b) (any_of row keys)
+-- a row is added to rows as that of which it is the row is added to a list
+pub added_by : {X : Type 0} (row : X → List ℕ) (xs : List X) (x : X) → with_row (map row xs) (row x)
+    ≡ map row (if list_any (λ y. bytes_eq (row x) (row y)) xs then xs else xs ++ x ∷ [])
+added_by {X} row xs x = rw (any xs) (by (list_any (λ y. bytes_eq (row x) (row y)) xs))
+  where
+    any : (ys : List X) →
+        list_any (λ other. bytes_eq (row x) other) (map row ys) ≡ list_any (λ y. bytes_eq (row x) (row y)) ys
+    any [] = refl
+    any (y ∷ ys) = ap (λ (b : Bool). bytes_eq (row x) (row y) || b) (any ys)
 
-rows_behind : (keys : List (Vec ℕ)) (row : Vec ℕ) → rows_of (keys ++ row ∷ []) ≡ rows_of keys ++ row.items ∷ []
-rows_behind [] row = refl
-rows_behind (key ∷ keys) row = ap (λ (rows : List (List ℕ)). key.items ∷ rows) (rows_behind keys row)
-
-either_row : (keys : List (Vec ℕ)) (row : Vec ℕ) (b : Bool) → rows_of (if b then keys else keys ++ row ∷ []) ≡
-    (if b then rows_of keys else rows_of keys ++ row.items ∷ [])
-either_row keys row true = refl
-either_row keys row false = rows_behind keys row
+    by : (b : Bool) → (if b then map row xs else map row xs ++ row x ∷ []) ≡ map row (if b then xs else xs ++ x ∷ [])
+    by true = refl
+    by false = sym (map-append row xs (x ∷ []))
 
 pub row_added : (keys new : List (Vec ℕ)) (row : Vec ℕ) →
     new ≡ (if list_any (λ key. bytes_eq row.items key.items) keys then keys else keys ++ row ∷ []) →
     rows_of new ≡ with_row (rows_of keys) row.items
-row_added keys new row e =
-    ap rows_of e ∙ either_row keys row (list_any (λ key. bytes_eq row.items key.items) keys)
-    ∙ ap (λ (b : Bool). if b then rows_of keys else rows_of keys ++ row.items ∷ []) (any_of row.items keys)
+row_added keys new row e = ap rows_of e ∙ sym (added_by (λ (row : Vec ℕ). row.items) keys row)
 
 apart : (row : Vec ℕ) (keys : List (Vec ℕ)) → Each (λ (key : Vec ℕ). bytes_eq row.items key.items ≡ false) keys →
     Each (λ (other : List ℕ). bytes_eq row.items other ≡ false) (rows_of keys)

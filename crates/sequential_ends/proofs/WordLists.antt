@@ -14,7 +14,8 @@ set_behind (w ∷ words) zero v e = absurd (omega (arith, e))
 set_behind (w ∷ words) (suc a) v e = ap (λ (ws : List ℕ). w ∷ ws) (set_behind words a v (omega (arith, e)))
 
 -- a zero more behind the words shows in none of them
-pub zero_behind : (words : List ℕ) (a v : ℕ) → length words < a → with_word_in (words ++ 0 ∷ []) a v ≡ with_word_in words a v
+pub zero_behind : (words : List ℕ) (a v : ℕ) → length words < a →
+    with_word_in (words ++ 0 ∷ []) a v ≡ with_word_in words a v
 zero_behind [] zero v lt = absurd (omega (arith, lt))
 zero_behind [] (suc a) v lt = refl
 zero_behind (w ∷ words) zero v lt = absurd (omega (arith, lt))

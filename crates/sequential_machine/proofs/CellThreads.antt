@@ -1,30 +1,23 @@
 -- Each instruction of a test is that of a thread which is there.
-use Rattle.std.proofs.Common.{◌≡◌, ℕ, zero, suc, ◌+◌, ◌<◌, ◌≤◌, Bool, true, false, List, [], ◌∷◌, ◌++◌}
+use Rattle.std.proofs.Common.{◌≡◌, ℕ, zero, suc, ◌+◌, ◌<◌, ◌≤◌, Bool, true, false, List, []}
 use Rattle.std.proofs.Common.{None, refl, arith}
 use Rattle.std.specs.List.{AllByRecursion as Each}
 use Rattle.litmus_lexer.specs.declared.limits.TheConstants.{MOST_ROWS}
 use Rattle.litmus_lexer.specs.declared.errors.Kind.TheVariants.{TooLarge}
 use Rattle.litmus_parser.specs.Names.{address_of}
-use Rattle.litmus_parser.specs.Header.{text_pieces, preamble}
+use Rattle.litmus_parser.specs.Header.{text_pieces}
 use Rattle.litmus_parser.specs.Verdicts.{Bases}
-use Rattle.litmus_parser.specs.Block.{block}
-use Rattle.litmus_parser.specs.Table.{Rows, header, filled, cell, column, row, counted_row, row_or_condition, rows, table}
-use Rattle.litmus_parser.specs.Condition.{condition}
+use Rattle.litmus_parser.specs.Table.{Rows, filled, cell, column, row, counted_row, row_or_condition, rows, table}
 use Rattle.litmus_parser.specs.declared.syntax.Cell.{Cell}
 use Rattle.litmus_parser.specs.declared.syntax.Item.{Item}
 use Rattle.piece_forms.specs.Forms.{Gives, InOrder, one, either, turn, until, refused}
 use Rattle.piece_forms.proofs.Lemmas.{Leads, leads-given, leads-then, Onto, leads-until, leads-refused}
 use Rattle.litmus_reader.specs.Litmus.{Litmus}
 use Rattle.litmus_reader.specs.Grammar.{whole_test, IsTest}
-use Rattle.sequential_machine.proofs.Names.{all-lead}
+use Rattle.sequential_machine.proofs.Names.{each_behind, leads-behind}
 
 abbrev pub AreBelow : ℕ → List Cell → Type 0
 AreBelow threads cells = Each (λ (c : Cell). c.thread < threads) cells
-
-below_behind : (threads : ℕ) (cells : List Cell) (c : Cell) → AreBelow threads cells → c.thread < threads →
-    AreBelow threads (cells ++ c ∷ [])
-below_behind threads [] c h lt = (lt, tt)
-below_behind threads (x ∷ cells) c h lt = (h.0, below_behind threads cells c h.1 lt)
 
 module _ (bases : Bases) (threads : ℕ) where
   abbrev Below : Rows → Type 0
@@ -33,12 +26,11 @@ module _ (bases : Bases) (threads : ℕ) where
   filled_below : (t end : ℕ) (r : Rows) → t < threads → Below r → Leads (filled bases t end r) Below
   unfolding filled
   filled_below t end r lt h =
-      leads-then {P = λ f. Unit {0}} (all-lead _) (λ f _. leads-then {P = λ i. Unit {0}} (all-lead _) (λ i _.
-      leads-given _ (below_behind threads r.0 _ h lt)))
+      leads-behind (λ f. leads-behind (λ i. leads-given _ (each_behind (λ (c : Cell). c.thread < threads) r.0 _ h lt)))
 
   cell_below : (t end : ℕ) (r : Rows) → t < threads → Below r → Leads (cell bases t end r) Below
   unfolding cell
-  cell_below t end r lt h = leads-then {P = λ b. Unit {0}} (all-lead _) (λ b _. on b)
+  cell_below t end r lt h = leads-behind on
     where
       on : (b : Bool) → Leads (either (Gives r) (filled bases t end r) b) Below
       on true = leads-given r h
@@ -84,9 +76,8 @@ module _ (bases : Bases) (threads : ℕ) where
   row_below : (r : Rows) → Below r → Leads (row bases threads r) Below
   unfolding row
   row_below r h =
-      leads-then {P = λ u. Unit {0}} (all-lead _) (λ u _.
-      leads-then (columns_below threads (0, r) (omega arith) h) (λ c k.
-      leads-then {P = λ u. Unit {0}} (all-lead _) (λ v _. leads-given c.1 k)))
+      leads-behind (λ u. leads-then (columns_below threads (0, r) (omega arith) h) (λ c k.
+      leads-behind (λ v. leads-given c.1 k)))
 
   abbrev Counted : ℕ × Rows → Type 0
   Counted t = Below t.1
@@ -104,7 +95,7 @@ module _ (bases : Bases) (threads : ℕ) where
     where
       goes : (t : ℕ × Rows) → Counted t → Leads (turn (λ t. one (row_or_condition t.0)) (counted_row bases threads) t)
           (Onto Counted Counted)
-      goes t h = leads-then {P = λ b. Unit {0}} (all-lead _) (λ b _. on b)
+      goes t h = leads-behind on
         where
           on : (b : Bool) → Leads (either (InOrder (counted_row bases threads t) (λ y. Gives (true, y)))
               (Gives (false, t)) b) (Onto Counted Counted)
@@ -114,17 +105,14 @@ module _ (bases : Bases) (threads : ℕ) where
 table_below : (items : List Item) → Leads (table items) (λ (t : ℕ × List Cell). AreBelow t.0 t.1)
 unfolding table
 table_below items =
-    leads-then {P = λ n. Unit {0}} (all-lead header) (λ threads _.
-    leads-then {P = λ u. Unit {0}} (all-lead _) (λ u _.
+    leads-behind (λ threads. leads-behind (λ u.
     leads-then (rows_below (address_of items) threads) (λ cells h. leads-given (threads, cells) h)))
 
 test_below : Leads whole_test (λ (test : Litmus). AreBelow test.threads test.cells)
 unfolding whole_test
 test_below =
-    leads-then {P = λ n. Unit {0}} (all-lead preamble) (λ n _.
-    leads-then {P = λ b. Unit {0}} (all-lead (block [])) (λ b _.
-    leads-then (table_below b.0) (λ t h.
-    leads-then {P = λ c. Unit {0}} (all-lead (condition (address_of b.0) t.0 b.1)) (λ c _. leads-given _ h))))
+    leads-behind (λ n. leads-behind (λ b. leads-then (table_below b.0) (λ t h.
+    leads-behind (λ c. leads-given _ h))))
 
 pub cells_below : (text : List ℕ) (test : Litmus) → IsTest text test → AreBelow test.threads test.cells
 cells_below text test h = test_below.stands 1 (text_pieces text []) test h.last h.end h.stands

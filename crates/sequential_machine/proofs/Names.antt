@@ -10,7 +10,7 @@ use Rattle.litmus_lexer.specs.Spelling.{small_of, is_location}
 use Rattle.litmus_lexer.specs.declared.errors.Kind.{Kind}
 use Rattle.litmus_lexer.specs.declared.errors.Kind.TheVariants.{TooLarge, BadCondition, CutShort}
 use Rattle.piece_forms.specs.Places.{Beyond}
-use Rattle.piece_forms.specs.Forms.{Verdict, Form, ◌>>=◌, Gives, said, mapped, one, either, turn, refused}
+use Rattle.piece_forms.specs.Forms.{Verdict, Form, ◌>>=◌, Gives, InOrder, said, mapped, one, either, turn, refused}
 use Rattle.piece_forms.proofs.Lemmas.{Leads, leads-given, leads-then, Tells, leads-at, Onto, leads-until}
 use Rattle.piece_forms.proofs.Lemmas.{leads-refused}
 use Rattle.litmus_parser.specs.Names.{Names, same_name, address_of}
@@ -27,11 +27,9 @@ use Rattle.litmus_parser.specs.declared.syntax.Name.TheVariants.{Register, Locat
 use Rattle.litmus_parser.specs.declared.syntax.Quantifier.{Quantifier}
 use Rattle.litmus_reader.specs.Seen.{seen_in}
 use Rattle.litmus_reader.specs.Litmus.{Litmus}
-use Rattle.litmus_parser.specs.Header.{text_pieces, preamble}
+use Rattle.litmus_parser.specs.Header.{text_pieces}
 use Rattle.litmus_parser.specs.Verdicts.{Bases}
 use Rattle.litmus_parser.specs.Words.{location, opening}
-use Rattle.litmus_parser.specs.Block.{block}
-use Rattle.litmus_parser.specs.Table.{table}
 use Rattle.litmus_reader.specs.Grammar.{whole_test, IsTest}
 
 abbrev pub IsThere : ℕ → ℕ → Name → Type 0
@@ -57,8 +55,10 @@ more_are_there threads a b le (Either x y) h =
 
 -- ---- what stands in the form of the condition
 
-pub all-lead : {A : Type 0} (f : Form A) → Leads f (λ x. Unit {0})
-all-lead f = record { stands = λ line ps x n rest s. tt }
+-- whatever stands first
+pub leads-behind : {A B : Type 0} {f : Form A} {g : A → Form B} {Q : B → Type 0} → ((y : A) → Leads (g y) Q) →
+    Leads (InOrder f g) Q
+leads-behind then = leads-then {P = λ y. Unit {0}} (record { stands = λ line ps x n rest s. tt }) (λ y _. then y)
 
 -- no number is taken back, and the names in the tree are there
 abbrev Adds : ℕ → Sight → Tree × Sight → Type 0
@@ -123,13 +123,11 @@ module _ (threads : ℕ) where
     rest_there : (s : Sight) (x : Option Opening × Sight) → Begins threads s.0 (x.0, x.1.0) →
         Leads (rest_of_factor bases inside x) (Adds threads s)
     rest_there s (Some (OfThread t), sight) h =
-        leads-then (all-lead _) (λ u _. leads-then {P = λ v. Unit {0}} (all-lead _) (λ r _.
-        leads-then {P = λ v. Unit {0}} (all-lead _) (λ n _. leads-given (Is (Register t r) n, sight) h)))
+        leads-behind (λ u. leads-behind (λ r. leads-behind (λ n. leads-given (Is (Register t r) n, sight) h)))
     rest_there s (Some (OfLocation l), sight) h =
-        leads-then {P = λ v. Unit {0}} (all-lead _) (λ n _. leads-given (Is (Location l) n, sight) h)
+        leads-behind (λ n. leads-given (Is (Location l) n, sight) h)
     rest_there s (None, sight) h =
-        leads-then (within sight) (λ e k. leads-then (all-lead _) (λ u _.
-        leads-given e (omega (arith, h.0, k.0), k.1)))
+        leads-then (within sight) (λ e k. leads-behind (λ u. leads-given e (omega (arith, h.0, k.0), k.1)))
 
     factor_there : (depth : ℕ) → Part (factor_with bases threads depth inside)
     factor_there depth s = leads-then (start_there depth s) (λ x h. rest_there s x h)
@@ -147,7 +145,7 @@ module _ (threads : ℕ) where
     where
       turn_there : (x : Tree × Sight) → Adds threads s x →
           Leads (turn (further c) (joined c part) x) (Onto (Adds threads s) (Adds threads s))
-      turn_there x h = leads-then {P = λ v. Unit {0}} (all-lead _) (λ more _. on more)
+      turn_there x h = leads-behind on
         where
           on : (more : Bool) → Leads (either (joined c part x >>= λ y. Gives (true, y)) (Gives (false, x)) more)
               (Onto (Adds threads s) (Adds threads s))
@@ -172,9 +170,8 @@ condition_there : (bases : Bases) (threads : ℕ) (before : Names) → Leads (co
     (λ (x : Quantifier × Tree × Names). AreThere threads (length x.2) x.1)
 unfolding condition
 condition_there bases threads before =
-    leads-then {P = λ q. Unit {0}} (all-lead _) (λ q _.
-    leads-then (expression_there threads bases 64 (before, 0)) (λ e h.
-    leads-then {P = λ u. Unit {0}} (all-lead _) (λ u _. leads-given (q, e.0, e.1.0) h.1)))
+    leads-behind (λ q. leads-then (expression_there threads bases 64 (before, 0)) (λ e h.
+    leads-behind (λ u. leads-given (q, e.0, e.1.0) h.1)))
 
 -- the names in its tree are there, and those that are seen are those of its tree
 abbrev IsNamed : Litmus → Type 0
@@ -183,15 +180,12 @@ IsNamed test = AreThere test.threads (length test.locations) test.tree × (test.
 test_named : Leads whole_test IsNamed
 unfolding whole_test
 test_named =
-    leads-then {P = λ n. Unit {0}} (all-lead preamble) (λ n _.
-    leads-then {P = λ b. Unit {0}} (all-lead (block [])) (λ b _.
-    leads-then {P = λ t. Unit {0}} (all-lead (table b.0)) (λ t _.
+    leads-behind (λ n. leads-behind (λ b. leads-behind (λ t.
     leads-then (condition_there (address_of b.0) t.0 b.1) (λ c h. leads-given _ (h, refl)))))
 
-each_behind : (P : Name → Type 0) (names : List Name) (name : Name) → Each P names → P name →
-    Each P (names ++ name ∷ [])
-each_behind P [] name h p = (p, tt)
-each_behind P (n ∷ names) name h p = (h.0, each_behind P names name h.1 p)
+pub each_behind : {X : Type 0} (P : X → Type 0) (xs : List X) (x : X) → Each P xs → P x → Each P (xs ++ x ∷ [])
+each_behind P [] x h p = (p, tt)
+each_behind P (y ∷ xs) x h p = (h.0, each_behind P xs x h.1 p)
 
 seen_there : (threads locations : ℕ) (tree : Tree) (names : List Name) → AreThere threads locations tree →
     Each (IsThere threads locations) names → Each (IsThere threads locations) (seen_in tree names)

@@ -13,22 +13,20 @@ use Rattle.std.proofs.lemmas.Bool.{leb-true, lt-ltb, eqb-false}
 use Rattle.physiological_order.specs.Order.{flat}
 use Rattle.litmus_lexer.specs.Pieces.{Piece, Word, between}
 use Rattle.litmus_lexer.specs.Spelling.{is_digit, small_of, register_of}
-use Rattle.litmus_parser.specs.Names.{Names, same_name, address_of}
+use Rattle.litmus_parser.specs.Names.{Names, same_name}
 use Rattle.litmus_parser.specs.Block.{rest_of_item, Block, added, whole_item, item_or_end, entry, block}
 use Rattle.litmus_parser.specs.Words.{named_register}
-use Rattle.litmus_parser.specs.Header.{text_pieces, preamble}
-use Rattle.litmus_parser.specs.Table.{table}
-use Rattle.litmus_parser.specs.Condition.{condition}
+use Rattle.litmus_parser.specs.Header.{text_pieces}
 use Rattle.litmus_parser.specs.declared.items.Opening.{Opening}
 use Rattle.litmus_parser.specs.declared.items.Opening.TheVariants.{OfThread, OfLocation}
 use Rattle.litmus_lexer.specs.declared.errors.Kind.{Kind}
 use Rattle.litmus_lexer.specs.declared.errors.Kind.TheVariants.{BadInitial, CutShort}
 use Rattle.litmus_lexer.specs.declared.errors.LitmusError.{LitmusError}
 use Rattle.piece_forms.specs.Places.{Beyond}
-use Rattle.piece_forms.specs.Forms.{Line, said, taken, word, one, refused}
+use Rattle.piece_forms.specs.Forms.{said, taken, word, one, refused}
 use Rattle.piece_forms.proofs.Lemmas.{Leads, leads-given, leads-then, leads-known, Tells, leads-at, Onto, leads-until}
 use Rattle.piece_forms.proofs.Lemmas.{leads-refused}
-use Rattle.sequential_machine.proofs.Names.{all-lead}
+use Rattle.sequential_machine.proofs.Names.{leads-behind}
 use Rattle.litmus_parser.specs.declared.syntax.Name.{Name}
 use Rattle.litmus_parser.specs.declared.syntax.Name.TheVariants.{Register, Location}
 use Rattle.litmus_parser.specs.declared.syntax.Setting.{Setting}
@@ -310,12 +308,11 @@ register_settable =
 item_settable : (o : Opening × Names) → Leads (rest_of_item o) (λ i. IsSettable i.0.name)
 unfolding rest_of_item
 item_settable (OfThread thread, names) =
-    leads-then {P = λ l. Unit {0}} (all-lead Line) (λ line _.
-    leads-then {P = λ u. Unit {0}} (all-lead _) (λ u _. leads-then register_settable (λ r is.
-    leads-then {P = λ v. Unit {0}} (all-lead _) (λ v _. leads-then {P = λ s. Unit {0}} (all-lead _) (λ s _.
+    leads-behind (λ line. leads-behind (λ u. leads-then register_settable (λ r is.
+    leads-behind (λ v. leads-behind (λ s.
     leads-given (record { line = line; name = Register thread r; setting = s.0 }, s.1) is)))))
 item_settable (OfLocation l, names) =
-    leads-then {P = λ l. Unit {0}} (all-lead Line) (λ line _. leads-then {P = λ n. Unit {0}} (all-lead _) (λ n _.
+    leads-behind (λ line. leads-behind (λ n.
     leads-given (record { line = line; name = Location l; setting = Number n }, names) tt))
 
 abbrev SingleSo : Block → Type 0
@@ -323,7 +320,7 @@ SingleSo b = AreSingle (settings_of b.0)
 
 entry_single : (b : Block) → SingleSo b → Leads (entry b) (Onto SingleSo SingleSo)
 unfolding entry whole_item
-entry_single b single = leads-then {P = λ o. Unit {0}} (all-lead _) (λ o _. on o)
+entry_single b single = leads-behind on
   where
     onto : (more : Bool) (x : Block) → SingleSo x → Onto SingleSo SingleSo (more, x)
     onto true x h = h
@@ -335,19 +332,16 @@ entry_single b single = leads-then {P = λ o. Unit {0}} (all-lead _) (λ o _. on
         leads-then (item_settable o) (λ i settable.
         leads-then {P = λ all. AreSingle (settings_of all)}
         (leads-known (added b.0 i.0) (λ all e. added_single b.0 i.0 all settable single e)) (λ all h.
-        leads-then {P = λ m. Unit {0}} (all-lead _) (λ more _.
-        leads-given (more, (all, i.1)) (onto more (all, i.1) h))))
+        leads-behind (λ more. leads-given (more, (all, i.1)) (onto more (all, i.1) h))))
 
 test_single : Leads whole_test (λ test. AreSingle test.items)
 unfolding whole_test block
 test_single =
-    leads-then {P = λ n. Unit {0}} (all-lead preamble) (λ n _.
-    leads-then {P = SingleSo} (leads-then {P = λ u. Unit {0}} (all-lead _) (λ u _.
+    leads-behind (λ n. leads-then {P = SingleSo} (leads-behind (λ u.
     leads-then (leads-until (refused BadInitial) entry SingleSo SingleSo entry_single (λ b h.
     leads-refused BadInitial b) 65536 ([], []) tt) (λ b h.
-    leads-then {P = λ v. Unit {0}} (all-lead _) (λ v _. leads-given b h)))) (λ b h.
-    leads-then {P = λ t. Unit {0}} (all-lead (table b.0)) (λ t _.
-    leads-then {P = λ c. Unit {0}} (all-lead (condition (address_of b.0) t.0 b.1)) (λ c _. leads-given _ h))))
+    leads-behind (λ v. leads-given b h)))) (λ b h.
+    leads-behind (λ t. leads-behind (λ c. leads-given _ h))))
 
 pub opens_as_set : (text : List ℕ) (test : Litmus) → IsTest text test → OpensAsSet test
 opens_as_set text test h =

@@ -1,7 +1,7 @@
 -- Points and the words in them: what an operation leaves, and what a thread has received.
-use Rattle.std.proofs.Common.{◌≡◌, ◌≢◌, ℕ, zero, suc, ◌<◌, Bool, true, false, eqb, cond, List, [], ◌∷◌, ◌++◌, length, Option, Some}
-use Rattle.std.proofs.Common.{refl, sym, ap, ◌∙◌, subst, arith, ⊎_elim}
-use Rattle.std.proofs.lemmas.Bool.{cases_eq, cond-true, cond-false, eq-eqb, ne_eqb}
+use Rattle.std.proofs.Common.{◌≡◌, ◌≢◌, ℕ, zero, suc, ◌<◌, Bool, true, false, eqb, cond, List, [], ◌∷◌, ◌++◌, length}
+use Rattle.std.proofs.Common.{Option, Some, refl, sym, ap, ◌∙◌, arith, inl, inr}
+use Rattle.std.proofs.lemmas.Bool.{cases_eq, eq-eqb, ne_eqb}
 use Rattle.std.specs.Prelude.{replicate, slice_index_or, unwrap_or}
 use Rattle.std.specs.FinMap as finite
 use Rattle.std.specs.FinMap.{get-entries}
@@ -18,8 +18,9 @@ use Rattle.litmus_reader.specs.OpeningMemory.{words_opened}
 use Rattle.litmus_reader.specs.ThreadSteps.{Thread, register_value, instruction_operation, next_operation, received_by}
 use Rattle.litmus_reader.specs.ThreadSteps.{behind_first_cell, done_with, settled_thread}
 use Rattle.sequential_machine.specs.SequentialMachine.{memory_opened}
-use Rattle.sequential_machine.specs.Turns.{Point, word_in, with_word_in, words_after, value_for, resumed, thread_started}
-use Rattle.sequential_machine.specs.Turns.{thread_at, operation_at, with_received, turned, words_set, point_opened, Reached}
+use Rattle.sequential_machine.specs.Turns.{Point, word_in, with_word_in, words_after, value_for, resumed}
+use Rattle.sequential_machine.specs.Turns.{thread_started, thread_at, operation_at, with_received, turned, words_set}
+use Rattle.sequential_machine.specs.Turns.{point_opened, Reached}
 use Rattle.sequential_machine.specs.Turns.{opened, turn}
 
 -- ---- words
@@ -41,12 +42,10 @@ word_else (w ∷ words) (suc a) v zero ne = refl
 word_else (w ∷ words) (suc a) v (suc b) ne = word_else words a v b (λ e. ne (ap suc e))
 
 word_set : (words : List ℕ) (a v b : ℕ) → word_in (with_word_in words a v) b ≡ with_word (word_in words) a v b
-word_set words a v b =
-    ⊎_elim
-    (λ (e : b ≡ a). ap (word_in (with_word_in words a v)) e ∙ word_here words a v
-    ∙ sym (cond-true (eqb b a) v (word_in words b) (eq-eqb b a e)))
-    (λ (ne : b ≡ a → ⊥). word_else words a v b ne ∙ sym (cond-false (eqb b a) v (word_in words b) (ne_eqb b a ne)))
-    (cases_eq b a)
+word_set words a v b = elim (cases_eq b a) [
+  | inl e ↦ rw (eq-eqb b a e) (ap (word_in (with_word_in words a v)) e ∙ word_here words a v)
+  | inr ne ↦ rw (ne_eqb b a ne) (word_else words a v b ne)
+]
 
 pub memory_set : (words : List ℕ) (x : Op) → word_in (words_after words x) ≡ flat_after (word_in words) x
 memory_set words (op.Load a) = refl
@@ -111,29 +110,24 @@ one_more : (q : Thread) (vs : List ℕ) (v : ℕ) → resumed q (vs ++ v ∷ [])
 one_more q [] v = refl
 one_more q (w ∷ vs) v = one_more (done_with q (Some w)) vs v
 
+pub same_some : {X : Type 0} (x y : X) → Some x ≡ Some y → x ≡ y
+same_some x y e = cc
+
 -- a store receives nothing, whatever it is told
 as_told : (i : Instruction) (rs : List ℕ) (x : Op) (m : Memory) → instruction_operation i rs ≡ Some x →
     received_by i (Some (unwrap_or (flat_received m x) 0)) rs ≡ received_by i (flat_received m x) rs
 as_told (does.Load target location) rs x m e =
-    subst (λ (y : Op). received_by (does.Load target location) (Some (unwrap_or (flat_received m y) 0)) rs ≡
-    received_by (does.Load target location) (flat_received m y) rs) (same_some (op.Load location) x e) refl
-  where
-    same_some : (x y : Op) → Some x ≡ Some y → x ≡ y
-    same_some x y e = cc
+    rw (← same_some (op.Load location) x e) refl
 as_told (does.Store source location) rs x m e = refl
 as_told (does.Swap target source location) rs x m e =
-    subst (λ (y : Op). received_by (does.Swap target source location) (Some (unwrap_or (flat_received m y) 0)) rs ≡
-    received_by (does.Swap target source location) (flat_received m y) rs)
-    (same_some (op.Swap location (register_value rs source)) x e) refl
-  where
-    same_some : (x y : Op) → Some x ≡ Some y → x ≡ y
-    same_some x y e = cc
+    rw (← same_some (op.Swap location (register_value rs source)) x e) refl
 as_told (does.Set target value) rs x m e = absurd cc
 as_told does.Fence rs x m e = absurd cc
 
 first_told : (t : ℕ) (rs : List ℕ) (cells : List Cell) (x : Op) (m : Memory) →
     next_operation (record { thread = t; registers = rs; rest = cells }) ≡ Some x →
-    behind_first_cell t rs (Some (unwrap_or (flat_received m x) 0)) cells ≡ behind_first_cell t rs (flat_received m x) cells
+    behind_first_cell t rs (Some (unwrap_or (flat_received m x) 0)) cells
+    ≡ behind_first_cell t rs (flat_received m x) cells
 first_told t rs [] x m e = refl
 first_told t rs (c ∷ cells) x m e =
     ap (λ (ns : List ℕ). settled_thread t ns cells) (as_told c.instruction rs x m e)
@@ -143,7 +137,8 @@ told : (q : Thread) (x : Op) (m : Memory) → next_operation q ≡ Some x →
 told q x m e = first_told q.thread q.registers q.rest x m e
 
 -- the thread whose turn it was, and the others
-pub turned_here : (test : Litmus) (p : Point) (t : ℕ) (x : Op) → t < length p.received → operation_at test p t ≡ Some x →
+pub turned_here : (test : Litmus) (p : Point) (t : ℕ) (x : Op) → t < length p.received →
+    operation_at test p t ≡ Some x →
     thread_at test (turned p t x) t ≡ done_with (thread_at test p t) (flat_received (word_in p.words) x)
 turned_here test p t x lt is =
     ap (resumed (thread_started test t)) (received_here p.received t (value_for p.words x) lt)

@@ -1,8 +1,8 @@
 -- From the opening, threads that were performed to their end are a run of the sequential machine.
-use Rattle.std.proofs.Common.{◌≡◌, ◌≢◌, ℕ, zero, suc, ◌<◌, ◌≤◌, eqb, List, [], ◌∷◌, map, Option, refl, sym, ap, ◌∙◌}
-use Rattle.std.proofs.Common.{subst, arith, ⊎_elim}
+use Rattle.std.proofs.Common.{◌≡◌, ◌≢◌, ℕ, zero, suc, ◌<◌, ◌≤◌, List, [], ◌∷◌, map, Option, refl, sym, ap, ◌∙◌, arith}
+use Rattle.std.proofs.Common.{inl, inr}
 use Rattle.std.specs.List.{AllByRecursion as Each}
-use Rattle.std.proofs.lemmas.Bool.{cases_eq, cond-true, cond-false, eq-eqb, ne_eqb}
+use Rattle.std.proofs.lemmas.Bool.{cases_eq, eq-eqb, ne_eqb}
 use Rattle.physiological_order.specs.declared.operation.Record.{Record}
 use Rattle.physiological_order.specs.Order.{Memory, flat_received, flat_after, replay, replay_end, of_core}
 use Rattle.physiological_order.specs.Order.{ReceivesAsReplayed}
@@ -30,12 +30,10 @@ still s u t q same at =
     record { thread = at.thread; registers = same.0 ∙ at.registers; left = same.1 ∙ at.left; ready = at.ready }
 
 first_of_core : (r : Record) (rs : List Record) → of_core r.core (r ∷ rs) ≡ r ∷ of_core r.core rs
-first_of_core r rs =
-    cond-true (eqb r.core r.core) (r ∷ of_core r.core rs) (of_core r.core rs) (eq-eqb r.core r.core refl)
+first_of_core r rs = rw (eq-eqb r.core r.core refl) refl
 
 none_of_core : (c : ℕ) (r : Record) (rs : List Record) → c ≢ r.core → of_core c (r ∷ rs) ≡ of_core c rs
-none_of_core c r rs ne =
-    cond-false (eqb r.core c) (r ∷ of_core c rs) (of_core c rs) (ne_eqb r.core c (λ e. ne (sym e)))
+none_of_core c r rs ne = rw (ne_eqb r.core c (λ e. ne (sym e))) refl
 
 both_same : (x y : Option ℕ) (xs ys : List (Option ℕ)) → x ∷ xs ≡ y ∷ ys → (x ≡ y) × (xs ≡ ys)
 both_same x y xs ys e = (cc, cc)
@@ -46,17 +44,10 @@ pub runs : (n : ℕ) (rs : List Record) (s : SequentialState) (q last : ℕ → 
     ((t : ℕ) → t < n → Does (q t) (of_core t rs) (last t)) → ReceivesAsReplayed s.memory rs →
     Runs n s (replay_end s.memory (map (λ r. r.op) rs)) last
 runs n [] s q last stand there performed values =
-    record {
-      end = s;
-      steps = none;
-      memory = refl;
-      stand =
-          λ t lt. subst (ThreadIsAt s t) (sym (performed t lt)) (stand t lt);
-    }
+    record { end = s; steps = none; memory = refl; stand = λ t lt. rw (performed t lt) (stand t lt) }
 runs n (r ∷ rs) s q last stand there performed values =
     let c = r.core in
-    let p : Does (q c) (r ∷ of_core c rs) (last c) =
-    subst (λ (xs : List Record). Does (q c) xs (last c)) (first_of_core r rs) (performed c there.0) in
+    let p : Does (q c) (r ∷ of_core c rs) (last c) = rw (first_of_core r rs) at (performed c there.0) in
     let v = both_same (flat_received s.memory r.op) r.received (replay (flat_after s.memory r.op)
     (map (λ (x : Record). x.op) rs)) (map (λ (x : Record). x.received) rs) values in
     let after = done_with (q c) r.received in
@@ -66,8 +57,7 @@ runs n (r ∷ rs) s q last stand there performed values =
     (g.others u ne) (stand u lt)))
     there.1
     (everywhere (λ t x. t < n → Does x (of_core t rs) (last t)) q c after (λ lt. p.1)
-    (λ u ne lt. subst (λ (xs : List Record). Does (q u) xs (last u)) (none_of_core u r rs ne) (performed u lt)))
-    (subst (λ (m : Memory). ReceivesAsReplayed m rs) (sym g.memory) v.1) in
+    (λ u ne lt. rw (none_of_core u r rs ne) at (performed u lt))) (rw g.memory v.1) in
     record {
       end = i.end;
       steps = joined s g.end i.end g.steps i.steps;
@@ -86,13 +76,7 @@ pub record Opens (test : Litmus) (n : ℕ) : Type 0 where
 
 pub opens : (test : Litmus) (n : ℕ) → Opens test n
 opens test zero = record {
-  runs = record {
-    end = sequential_opening test;
-    steps = none;
-    memory = refl;
-    stand =
-        λ t lt. absurd (omega arith);
-  };
+  runs = record { end = sequential_opening test; steps = none; memory = refl; stand = λ t lt. absurd (omega arith) };
   others = λ t le. (refl, refl);
 }
 opens test (suc n) =
@@ -105,11 +89,10 @@ opens test (suc n) =
         end = g.end;
         steps = joined (sequential_opening test) old g.end o.runs.steps g.steps;
         memory = g.memory ∙ o.runs.memory;
-        stand = λ t lt. ⊎_elim
-            (λ (e : t ≡ n). subst (λ (k : ℕ). ThreadIsAt g.end k (start test k)) (sym e)
-            (subst (λ (rs : List ℕ). ThreadIsAt g.end n (settled_thread n rs test.cells)) own.0 g.stands))
-            (λ (ne : t ≡ n → ⊥). still old g.end t (start test t) (g.others t ne) (o.runs.stand t (omega arith)))
-            (cases_eq t n);
+        stand = λ t lt. elim (cases_eq t n) [
+          | inl e ↦ rw e (rw own.0 at g.stands)
+          | inr ne ↦ still old g.end t (start test t) (g.others t ne) (o.runs.stand t (omega arith))
+        ];
       };
       others = λ t le.
           let same = g.others t (λ e. absurd (omega arith)) in
@@ -122,8 +105,7 @@ pub whole : (test : Litmus) (n : ℕ) (rs : List Record) (last : ℕ → Thread)
     Runs n (sequential_opening test) (replay_end (memory_opened test) (map (λ r. r.op) rs)) last
 whole test n rs last there performed values =
     let o = (opens test n).runs in
-    let r = runs n rs o.end (start test) last o.stand there performed (subst (λ (m : Memory). ReceivesAsReplayed m rs)
-    (sym o.memory) values) in
+    let r = runs n rs o.end (start test) last o.stand there performed (rw o.memory values) in
     record {
       end = r.end;
       steps = joined (sequential_opening test) o.end r.end o.steps r.steps;

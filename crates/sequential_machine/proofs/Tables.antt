@@ -1,5 +1,5 @@
 -- Tables changed at one place.
-use Rattle.std.proofs.Common.{◌≡◌, ◌≢◌, ℕ, eqb, refl, sym, subst, ⊎_elim}
+use Rattle.std.proofs.Common.{◌≡◌, ◌≢◌, ℕ, eqb, refl, inl, inr}
 use Rattle.std.proofs.lemmas.Bool.{cases_eq, cond-true, cond-false, eq-eqb, ne_eqb}
 use Rattle.sequential_machine.specs.SequentialMachine.{with_at}
 
@@ -11,8 +11,7 @@ elsewhere table t x u ne = cond-false (eqb u t) x (table u) (ne_eqb u t ne)
 
 pub everywhere : {X : Type 0} (P : ℕ → X → Type 0) (table : ℕ → X) (t : ℕ) (x : X) → P t x →
     ((u : ℕ) → u ≢ t → P u (table u)) → (u : ℕ) → P u (with_at table t x u)
-everywhere P table t x at others u =
-    ⊎_elim
-    (λ (e : u ≡ t). subst (λ (k : ℕ). P k (with_at table t x k)) (sym e) (subst (P t) (sym (here table t x)) at))
-    (λ (ne : u ≡ t → ⊥). subst (P u) (sym (elsewhere table t x u ne)) (others u ne))
-    (cases_eq u t)
+everywhere P table t x own others u = elim (cases_eq u t) [
+  | inl e ↦ rw (e, here table t x) own
+  | inr ne ↦ rw (elsewhere table t x u ne) (others u ne)
+]

@@ -1,6 +1,6 @@
 -- Steps of one thread: its instructions without memory, up to its next memory instruction, and a memory instruction.
 use Rattle.std.proofs.Common.{◌≡◌, ℕ, eqb, List, [], ◌∷◌, Option, Some, None, refl, sym, ap₂, ◌∙◌, subst}
-use Rattle.std.proofs.lemmas.Bool.{cond_both, cond-true, eqb-true, eq-eqb}
+use Rattle.std.proofs.lemmas.Bool.{cond_both, eqb-true, eq-eqb}
 use Rattle.std.specs.Option.{option_map_or}
 use Rattle.physiological_order.specs.declared.operation.Op.{Op}
 use Rattle.physiological_order.specs.declared.operation.Op.TheVariants as op
@@ -16,6 +16,7 @@ use Rattle.sequential_machine.specs.SequentialMachine.{SequentialState, cells_of
 use Rattle.sequential_machine.specs.SequentialMachine.{after_one}
 use Rattle.sequential_machine.specs.SequentialMachine.{next, Steps, none, more}
 use Rattle.sequential_machine.proofs.Tables.{here, elsewhere}
+use Rattle.sequential_machine.proofs.Points.{same_some}
 
 pub joined : (s u v : SequentialState) → Steps s u → Steps u v → Steps s v
 joined s u v a none = a
@@ -53,8 +54,7 @@ goes-behind s t cell rest l go =
     let new = after_one s t cell.instruction (cells_of t rest) in
     let registers = registers_after cell.instruction (s.registers t) s.memory in
     behind_one s t cell (cells_of t rest) new.memory (settled_thread t registers rest) l
-    (subst (λ (rs : List ℕ). Goes new t new.memory (settled_thread t rs rest)) (here s.registers t registers)
-    (go new (here s.left t (cells_of t rest))))
+    (rw (here s.registers t registers) at (go new (here s.left t (cells_of t rest))))
 
 -- what an instruction without memory leaves
 pub local : (i : Instruction) (old new : List ℕ) (m : Memory) → after_local i old ≡ Some new →
@@ -65,8 +65,7 @@ local _ old new m e = absurd cc
 
 pub first_of : (t : ℕ) (cell : Cell) (rest : List Cell) → cell.thread ≡ t →
     cells_of t (cell ∷ rest) ≡ cell ∷ cells_of t rest
-first_of t cell rest is =
-    cond-true (eqb cell.thread t) (cell ∷ cells_of t rest) (cells_of t rest) (eq-eqb cell.thread t is)
+first_of t cell rest is = rw (eq-eqb cell.thread t is) refl
 
 -- the first instruction is the thread's own
 own : (s : SequentialState) (t : ℕ) (cell : Cell) (rest : List Cell) → cell.thread ≡ t → s.left t ≡ cell ∷ cells_of t
@@ -84,10 +83,7 @@ own s t cell rest is l go None e =
     }
 own s t cell rest is l go (Some registers) e =
     let after = local cell.instruction (s.registers t) registers s.memory e in
-    subst (λ (m : Memory). Goes s t m (settled_thread t registers rest)) after.1
-    (subst (λ (rs : List ℕ). Goes s t (memory_after cell.instruction (s.registers t) s.memory)
-    (settled_thread t rs rest))
-    after.0 (goes-behind s t cell rest l go))
+    rw (after.0, after.1) at (goes-behind s t cell rest l go)
 
 pub settles : (t : ℕ) (cells : List Cell) → Settles t cells
 unfolding settled_thread
@@ -96,8 +92,7 @@ settles t [] s l = record {
   steps = none;
   memory = refl;
   others = λ u ne. (refl, refl);
-  stands =
-      record { thread = refl; registers = refl; left = l; ready = tt };
+  stands = record { thread = refl; registers = refl; left = l; ready = tt };
 }
 settles t (cell ∷ rest) s l =
     let stop : Thread = record { thread = t; registers = s.registers t; rest = cell ∷ rest } in
@@ -107,25 +102,15 @@ settles t (cell ∷ rest) s l =
     (settles t rest) (after_local cell.instruction (s.registers t)) refl)
     (λ e. settles t rest s (l ∙ rw e refl))
 
-pub same_some : {X : Type 0} (x y : X) → Some x ≡ Some y → x ≡ y
-same_some x y e = cc
-
 -- what a memory instruction leaves
 pub on_memory : (i : Instruction) (rs : List ℕ) (x : Op) (m : Memory) → instruction_operation i rs ≡ Some x →
     (registers_after i rs m ≡ received_by i (flat_received m x) rs) × (memory_after i rs m ≡ flat_after m x)
 on_memory (does.Load target location) rs x m e =
-    subst (λ (y : Op). (registers_after (does.Load target location) rs m ≡ received_by (does.Load target location)
-    (flat_received m y) rs) × (m ≡ flat_after m y))
-    (same_some (op.Load location) x e) (refl, refl)
+    rw (← same_some (op.Load location) x e) (refl, refl)
 on_memory (does.Store source location) rs x m e =
-    subst (λ (y : Op). (rs ≡ received_by (does.Store source location) (flat_received m y) rs) ×
-    (memory_after (does.Store source location) rs m ≡ flat_after m y))
-    (same_some (op.Store location (register_value rs source)) x e) (refl, refl)
+    rw (← same_some (op.Store location (register_value rs source)) x e) (refl, refl)
 on_memory (does.Swap target source location) rs x m e =
-    subst (λ (y : Op). (registers_after (does.Swap target source location) rs m ≡ received_by
-    (does.Swap target source location) (flat_received m y) rs) ×
-    (memory_after (does.Swap target source location) rs m ≡ flat_after m y))
-    (same_some (op.Swap location (register_value rs source)) x e) (refl, refl)
+    rw (← same_some (op.Swap location (register_value rs source)) x e) (refl, refl)
 on_memory (does.Set target value) rs x m e = absurd cc
 on_memory does.Fence rs x m e = absurd cc
 
@@ -136,7 +121,7 @@ first_performed : (s : SequentialState) (t : ℕ) (rs : List ℕ) (cells : List 
 first_performed s t rs [] x received r l ready e v = absurd cc
 first_performed s t rs (cell ∷ rest) x received r l ready e v =
     let after = on_memory cell.instruction (s.registers t) x s.memory
-    (subst (λ (ns : List ℕ). instruction_operation cell.instruction ns ≡ Some x) (sym r) e) in
+    (rw r e) in
     subst (λ (m : Memory). Goes s t m (behind_first_cell t rs received (cell ∷ rest))) after.1
     (subst (λ (ns : List ℕ). Goes s t (memory_after cell.instruction (s.registers t) s.memory)
     (settled_thread t ns rest))
@@ -145,14 +130,11 @@ first_performed s t rs (cell ∷ rest) x received r l ready e v =
 
 -- a thread's next operation is performed, and it receives what the memory gives
 pub performs : (s : SequentialState) (t : ℕ) (q : Thread) (x : Op) (received : Option ℕ) → ThreadIsAt s t q →
-    next_operation q ≡ Some x
-    →
+    next_operation q ≡ Some x →
     flat_received s.memory x ≡ received →
     Goes s t (flat_after s.memory x) (done_with q received)
-performs s t q x received at e v =
-    subst (λ (n : ℕ). Goes s t (flat_after s.memory x) (behind_first_cell n q.registers received q.rest))
-    (sym at.thread)
-    (first_performed s t q.registers q.rest x received at.registers at.left at.ready e v)
+performs s t q x received is e v =
+    rw is.thread (first_performed s t q.registers q.rest x received is.registers is.left is.ready e v)
 
 never_both : (i : Instruction) (rs : List ℕ) → instruction_operation i rs ≡ None → after_local i rs ≡ None → ⊥
 never_both (does.Load target location) rs e f = absurd cc

@@ -1,9 +1,9 @@
 -- Turns are steps of the machine, and its steps are turns.
 use Rattle.std.proofs.Common.{◌≡◌, ℕ, zero, suc, ◌<◌, ◌≤◌, List, [], ◌∷◌, ◌++◌, length}
-use Rattle.std.proofs.Common.{map, Option, Some, None, refl, sym, ap, ap₂, ◌∙◌, subst, arith, leb, ◌⊎◌, inl, inr, ⊎_elim, length-append}
+use Rattle.std.proofs.Common.{map, Option, Some, None, refl, sym, ap, ap₂, ◌∙◌, subst, arith, inl, inr, length-append}
 use Rattle.std.specs.Prelude.{slice_get}
 use Rattle.std.specs.Option.{option_map_or}
-use Rattle.std.proofs.lemmas.Bool.{cond_both, cases_eq, eq-eqb, ne_eqb, leb-true, leb-false}
+use Rattle.std.proofs.lemmas.Bool.{cases_eq, cases_lt, eq-eqb, ne_eqb}
 use Rattle.physiological_order.specs.declared.operation.Op.{Op}
 use Rattle.physiological_order.specs.Order.{Memory, flat_after, flat_received}
 use Rattle.litmus_parser.specs.declared.syntax.Name.{Name}
@@ -20,8 +20,8 @@ use Rattle.sequential_machine.specs.SequentialMachine.{SequentialState, cells_of
 use Rattle.sequential_machine.specs.SequentialMachine.{sequential_opening, memory_after, registers_after, after_one}
 use Rattle.sequential_machine.specs.SequentialMachine.{Step, next, Steps, none, more, value_at, IsOutcome}
 use Rattle.sequential_machine.specs.Threads.{Ready, ThreadIsAt}
-use Rattle.sequential_machine.specs.Turns.{Point, word_in, thread_started, thread_at, operation_at, turned}
-use Rattle.sequential_machine.specs.Turns.{resumed, point_opened, Reached, opened, turn, threads_at, values_at, IsEnd}
+use Rattle.sequential_machine.specs.Turns.{Point, word_in, thread_at, operation_at, turned}
+use Rattle.sequential_machine.specs.Turns.{point_opened, Reached, opened, turn, threads_at, values_at, IsEnd}
 use Rattle.sequential_machine.proofs.Tables.{here, elsewhere}
 use Rattle.sequential_machine.proofs.ThreadSteps.{joined, performs, none_left, local, first_of, on_memory}
 use Rattle.sequential_machine.proofs.Runs.{Runs, still, opens}
@@ -50,17 +50,19 @@ get_before [] x i lt = absurd (omega (arith, lt))
 get_before (y ∷ xs) x zero lt = refl
 get_before (y ∷ xs) x (suc i) lt = get_before xs x i (omega (arith, lt))
 
-thread_there : (test : Litmus) (p : Point) (n t : ℕ) → t < n → slice_get (threads_at test p n) t ≡ Some (thread_at test p t)
+thread_there : (test : Litmus) (p : Point) (n t : ℕ) → t < n →
+    slice_get (threads_at test p n) t ≡ Some (thread_at test p t)
 thread_there test p zero t lt = absurd (omega (arith, lt))
 thread_there test p (suc n) t lt =
-    ⊎_elim
-    (λ (e : t ≡ n). get_behind (threads_at test p n) (thread_at test p n) t (e ∙ sym (threads_length test p n))
-    ∙ ap (λ (k : ℕ). Some (thread_at test p k)) (sym e))
-    (λ (ne : t ≡ n → ⊥).
     let len = threads_length test p n in
-    get_before (threads_at test p n) (thread_at test p n) t (omega (arith, lt, ne, len))
-    ∙ thread_there test p n t (omega (arith, lt, ne)))
-    (cases_eq t n)
+    elim (cases_eq t n) [
+      | inl e ↦
+          get_behind (threads_at test p n) (thread_at test p n) t (e ∙ sym len)
+          ∙ ap (λ (k : ℕ). Some (thread_at test p k)) (sym e)
+      | inr ne ↦
+          get_before (threads_at test p n) (thread_at test p n) t (omega (arith, lt, ne, len))
+          ∙ thread_there test p n t (omega (arith, lt, ne))
+    ]
 
 -- where registers and memory are the same, so are the values
 module _ (test : Litmus) (p : Point) (s : SequentialState) (memory : s.memory ≡ word_in p.words)
@@ -91,8 +93,7 @@ turns_stand test _ _ opened =
       end = o.end;
       steps = o.steps;
       memory = o.memory ∙ sym (memory_opens test);
-      stand = λ t lt. subst (λ (vs : List ℕ). ThreadIsAt o.end t (resumed (thread_started test t) vs))
-          (sym (nothing_received test.threads t)) (o.stand t lt);
+      stand = λ t lt. rw (nothing_received test.threads t) (o.stand t lt);
     }
 turns_stand test _ _ (turn {k = k} {p = p} t x r lt is) =
     let o = turns_stand test k p r in
@@ -102,14 +103,15 @@ turns_stand test _ _ (turn {k = k} {p = p} t x r lt is) =
       end = g.end;
       steps = joined (sequential_opening test) o.end g.end o.steps g.steps;
       memory = g.memory ∙ ap (λ (m : Memory). flat_after m x) o.memory ∙ sym (memory_set p.words x);
-      stand = λ u below.
-          ⊎_elim
-          (λ (e : u ≡ t). subst (λ (v : ℕ). ThreadIsAt g.end v (thread_at test (turned p t x) v)) (sym e)
-          (subst (ThreadIsAt g.end t) (ap (λ (m : Memory). done_with (thread_at test p t) (flat_received m x)) o.memory
-          ∙ sym (turned_here test p t x (omega (arith, lt, there)) is)) g.stands))
-          (λ (ne : u ≡ t → ⊥). subst (ThreadIsAt g.end u) (sym (turned_elsewhere test p t x u ne))
-          (still o.end g.end u (thread_at test p u) (g.others u ne) (o.stand u below)))
-          (cases_eq u t);
+      stand = λ u below. elim (cases_eq u t) [
+        | inl e ↦
+            rw (e, turned_here test p t x (omega (arith, lt, there)) is)
+            (subst (ThreadIsAt g.end t) (ap (λ m. done_with (thread_at test p t) (flat_received m x)) o.memory)
+            g.stands)
+        | inr ne ↦
+            rw (turned_elsewhere test p t x u ne)
+            (still o.end g.end u (thread_at test p u) (g.others u ne) (o.stand u below))
+      ];
     }
 
 pub end_outcome : (text : List ℕ) (test : Litmus) (values : List ℕ) → IsTest text test → IsEnd test values →
@@ -149,9 +151,7 @@ record SettlesTo (t : ℕ) (rs : List ℕ) (left : List Cell) (q : Thread) : Typ
 
 moved : (t : ℕ) (rs ns : List ℕ) (left rest : List Cell) (q r : Thread) → ns ≡ rs → rest ≡ left → r ≡ q →
     SettlesTo t rs left q → SettlesTo t ns rest r
-moved t rs ns left rest q r a b c h =
-    subst (λ (xs : List ℕ). SettlesTo t xs rest r) (sym a) (subst (λ (xs : List Cell). SettlesTo t rs xs r) (sym b)
-    (subst (SettlesTo t rs left) (sym c) h))
+moved t rs ns left rest q r a b c h = rw (a, b, c) h
 
 own_settles : (t : ℕ) (rs : List ℕ) (c : Cell) (cells : List Cell) → c.thread ≡ t →
     ((ns : List ℕ) → SettlesTo t ns (cells_of t cells) (settled_thread t ns cells)) →
@@ -170,13 +170,12 @@ own_settles t rs c cells e further (Some ns) is =
 settles_to : (t : ℕ) (rs : List ℕ) (cells : List Cell) → SettlesTo t rs (cells_of t cells) (settled_thread t rs cells)
 unfolding settled_thread settle
 settles_to t rs [] = record { thread = refl; comes = refl; ready = tt }
-settles_to t rs (c ∷ cells) =
-    ⊎_elim
-    (λ (e : c.thread ≡ t).
-    let same = eq-eqb c.thread t e in
-    rw (same) (own_settles t rs c cells e (λ ns. settles_to t ns cells) (after_local c.instruction rs) refl))
-    (λ (ne : c.thread ≡ t → ⊥). let apart = ne_eqb c.thread t ne in rw (apart) (settles_to t rs cells))
-    (cases_eq c.thread t)
+settles_to t rs (c ∷ cells) = elim (cases_eq c.thread t) [
+  | inl e ↦
+      rw (eq-eqb c.thread t e)
+      (own_settles t rs c cells e (λ ns. settles_to t ns cells) (after_local c.instruction rs) refl)
+  | inr ne ↦ rw (ne_eqb c.thread t ne) (settles_to t rs cells)
+]
 
 -- a point at which each thread stands where its instructions without memory take it
 record Follows (test : Litmus) (s : SequentialState) (p : Point) : Type 0 where
@@ -217,15 +216,15 @@ module _ (test : Litmus) (s : SequentialState) (k : ℕ) (p : Point) (r : Reache
         reached = r;
         follows = record {
           memory = after.1 ∙ f.memory;
-          threads = λ u below.
-              ⊎_elim
-              (λ (e : u ≡ t). subst (λ (v : ℕ). SettlesTo v (After.registers v) (After.left v) (thread_at test p v))
-              (sym e) (moved t ns (After.registers t) rest (After.left t) (thread_at test p t) (thread_at test p t)
-              (here s.registers t registers ∙ after.0) (here s.left t rest) refl now))
-              (λ (ne : u ≡ t → ⊥). moved u (s.registers u) (After.registers u) (s.left u) (After.left u)
-              (thread_at test p u) (thread_at test p u) (elsewhere s.registers t registers u ne)
-              (elsewhere s.left t rest u ne) refl (f.threads u below))
-              (cases_eq u t);
+          threads = λ u below. elim (cases_eq u t) [
+            | inl e ↦
+                rw e (moved t ns (After.registers t) rest (After.left t) (thread_at test p t) (thread_at test p t)
+                (here s.registers t registers ∙ after.0) (here s.left t rest) refl now)
+            | inr ne ↦
+                moved u (s.registers u) (After.registers u) (s.left u) (After.left u) (thread_at test p u)
+                (thread_at test p u) (elsewhere s.registers t registers u ne) (elsewhere s.left t rest u ne) refl
+                (f.threads u below)
+          ];
           others = left_elsewhere;
         };
       }
@@ -275,7 +274,8 @@ module _ (test : Litmus) (s : SequentialState) (k : ℕ) (p : Point) (r : Reache
   Now = thread_at test p t
 
   parts : (s.registers t ≡ Now.registers) × (cell ∷ rest ≡ cells_of t Now.rest)
-  parts = same_parts (s.registers t, cell ∷ rest) (Now.registers, cells_of t Now.rest) (sym (settle_memory cell rest (s.registers t) is)
+  parts = same_parts (s.registers t, cell ∷ rest) (Now.registers, cells_of t Now.rest)
+      (sym (settle_memory cell rest (s.registers t) is)
       ∙ ap (λ (xs : List Cell). settle xs (s.registers t)) (sym l) ∙ (f.threads t lt).comes)
 
   wait : Waits t Now.registers Now.rest cell rest
@@ -322,33 +322,29 @@ module _ (test : Litmus) (s : SequentialState) (k : ℕ) (p : Point) (r : Reache
         reached = turn t wait.op r lt gives;
         follows = record {
           memory = after.1 ∙ ap (λ (m : Memory). flat_after m wait.op) f.memory ∙ sym (memory_set p.words wait.op);
-          threads = λ v below.
-              ⊎_elim
-              (λ (e : v ≡ t). subst (λ (w : ℕ). SettlesTo w (u.registers w) (u.left w) (thread_at test q w)) (sym e)
-              (moved t new (u.registers t) (cells_of t wait.tail) (u.left t) (settled_thread t new wait.tail)
-              (thread_at test q t) (here s.registers t registers ∙ registers_are)
-              (here s.left t rest ∙ sym wait.tail_is) thread_is (settles_to t new wait.tail)))
-              (λ (ne : v ≡ t → ⊥). moved v (s.registers v) (u.registers v) (s.left v) (u.left v)
-              (thread_at test p v) (thread_at test q v) (elsewhere s.registers t registers v ne)
-              (elsewhere s.left t rest v ne) (turned_elsewhere test p t wait.op v ne) (f.threads v below))
-              (cases_eq v t);
+          threads = λ v below. elim (cases_eq v t) [
+            | inl e ↦
+                rw e (moved t new (u.registers t) (cells_of t wait.tail) (u.left t) (settled_thread t new wait.tail)
+                (thread_at test q t) (here s.registers t registers ∙ registers_are)
+                (here s.left t rest ∙ sym wait.tail_is) thread_is (settles_to t new wait.tail))
+            | inr ne ↦
+                moved v (s.registers v) (u.registers v) (s.left v) (u.left v) (thread_at test p v)
+                (thread_at test q v) (elsewhere s.registers t registers v ne) (elsewhere s.left t rest v ne)
+                (turned_elsewhere test p t wait.op v ne) (f.threads v below)
+          ];
           others = λ v le. elsewhere s.left t rest v (λ e. absurd (omega (arith, e, lt, le))) ∙ f.others v le;
         };
       }
-
-is_there : (n t : ℕ) → (t < n) ⊎ (n ≤ t)
-is_there n t =
-    cond_both (leb n t) 0 1 (λ (_ : ℕ). (t < n) ⊎ (n ≤ t)) (λ e. inr (leb-true n t e)) (λ e. inl (leb-false n t e))
 
 not_both : (cell : Cell) (rest left : List Cell) → left ≡ cell ∷ rest → left ≡ [] → ⊥
 not_both cell rest left a b = cc
 
 step_followed : (test : Litmus) (s u : SequentialState) → GoesOn test s → Step s u → GoesOn test u
 step_followed test s _ g (next t cell rest l) =
-    ⊎_elim
-    (λ (lt : t < test.threads). on lt (after_local cell.instruction (s.registers t)) refl)
-    (λ (le : test.threads ≤ t). absurd (not_both cell rest (s.left t) l (g.follows.others t le)))
-    (is_there test.threads t)
+    elim (cases_lt t test.threads) [
+      | inl lt ↦ on lt (after_local cell.instruction (s.registers t)) refl
+      | inr le ↦ absurd (not_both cell rest (s.left t) l (g.follows.others t le))
+    ]
   where
     on : t < test.threads → (o : Option (List ℕ)) → after_local cell.instruction (s.registers t) ≡ o →
         GoesOn test (after_one s t cell.instruction rest)
@@ -363,7 +359,7 @@ none_of : (n t : ℕ) (cells : List Cell) → AreBelow n cells → n ≤ t → c
 none_of n t [] h le = refl
 none_of n t (c ∷ cells) h le =
     let lt : c.thread < n = h.0 in
-    let apart = ne_eqb c.thread t (λ e. absurd (omega (arith, e, lt, le))) in rw (apart) (none_of n t cells h.1 le)
+    rw (ne_eqb c.thread t (λ e. absurd (omega (arith, e, lt, le)))) (none_of n t cells h.1 le)
 
 opening_followed : (test : Litmus) → AreBelow test.threads test.cells → GoesOn test (sequential_opening test)
 opening_followed test below = record {
@@ -372,9 +368,7 @@ opening_followed test below = record {
   reached = opened;
   follows = record {
     memory = sym (memory_opens test);
-    threads = λ t lt. subst (λ (vs : List ℕ). SettlesTo t (registers_opened test t) (cells_of t test.cells)
-        (resumed (thread_started test t) vs)) (sym (nothing_received test.threads t))
-        (settles_to t (registers_opened test t) test.cells);
+    threads = λ t lt. rw (nothing_received test.threads t) (settles_to t (registers_opened test t) test.cells);
     others = λ t le. none_of test.threads t test.cells below le;
   };
 }
@@ -395,11 +389,13 @@ outcome_end text test values is o =
       reached = g.reached;
       finished = λ t lt. none_next t (thread_at test g.point t).registers (thread_at test g.point t).rest
           (g.follows.threads t lt).ready (sym (done g t lt).1);
-      values_are = o.values_are ∙ sym (same_at_end test g.point o.last g.follows.memory (λ t lt. (done g t lt).0) text is);
+      values_are = o.values_are
+          ∙ sym (same_at_end test g.point o.last g.follows.memory (λ t lt. (done g t lt).0) text is);
     }
   where
     done : (g : GoesOn test o.last) (t : ℕ) → t < test.threads →
         (o.last.registers t ≡ (thread_at test g.point t).registers) × ([] ≡ cells_of t (thread_at test g.point t).rest)
     done g t lt = same_parts (o.last.registers t, [])
-        ((thread_at test g.point t).registers, cells_of t (thread_at test g.point t).rest) (ap (λ (xs : List Cell). settle xs (o.last.registers t)) (sym (o.finished t lt))
+        ((thread_at test g.point t).registers, cells_of t (thread_at test g.point t).rest)
+        (ap (λ (xs : List Cell). settle xs (o.last.registers t)) (sym (o.finished t lt))
         ∙ (g.follows.threads t lt).comes)

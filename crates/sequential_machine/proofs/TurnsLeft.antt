@@ -1,6 +1,6 @@
 -- A test has no more turns than each of its threads has instructions.
 use Rattle.std.proofs.Common.{◌≡◌, ℕ, zero, suc, ◌+◌, ◌*◌, ◌<◌, ◌≤◌, eqb, List, [], ◌∷◌, length, Option, Some, None}
-use Rattle.std.proofs.Common.{refl, sym, ap, ◌∙◌, subst, arith, ⊎_elim, length-append}
+use Rattle.std.proofs.Common.{refl, sym, ap, ◌∙◌, subst, arith, length-append, inl, inr}
 use Rattle.std.specs.Prelude.{slice_index_or, replicate}
 use Rattle.std.specs.Option.{option_map_or}
 use Rattle.std.proofs.lemmas.Bool.{cases_eq, cond_both}
@@ -12,10 +12,10 @@ use Rattle.litmus_reader.specs.Litmus.{Litmus}
 use Rattle.litmus_reader.specs.ThreadSteps.{Thread, after_local, settled_thread, next_operation, received_by}
 use Rattle.litmus_reader.specs.ThreadSteps.{behind_first_cell}
 use Rattle.sequential_machine.specs.SequentialMachine.{registers_opened}
-use Rattle.sequential_machine.specs.Turns.{Point, word_in, value_for, thread_started, thread_at, with_received}
-use Rattle.sequential_machine.specs.Turns.{resumed, turned, Reached, opened, turn}
-use Rattle.sequential_machine.proofs.Points.{nothing_received, received_here, received_elsewhere, lists_count, turned_here}
-use Rattle.sequential_machine.proofs.Points.{turned_elsewhere}
+use Rattle.sequential_machine.specs.Turns.{Point, word_in, value_for, thread_at, with_received}
+use Rattle.sequential_machine.specs.Turns.{Reached, opened, turn}
+use Rattle.sequential_machine.proofs.Points.{nothing_received, received_here, received_elsewhere, lists_count}
+use Rattle.sequential_machine.proofs.Points.{turned_here, turned_elsewhere}
 
 settled_shorter : (t : ℕ) (rs : List ℕ) (cells : List Cell) → length (settled_thread t rs cells).rest ≤ length cells
 unfolding settled_thread
@@ -49,25 +49,23 @@ AreFew test p t =
 are_few : (test : Litmus) (k : ℕ) (p : Point) → Reached test k p → (t : ℕ) → AreFew test p t
 are_few test _ _ opened t =
     let le = settled_shorter t (registers_opened test t) test.cells in
-    subst (λ (vs : List ℕ). length vs + length (resumed (thread_started test t) vs).rest ≤ length test.cells)
-    (sym (nothing_received test.threads t)) (omega (arith, le))
+    rw (nothing_received test.threads t) (omega (arith, le))
 are_few test _ _ (turn {k = k} {p = p} t x r lt is) u =
     let before = are_few test k p r u in
     let there = lists_count test k p r in
-    ⊎_elim
-    (λ (e : u ≡ t). subst (AreFew test (turned p t x)) (sym e)
-    (let q = thread_at test p t in
-    let before = are_few test k p r t in
-    let list = ap length (received_here p.received t (value_for p.words x) (omega (arith, lt, there)))
-    ∙ length-append (slice_index_or p.received t []) (value_for p.words x ∷ []) in
-    let rest = ap (λ (q : Thread). length q.rest) (turned_here test p t x (omega (arith, lt, there)) is) in
-    let less = done_shorter q.thread q.registers q.rest (flat_received (word_in p.words) x) x is in
-    omega (arith, before, list, rest, less)))
-    (λ (ne : u ≡ t → ⊥).
-    let list = ap length (received_elsewhere p.received t (value_for p.words x) u ne) in
-    let rest = ap (λ (q : Thread). length q.rest) (turned_elsewhere test p t x u ne) in
-    omega (arith, before, list, rest))
-    (cases_eq u t)
+    elim (cases_eq u t) [
+      | inl e ↦
+          let q = thread_at test p t in
+          let list = ap length (received_here p.received t (value_for p.words x) (omega (arith, lt, there)))
+          ∙ length-append (slice_index_or p.received t []) (value_for p.words x ∷ []) in
+          let rest = ap (λ (q : Thread). length q.rest) (turned_here test p t x (omega (arith, lt, there)) is) in
+          let less = done_shorter q.thread q.registers q.rest (flat_received (word_in p.words) x) x is in
+          let before = are_few test k p r t in rw e (omega (arith, before, list, rest, less))
+      | inr ne ↦
+          let list = ap length (received_elsewhere p.received t (value_for p.words x) u ne) in
+          let rest = ap (λ (q : Thread). length q.rest) (turned_elsewhere test p t x u ne) in
+          omega (arith, before, list, rest)
+    ]
 
 total : List (List ℕ) → ℕ
 total [] = 0

@@ -39,7 +39,7 @@ use Rattle.machine_theorem.proofs.Lemmas.{after_all_same, at_start_invariant, fa
 use Rattle.interleaving_core.specs.LookUps.{is_request, room_at, room_for_message, room_in, victim_for_core}
 use Rattle.interleaving_core.specs.LookUps.{victim_of}
 use Rattle.programs.specs.declared.ends.End.{End}
-use Rattle.programs.specs.declared.ends.End.TheVariants.{AllDone, Stalled, TurnsUsed, Exhausted, NoMemory}
+use Rattle.programs.specs.declared.ends.End.TheVariants.{AllDone, Stalled, TurnsUsed, Exhausted}
 use Rattle.programs.specs.declared.steps.Step.{Step}
 use Rattle.programs.specs.declared.steps.Step.TheVariants as step
 use Rattle.programs.specs.Acts.{Acts, next_in}
@@ -187,40 +187,6 @@ module _ {P : Type 0} (acts : Acts P) where
   actions_run s [] runs = runs
   actions_run s (x ∷ xs) runs = actions_run (after_action acts s x) xs (action_runs s x runs)
 
--- a run that stalls has a last turn
-record LastTurn {P S : Type 0} (plan : Plan P S) (start : Position P S) (n : ℕ) : Type 0 where
-  turns : ℕ
-  goes_on : (run plan turns start).end ≡ TurnsUsed
-  is : run plan n start ≡ after_turn plan (run plan turns start)
-
-last_turn : {P S : Type 0} (plan : Plan P S) (start : Position P S) → start.end ≢ Stalled → (n : ℕ) →
-    (run plan n start).end ≡ Stalled → LastTurn plan start n
-unfolding run
-last_turn plan start opens zero stalls = absurd (opens stalls)
-last_turn {P} {S} plan start opens (suc n) stalls =
-    by_end (last_turn plan start opens n) (run plan n start).end refl stalls
-  where
-    before : ((run plan n start).end ≡ Stalled → LastTurn plan start n) → (e : End) → (run plan n start).end ≡ e →
-        one_more plan e (run plan n start) ≡ run plan n start →
-        (one_more plan e (run plan n start)).end ≡ Stalled → LastTurn plan start (suc n)
-    before so e is same ends =
-        let k = so (ap (λ (p : Position P S). p.end) (sym same) ∙ ends) in
-        record {
-          turns = k.turns;
-          goes_on = k.goes_on;
-          is = ap (λ (d : End). one_more plan d (run plan n start)) is ∙ same ∙ k.is;
-        }
-
-    by_end : ((run plan n start).end ≡ Stalled → LastTurn plan start n) → (e : End) → (run plan n start).end ≡ e →
-        (one_more plan e (run plan n start)).end ≡ Stalled →
-        LastTurn plan start (suc n)
-    by_end so TurnsUsed is ends =
-        record { turns = n; goes_on = is; is = ap (λ (d : End). one_more plan d (run plan n start)) is }
-    by_end so AllDone is ends = before so AllDone is refl ends
-    by_end so Stalled is ends = before so Stalled is refl ends
-    by_end so Exhausted is ends = before so Exhausted is refl ends
-    by_end so NoMemory is ends = before so NoMemory is refl ends
-
 -- a core that runs, without an open operation
 module _ (m : Machine) (running : m.is_stopped ≡ false) (core : ℕ) (state : CoreState)
     (at : slice_get m.cores core ≡ Some state) (free : state.open_op ≡ None) where
@@ -278,8 +244,8 @@ module _ {P : Type 0} (acts : Acts P) (config : Config) (good : is_good config �
     still : AreStill s.machine (round_of acts round s)
     work : are_over acts s.machine s.programs s.machine.config.cores ≡ false
 
-  opens_other : first.end ≢ Stalled
-  opens_other = cond_both (are_over acts start opening start.config.cores) AllDone TurnsUsed (λ e. e ≢ Stalled)
+  other_end : (m : Machine) (programs : List P) → end_here acts m programs ≢ Stalled
+  other_end m programs = cond_both (are_over acts m programs m.config.cores) AllDone TurnsUsed (λ e. e ≢ Stalled)
       (λ _ bad. absurd cc) (λ _ bad. absurd cc)
 
   stalled_so : (t : Standing P) → end_of_turn plan t ≡ Stalled → GoesOn t
@@ -288,42 +254,48 @@ module _ {P : Type 0} (acts : Acts P) (config : Config) (good : is_good config �
       by_out : (out : Bool) → t.is_out ≡ out → (went : Bool) → t.has_progressed ≡ went →
           cond out Exhausted (cond (true && not went) Stalled (end_here acts t.machine t.programs)) ≡ Stalled → GoesOn t
       by_out true is went went_is ends = absurd (cc)
-      by_out false is true went_is ends = absurd (cond_both (are_over acts t.machine t.programs t.machine.config.cores)
-          AllDone TurnsUsed (λ e. e ≢ Stalled) (λ _ bad. absurd cc) (λ _ bad. absurd cc) ends)
+      by_out false is true went_is ends = absurd (other_end t.machine t.programs ends)
       by_out false is false went_is ends = record { quiet = went_is; in_time = is }
 
-  stood : (n : ℕ) → (run plan n first).end ≡ Stalled → Stood (run plan n first).standing
-  stood n stalls = subst Stood (sym (ap (λ (p : Position P Round). p.standing) last.is ∙ same)) here
+  -- a turn that begins here, and ends the run so
+  turn_stood : (n : ℕ) → (run plan n first).end ≡ TurnsUsed →
+      (after_turn plan (run plan n first)).end ≡ Stalled → Stood (after_turn plan (run plan n first)).standing
+  turn_stood n goes_on stalls = subst Stood (sym same) (record {
+    goes_on = so;
+    still = subst (λ (r : Round). AreStill s.machine (round_of acts r s))
+        (run_stands acts limit round start opening n).own_is still;
+    work = subst (λ (e : End). Says plan first e p.standing) goes_on
+        (run_says plan first (here_says plan first first.standing) n);
+  })
     where
-      last : LastTurn plan first n
-      last = last_turn plan first opens_other n stalls
-
       p : Position P Round
-      p = run plan last.turns first
+      p = run plan n first
 
       s : Standing P
       s = begin p.standing
 
-      own_is : p.own ≡ round
-      own_is = (run_stands acts limit round start opening last.turns).own_is
-
       after : GoesOn (after_actions acts s (round_of acts p.own s))
-      after = stalled_so (after_actions acts s (round_of acts p.own s))
-          (ap (λ (q : Position P Round). q.end) (sym last.is) ∙ stalls)
+      after = stalled_so (after_actions acts s (round_of acts p.own s)) stalls
+
+      so : GoesOn s
+      so = went acts s (round_of acts p.own s) after
 
       still : AreStill s.machine (round_of acts p.own s)
       still = all_still acts s (round_of acts p.own s) after
 
       same : after_actions acts s (round_of acts p.own s) ≡ s
-      same = still_leaves acts s (went acts s (round_of acts p.own s) after) (round_of acts p.own s) still
+      same = still_leaves acts s so (round_of acts p.own s) still
 
-      here : Stood s
-      here = record {
-        goes_on = went acts s (round_of acts p.own s) after;
-        still = subst (λ (r : Round). AreStill s.machine (round_of acts r s)) own_is still;
-        work = subst (λ (e : End). Says plan first e p.standing) last.goes_on
-            (run_says plan first (here_says plan first first.standing) last.turns);
-      }
+  more_stood : (n : ℕ) (e : End) → (run plan n first).end ≡ e →
+      ((run plan n first).end ≡ Stalled → Stood (run plan n first).standing) →
+      (one_more plan e (run plan n first)).end ≡ Stalled → Stood (one_more plan e (run plan n first)).standing
+  more_stood n TurnsUsed is before stalls = turn_stood n is stalls
+  more_stood n _ is before stalls = before stalls
+
+  stood : (n : ℕ) → (run plan n first).end ≡ Stalled → Stood (run plan n first).standing
+  unfolding run
+  stood zero stalls = absurd (other_end start opening stalls)
+  stood (suc n) stalls = more_stood n (run plan n first).end refl (stood n) stalls
 
   module _ (running : start.is_stopped ≡ false) {keeps : Bool} {events : List Event} {m : Machine} {programs : List P}
       (ended : Ended keeps plan first events m programs Stalled) where

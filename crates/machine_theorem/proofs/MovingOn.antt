@@ -1,5 +1,5 @@
--- A round changes a machine that can send a message, if a core has an operation open: no message and no attempt can wait
--- for nothing.
+-- A round changes a machine that can send a message, if a core has an operation open: by the entry of its line, a
+-- request that waits leads to a message, an attempt or an eviction that its part does something with.
 use Rattle.std.proofs.Common.{◌≡◌, ℕ, ◌+◌, ◌/◌, ◌%◌, ◌≤◌, Bool, true, false, ◌||◌, cond, eqb, zero, suc, get_or}
 use Rattle.std.proofs.Common.{List, [], ◌∷◌, length, Option, Some, None, inl, inr, ◌⊎◌, refl, sym, ap, ◌∙◌, subst}
 use Rattle.std.proofs.Common.{⊎_elim, arith}
@@ -110,6 +110,26 @@ sent h w low high (y ∷ ys) rising some = go (eqb y.1.line h) refl (sent h w (y
     go true on behind more = here on (w (message_seen y.1)) refl behind more
     go false off behind more = later (behind more)
 
+-- what requests, or recalls, don't weigh
+no_request : (w : by_line.Message → ℕ) → ((c pts : ℕ) (version : Option ℕ) → w (by_line.ShReq c pts version) ≡ 0) →
+    ((c : ℕ) (version : Option ℕ) → w (by_line.ExReq c version) ≡ 0) → (x : Message) → IsRequest x.body →
+    w (message_seen x) ≡ 0
+no_request w sh ex x is = go x.body is
+  where
+    go : (b : Body) → IsRequest b → w (body_seen (core_of x.from) (core_of x.to) b) ≡ 0
+    go (body.ShReq pts version) is = sh (core_of x.from) pts version
+    go (body.ExReq version) is = ex (core_of x.from) version
+    go _ is = absurd is
+
+no_recall : (w : by_line.Message → ℕ) → ((c : ℕ) → w (by_line.FlushReq c) ≡ 0) →
+    ((c until : ℕ) → w (by_line.WbReq c until) ≡ 0) → (x : Message) → IsRecall x.body → w (message_seen x) ≡ 0
+no_recall w flush wb x is = go x.body is
+  where
+    go : (b : Body) → IsRecall b → w (body_seen (core_of x.from) (core_of x.to) b) ≡ 0
+    go body.FlushReq is = flush (core_of x.to)
+    go (body.WbReq until) is = wb (core_of x.to) until
+    go _ is = absurd is
+
 or_right : (p q : Bool) → (p || q) ≡ false → q ≡ false
 or_right true q e = absurd (cc)
 or_right false q e = e
@@ -175,23 +195,11 @@ module _ (m : Machine) (able : CanSend m) (s : Invariant m) (rising : IsRising 0
       k : Sent h w 0 m.mail.messages
       k = sent h w 0 m.mail.next m.mail.messages rising some
 
-      no_request : (b : Body) → IsRequest b → (from to : ℕ) → w (body_seen from to b) ≡ 0
-      no_request (body.ShReq pts version) is from to = sh from pts version
-      no_request (body.ExReq version) is from to = ex from version
-      no_request _ is from to = absurd is
-
-      no_recall : (b : Body) → IsRecall b → (from to : ℕ) → w (body_seen from to b) ≡ 0
-      no_recall body.FlushReq is from to = flush to
-      no_recall (body.WbReq until) is from to = wb to until
-      no_recall _ is from to = absurd is
-
       stays : Stays m k.message → MovesOn m
-      stays (a_request b bank to at has is) = absurd
-          (let z = no_request k.message.body is (core_of k.message.from) (core_of k.message.to) in
-          let y = k.weighs in omega (arith, z, y))
-      stays (a_recall c core to at pinned is) = absurd
-          (let z = no_recall k.message.body is (core_of k.message.from) (core_of k.message.to) in
-          let y = k.weighs in omega (arith, z, y))
+      stays (a_request b bank to at has is) =
+          absurd (let z = no_request w sh ex k.message is in let y = k.weighs in omega (arith, z, y))
+      stays (a_recall c core to at pinned is) =
+          absurd (let z = no_recall w flush wb k.message is in let y = k.weighs in omega (arith, z, y))
 
   -- what the invariant counts of a line
   abbrev f : by_line.Config
@@ -248,11 +256,6 @@ module _ (m : Machine) (able : CanSend m) (s : Invariant m) (rising : IsRising 0
       its_owner (body.WbReq until) from to some = if_one to some
       its_owner _ from to some = absurd (omega arith)
 
-      no_request : (b : Body) → IsRequest b → (from to : ℕ) → recall_to o (body_seen from to b) ≡ 0
-      no_request (body.ShReq pts version) is from to = refl
-      no_request (body.ExReq version) is from to = refl
-      no_request _ is from to = absurd is
-
       owned : (held : Option LineCopy) → by_line.owns (copy_or_none held) ≡ 1 →
           (copy : LineCopy) × (held ≡ Some copy) × (is_exclusive copy.state ≡ true)
       owned None e = absurd (omega arith)
@@ -266,7 +269,7 @@ module _ (m : Machine) (able : CanSend m) (s : Invariant m) (rising : IsRising 0
 
       stays : Stays m k.message → MovesOn m
       stays (a_request b bank to at has is) = absurd
-          (let z = no_request k.message.body is (core_of k.message.from) (core_of k.message.to) in
+          (let z = no_request (recall_to o) (λ c pts v. refl) (λ c v. refl) k.message is in
           let y = k.weighs in omega (arith, z, y))
       stays (a_recall c core to at pinned is) =
           let same : c ≡ o = sym (ap core_of to)
@@ -408,15 +411,10 @@ module _ (m : Machine) (able : CanSend m) (s : Invariant m) (rising : IsRising 0
           k : Sent l (about c) 0 m.mail.messages
           k = sent l (about c) 0 m.mail.next m.mail.messages rising (omega (arith, one))
 
-          no_recall : (b : Body) → IsRecall b → (from to : ℕ) → about c (body_seen from to b) ≡ 0
-          no_recall body.FlushReq is from to = refl
-          no_recall (body.WbReq until) is from to = refl
-          no_recall _ is from to = absurd is
-
           stays : Stays m k.message → MovesOn m
           stays (a_request b bank to at has is) = request_moves k.number k.message k.at b bank to at has is
           stays (a_recall d other to at pinned is) = absurd
-              (let z = no_recall k.message.body is (core_of k.message.from) (core_of k.message.to) in
+              (let z = no_recall (about c) (λ d. refl) (λ d u. refl) k.message is in
               let y = k.weighs in omega (arith, z, y))
 
       -- an attempt of a core whose request isn't out
@@ -465,7 +463,8 @@ module _ (m : Machine) (able : CanSend m) (s : Invariant m) (rising : IsRising 0
                     let first : is_there (set_at core.cache.sets j) p.0 ≡ true =
                     ap (λ (qs : List (ℕ × LineCopy)). is_there qs p.0) is
                     ∙ ap is_some (cond-true (eqb p.0 p.0) (Some p.1) (find ps p.0) (eq-eqb p.0 p.0 refl)) in
-                    subst (λ (k : ℕ). is_there (set_at core.cache.sets k) p.0 ≡ true) (sym (fits.homes j p.0 first)) first
+                    subst (λ (k : ℕ). is_there (set_at core.cache.sets k) p.0 ≡ true)
+                    (sym (fits.homes j p.0 first)) first
 
                 off : is_pinned (pinned_line core) p.0 ≡ false
                 off = ap (λ (o : Option Op). is_pinned (option_map (core_table.line_of core) o) p.0) opens

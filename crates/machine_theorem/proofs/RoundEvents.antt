@@ -114,9 +114,11 @@ module _ (m : Machine) (able : CanSend m) where
     core_moves c core to at has active =
         by_event (event.Deliver n) (delivers n x number) _
         (is_delivered m n x (node.Core c) number to (with_core m c) (slice_get m.cores c) core at core_has_case
-        core_table.core_table has refl) (step_moves (with_core m c) (Some n) (reacted (core_table.core_table core x)) active)
+        core_table.core_table has refl)
+        (step_moves (with_core m c) (Some n) (reacted (core_table.core_table core x)) active)
 
-    pub dram_moves : (b : ℕ) (lines : FinMap nat_cmp (List ℕ)) → x.to ≡ node.Dram b → slice_get m.drams b ≡ Some lines →
+    pub dram_moves : (b : ℕ) (lines : FinMap nat_cmp (List ℕ)) → x.to ≡ node.Dram b →
+        slice_get m.drams b ≡ Some lines →
         dram_has_case lines x ≡ true → IsActive (reacted (dram_table lines x)) → MovesOn m
     dram_moves b lines to at has active =
         by_event (event.Deliver n) (delivers n x number) _

@@ -127,7 +127,8 @@ module _ (m : Machine) (able : CanSend m) where
 
     module _ (b : ℕ) (bank : BankState) (to : x.to ≡ node.Bank b) (at : slice_get m.banks b ≡ Some bank)
         (has : bank_has_case bank x ≡ true) where
-      reacts : on_event m (event.Deliver n) ≡ changed m (with_bank m b) (Some n) (reacted (bank_table.bank_table bank x))
+      reacts : on_event m (event.Deliver n)
+          ≡ changed m (with_bank m b) (Some n) (reacted (bank_table.bank_table bank x))
       reacts = is_delivered m n x (node.Bank b) number to (with_bank m b) (slice_get m.banks b) bank at bank_has_case
           bank_table.bank_table has refl
 

@@ -1,5 +1,6 @@
 -- What is so of all cores below a number is so of each of them.
-use Rattle.std.proofs.Common.{◌≡◌, ℕ, zero, suc, ◌<◌, ◌&&◌, Bool, true, false, List, refl, sym, ap, ◌∙◌, arith, subst, ⊎_elim}
+use Rattle.std.proofs.Common.{◌≡◌, ℕ, zero, suc, ◌<◌, ◌&&◌, Bool, true, false, List, refl, sym, ap, ◌∙◌, arith, subst}
+use Rattle.std.proofs.Common.{⊎_elim}
 use Rattle.std.proofs.lemmas.Bool.{cases_eq, and_left, and_right, and_parts}
 use Rattle.machine_table.specs.Machine.{Machine}
 use Rattle.programs.specs.Acts.{Acts}

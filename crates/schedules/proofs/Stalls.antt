@@ -1,12 +1,13 @@
 -- A run by rounds that stalls has a full network, or no number for a message, or nothing that may be issued.
-use Rattle.std.proofs.Common.{◌≡◌, ◌≢◌, ℕ, zero, suc, ◌+◌, ◌-◌, ◌/◌, ◌^◌, ◌<◌, ◌≤◌, ◌&&◌, Bool, true, false, not}
-use Rattle.std.proofs.Common.{List, [], ◌∷◌, ◌++◌, length, map, Option, Some, None, Result, Ok, Err, inl, inr, refl, sym}
-use Rattle.std.proofs.Common.{ap, ◌∙◌, subst, arith, cond, nat_lt, eqb, get_or}
+use Rattle.std.proofs.Common.{◌≡◌, ◌≢◌, ℕ, zero, suc, ◌+◌, ◌-◌, ◌/◌, ◌^◌, ◌<◌, ◌≤◌, ◌&&◌, Bool, true, false, not, List}
+use Rattle.std.proofs.Common.{[], ◌∷◌, ◌++◌, length, map, Option, Some, None, Result, Ok, Err, inl, inr, refl, sym, ap}
+use Rattle.std.proofs.Common.{◌∙◌, subst, arith, cond, nat_lt, eqb, get_or}
 use Rattle.std.specs.List.{slice_get}
 use Rattle.std.specs.Ordering.{nat_cmp}
 use Rattle.std.specs.FinMap.{FinMap}
 use Rattle.std.specs.Prelude.{option_map}
-use Rattle.std.proofs.lemmas.Bool.{cases_Bool, cases_eq, cond_both, cond-true, cond-false, eqb-true, ltb-true, ltb-false}
+use Rattle.std.proofs.lemmas.Bool.{cases_Bool, cases_eq, cond_both, cond-true, cond-false, eqb-true, ltb-true}
+use Rattle.std.proofs.lemmas.Bool.{ltb-false}
 use Rattle.std.proofs.lemmas.Option.{slice_get_within, slice_get-get_or}
 use Rattle.physiological_order.specs.declared.operation.Op.{Op}
 use Rattle.physiological_order.specs.Order.{address}
@@ -36,27 +37,26 @@ use Rattle.machine_table.proofs.Lemmas.{every_answer, finds}
 use Rattle.machine_theorem.specs.Rounds.{IsMoving, IsRequest, IsInRound, attempts, copy_leaves, delivers, line_leaves}
 use Rattle.machine_theorem.specs.Rounds.{MovesOn}
 use Rattle.machine_theorem.proofs.Lemmas.{after_all_same, at_start_invariant, fair as fair_set_up, moves_after}
-use Rattle.interleaving_core.specs.LookUps.{is_request, room_at, room_for_message, room_in, victim_for_core}
-use Rattle.interleaving_core.specs.LookUps.{victim_of}
+use Rattle.interleaving_core.specs.LookUps.{is_request, room_at, room_for_message, room_in, victim_for_core, victim_of}
 use Rattle.programs.specs.declared.ends.End.{End}
 use Rattle.programs.specs.declared.ends.End.TheVariants.{AllDone, Stalled, TurnsUsed, Exhausted}
 use Rattle.programs.specs.declared.steps.Step.{Step}
 use Rattle.programs.specs.declared.steps.Step.TheVariants as step
 use Rattle.programs.specs.Acts.{Acts, next_in}
 use Rattle.schedules.specs.Parts as parts
-use Rattle.schedules.specs.Parts.{Action, Does, Advances, Lists, Standing, Part, after_action, after_actions, after_answer}
-use Rattle.schedules.specs.Parts.{programs_told, told_advance, one, only_if, makes_place, finds_no_place, tries, makes_room}
-use Rattle.schedules.specs.Parts.{delivery, is_held, is_no_room, is_progress, is_times_end}
+use Rattle.schedules.specs.Parts.{Action, Does, Advances, Lists, Standing, Part, after_action, after_actions}
+use Rattle.schedules.specs.Parts.{after_answer, programs_told, told_advance, one, only_if, makes_place, finds_no_place}
+use Rattle.schedules.specs.Parts.{tries, makes_room, delivery, is_held, is_no_room, is_progress, is_times_end}
 use Rattle.schedules.specs.RoundSchedule.{Round, no_round, rising, numbers_in_flight, step_action, step_of, steps_on}
-use Rattle.schedules.specs.RoundSchedule.{attempt_of}
-use Rattle.schedules.specs.RoundSchedule.{attempts as attempts_on, core_turn, core_turns, deliveries, round_of, rounds}
+use Rattle.schedules.specs.RoundSchedule.{attempt_of, attempts as attempts_on, core_turn, core_turns, deliveries}
+use Rattle.schedules.specs.RoundSchedule.{round_of, rounds}
 use Rattle.schedules.specs.Runs.{Plan, Position, begin, run, one_more, after_turn, end_of_turn, end_here, Ended}
 use Rattle.schedules.specs.Runs.{initial_position, is_over, are_over, plan_of}
 use Rattle.schedules.specs.Stalls.{StallsSince, full, unnumbered, too_many}
 use Rattle.schedules.proofs.Over.{one_not_over}
 use Rattle.schedules.proofs.RunLaws.{not_cut, run_makes, all_both, run_stands, all_kept, Says, here_says, run_says}
-use Rattle.schedules.proofs.StillRounds.{IsCalm, IsStill, AreStill, IsAmong, GoesOn, HasStill, all_still, still_leaves, went}
-use Rattle.schedules.proofs.StillRounds.{both_still, each_still}
+use Rattle.schedules.proofs.StillRounds.{IsCalm, IsStill, AreStill, IsAmong, GoesOn, HasStill, all_still, still_leaves}
+use Rattle.schedules.proofs.StillRounds.{went, both_still, each_still}
 
 calm_stays : (a : Answer) → IsCalm a → IsMoving a → ⊥
 calm_stays answer.Waiting calm moving = moving

@@ -1,6 +1,6 @@
 -- A round without progress makes each of its actions where it began, and leaves all as it was.
-use Rattle.std.proofs.Common.{◌≡◌, ◌⊎◌, cond, ℕ, ◌||◌, Bool, true, false, List, [], ◌∷◌, ◌++◌}
-use Rattle.std.proofs.Common.{inl, inr, refl, sym, ap, ◌∙◌, subst, ⊎_elim}
+use Rattle.std.proofs.Common.{◌≡◌, ◌⊎◌, cond, ℕ, ◌||◌, Bool, true, false, List, [], ◌∷◌, ◌++◌, inl, inr, refl, sym, ap}
+use Rattle.std.proofs.Common.{◌∙◌, subst, ⊎_elim}
 use Rattle.std.specs.List.{AllByRecursion as Each}
 use Rattle.std.proofs.lemmas.Bool.{cases_Bool, cond-true, cond-false}
 use Rattle.machine_table.specs.Answered.{Answered}
@@ -13,8 +13,9 @@ use Rattle.machine_table.specs.Machine.{Machine}
 use Rattle.machine_table.specs.Transition.{transition}
 use Rattle.machine_table.proofs.Lemmas.{every_answer}
 use Rattle.programs.specs.Acts.{Acts}
-use Rattle.schedules.specs.Parts.{Action, Does, Advances, Lists, Standing, Part, after_action, after_actions, after_answer}
-use Rattle.schedules.specs.Parts.{followed_by, for_each, is_progress, is_times_end, programs_told, told_advance}
+use Rattle.schedules.specs.Parts.{Action, Does, Advances, Lists, Standing, Part, after_action, after_actions}
+use Rattle.schedules.specs.Parts.{after_answer, followed_by, for_each, is_progress, is_times_end, programs_told}
+use Rattle.schedules.specs.Parts.{told_advance}
 
 -- an answer that is no progress, and doesn't end the run
 pub record IsCalm (a : Answer) : Type 0 where

@@ -1,6 +1,6 @@
--- Nothing is stuck after any list of events, and a round changes what they make.
+-- Nothing is stuck after any list of events.
 use Rattle.std.proofs.Common.{◌≡◌, ℕ, ◌+◌, ◌-◌, ◌^◌, ◌<◌, ◌≤◌, true, false, List, length, Option, Some, None, refl}
-use Rattle.std.proofs.Common.{ap, sym, ◌∙◌, subst, arith}
+use Rattle.std.proofs.Common.{ap, ◌∙◌, arith}
 use Rattle.std.specs.List.{slice_get}
 use Rattle.std.specs.Ordering.{nat_cmp}
 use Rattle.std.specs.FinMap.{FinMap}
@@ -14,17 +14,12 @@ use Rattle.machine_table.specs.SetUp.{is_good}
 use Rattle.machine_table.specs.Opening.{at_start, open_core}
 use Rattle.machine_table.specs.Runs.{after_all}
 use Rattle.machine_theorem.specs.Kept.{Invariant}
-use Rattle.machine_theorem.specs.Rounds.{MovesOn}
 use Rattle.machine_theorem.specs.States.{seen}
 use Rattle.machine_theorem.specs.Unstuck.{IsServed}
-use Rattle.machine_theorem.proofs.Openings.{Fair, fair, at_start_invariant}
+use Rattle.machine_theorem.proofs.Openings.{fair, at_start_invariant}
 use Rattle.machine_theorem.proofs.Events.{any_events}
 use Rattle.machine_theorem.proofs.Histories.{reached_history}
-use Rattle.machine_theorem.proofs.MovingOn.{moves_on}
 use Rattle.machine_theorem.proofs.PartChanges.{itself}
-use Rattle.machine_theorem.proofs.RoundEvents.{CanSend}
-use Rattle.machine_theorem.proofs.SetSizes.{IsSized}
-use Rattle.machine_theorem.proofs.Sizes.{reached_sized}
 use Rattle.machine_theorem.proofs.SetUps.{after_all_same}
 use Rattle.machine_theorem.proofs.ServiceEvents.{IsIn, bag_length, rising_after, served_in}
 use Rattle.machine_theorem.proofs.Unstuck.{ends_within_34}
@@ -69,23 +64,3 @@ module _ (config : Config) (good : is_good config ≡ true) (opening : FinMap na
           served_in config (length (seen m).bag + 2) (let z = as_many in omega (arith, z, room)) 34 core op (seen m) m
           (ends_within_34 config good opening core below op (seen m) (reached_history config opening events good)
           (ap (λ (k : CoreState). k.open_op) here ∙ is)) below is_in
-
-  -- a round changes the machine
-  pub moves_after : m.is_stopped ≡ false → length m.mail.messages < config.messages → m.mail.next < 2 ^ 64 - 1 →
-      (core : ℕ) (op : Op) → operation_of (slice_get m.cores core) ≡ Some op → MovesOn m
-  moves_after running room numbers core op opens = by_core (slice_get m.cores core) refl opens
-    where
-      able : CanSend m
-      able = record {
-        runs = running;
-        room = subst (λ (c : Config). length m.mail.messages < c.messages) (sym of_config) room;
-        numbers = numbers;
-      }
-
-      by_core : (o : Option CoreState) → slice_get m.cores core ≡ o → operation_of o ≡ Some op → MovesOn m
-      by_core None at is = absurd (cc)
-      by_core (Some state) at is =
-          moves_on m able invariant (rising_after (at_start config opening) events (omega arith))
-          (subst (λ (c : Config). IsSized c (seen m)) (sym of_config)
-          (reached_sized config good opening (seen m) (reached_history config opening events good)))
-          (subst Fair (sym of_config) (fair config good)) core state op at is

@@ -23,4 +23,4 @@ pub use Rattle.machine_theorem.proofs.Coherence.{owners_weigh, owns_is}
 -- The first of some parts, in a list.
 pub use Rattle.machine_theorem.proofs.Lists.{first_at}
 -- A round changes a machine that can send one more message, if a core has an operation open.
-pub use Rattle.machine_theorem.proofs.AnyHistory.{moves_after}
+pub use Rattle.machine_theorem.proofs.MovingOn.{moves_after}

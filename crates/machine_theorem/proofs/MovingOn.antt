@@ -2,7 +2,7 @@
 -- request that waits leads to a message, an attempt or an eviction that its part does something with.
 use Rattle.std.proofs.Common.{◌≡◌, ℕ, ◌+◌, ◌/◌, ◌%◌, ◌≤◌, Bool, true, false, ◌||◌, cond, eqb, zero, suc, get_or}
 use Rattle.std.proofs.Common.{List, [], ◌∷◌, length, Option, Some, None, inl, inr, ◌⊎◌, refl, sym, ap, ◌∙◌, subst}
-use Rattle.std.proofs.Common.{⊎_elim, arith}
+use Rattle.std.proofs.Common.{◌<◌, ◌-◌, ◌^◌, ⊎_elim, arith}
 use Rattle.std.specs.Prelude.{option_map, is_some, not}
 use Rattle.std.specs.List.{slice_get}
 use Rattle.std.specs.Ordering.{nat_cmp}
@@ -38,8 +38,12 @@ use Rattle.llc_bank.specs.BankTable.{BankState, bank_has_case, core_of, entry_of
 use Rattle.dram_mts.specs.Table.{dram_has_case, is_dram}
 use Rattle.machine_table.specs.declared.event.Answer.TheVariants.{Held, Refused}
 use Rattle.machine_table.specs.declared.event.Refusal.TheVariants as refusal
-use Rattle.machine_table.specs.Machine.{Machine}
-use Rattle.machine_table.specs.Opening.{open_bank, open_core}
+use Rattle.machine_table.specs.Machine.{Machine, operation_of}
+use Rattle.machine_table.specs.declared.config.Config.{Config}
+use Rattle.machine_table.specs.declared.event.Event.{Event}
+use Rattle.machine_table.specs.SetUp.{is_good}
+use Rattle.machine_table.specs.Runs.{after_all}
+use Rattle.machine_table.specs.Opening.{at_start, open_bank, open_core}
 use Rattle.machine_table.specs.Step.{Step, Keeps, Does, attempt_open, attempted, entry_evicted, reacted}
 use Rattle.protocol.specs.Machine as by_line
 use Rattle.protocol.specs.Machine.{tally}
@@ -60,7 +64,12 @@ use Rattle.machine_theorem.proofs.Consistency.{consistent}
 use Rattle.machine_theorem.proofs.Deliveries.{and_right, serving_attempt, owner_serves}
 use Rattle.machine_theorem.proofs.FoundCases.{messages_find_cases}
 use Rattle.machine_theorem.proofs.Lookups.{each_at_number}
-use Rattle.machine_theorem.proofs.Openings.{Fair}
+use Rattle.machine_theorem.proofs.Events.{invariant}
+use Rattle.machine_theorem.proofs.Histories.{reached_history}
+use Rattle.machine_theorem.proofs.Openings.{Fair, fair as fair_set_up}
+use Rattle.machine_theorem.proofs.ServiceEvents.{rising_after}
+use Rattle.machine_theorem.proofs.SetUps.{after_all_same}
+use Rattle.machine_theorem.proofs.Sizes.{reached_sized}
 use Rattle.machine_theorem.proofs.Parts.{core_shape, bank_shape}
 use Rattle.machine_theorem.proofs.RoundEvents.{CanSend, IsActive, IsTrying, attempt_moves, copy_moves, core_moves}
 use Rattle.machine_theorem.proofs.RoundEvents.{dram_moves, bank_moves, line_moves}
@@ -486,3 +495,32 @@ module _ (m : Machine) (able : CanSend m) (s : Invariant m) (rising : IsRising 0
           by_out : (b : Bool) → core.is_out ≡ b → MovesOn m
           by_out true out = waiting_moves out
           by_out false quiet = by_copy (copy_of core.cache line) refl quiet
+
+-- so it is after any list of events
+module _ (config : Config) (good : is_good config ≡ true) (opening : FinMap nat_cmp ℕ) (events : List Event) where
+  abbrev after : Machine
+  after = after_all (at_start config opening) events
+
+  of_config : after.config ≡ config
+  of_config = (after_all_same (at_start config opening) events).config
+
+  pub moves_after : after.is_stopped ≡ false → length after.mail.messages < config.messages →
+      after.mail.next < 2 ^ 64 - 1 → (core : ℕ) (op : Op) → operation_of (slice_get after.cores core) ≡ Some op →
+      MovesOn after
+  moves_after running room numbers core op opens = by_core (slice_get after.cores core) refl opens
+    where
+      able : CanSend after
+      able = record {
+        runs = running;
+        room = subst (λ (c : Config). length after.mail.messages < c.messages) (sym of_config) room;
+        numbers = numbers;
+      }
+
+      by_core : (o : Option CoreState) → slice_get after.cores core ≡ o → operation_of o ≡ Some op → MovesOn after
+      by_core None at is = absurd (cc)
+      by_core (Some state) at is =
+          moves_on after able (invariant config opening events good)
+          (rising_after (at_start config opening) events (omega arith))
+          (subst (λ (c : Config). IsSized c (seen after)) (sym of_config)
+          (reached_sized config good opening (seen after) (reached_history config opening events good)))
+          (subst Fair (sym of_config) (fair_set_up config good)) core state op at is

@@ -22,3 +22,5 @@ pub use Rattle.machine_theorem.proofs.SetUps.{after_all_same, set_up_same, trans
 pub use Rattle.machine_theorem.proofs.Coherence.{owners_weigh, owns_is}
 -- The first of some parts, in a list.
 pub use Rattle.machine_theorem.proofs.Lists.{first_at}
+-- A round changes a machine that can send one more message, if a core has an operation open.
+pub use Rattle.machine_theorem.proofs.MovingOn.{moves_after}

@@ -1,5 +1,6 @@
 pub mod Lemmas
 mod Bags
+mod ActiveParts
 mod AnyHistory
 mod BankMoves
 mod Coherence
@@ -21,6 +22,7 @@ mod KeptSteps
 mod Lists
 mod Lookups
 mod MoveEvents
+mod MovingOn
 mod NumberedStates
 mod OnCopies
 mod OnEntries
@@ -38,6 +40,7 @@ mod Reorderings
 mod Replies
 mod Rooms
 mod Routes
+mod RoundEvents
 mod SetSizes
 mod SetUps
 mod Services

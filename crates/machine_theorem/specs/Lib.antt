@@ -10,6 +10,7 @@ pub mod Moves
 pub mod Ownership
 pub mod PastWords
 pub mod PrivateWrites
+pub mod Rounds
 pub mod Service
 pub mod Shape
 pub mod StaleHit

@@ -23,6 +23,7 @@ ghost use Rattle.machine_theorem.specs.PrivateWrites.{private_cores, private_wri
 ghost use Rattle.machine_theorem.specs.StaleHit.{two_cores, stale_hit, stale_records};
 ghost use Rattle.machine_theorem.specs.Consistency.{IsConsistent};
 ghost use Rattle.machine_theorem.specs.Kept.{Invariant};
+ghost use Rattle.machine_theorem.specs.Rounds.{MovesOn};
 ghost use Rattle.machine_theorem.specs.Unstuck.{IsServed};
 
 /// A machine has the invariant if its parts have their shape and it is, seen line by line, one that the protocol
@@ -87,6 +88,18 @@ pub fn nothing_is_stuck()
         m.is_stopped ≡ false → length m.mail.messages + 2 ≤ config.messages →
         m.mail.next + 35 ≤ 2 ^ 64 - 1 → (core : ℕ) (op : Op) →
         operation_of (slice_get m.cores core) ≡ Some op → IsServed 35 core op m }
+{}
+
+/// A round changes the machine where there is room for one more message, and a number. After any list of events,
+/// refused ones included, of a machine that opened with a good set-up and hasn't stopped: if a core has an operation
+/// open, one of the events that a round makes of the machine as it is changes it. Its answer is none of Waiting, Held
+/// and the refusals, or times are exhausted.
+pub fn rounds_move_on()
+    ensures { (config : Config) (opening : FinMap nat_cmp ℕ) (events : List Event) → is_good config ≡ true →
+        let m = after_all (at_start config opening) events in
+        m.is_stopped ≡ false → length m.mail.messages < config.messages →
+        m.mail.next < 2 ^ 64 - 1 → (core : ℕ) (op : Op) →
+        operation_of (slice_get m.cores core) ≡ Some op → MovesOn m }
 {}
 
 /// A run by the table, with any opening memory: a core reads a word, another writes it, and the first reads the

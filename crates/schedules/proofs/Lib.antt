@@ -13,3 +13,5 @@ mod SeedEntries
 mod ServiceSteps
 mod RunLaws
 mod Served
+mod StillRounds
+mod Stalls

@@ -1,6 +1,6 @@
 -- Laws of runs: the events make the machine, all done means that nothing is left to do, and a run leaves no choice.
-use Rattle.std.proofs.Common.{◌≡◌, ◌≢◌, ◌⊎◌, inl, inr, ℕ, zero, suc, ◌<◌, Bool, true, ◌&&◌, not, is_none, List, []}
-use Rattle.std.proofs.Common.{◌∷◌, ◌++◌, Option, Some, None, refl, sym, ap, ◌∙◌, subst, append-nil}
+use Rattle.std.proofs.Common.{◌≡◌, ◌≢◌, ◌⊎◌, inl, inr, ℕ, zero, suc, ◌<◌, Bool, true, false, ◌&&◌, not, is_none, List}
+use Rattle.std.proofs.Common.{[], ◌∷◌, ◌++◌, Option, Some, None, refl, sym, ap, ◌∙◌, subst, append-nil}
 use Rattle.std.proofs.lemmas.Bool.{and_parts, cases_Bool, cond_both, false≢true}
 use Rattle.machine_table.specs.declared.event.Event.{Event}
 use Rattle.machine_table.specs.Machine.{Machine, open_op}
@@ -19,7 +19,7 @@ use Rattle.schedules.specs.Runs.{Plan, Position, begin, turn_at, end_of_turn, on
 use Rattle.schedules.specs.Runs.{are_over, end_here, initial_position, opened, plan_of}
 use Rattle.schedules.proofs.Over.{each_over}
 
-all_both : (m : Machine) (xs ys : List Event) → after_all m (xs ++ ys) ≡ after_all (after_all m xs) ys
+pub all_both : (m : Machine) (xs ys : List Event) → after_all m (xs ++ ys) ≡ after_all (after_all m xs) ys
 all_both m [] ys = refl
 all_both m (x ∷ xs) ys = all_both (transition m x).1 xs ys
 
@@ -83,27 +83,26 @@ module _ {P S : Type 0} (plan : Plan P S) (start : Position P S) where
       ∙ ap (λ (m : Machine). after_all m (events_of plan.acts (begin s) made)) (sym so)
       ∙ actions_make plan.acts (begin s) made)) ended
 
-  -- all done is said of a run that left nothing to do
-  abbrev SaysDone : End → Standing P → Type 0
-  SaysDone e s = e ≡ AllDone → are_over plan.acts s.machine s.programs s.machine.config.cores ≡ true
+  -- all done is said of a run that left nothing to do, and that turns are used of one that left something
+  abbrev pub Says : End → Standing P → Type 0
+  Says AllDone s = are_over plan.acts s.machine s.programs s.machine.config.cores ≡ true
+  Says TurnsUsed s = are_over plan.acts s.machine s.programs s.machine.config.cores ≡ false
+  Says e s = Unit {0}
 
-  here_says : (s : Standing P) → SaysDone (end_here plan.acts s.machine s.programs) s
-  here_says s = elim (cases_Bool (are_over plan.acts s.machine s.programs s.machine.config.cores)) [
-    | inl e ↦ λ _. e
-    | inr e ↦ rw e (λ bad. absurd cc)
-  ]
+  pub here_says : (s : Standing P) → Says (end_here plan.acts s.machine s.programs) s
+  here_says s = cond_both (are_over plan.acts s.machine s.programs s.machine.config.cores) AllDone TurnsUsed
+      (λ e. Says e s) (λ e. e) (λ e. e)
 
-  turn_says : (s : Standing P) → SaysDone (end_of_turn plan s) s
-  turn_says s = cond_both s.is_out Exhausted _ (λ e. SaysDone e s) (λ _ bad. absurd cc) (λ _.
-      cond_both (plan.schedule.stalls && not s.has_progressed) Stalled _ (λ e. SaysDone e s) (λ _ bad. absurd cc)
-      (λ _. here_says s))
+  turn_says : (s : Standing P) → Says (end_of_turn plan s) s
+  turn_says s = cond_both s.is_out Exhausted _ (λ e. Says e s) (λ _. tt) (λ _.
+      cond_both (plan.schedule.stalls && not s.has_progressed) Stalled _ (λ e. Says e s) (λ _. tt) (λ _. here_says s))
 
-  more_says : (e : End) (p : Position P S) → SaysDone p.end p.standing →
-      SaysDone (one_more plan e p).end (one_more plan e p).standing
+  more_says : (e : End) (p : Position P S) → Says p.end p.standing →
+      Says (one_more plan e p).end (one_more plan e p).standing
   more_says TurnsUsed p says = turn_says (after_actions plan.acts (begin p.standing) (turn_at plan p))
   more_says _ p says = says
 
-  run_says : SaysDone start.end start.standing → (n : ℕ) → SaysDone (run plan n start).end (run plan n start).standing
+  pub run_says : Says start.end start.standing → (n : ℕ) → Says (run plan n start).end (run plan n start).standing
   unfolding run
   run_says first zero = first
   run_says first (suc n) = more_says (run plan n start).end (run plan n start) (run_says first n)
@@ -130,7 +129,7 @@ module _ {P S : Type 0} (plan : Plan P S) (m : Machine) (opening : List P) (own 
           ⊎ IsCut keeps plan start events ended.last e →
           are_over plan.acts ended.last.machine ended.last.programs ended.last.machine.config.cores ≡ true
       by_end (inl h) =
-          rw h.standing_is at (run_says plan start (here_says plan start start.standing) plan.limit (h.end_is ∙ done))
+          rw (h.standing_is, h.end_is, done) at (run_says plan start (here_says plan start start.standing) plan.limit)
       by_end (inr cut) = absurd (let bad = sym done ∙ cut.end_is in cc)
 
       nothing_left : are_over plan.acts ended.last.machine ended.last.programs ended.last.machine.config.cores ≡ true →
@@ -145,7 +144,7 @@ module _ {P S : Type 0} (plan : Plan P S) (m : Machine) (opening : List P) (own 
           )
 
 -- a run that its last turn ended
-not_cut : {P S : Type 0} {keeps : Bool} {plan : Plan P S} {start : Position P S} {events : List Event} {m : Machine}
+pub not_cut : {P S : Type 0} {keeps : Bool} {plan : Plan P S} {start : Position P S} {events : List Event} {m : Machine}
     {programs : List P} {e : End} (ended : Ended keeps plan start events m programs e) → e ≢ NoMemory →
     HasRun (run plan plan.limit start) events ended.last e
 not_cut ended other = elim ended.ends [
@@ -189,9 +188,9 @@ module _ {P : Type 0} (acts : Acts P) (limit : ℕ) (round : Round) (m : Machine
   abbrev start : Position P Round
   start = initial_position acts m opening round
 
-  record Stands (p : Position P Round) : Type 0 where
-    own_is : p.own ≡ round
-    rounds_are : AreRounds acts round (opened m opening) p.events p.standing
+  pub record Stands (p : Position P Round) : Type 0 where
+    pub own_is : p.own ≡ round
+    pub rounds_are : AreRounds acts round (opened m opening) p.events p.standing
 
   more_stands : (e : End) (p : Position P Round) → Stands p → Stands (one_more plan e p)
   more_stands TurnsUsed p so = record {
@@ -203,7 +202,7 @@ module _ {P : Type 0} (acts : Acts P) (limit : ℕ) (round : Round) (m : Machine
   }
   more_stands _ p so = so
 
-  run_stands : (n : ℕ) → Stands (run plan n start)
+  pub run_stands : (n : ℕ) → Stands (run plan n start)
   unfolding run
   run_stands zero = record { own_is = refl; rounds_are = none }
   run_stands (suc n) = more_stands (run plan n start).end (run plan n start) (run_stands n)

@@ -8,3 +8,4 @@ pub mod Policies
 pub mod Batches
 pub mod Notes
 pub mod GivenSteps
+pub mod Stalls

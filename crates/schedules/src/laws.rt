@@ -2,7 +2,13 @@
 //! does nothing: its contract is the law.
 ghost use Rattle.std.specs.Prelude.{◌≡◌, ◌≢◌, ◌+◌, ◌<◌, ◌^◌, Bool, false, true, ℕ, List};
 ghost use Rattle.physiological_order.specs.declared.operation.Record.{Record};
+ghost use Rattle.std.specs.Ordering.{nat_cmp};
+ghost use Rattle.std.specs.FinMap.{FinMap};
+ghost use Rattle.machine_table.specs.declared.config.Config.{Config};
 ghost use Rattle.machine_table.specs.Machine.{Machine};
+ghost use Rattle.machine_table.specs.Opening.{at_start};
+ghost use Rattle.machine_table.specs.Runs.{after_all};
+ghost use Rattle.machine_table.specs.SetUp.{is_good};
 ghost use Rattle.machine_table.specs.declared.event.Event.{Event};
 ghost use Rattle.machine_table.specs.declared.event.Answer.TheVariants as answer;
 ghost use Rattle.machine_table.specs.declared.event.Refusal.{Refusal};
@@ -13,6 +19,7 @@ ghost use Rattle.schedules.specs.Batches.{policy_of_run};
 ghost use Rattle.schedules.specs.Policies.{EndedBy};
 ghost use Rattle.schedules.specs.Parts.{Standing, is_progress};
 ghost use Rattle.schedules.specs.Runs.{Ended, initial_position, opened, plan_of};
+ghost use Rattle.schedules.specs.Stalls.{StallsSince};
 ghost use Rattle.schedules.specs.RoundSchedule.{no_round, rounds, AreRounds, ArePartOfRounds};
 
 use programs::End;
@@ -57,6 +64,19 @@ pub fn rounds_make_their_events<P: Program>()
         (initial_position P.acts start opening (no_round fair start.config.cores)) events m programs
         end → ArePartOfRounds P.acts (no_round fair start.config.cores)
         (opened start opening) events }
+{}
+
+/// A run by rounds, fair or not, stalls only where the network is full. Its machine is one that any list of events made
+/// of one that opened with a good set-up, and it hasn't stopped. If the run ends as stalled, as many messages are in
+/// flight as may be, or their numbers are used up. Or no operation is open, and a program has one more than its core
+/// may be issued. So while one more message has room, no run by rounds stalls.
+pub fn rounds_stall_on_a_full_network<P: Program>()
+    ensures { (config : Config) (memory : FinMap nat_cmp ℕ) (earlier : List Event) → is_good config ≡ true →
+        let start = after_all (at_start config memory) earlier in
+        start.is_stopped ≡ false → (fair keeps : Bool) (m : Machine) (opening programs : List P)
+        (limit : ℕ) (events : List Event) → Ended keeps (plan_of P.acts (rounds P.acts) limit)
+        (initial_position P.acts start opening (no_round fair start.config.cores)) events m programs
+        End.Stalled → StallsSince P.acts m programs }
 {}
 
 /// Up to 2^64 runs of a batch by seeds have seeds that differ: run i has the first seed plus i, modulo 2^64.

@@ -1,0 +1,150 @@
+-- Events of a round that change a machine, where one more message has room and a number: each is a step of its part.
+use Rattle.std.proofs.Common.{◌≡◌, ℕ, ◌-◌, ◌^◌, ◌<◌, ◌/◌, Bool, true, false, ◌&&◌, List, length, Option, Some, None}
+use Rattle.std.proofs.Common.{refl, sym, ap, ◌∙◌, subst}
+use Rattle.std.specs.List.{slice_get}
+use Rattle.std.specs.Ordering.{nat_cmp}
+use Rattle.std.specs.FinMap.{FinMap}
+use Rattle.std.proofs.lemmas.Bool.{cond-true, cond-false, lt-ltb}
+use Rattle.physiological_order.specs.declared.operation.Op.{Op}
+use Rattle.physiological_order.specs.Order.{address}
+use Rattle.network.specs.declared.message.Message.{Message}
+use Rattle.network.specs.declared.message.Node.TheVariants as node
+use Rattle.network.specs.Mail.{has_number, has_capacity}
+use Rattle.network.specs.NumberedMessages.{at_number}
+use Rattle.private_cache.specs.CopyTable.{victim_for}
+use Rattle.core_pts.specs.CoreTable as core_table
+use Rattle.core_pts.specs.CoreTable.{CoreState, core_has_case}
+use Rattle.llc_bank.specs.BankTable as bank_table
+use Rattle.llc_bank.specs.BankTable.{BankState, bank_has_case}
+use Rattle.dram_mts.specs.Table.{dram_table, dram_has_case}
+use Rattle.machine_table.specs.declared.event.Answer.{Answer}
+use Rattle.machine_table.specs.declared.event.Answer.TheVariants.{Held, Refused}
+use Rattle.machine_table.specs.declared.event.Event.{Event}
+use Rattle.machine_table.specs.declared.event.Event.TheVariants as event
+use Rattle.machine_table.specs.declared.event.Refusal.TheVariants as refusal
+use Rattle.machine_table.specs.Machine.{Machine, with_core, with_bank, with_dram}
+use Rattle.machine_table.specs.Posted.{can_post}
+use Rattle.machine_table.specs.Step.{Step, Exhausts, Keeps, Drops, Makes, Tried, Completes, Does, attempt_open, reacted}
+use Rattle.machine_table.specs.Step.{copy_evicted, entry_evicted}
+use Rattle.machine_table.specs.Transition.{changed, tried, transition, on_event}
+use Rattle.machine_table.proofs.Lemmas.{finds, delivers as is_delivered}
+use Rattle.machine_theorem.specs.Rounds.{IsMoving, IsRequest, IsInRound, attempts, copy_leaves, delivers, line_leaves}
+use Rattle.machine_theorem.specs.Rounds.{MovesOn}
+
+-- a step that changes something, or whose sum of times doesn't fit
+abbrev pub IsActive : {S : Type 0} → Step S → Type 0
+IsActive Exhausts = Unit {0}
+IsActive (Keeps answer) = ⊥
+IsActive Drops = Unit {0}
+IsActive (Makes answer consumes sends part) = IsMoving answer
+
+abbrev pub IsTrying : Tried → Type 0
+IsTrying (Completes op received ts after) = Unit {0}
+IsTrying (Does step) = IsActive step
+
+-- a machine that runs, with room for one more message and a number for it
+pub record CanSend (m : Machine) : Type 0 where
+  pub runs : m.is_stopped ≡ false
+  pub room : length m.mail.messages < m.config.messages
+  pub numbers : m.mail.next < 2 ^ 64 - 1
+
+module _ (m : Machine) (able : CanSend m) where
+  numbered : has_number m.mail ≡ true
+  numbered = lt-ltb m.mail.next (2 ^ 64 - 1) able.numbers
+
+  free : has_capacity m.config.messages m.mail ≡ true
+  free = ap (λ (b : Bool). b && has_number m.mail) (lt-ltb (length m.mail.messages) m.config.messages able.room)
+      ∙ numbered
+
+  can : (consumes : Bool) (sends : Option Message) → can_post m.config.messages m.mail consumes sends ≡ true
+  can true None = refl
+  can false None = refl
+  can true (Some q) = numbered
+  can false (Some q) = free
+
+  step_moves : {S : Type 0} (put : S → Machine) (n : Option ℕ) (step : Step S) → IsActive step →
+      IsMoving (changed m put n step).0
+  step_moves put n Exhausts active = tt
+  step_moves put n (Keeps answer) active = absurd active
+  step_moves put n Drops active = tt
+  step_moves put n (Makes answer consumes sends part) active =
+      subst (λ (o : Answer × Machine). IsMoving o.0)
+      (sym (cond-true (can_post m.config.messages m.mail consumes sends) _ _ (can consumes sends))) active
+
+  try_moves : (c : ℕ) (core : CoreState) (t : Tried) → IsTrying t → IsMoving (tried m c core t).0
+  try_moves c core (Completes op received ts after) trying = tt
+  try_moves c core (Does step) trying = step_moves (with_core m c) None step trying
+
+  -- what a machine that runs makes of an event
+  happens : (e : Event) (o : Answer × Machine) → on_event m e ≡ o → transition m e ≡ o
+  happens e o is = cond-false m.is_stopped _ (on_event m e) able.runs ∙ is
+
+  by_event : (e : Event) → IsInRound m e → (o : Answer × Machine) → on_event m e ≡ o → IsMoving o.0 → MovesOn m
+  by_event e made o is moving = record {
+    event = e;
+    in_round = made;
+    moving = subst (λ (r : Answer × Machine). IsMoving r.0) (sym (happens e o is)) moving;
+  }
+
+  module _ (c : ℕ) (core : CoreState) (at : slice_get m.cores c ≡ Some core) where
+    tries : on_event m (event.Attempt c) ≡ tried m c core (attempt_open core core.open_op)
+    tries = finds m (λ x. tried m c x (attempt_open x x.open_op)) at
+
+    pub attempt_moves : (op : Op) → core.open_op ≡ Some op → IsTrying (attempt_open core core.open_op) → MovesOn m
+    attempt_moves op opens trying =
+        by_event (event.Attempt c) (attempts c core op at opens) (tried m c core (attempt_open core core.open_op)) tries
+        (try_moves c core (attempt_open core core.open_op) trying)
+
+    pub copy_moves : (op : Op) (line : ℕ) → core.open_op ≡ Some op →
+        attempt_open core core.open_op ≡ Does (Keeps (Refused refusal.NoRoom)) →
+        victim_for core.cache (address op / m.config.line_words) ≡ Some line →
+        IsActive (copy_evicted (core_table.evict core line)) → MovesOn m
+    copy_moves op line opens full victim active =
+        by_event (event.EvictCache c line)
+        (copy_leaves c line core op at opens
+        (ap (λ (o : Answer × Machine). o.0) (happens (event.Attempt c) _ tries ∙ ap (tried m c core) full)) victim)
+        (changed m (with_core m c) None (copy_evicted (core_table.evict core line)))
+        (finds m (λ x. changed m (with_core m c) None (copy_evicted (core_table.evict x line))) at)
+        (step_moves (with_core m c) None (copy_evicted (core_table.evict core line)) active)
+
+  module _ (n : ℕ) (x : Message) (number : at_number n m.mail.messages ≡ Some x) where
+    -- a message whose part is there and has a case for it
+    pub core_moves : (c : ℕ) (core : CoreState) → x.to ≡ node.Core c → slice_get m.cores c ≡ Some core →
+        core_has_case core x ≡ true → IsActive (reacted (core_table.core_table core x)) → MovesOn m
+    core_moves c core to at has active =
+        by_event (event.Deliver n) (delivers n x number) _
+        (is_delivered m n x (node.Core c) number to (with_core m c) (slice_get m.cores c) core at core_has_case
+        core_table.core_table has refl)
+        (step_moves (with_core m c) (Some n) (reacted (core_table.core_table core x)) active)
+
+    pub dram_moves : (b : ℕ) (lines : FinMap nat_cmp (List ℕ)) → x.to ≡ node.Dram b →
+        slice_get m.drams b ≡ Some lines →
+        dram_has_case lines x ≡ true → IsActive (reacted (dram_table lines x)) → MovesOn m
+    dram_moves b lines to at has active =
+        by_event (event.Deliver n) (delivers n x number) _
+        (is_delivered m n x (node.Dram b) number to (with_dram m b) (slice_get m.drams b) lines at dram_has_case
+        dram_table has refl) (step_moves (with_dram m b) (Some n) (reacted (dram_table lines x)) active)
+
+    module _ (b : ℕ) (bank : BankState) (to : x.to ≡ node.Bank b) (at : slice_get m.banks b ≡ Some bank)
+        (has : bank_has_case bank x ≡ true) where
+      reacts : on_event m (event.Deliver n)
+          ≡ changed m (with_bank m b) (Some n) (reacted (bank_table.bank_table bank x))
+      reacts = is_delivered m n x (node.Bank b) number to (with_bank m b) (slice_get m.banks b) bank at bank_has_case
+          bank_table.bank_table has refl
+
+      pub bank_moves : IsActive (reacted (bank_table.bank_table bank x)) → MovesOn m
+      bank_moves active =
+          by_event (event.Deliver n) (delivers n x number) _ reacts
+          (step_moves (with_bank m b) (Some n) (reacted (bank_table.bank_table bank x)) active)
+
+      pub line_moves : (line : ℕ) → IsRequest x.body → reacted (bank_table.bank_table bank x) ≡ Keeps Held →
+          bank_table.make_room bank x.line ≡ Some line →
+          IsActive (entry_evicted (bank_table.evict bank line)) → MovesOn m
+      line_moves line request held chosen active =
+          by_event (event.EvictBank b line)
+          (line_leaves n b line x bank number to request at
+          (ap (λ (o : Answer × Machine). o.0) (happens (event.Deliver n) _ reacts
+          ∙ ap (changed m (with_bank m b) (Some n)) held)) chosen)
+          (changed m (with_bank m b) None (entry_evicted (bank_table.evict bank line)))
+          (finds m (λ y. changed m (with_bank m b) None (entry_evicted (bank_table.evict y line))) at)
+          (step_moves (with_bank m b) None (entry_evicted (bank_table.evict bank line)) active)

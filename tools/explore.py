@@ -26,14 +26,17 @@ import shlex
 import subprocess
 import sys
 from concurrent.futures import ProcessPoolExecutor
+from concurrent.futures.process import BrokenProcessPool
 from hashlib import sha256
+from itertools import repeat
 from pathlib import Path
-from time import process_time
+from time import monotonic, process_time
 from types import SimpleNamespace
 
 sys.path.insert(0, str(Path(__file__).resolve().parent.parent))
 from reference import machine  # noqa: E402
 from reference.given import NUMBERS, Bad, Subject, Words, contents, has_machine, tool  # noqa: E402
+from tools.explored.ahead import ahead  # noqa: E402
 from tools.explored.frozen import Elsewhere, Numbered, Unread  # noqa: E402
 from tools.explored.parts import Full, Parts  # noqa: E402
 from tools.explored.reports import Report  # noqa: E402
@@ -67,7 +70,8 @@ def words():
     parser.add_argument("--player", metavar="COMMAND",
                         help="play what is wrong on a player of events, such as crates/play_events/out/play_events; "
                         "and for one of each 1,000 states the way to it, and a random walk: with the same answers")
-    parser.add_argument("--jobs", type=int, default=1, metavar="N", help="how many processes explore (1)")
+    parser.add_argument("--jobs", type=int, default=1, metavar="N",
+                        help="how many processes explore the states of one FILE, or a FILE each (1)")
     parser.add_argument("--speed", action="store_true", help="say on standard error how fast it was")
     return parser
 
@@ -102,7 +106,9 @@ def explored(options, subject):
     while True:
         try:
             search = search or Search(system_of(options, subject, keeps))
-            return search, search.run(options.states, options.first), keeps, said
+            alone = options.jobs == 1 or len(options.FILE) > 1 or "whole" in keeps
+            looked = repeat(None) if alone else ahead(search, options.jobs, options.states)
+            return search, search.run(options.states, options.first, looked), keeps, said
         except Unread as of:
             name = str(of)
             keeps += ("last",) if name == "last" else ("fields",)
@@ -117,6 +123,8 @@ def explored(options, subject):
             said.append(f"note {cause}, so whole machines were explored, which is slower")
         except Full as cause:
             raise Bad(str(cause)) from None
+        except BrokenProcessPool:
+            raise Bad("a process of the search was ended from outside") from None
         search = None
 
 
@@ -162,9 +170,10 @@ def of_file(options, path):
     subject = Subject(path)
     if subject.cores > MOST_CORES:
         raise Bad(f"{path} has {subject.cores} cores, and {MOST_CORES} is the most")
-    began = process_time()
+    clock, of = (process_time, "of one processor") if options.jobs == 1 else (monotonic, f"by {options.jobs} processes")
+    began = clock()
     search, is_all, keeps, said = explored(options, subject)
-    took = process_time() - began
+    took = clock() - began
     report = Report(search, is_all, Path(path).name)
     texts = report.texts()
     lines = [*report.lines(), *said]
@@ -175,7 +184,7 @@ def of_file(options, path):
         status = status if is_same else WRONG
     if options.save and not is_all:
         save(options, search, keeps, said)
-    speed = f"{path}: {len(search.states)} states in {took:.2f} s of one processor, " \
+    speed = f"{path}: {len(search.states)} states in {took:.2f} s {of}, " \
         f"{len(search.states) / took:,.0f} a second\n"
     return lines, texts, speed, status
 

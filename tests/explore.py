@@ -307,7 +307,31 @@ def command_line(folder, player):
     if all_played.returncode or not re.search(r"^player 12 examples, \d+ answers$", all_played.stdout, re.M):
         yield f"played: {all_played}"
     yield from kept_in_files(folder, test)
+    yield from another_player(folder)
     yield from refused(folder, test)
+
+
+def another_player(folder):
+    """Faults in what is said of a player whose stores take a time later by one. One store is at time 1, and each of the
+    way and the walk to the only end has 11 answers, two of which show the time."""
+    player, trace = Path(folder, "another.py"), Path(folder, "one.trace")
+    name, _, _, changes = RIGHT[3]
+    source = MACHINE.read_text(encoding="utf-8").replace(*changes[0])
+    player.write_text(f"#!{sys.executable}\nimport sys\nsys.path.insert(0, {str(TOP)!r})\n"
+                      f"from reference import machine\nexec({source!r}, vars(machine))\n"
+                      "from reference import play\nsys.exit(play.main(sys.argv[1:]))\n", encoding="utf-8")
+    player.chmod(0o755)
+    trace.write_text("0 W 0x0 1\n")
+    done = ran("--small", "--player", player, trace)
+    wanted, came = "completed 0 0 W 0x0 1 1 0", "completed 0 0 W 0x0 1 2 0"
+    events = ["issue 0 W 0x0 1", "attempt 0", "deliver m0", "deliver m1", "deliver m2", "deliver m0", "deliver m3"]
+    _, _, text = done.stdout.partition("\n\nexample another answer, at state 8, after 8 events\n")
+    opened, *calls, last = text.splitlines() or [""]
+    said = f"\ndiffers: wanted {wanted}, came {came}\n", "\nplayer 2 examples, 22 answers, 4 wrong\n"
+    if done.returncode != 1 or not all(one in done.stdout for one in said) or opened[:15] != "machine cores 1" or \
+            [call.partition("  ")[0] for call in calls] != events or \
+            last.split() != f"attempt 0 : {wanted} # here: the player answers {came}".split():
+        yield f"{name}, as the player: {done}"
 
 
 def kept_in_files(folder, test):

@@ -22,6 +22,7 @@ The status is 0 if all was explored and nothing is wrong, 1 if something is, 2 f
 are left that weren't looked at (--states), though nothing is wrong with the others.
 """
 import pickle
+import re
 import shlex
 import subprocess
 import sys
@@ -179,8 +180,8 @@ def of_file(options, path):
     lines = [*report.lines(), *said]
     status = WRONG if not report.is_good else GOOD if is_all else LEFT
     if options.player:
-        more, is_same = played(options.player, [*texts, *report.samples()])
-        lines += more
+        more, is_same, other = played(options.player, [*texts, *report.samples()])
+        lines, texts = lines + more, texts + other
         status = status if is_same else WRONG
     if options.save and not is_all:
         save(options, search, keeps, said)
@@ -190,14 +191,29 @@ def of_file(options, path):
 
 
 def played(command, texts):
-    """Plays texts on a player of events: the lines on it, and whether each answer is the same."""
+    """Plays texts on a player of events: the lines on it, whether each answer is the same, and the shortest list of
+    events after which one isn't, as a text."""
     text = "\n".join(line for lines in texts for line in lines) + "\n"
     try:
         ran = subprocess.run([*shlex.split(command), "-"], input=text, capture_output=True, text=True, check=False)
     except OSError as error:
         raise Bad(f"{command}: {error.strerror}") from None
     *differences, last = ran.stdout.splitlines() or ["nothing"]
-    return [*differences[:MOST_DIFFERENCES], f"player {last.removeprefix('-: ')}"], ran.returncode == 0
+    others = [others for said in differences for others in to_difference(texts, said)]
+    told = [re.sub(r"^-:\d+: ", "differs: ", said) for said in differences[:MOST_DIFFERENCES]]
+    return [*told, f"player {last.removeprefix('-: ')}"], ran.returncode == 0, sorted(others, key=len)[:1]
+
+
+def to_difference(texts, said):
+    """The events up to one that a player answers otherwise, as a text; nothing if the player said something else."""
+    found = re.match(r"-:(\d+): wanted .*, came (.*)", said)
+    left = int(found[1]) if found else 0
+    for title, *lines in texts if found else ():
+        if left <= len(lines) + 1:
+            yield [title.replace("example", "example another answer, at"), *lines[:left - 2],
+                   f"{lines[left - 2]}  # here: the player answers {found[2]}"]
+            return
+        left -= len(lines) + 1
 
 
 def job(options, path):

@@ -14,6 +14,7 @@ import shutil
 import subprocess
 import sys
 import tempfile
+from itertools import repeat
 from pathlib import Path
 from types import SimpleNamespace
 
@@ -22,6 +23,7 @@ sys.path.insert(0, str(TOP))
 from reference.given import NUMBERS  # noqa: E402
 from reference.traces import Trace  # noqa: E402
 from tests.explored_rules import ANY, NUMBERED, RIGHT, SB, STORE_AND_LOAD, STUCK, TWO_STORES, WIDE, WRONG  # noqa: E402
+from tools.explored import ahead  # noqa: E402
 from tools.explored.frozen import Elsewhere, Numbered, Unread  # noqa: E402
 from tools.explored.parts import MASK, Parts  # noqa: E402
 from tools.explored.reports import Report  # noqa: E402
@@ -192,6 +194,26 @@ def counts(folder):
             yield f"{text!r}: {came}, not {wanted}"
 
 
+def by_processes(folder):
+    """Faults in searches by two processes, which must meet states in the same order as one does."""
+    usual = ahead.LEAST, ahead.SHARE
+    ahead.LEAST, ahead.SHARE = 70, 30  # so that small searches are shared out, too
+    for text, given, changes, limits, is_first in [
+            (SB, {}, [], [700, 10 ** 6], False), (TWO_STORES, ANY | {"messages": 2}, [], [10 ** 6], False),
+            (SB, {}, WRONG[0][-1], [10 ** 6], True)]:
+        module, _ = module_of(folder, changes)
+        found = []
+        for by in (lambda search, limit: repeat(None), lambda search, limit: ahead.ahead(search, 2, limit)):
+            search = Search(system_of(module, text, given, ("fields",)))
+            is_all = [search.run(limit, is_first, by(search, limit)) for limit in limits]
+            report = Report(search, is_all[-1], "it")
+            found.append([is_all, search.parents, search.events, search.afters, search.begins, search.levels,
+                          [*report.lines()], report.texts()])
+        if found[0] != found[1]:
+            yield f"{text!r}, {limits}: two processes find {found[1]}, not {found[0]}"
+    ahead.LEAST, ahead.SHARE = usual
+
+
 def beside_what_is_proved(folder):
     """Faults of searches against docs/PROMISES.md: where two more messages may be in flight, at most 35 events
     complete any open operation. So in stuck and lost states there is one place at most."""
@@ -285,7 +307,31 @@ def command_line(folder, player):
     if all_played.returncode or not re.search(r"^player 12 examples, \d+ answers$", all_played.stdout, re.M):
         yield f"played: {all_played}"
     yield from kept_in_files(folder, test)
+    yield from another_player(folder)
     yield from refused(folder, test)
+
+
+def another_player(folder):
+    """Faults in what is said of a player whose stores take a time later by one. One store is at time 1, and each of the
+    way and the walk to the only end has 11 answers, two of which show the time."""
+    player, trace = Path(folder, "another.py"), Path(folder, "one.trace")
+    name, _, _, changes = RIGHT[3]
+    source = MACHINE.read_text(encoding="utf-8").replace(*changes[0])
+    player.write_text(f"#!{sys.executable}\nimport sys\nsys.path.insert(0, {str(TOP)!r})\n"
+                      f"from reference import machine\nexec({source!r}, vars(machine))\n"
+                      "from reference import play\nsys.exit(play.main(sys.argv[1:]))\n", encoding="utf-8")
+    player.chmod(0o755)
+    trace.write_text("0 W 0x0 1\n")
+    done = ran("--small", "--player", player, trace)
+    wanted, came = "completed 0 0 W 0x0 1 1 0", "completed 0 0 W 0x0 1 2 0"
+    events = ["issue 0 W 0x0 1", "attempt 0", "deliver m0", "deliver m1", "deliver m2", "deliver m0", "deliver m3"]
+    _, _, text = done.stdout.partition("\n\nexample another answer, at state 8, after 8 events\n")
+    opened, *calls, last = text.splitlines() or [""]
+    said = f"\ndiffers: wanted {wanted}, came {came}\n", "\nplayer 2 examples, 22 answers, 4 wrong\n"
+    if done.returncode != 1 or not all(one in done.stdout for one in said) or opened[:15] != "machine cores 1" or \
+            [call.partition("  ")[0] for call in calls] != events or \
+            last.split() != f"attempt 0 : {wanted} # here: the player answers {came}".split():
+        yield f"{name}, as the player: {done}"
 
 
 def kept_in_files(folder, test):
@@ -350,7 +396,8 @@ def main():
     with tempfile.TemporaryDirectory() as folder:
         tries = [*(wrong_rule(folder, *of) for of in WRONG), *(right_rule(folder, *of) for of in RIGHT),
                  *(wide(folder, *of) for of in WIDE), *(numbered(folder, *of) for of in NUMBERED),
-                 counts(folder), beside_what_is_proved(folder), command_line(folder, player), copied(folder),
+                 counts(folder), by_processes(folder), beside_what_is_proved(folder), command_line(folder, player),
+                 copied(folder),
                  *(compared(module_of(folder, changes)[0], text, given)
                    for text, given, changes in [*COMPARED, *(LONG if is_long else [])]),
                  *(compared_if_small(module_of(folder, changes)[0], text, given)

@@ -344,6 +344,35 @@ def tried(browser, path, says):
     return compared.faults
 
 
+def quizzed(browser, path):
+    """A quiz on the page of the stale hit: by rounds core 0's load of 0x8 completes first, then core 1's loads, and
+    between them core 0's store, which isn't asked."""
+    compared = Compared(CASES["the past"])
+    browser.open(path)
+    what = lambda: browser.value("document.getElementById('what').textContent")  # noqa: E731
+    loads = [(0, "0x8"), (1, "0x0"), (1, "0x10"), (1, "0x0"), (1, "0x0")]
+    browser.press("q")
+    for key in ("c", "ArrowRight", "ArrowDown"):
+        browser.press("Home")
+        asked, before = [], 0
+        while browser.value("at < run.steps.length && find('c', 1) !== null"):
+            browser.press(key)
+            if browser.value("isAsked"):
+                asked.append(what())
+                compared.same("no outcome yet", browser.value("counts[at]"), before)
+                browser.press(key)
+                compared.same("the outcome", browser.value("[counts[at], run.steps[at - 1][1].split(' ')[0]].join()"),
+                              f"{before + 1},completed")
+            before = browser.value("counts[at]")
+        compared.same("what is asked", asked, [f"What does core {core}'s load of {word} return?"
+                                               for core, word in loads])
+    browser.press("q")
+    browser.press("Home")
+    browser.press("c")
+    compared.same("no quiz", browser.value("[counts[at], isAsked].join()"), "1,false")
+    return compared.faults
+
+
 def cut(browser):
     """What is wider than its place, or lies outside the window; in the orders, outside its box."""
     return browser.value("""[...document.querySelectorAll("h2, .copy, .entry, .message b, #what, #count, nav button, "
@@ -438,7 +467,8 @@ def asked(browser, folder):
     compared.same("the address", browser.value("location.hash"), f"#{browser.value('at')}")
     browser.press("?")
     keys = text("#keys")
-    compared.same("the keys", [key in keys for key in ("right, left", "space", "stale hit", "? ")], [True] * 4)
+    listed = ("right, left", "space", "stale hit", "quiz", "? ")
+    compared.same("the keys", [key for key in listed if key in keys], [*listed])
     browser.press("p")
     compared.same("one panel", browser.value("[...document.querySelectorAll('.over')].map(one => one.hidden).join()"),
                   "false,true")
@@ -504,6 +534,7 @@ def in_browser(browser, player, pages, folder):
                 browser.value(f"go({at})")
                 yield from [f"{name} at {size}: {fault} is cut" for fault in [cut(browser)] if fault]
     yield from tried(browser, pages["the past"], says["the past"])
+    yield from quizzed(browser, pages["the past"])
     yield from asked(browser, folder)
     yield from narrow(browser, folder)
     browser.open(f"{folder / 'long.html'}#3000")

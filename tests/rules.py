@@ -102,6 +102,22 @@ def shortest(lines):
         yield f"the shortest list is {behind}"
 
 
+def marked(fault, told):
+    """Faults in the mark of the fault in its replay. A value is wrong where its record completes, the number of which
+    ends the verdict; a second owner is there once a message is delivered."""
+    marks = [line for line in told if "  # " in line]
+    if "by rounds after" in fault:
+        yield from [f"what the replay doesn't show is marked: {marks}"] * bool(marks)
+        return
+    before = told[:told.index(marks[0]) + 1] if marks else []
+    completed = sum(": Completed" in line for line in before)
+    if len(marks) != 1 or not marks[0].endswith(": " + fault):
+        yield f"{marks} are marked, for {fault}"
+    elif fault.startswith(VALUE) and (": Completed  #" not in marks[0] or completed != 1 + int(fault.split()[-1])) or \
+            fault.startswith(OWNERS) and ("Deliver " not in marks[0] or ": Delivered  #" not in marks[0]):
+        yield f"{marks[0]!r} is marked, behind {completed} completions"
+
+
 def faults(may_be, most, status, out, again):
     """Faults in what was printed of a wrong rule."""
     lines = out.splitlines()
@@ -119,6 +135,7 @@ def faults(may_be, most, status, out, again):
     told = again.stderr + again.stdout
     if may_be == VALUE and f"order {verdict}" not in told or may_be == FAILS and "Traceback" not in told or not told:
         yield f"{command_of(lines)} doesn't show it: {told[-200:]}"
+    yield from marked(lines[0].partition(": try ")[0], again.stdout.splitlines())
     yield from shortest(lines)
 
 

@@ -22,18 +22,22 @@ The status is 0 if all was explored and nothing is wrong, 1 if something is, 2 f
 are left that weren't looked at (--states), though nothing is wrong with the others.
 """
 import pickle
+import re
 import shlex
 import subprocess
 import sys
 from concurrent.futures import ProcessPoolExecutor
+from concurrent.futures.process import BrokenProcessPool
 from hashlib import sha256
+from itertools import repeat
 from pathlib import Path
-from time import process_time
+from time import monotonic, process_time
 from types import SimpleNamespace
 
 sys.path.insert(0, str(Path(__file__).resolve().parent.parent))
 from reference import machine  # noqa: E402
 from reference.given import NUMBERS, Bad, Subject, Words, contents, has_machine, tool  # noqa: E402
+from tools.explored.ahead import ahead  # noqa: E402
 from tools.explored.frozen import Elsewhere, Numbered, Unread  # noqa: E402
 from tools.explored.parts import Full, Parts  # noqa: E402
 from tools.explored.reports import Report  # noqa: E402
@@ -67,7 +71,8 @@ def words():
     parser.add_argument("--player", metavar="COMMAND",
                         help="play what is wrong on a player of events, such as crates/play_events/out/play_events; "
                         "and for one of each 1,000 states the way to it, and a random walk: with the same answers")
-    parser.add_argument("--jobs", type=int, default=1, metavar="N", help="how many processes explore (1)")
+    parser.add_argument("--jobs", type=int, default=1, metavar="N",
+                        help="how many processes explore the states of one FILE, or a FILE each (1)")
     parser.add_argument("--speed", action="store_true", help="say on standard error how fast it was")
     return parser
 
@@ -102,7 +107,9 @@ def explored(options, subject):
     while True:
         try:
             search = search or Search(system_of(options, subject, keeps))
-            return search, search.run(options.states, options.first), keeps, said
+            alone = options.jobs == 1 or len(options.FILE) > 1 or "whole" in keeps
+            looked = repeat(None) if alone else ahead(search, options.jobs, options.states)
+            return search, search.run(options.states, options.first, looked), keeps, said
         except Unread as of:
             name = str(of)
             keeps += ("last",) if name == "last" else ("fields",)
@@ -117,6 +124,8 @@ def explored(options, subject):
             said.append(f"note {cause}, so whole machines were explored, which is slower")
         except Full as cause:
             raise Bad(str(cause)) from None
+        except BrokenProcessPool:
+            raise Bad("a process of the search was ended from outside") from None
         search = None
 
 
@@ -162,33 +171,49 @@ def of_file(options, path):
     subject = Subject(path)
     if subject.cores > MOST_CORES:
         raise Bad(f"{path} has {subject.cores} cores, and {MOST_CORES} is the most")
-    began = process_time()
+    clock, of = (process_time, "of one processor") if options.jobs == 1 else (monotonic, f"by {options.jobs} processes")
+    began = clock()
     search, is_all, keeps, said = explored(options, subject)
-    took = process_time() - began
+    took = clock() - began
     report = Report(search, is_all, Path(path).name)
     texts = report.texts()
     lines = [*report.lines(), *said]
     status = WRONG if not report.is_good else GOOD if is_all else LEFT
     if options.player:
-        more, is_same = played(options.player, [*texts, *report.samples()])
-        lines += more
+        more, is_same, other = played(options.player, [*texts, *report.samples()])
+        lines, texts = lines + more, texts + other
         status = status if is_same else WRONG
     if options.save and not is_all:
         save(options, search, keeps, said)
-    speed = f"{path}: {len(search.states)} states in {took:.2f} s of one processor, " \
+    speed = f"{path}: {len(search.states)} states in {took:.2f} s {of}, " \
         f"{len(search.states) / took:,.0f} a second\n"
     return lines, texts, speed, status
 
 
 def played(command, texts):
-    """Plays texts on a player of events: the lines on it, and whether each answer is the same."""
+    """Plays texts on a player of events: the lines on it, whether each answer is the same, and the shortest list of
+    events after which one isn't, as a text."""
     text = "\n".join(line for lines in texts for line in lines) + "\n"
     try:
         ran = subprocess.run([*shlex.split(command), "-"], input=text, capture_output=True, text=True, check=False)
     except OSError as error:
         raise Bad(f"{command}: {error.strerror}") from None
     *differences, last = ran.stdout.splitlines() or ["nothing"]
-    return [*differences[:MOST_DIFFERENCES], f"player {last.removeprefix('-: ')}"], ran.returncode == 0
+    others = [others for said in differences for others in to_difference(texts, said)]
+    told = [re.sub(r"^-:\d+: ", "differs: ", said) for said in differences[:MOST_DIFFERENCES]]
+    return [*told, f"player {last.removeprefix('-: ')}"], ran.returncode == 0, sorted(others, key=len)[:1]
+
+
+def to_difference(texts, said):
+    """The events up to one that a player answers otherwise, as a text; nothing if the player said something else."""
+    found = re.match(r"-:(\d+): wanted .*, came (.*)", said)
+    left = int(found[1]) if found else 0
+    for title, *lines in texts if found else ():
+        if left <= len(lines) + 1:
+            yield [title.replace("example", "example another answer, at"), *lines[:left - 2],
+                   f"{lines[left - 2]}  # here: the player answers {found[2]}"]
+            return
+        left -= len(lines) + 1
 
 
 def job(options, path):

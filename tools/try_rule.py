@@ -8,8 +8,8 @@ operations and advances, a machine with small caches, and a schedule; its number
 are named, the script plays their programs in place of drawn ones. It looks for records that aren't legal, two owners
 of a line, a message that the machine can't take, and a round that makes no progress; a seeded run that reaches its
 limit goes on by rounds. Then the script cuts the trace as far as one of 120 runs still shows the fault, and prints it
-with its records and the command that prints its run event by event. Last it explores that machine (tools/explore.py)
-for a shortest list of events with a fault, in which the last event is marked.
+with its records and the command that prints its run event by event, with the turn of the fault marked. Last it explores
+that machine (tools/explore.py) for a shortest list of events with a fault, in which the last event is marked.
 
 A machine has places for one message more than cores, or for more. With fewer it may be stuck by the rules as they are
 (docs/EXPLORING.md), and old recalls may fill it; --stuck draws fewer, too, and tells of runs that end so. If nothing is
@@ -20,6 +20,7 @@ something was, and 2 for a bad file or word, which standard error names in one l
 it prints.
 """
 import argparse
+import re
 import shlex
 import sys
 from itertools import product
@@ -85,18 +86,19 @@ class Watched(Run):
 
 
 class Trial:
-    """Programs, a machine's options and a schedule. `steps` are those of a trace; a test has its own programs."""
+    """Programs, a machine's options and a schedule. `steps` are those of a trace; a test has its own programs. `told`
+    has the answers that the replay prints, in their order."""
 
     def __init__(self, steps, options, test=None):
-        self.steps, self.options, self.test = steps, options, test
+        self.steps, self.options, self.test, self.told = steps, options, test, []
 
     def fault(self):
         """What can't be, in words, or None; and the records."""
         programs = self.test.programs() if self.test else [Steps(steps) for steps in self.steps]
         memory = self.test.memory if self.test else {}
-        after = ""
+        after, self.told = "", []
         try:
-            run, end = drive(self.options, programs, memory, self.options.seed, kind=Watched)
+            run, end = drive(self.options, programs, memory, self.options.seed, self.tell, kind=Watched)
             verdict = check(memory, run.issued(), run.machine.records)
             if verdict == "legal" and end == "limit" and self.options.schedule == "seed":
                 after = f", by rounds after {run.turns} turns"
@@ -108,6 +110,20 @@ class Trial:
         if verdict == "legal" and end == "stalled" and self.is_at_fault(run):
             verdict = "a round without progress"
         return None if verdict == "legal" else verdict + after, run.machine.records
+
+    def tell(self, _turn, _about, answer):
+        self.told.append(answer)
+
+    def mark(self, fault):
+        """What marks the fault in the replay: at the completion of a wrong record, else at the last event. Nothing if
+        the run went on by rounds, since the replay doesn't."""
+        if ", by rounds after" in fault:
+            return ""
+        completed = [place for place, answer in enumerate(self.told, 1) if answer == "Completed"]
+        number = re.search(r"^(?!two owners).* (\d+)$", fault)
+        place = completed[int(number[1])] if number else len(self.told)
+        where = "behind this" if fault.startswith("the machine fails") else "here"
+        return " 2>&1 | sed " + shlex.quote(f"{place}s|$|  # {where}: {fault}|")
 
     def is_at_fault(self, run):
         """Whether a run's rules are at fault for its last round: not if a message found no place, unless that is
@@ -235,13 +251,14 @@ def told(number, trial, name):
     yield "The run's records, as far as it got:"
     yield from map(record_line, records)
     yield "Event by event:"
+    mark = trial.mark(fault)
     oracle = shlex.quote(relpath(Path(__file__).resolve().parent.parent / "reference/oracle.py"))
     words = " ".join(["--trace", *trial.words()])
     if trial.test:
-        yield f"    {oracle} litmus {words} {shlex.quote(name)}"
+        yield f"    {oracle} litmus {words} {shlex.quote(name)}{mark}"
     else:
         text = "\\n".join([*trial.lines(), ""])
-        yield f"    printf '{text}' | {oracle} trace {words} /dev/stdin"
+        yield f"    printf '{text}' | {oracle} trace {words} /dev/stdin{mark}"
     yield from shortest(trial)
 
 

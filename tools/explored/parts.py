@@ -80,6 +80,7 @@ class Parts(Saved):
         self.makes_room = set()                    # events that evict an entry for a message
         self.later = {}                            # by history and record: what is added to it, or a fault
         self.owned, self.is_end = [[] for _ in self.parts], [[] for _ in range(self.cores)]
+        self.end_of = {}                           # by the histories' and cores' numbers: the end
         self.begins = [(place, self.at[place], self.own[place]) for place in range(self.cores)]
         if how.evict == "any":
             self.begins += [(place, self.at[place], self.own[place])
@@ -328,12 +329,18 @@ class Parts(Saved):
 
     # What a state is.
     def is_done(self, state):
-        return all(ended[state >> at & MASK] for ended, at in zip(self.is_end, self.at))
+        for ended, at in zip(self.is_end, self.at):
+            if not ended[state >> at & MASK]:
+                return False
+        return True
 
     def end(self, state):
-        values = [self.tables[place].values[state >> self.at[place] & MASK][1] for place in range(self.cores)]
-        memory = memory_of(self.histories.values[state >> self.history_at & MASK], self.subject.memory)
-        return end_of(self.subject, self.programs, values, memory)
+        of = (state & (1 << self.at[self.cores]) - 1) >> self.history_at
+        if of not in self.end_of:
+            values = [self.tables[place].values[state >> self.at[place] & MASK][1] for place in range(self.cores)]
+            memory = memory_of(self.histories.values[state >> self.history_at & MASK], self.subject.memory)
+            self.end_of[of] = end_of(self.subject, self.programs, values, memory)
+        return self.end_of[of]
 
     def in_flight(self, state):
         return self.bags.count[state & MASK]

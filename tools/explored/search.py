@@ -5,6 +5,7 @@ A system has `start()`, `successors(state)`, a list of (event, the state after i
 kind is one of those with the fewest events.
 """
 from array import array
+from itertools import accumulate, compress, count, repeat
 
 
 class Saved:
@@ -36,50 +37,58 @@ class Search:
         self.faults = {}      # by fault: the state before it and its event
         self.faulty, self.done, self.stuck = set(), set(), []
 
-    def run(self, limit, is_first=False):
+    def run(self, limit, is_first=False, looked=repeat(None)):
         """Looks at states until none is left, as many as `limit` were met, or there is a fault and `is_first`.
-        Whether none is left."""
-        successors, seen, states = self.system.successors, self.seen, self.states
-        parents, events, afters = self.parents, self.events, self.afters
-        at = self.next
-        while at < len(states) and len(states) < limit:
-            if at == self.levels[-1]:
-                self.levels.append(len(states))
-            state = states[at]
-            self.begins.append(len(afters))
-            found = successors(state)
-            for event, after, fault in found:
-                if after is None:
-                    self.faults.setdefault(fault, (at, event))
-                    self.faulty.add(at)
-                    continue
-                number = seen.get(after)
-                if number is None:
-                    number = seen[after] = len(states)
-                    states.append(after)
-                    parents.append(at)
-                    events.append(event)
-                afters.append(number)
-            self.made += len(found)
-            self.look(at, state, found)
-            at += 1
+        Whether none is left. `looked` says of each state in turn what others found (ahead.py), or None."""
+        while self.next < len(self.states) and len(self.states) < limit:
+            if self.next == self.levels[-1]:
+                self.levels.append(len(self.states))
+            found = next(looked)
+            if found is None:
+                self.look(self.next)
+            else:
+                self.take(*found)
             if is_first and self.is_wrong():
                 break
-        self.next = at
-        return at == len(states)
+        return self.next == len(self.states)
+
+    def look(self, at):
+        """Makes the events of a state."""
+        seen, states, state, afters = self.seen, self.states, self.states[at], []
+        found = self.system.successors(state)
+        for event, after, fault in found:
+            if after is None:
+                self.faults.setdefault(fault, (at, event))
+                self.faulty.add(at)
+                continue
+            number = seen.get(after)
+            if number is None:
+                number = seen[after] = len(states)
+                states.append(after)
+                self.parents.append(at)
+                self.events.append(event)
+            afters.append(number)
+        is_done = self.system.is_done(state)
+        if not found and not is_done:
+            self.stuck.append(at)
+        self.made += len(found) - len(afters)
+        self.take([len(afters)], afters, self.system.in_flight(state), [is_done])
+
+    def take(self, counts, afters, most, done):
+        """Notes of the next states how many come after each, which, how many messages are in flight at most, and which
+        are done."""
+        self.begins.extend(accumulate(counts[:-1], initial=len(self.afters)))
+        self.afters.extend(afters)
+        self.made += len(afters)
+        self.most = max(self.most, most)
+        for at in compress(count(self.next), done):
+            self.done.add(at)
+            self.ends.setdefault(self.system.end(self.states[at]), at)
+        self.next += len(counts)
 
     def is_wrong(self):
         """Whether a fault or a stuck state was met; an end of time is none."""
         return bool(self.stuck) or any(self.system.faults.values[fault - 1][0] != "exhausted" for fault in self.faults)
-
-    def look(self, at, state, found):
-        """Notes what kind of state it is."""
-        self.most = max(self.most, self.system.in_flight(state))
-        if self.system.is_done(state):
-            self.done.add(at)
-            self.ends.setdefault(self.system.end(state), at)
-        elif not found:
-            self.stuck.append(at)
 
     @property
     def depth(self):

@@ -16,6 +16,7 @@ let [WIDE, LEFT, RIGHT, BOX] = PLACES.wide;
 const view = {...run.opening};
 const undone = [];
 let at = 0, playing = null;
+let quiz = false, isAsked = false; // whether a quiz asks now what the next event returns
 
 function make() {
   const changes = run.steps[at][5], undo = {};
@@ -35,7 +36,8 @@ function set(name, seen) {
   if (seen === null) delete view[name]; else view[name] = seen;
 }
 
-function go(to) {
+function go(to, asks = false) {
+  isAsked = asks;
   to = Math.max(0, Math.min(run.steps.length, to));
   while (at < to) make();
   while (at > to) unmake();
@@ -292,12 +294,20 @@ function crossing(last, over, rank, step, high) {
   return `<circle class="cross" cx="${x}" cy="${y}" r="17"/>${step > 95 || row === completed() - 1 ? note : ""}`;
 }
 
+// What a quiz asks at a place, if a load or swap completes next.
+function question(place) {
+  if (!quiz || place === run.steps.length || !run.steps[place][6].includes("c")) return null;
+  const [core, kind, name] = run.records[counts[place]];
+  return kind === "store" ? null : `What does core ${core}'s ${kind} of ${name} return?`;
+}
+
 function showSaid() {
   byId("passed").textContent = "";
-  const step = at ? run.steps[at - 1] : null, past = step && /[sw]/.test(step[6]);
-  byId("what").textContent = step ? step[2] : `${run.title}: before the first event`;
-  byId("why").innerHTML = step ? `${escaped(step[3])} <cite><a href="#rule" id="cite" title="p">docs/PROTOCOL.md, ${
-    escaped(step[4])}</a></cite>` :
+  const step = at ? run.steps[at - 1] : null, asks = isAsked && question(at);
+  const past = !asks && step && /[sw]/.test(step[6]);
+  byId("what").textContent = asks || (step ? step[2] : `${run.title}: before the first event`);
+  byId("why").innerHTML = asks ? "The right arrow shows it." : step ?
+    `${escaped(step[3])} <cite><a href="#rule" id="cite" title="p">docs/PROTOCOL.md, ${escaped(step[4])}</a></cite>` :
     `The right arrow goes on to the next event${find("s", 1) === null ? "" : ", and s to the first stale hit"}.`;
   byId("said").className = past ? "past" : "";
   if (!byId("rule").hidden) showRule();
@@ -347,7 +357,8 @@ function turn(id) {
 const HELP = [["right, left", "on to the next event that changes something, and back"], ["down, up", "each event"],
   ["Home, End", "the first and the last event"], ["space", "play"],
   ...JUMPS.map(([key, name]) => [key, `the next ${name}; with shift the one before`]),
-  ["p", "the rule's paragraph"], ["d", "dark or light"], ["?", "these keys"]];
+  ["q", "a quiz: what a load returns is asked before it is shown"], ["p", "the rule's paragraph"],
+  ["d", "dark or light"], ["?", "these keys"]];
 
 // The next event of a kind, or the one before.
 function find(key, by) {
@@ -355,18 +366,34 @@ function find(key, by) {
   return null;
 }
 
+// To another event; in a quiz, on to the next question at most.
+function move(to) {
+  let place = isAsked ? at + 1 : at;
+  while (place < to && !question(place)) place += 1;
+  if (place < to) go(place, true); else go(to);
+}
+
 // On by one event, over those that change nothing, as a core that waits.
 function walk(by) {
   let to = at + by;
   while (to > 0 && to < run.steps.length && !Object.keys(run.steps[to - 1][5]).length) to += by;
-  const over = Math.abs(to - at) - 1;
-  go(to);
+  const from = at;
+  move(to);
+  const over = Math.abs(at - from) - 1;
   if (over > 0) byId("passed").textContent = `(${over} passed over that changed nothing)`;
 }
 
 function jump(key, by) {
   const to = find(key, by);
-  if (to !== null) go(to);
+  if (to !== null) move(to);
+}
+
+function turnQuiz() {
+  quiz = !quiz;
+  isAsked = false;
+  document.documentElement.classList.toggle("quiz", quiz);
+  byId("quiz").setAttribute("aria-pressed", quiz);
+  show();
 }
 
 function pause() {
@@ -378,7 +405,10 @@ function pause() {
 function play() {
   if (playing) return pause();
   if (at === run.steps.length) go(0);
-  playing = setInterval(() => walk(1), PLAY);
+  playing = setInterval(() => {
+    walk(1);
+    if (isAsked) pause();
+  }, PLAY);
   byId("play").textContent = "pause";
 }
 
@@ -387,8 +417,8 @@ function dark(is) {
 }
 
 const KEYS = {ArrowRight: () => walk(1), ArrowLeft: () => walk(-1), PageDown: () => walk(1), PageUp: () => walk(-1),
-  ArrowDown: () => go(at + 1), ArrowUp: () => go(at - 1), Home: () => go(0), End: () => go(run.steps.length),
-  " ": play, "?": () => turn("keys"), p: () => turn("rule"), Escape: () => {
+  ArrowDown: () => move(at + 1), ArrowUp: () => go(at - 1), Home: () => go(0), End: () => go(run.steps.length),
+  " ": play, q: turnQuiz, "?": () => turn("keys"), p: () => turn("rule"), Escape: () => {
     byId("keys").hidden = byId("rule").hidden = true;
   }, d: () => dark(!document.documentElement.classList.contains("dark"))};
 document.addEventListener("keydown", event => {
@@ -437,6 +467,7 @@ function begin() {
     byId(id).onclick = act;
   });
   byId("help").onclick = () => turn("keys");
+  byId("quiz").onclick = turnQuiz;
   byId("why").addEventListener("click", event => {
     if (event.target.id !== "cite") return;
     event.preventDefault();

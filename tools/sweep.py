@@ -93,11 +93,14 @@ def parser():
     return with_lists(words)
 
 
-def with_lists(words):
-    for name, (usual, says) in LISTED.items():
-        words.add_argument("--" + name, default=str(usual), metavar="LIST", help=f"{says} ({usual})")
-    for name, choices in CHOICES.items():
-        words.add_argument("--" + name, default=choices[0], metavar="LIST", help=f"{', '.join(choices)}, or both")
+def with_lists(words, fixed=None):
+    """The words with all options, but for those that are fixed: each of these has its value."""
+    told = {name: (str(usual), f"{says} ({usual})") for name, (usual, says) in LISTED.items()} | {
+        name: (choices[0], f"{', '.join(choices)}, or both") for name, choices in CHOICES.items()}
+    for name, (usual, says) in told.items():
+        if name not in (fixed or {}):
+            words.add_argument("--" + name, default=usual, metavar="LIST", help=says)
+    words.set_defaults(**{name.replace("-", "_"): value for name, value in (fixed or {}).items()})
     return words
 
 

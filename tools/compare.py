@@ -15,9 +15,10 @@ from pathlib import Path
 
 sys.path.insert(0, str(Path(__file__).resolve().parent.parent))
 from reference.counted import KINDS  # noqa: E402
-from reference.given import Bad, Words, tool  # noqa: E402
+from reference.given import Words, tool  # noqa: E402
 from reference.schedules import Run, by_rounds, by_seed  # noqa: E402
 from tools import measured, sweep  # noqa: E402
+from tools.plots import picture  # noqa: E402
 from tools.program import number  # noqa: E402
 
 
@@ -76,13 +77,6 @@ def told(path, chosen, names, rows):
                                *([kind, *(row.get(kind, "0") for row in rows)] for kind in shown)])
 
 
-def save(path, text):
-    try:
-        Path(path).write_text(text, encoding="utf-8")
-    except OSError as error:
-        raise Bad(f"{path}: {error.strerror}") from None
-
-
 def main(given):
     options = parser().parse_args(given)
     columns = ["trace", "name", *sweep.OPTIONS, *ROWS]
@@ -93,9 +87,10 @@ def main(given):
         rows += found
     rows = [dict.fromkeys(columns, "0") | row for row in rows]
     if options.csv:
-        save(options.csv, "".join(map(sweep.line_of, [columns, *([row[name] for name in columns] for row in rows)])))
+        table = [columns, *([row[name] for name in columns] for row in rows)]
+        sweep.save(options.csv, "".join(map(sweep.line_of, table)))
     if axes:
-        save(options.svg, "\n".join(sweep.picture(sweep.series(rows, *axes), *axes)) + "\n")
+        sweep.save(options.svg, "\n".join(picture({"": sweep.series(rows, *axes)}, *axes)) + "\n")
     return int(any(map(sweep.is_cut, rows)))
 
 

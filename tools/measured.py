@@ -4,7 +4,7 @@ from functools import partial
 
 from reference.counted import Counts
 from reference.directory import Directory
-from reference.given import NUMBERS, Bad, has_machine
+from reference.given import NUMBERS, Bad, bad_configuration, has_machine
 from reference.machine import Machine
 from reference.traces import Fault, Trace
 from tools import sweep
@@ -40,8 +40,8 @@ def options_of(chosen, cores):
     named = {name.replace("-", "_"): int(chosen[name]) for name in NUMBERS}
     options = Namespace(cores=cores, **named, **{name.replace("-", "_"): chosen[name] == "yes" for name in sweep.FLAGS},
                         schedule=chosen["schedule"])
-    if not has_machine(options, cores) or options.limit < 1:
-        raise Bad("bad configuration: an option is out of its range (docs/TEXTS.md)")
+    if not has_machine(options, cores):
+        raise Bad(bad_configuration(options))
     return options
 
 

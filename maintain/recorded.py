@@ -17,7 +17,7 @@ from pathlib import Path
 sys.path.insert(0, str(Path(__file__).resolve().parent.parent))
 from maintain.catalogue import with_table  # noqa: E402
 from tools import program, sweep  # noqa: E402
-from tools.sweep import words  # noqa: E402
+from tools.plots import words  # noqa: E402
 
 
 TOP = program.TOP

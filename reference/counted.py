@@ -20,6 +20,8 @@ class Part:
 
 
 class Counts:
+    """Counts what its machine does; a run may drive it in the machine's place."""
+
     def __init__(self, machine):
         self.machine, self.written = machine, {}  # by word the greatest time of a write so far
         self.parts = {("core", core): Part() for core in range(machine.o.cores)}
@@ -30,7 +32,10 @@ class Counts:
         places = ("bank", message.line % self.machine.o.banks), ("core", message.core)
         return [self.parts[place] for place in places if place in self.parts]
 
-    def make(self, event):
+    def __getattr__(self, name):
+        return getattr(self.machine, name)
+
+    def step(self, event):
         machine, (name, *of) = self.machine, event
         message, sent = machine.flight.get(of[0]) if name == "Deliver" else None, machine.sent
         answer = machine.step(event)
@@ -46,6 +51,7 @@ class Counts:
             self.parts["core" if name == "EvictCache" else "bank", of[0]].number["evicted"] += 1
         if answer == "Completed":
             self.complete(machine.records[-1])
+        return answer
 
     def complete(self, record):
         part, newest = self.parts["core", record.core], self.written.get(record.word, 0)

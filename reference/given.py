@@ -3,12 +3,13 @@
 A tool's `--help` is its own docstring and its options. It reports a bad text or option in one line, with status 2.
 """
 import argparse
+import errno
 import os
 import sys
 from pathlib import Path
 
 from reference import litmus_faults
-from reference.calls import options_of
+from reference.calls import OPTIONS, options_of
 from reference.litmus import Test
 from reference.litmus_faults import LitmusFault
 from reference.reports import drive
@@ -23,6 +24,10 @@ NUMBERS = {"seed": (0, "the seed, with --schedule seed"), "limit": (100000, "the
            "ways": (4, "the copies of such a set"), "bank-sets": (256, "the sets of a bank"),
            "bank-ways": (8, "the entries of such a set"), "line-words": (1, "the words of a line, 1 or 8"),
            "messages": (4096, "the most messages in flight")}
+
+
+# Why standard output can't be written.
+UNWRITTEN = (errno.ENOSPC, errno.EIO, errno.EFBIG, errno.EDQUOT, errno.EBADF)
 
 
 class Bad(Exception):
@@ -105,8 +110,10 @@ class Subject:
 
     def run(self, options, kind=Run):
         """A run on the second program's machine, and its end."""
-        if not has_machine(options, self.cores) or options.limit < 1:
-            raise Bad("bad configuration: an option is out of its range (docs/TEXTS.md)")
+        if not has_machine(options, self.cores):
+            raise Bad(bad_configuration(options))
+        if options.limit < 1:
+            raise Bad("bad configuration: --limit is 1 or more")
         self.chosen(options)
         return drive(options, self.programs(), self.memory, options.seed, None, kind)
 
@@ -121,6 +128,14 @@ def has_machine(options, cores):
     """Whether there is a machine of these options with this many cores."""
     named = {name: getattr(options, name.replace("-", "_")) for name in NUMBERS if name not in ("seed", "limit")}
     return options_of({**named, "cores": cores}) is not None
+
+
+def bad_configuration(options):
+    """What the program says of a machine's options that are out of range, with these options and ranges."""
+    given = {name: getattr(options, name.replace("-", "_")) for name in OPTIONS if name in NUMBERS}
+    bad = [f"--{name} {number}: " + ("1 or 8" if name == "line-words" else f"{OPTIONS[name][1]} to {OPTIONS[name][2]}")
+           for name, number in given.items() if options_of({name: number}) is None]
+    return f"bad configuration: {'; '.join(bad)}"
 
 
 def contents(path):
@@ -169,6 +184,12 @@ def tool(main):
     except (BrokenPipeError, KeyboardInterrupt):
         os.dup2(os.open(os.devnull, os.O_WRONLY), 1)  # what is left goes there, when Python ends
         sys.exit(1)
+    except OSError as error:
+        if error.filename is not None or error.errno not in UNWRITTEN:
+            raise
+        os.dup2(os.open(os.devnull, os.O_WRONLY), 1)
+        print(f"{Path(sys.argv[0]).name}: standard output: {error.strerror}", file=sys.stderr)
+        sys.exit(2)
     except Bad as cause:
         print(f"{Path(sys.argv[0]).name}: {cause}", file=sys.stderr)
         sys.exit(2)

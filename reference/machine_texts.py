@@ -138,7 +138,7 @@ class MachinePlayer(History, Parts):
             return "none"
         counts = Counts(Machine(self.machine.o, self.machine.o.cores, self.opening))
         for event, _ in self.last.made:
-            counts.make(event)
+            counts.step(event)
         return counts.text(len(self.last.busy))
 
     def call_order(self, keeping):

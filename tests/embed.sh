@@ -5,9 +5,9 @@
 # with the cores. It needs gcc, g++, valgrind and the Rattle kit, whose C file for memory is linked; without rustc it
 # says so and leaves out the caller in Rust.
 #
-# With --build the library is proved and built first, with all below it: on a new machine that takes half an hour. With
-# --kept it is built over what rt ci kept of the crates below, in a minute or two, as the gate does. Where the kit kept
-# nothing, standard error says so, and nothing is tried.
+# With --build the library is proved and built first, with all below it. That takes two minutes where ./tardis is built,
+# and half an hour on a new machine. With --kept it is built over what rt ci kept of the crates below, in a minute or
+# two, as the gate does. Where the kit kept nothing, standard error says so, and nothing is tried.
 top=$(CDPATH='' cd -- "$(dirname -- "$0")/.." && pwd) || exit 1
 case ${1-} in -h | --help) exec sed -n '2,/^[^#]/s/^# \{0,1\}//p' "$0" ;; esac
 build=${1-}

@@ -5,7 +5,9 @@ Verdicts and faults come from tables that were written by hand (examples/verdict
 tests/litmus_faults.table). What the script must say of them comes from the cases below, worked out by hand. The last
 line is `N tried, M wrong`.
 """
+import gzip
 import os
+import subprocess
 import sys
 import tempfile
 import time
@@ -103,11 +105,19 @@ RUNS = [
     ("trace --time 18446744073709551615 examples/traces/FIRST-STORE.trace", 1, [
         "end exhausted: 0 operations of 1", "Cause: a sum of times doesn't fit 64 bits"]),
 ]
-NO_RUNS = [("check a b", "a run by rounds or by a seed is wanted"), ("trace none", "read failed"),
+NO_RUNS = [("check none b", "none: No such file or directory"), ("trace none", "none: No such file or directory"),
+           ("litmus tests", "tests: Is a directory"),
            ("trace --schedule threads examples/traces/PAST.trace", "a run by rounds or by a seed is wanted"),
            ("trace --fair --schedule seed none", "'--fair' needs '--schedule round'"),
-           ("trace --lease 0 examples/traces/PAST.trace", "bad configuration"),
-           ("trace examples/traces/PAST.records", "line 1: 5 BadOperation")]
+           ("trace --limit 0 examples/traces/PAST.trace", "'--limit <limit>': 0 is not in 1..=4294967295")]
+# Options out of range, each with its range; and texts of another kind.
+REFUSED = [("trace --lease 0 examples/traces/PAST.trace", ["bad configuration: --lease 0: 1 to 4294967296"]),
+           ("trace --line-words 4 --bank-ways 17 --ways 3 examples/traces/PAST.trace", [
+               "bad configuration: --bank-ways 17: 1 to 16", "--line-words 4: 1 or 8"]),
+           ("trace examples/traces/PAST.records", ["5 BadOperation", "It has records: `tardis check TRACE FILE`"]),
+           ("litmus examples/traces/PAST.trace", ["4 BadHeader", "It is a trace, and no litmus test"]),
+           ("trace examples/litmus/SB.litmus", ["4 BadCore", "It is a litmus test: `tardis litmus FILE`"]),
+           ("check examples/traces/PAST.trace examples/traces/SWAP-LOCK.records", ["out of program order"])]
 # Texts that are refused: the end of the file's name, the text, and what must be told.
 PLAIN = "RISCV T\n"
 OPENING = "{ 0:x5=1; 0:x6=x; 1:x6=x; }\n P0 | P1 ;\n"
@@ -141,7 +151,12 @@ TEXTS = [
     (".trace", "0 R 0x8\r\n", ["ADDR: `0x8\\x0d`", "6 BadAddress", "carriage return"]),
     (".trace", "0 W 0x8\n", ["VALUE is missing", "7 BadValue", "has a value"]),
     (".trace", f"0 W 0x8 {2 ** 64}\n", [f"VALUE: `{2 ** 64}`", "7 BadValue", "from 0 to 2^64 - 1"]),
-    (".trace", "0 W 0x8 0x1\n", ["VALUE: `0x1`", "7 BadValue", "decimal"]),
+    (".trace", "0 W 0x8 0x1\n", ["VALUE: `0x1`", "7 BadValue: VALUE: 1 to 20 decimal digits", "64 bits: what is stored",
+                                 "decimal"]),
+    (".trace", "\ufeff0 R 0x0\n", ["line 1, `\\xef\\xbb\\xbf0 R 0x0`", "4 BadCore", "A byte order mark", "tail -c +4"]),
+    (".litmus", "\ufeffRISCV T\n" + OPENING + "exists x=0\n", ["3 BadByte", "A byte order mark"]),
+    (".litmus", "# c\ntrace 2\n20 R 0x0\n", ["BadHeader", "It is a trace"]),
+    (".litmus", "0 R 0x0\n", ["BadHeader", "It is a trace"]),
     (".trace", "0 R 0x8 1\n", ["a field too many: `1`", "8 ExtraWords", "no value"]),
     (".trace", "trace 3\n", ["what follows `trace`: `3`", "9 BadForm", "only form"]),
 ]
@@ -230,6 +245,16 @@ def causes(tester):
         tester.tells([f"line 5, P1: `{cell}`", f"  {kind} ", meant], text.encode(), names=["text.litmus"])
     for ending, text, wanted in TEXTS:
         tester.tells(wanted, text.encode(), names=["text" + ending])
+    for name, text, wanted in (("a.trace", gzip.compress(b"0 R 0x0\n" * 99, mtime=0), "It is compressed by gzip"),
+                               ("a.litmus", gzip.compress(PLAIN.encode(), mtime=0), "It is compressed by gzip"),
+                               ("a.trace", "0 R 0x0\n".encode("utf-16"), "It is in UTF-16"),
+                               ("a.trace", b"#\n" * 16_777_217, "It has more lines than are read"),
+                               ("a.trace", b"0 R 0x0 #" + b"." * 260, "A comment that is too long.")):
+        tester.tells([f"{name}, line ", f"often meant: {wanted}"], text, names=[name])
+    tester.tells(["7 BadValue: RECEIVED: ", "64 bits: what the operation received"], b"", b"0 0 R 0x0 x 0 0\n",
+                 names=["none.trace", "text.records"])
+    tester.tells(["7 BadValue: PLACE: ", "32 bits: the operation's place"], b"", f"0 {2 ** 32} R 0x0 0 0 0\n".encode(),
+                 names=["none.trace", "text.records"])
     for title, kinds in (("Litmus tests", explained_texts.TEST),
                          ("Texts of traces and of records", explained_texts.LINES)):
         for number, (_, _, often) in explained_texts.causes(title).items():
@@ -277,6 +302,18 @@ def runs(tester):
     queue.write_text("trace 2\n" + "".join(f"{core} W 0x0 1\n" for core in range(64)), encoding="ascii")
     status, out, error = tester.run("--", "trace", "--limit", "190", str(queue))
     tester.expect(status == 1 and "Cause: too few turns." in out, f"a queue: {status} {out} {error}")
+    for words, said in REFUSED:
+        status, out, error = tester.run("--", *words.split(" "))
+        at = [out.find(part) for part in said]
+        tester.expect((status, error) == (1, "") and -1 not in at and at == sorted(at),
+                      f"{words}: {status} {out} {error}")
+    full = tester.run("--", "trace", "examples/traces/PAST.trace")
+    tester.expect(full[0] == 0, f"a run that is all done: {full}")
+    with open("/dev/full", "w", encoding="ascii") as device:
+        ran = subprocess.run([tester.program, "--", "trace", "examples/traces/PAST.trace"], stdout=device,
+                             stderr=subprocess.PIPE, check=False)
+    tester.expect((ran.returncode, ran.stderr) == (2, b"explain.py: standard output: No space left on device\n"),
+                  f"a full device: {ran.stderr}")
     for words, wanted in NO_RUNS:
         status, out, error = tester.run("--", *words.split(" "))
         tester.expect((status, out, error.count("\n")) == (2, "", 1) and wanted in error, f"{words}: {status} {error}")

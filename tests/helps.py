@@ -22,6 +22,7 @@ READERS = ["tools/advance.py 1 {}", "env TARDIS=reference/oracle.py tools/seeds.
            "tools/chart.py {}", "tools/merge.py {}", "reference/oracle.py litmus {}",
            "reference/oracle.py trace {}", "tools/page.py {}", "reference/sequential.py {}",
            "tools/steps.py 0x0 {}", "tools/timeline.py {}", "tools/counts.py {}",
+           "tools/compare.py {}", "tools/clock.py {}", "tools/from_lackey.py --csv {}",
            "tools/cycles.py --why {}", "tools/explore.py {}", "tools/order.py {}",
            "tools/number.py {}", "reference/tso.py {0} {0}"]
 

@@ -5,6 +5,7 @@ What each trace must have was worked out by hand: the words that threads hand to
 trace to its end. Standard error names the compilers that aren't there. The last line is `N tried, M wrong`.
 """
 import os
+import re
 import shutil
 import sys
 import tempfile
@@ -30,7 +31,17 @@ SEVENTEEN = ("#include <pthread.h>\nstatic volatile long words[17];\n"
              "static void *store(void *at) { words[(long)at] = 7; return 0; }\n"
              "int main(void) { for (long at = 1; at < 17; at++) { pthread_t one;\n"
              "pthread_create(&one, 0, store, (void *)at); pthread_join(one, 0); }\n")
-MIXED |= {"many.c": SEVENTEEN + "words[0] = 7; }\n",
+# What is recorded of a region: main and a thread store 5 and 7 in it, and other numbers before and behind it.
+REGION = ("#include <pthread.h>\n#include <tardis_record.h>\nstatic volatile long words[3];\n"
+          "static void *store(void *at) { words[1] = (long)at; return 0; }\n"
+          "static void run(long at) { pthread_t one; pthread_create(&one, 0, store, (void *)at);\n"
+          "pthread_join(one, 0); }\n"
+          "int main(void) { words[0] = 1; run(2); tardis_begin(); words[0] = 5; run(7); tardis_end();\n"
+          "words[0] = 9; tardis_begin(); words[2] = 4; tardis_end(); run(8); }\n")
+# pow stands in the library of -lm.
+POWER = ("#include <math.h>\n#include <stdio.h>\nvolatile double two = 2, ten = 10;\n"
+         "int main(void) { printf(\"%g\\n\", pow(two, ten)); }\n")
+MIXED |= {"region.c": REGION, "power.c": POWER, "many.c": SEVENTEEN + "words[0] = 7; }\n",
           "full.c": SEVENTEEN + "for (long at = 0; at < 16777216; at++) words[0] = at; }\n"}
 
 
@@ -76,8 +87,17 @@ def tries(tester, program, folder):
     error, trace = recorded(tester, folder, f"{folder}/many.c")
     tester.expect(trace is not None and trace.cores == 17 and {core for _, core in stored(trace, 7)} == set(range(17)),
                   "17 threads, each with its store")
+    # Sixteen threads store once, and main 16,777,216 times: 17 are left out, and main's loads of `at` of the calls.
     got = tester.run(f"{folder}/full.trace", f"{folder}/full.c")
-    tester.expect(got == (1, "", "recorder: more accesses than a trace has lines\n"), f"16,777,232 stores: {got}")
+    said = re.fullmatch("recorder: the trace has the first 16777215 accesses; ([0-9]+) more are left out\n", got[2])
+    tester.expect(got[:2] == (0, "") and said and int(said[1]) >= 17, f"16,777,232 stores: {got}")
+    with open(f"{folder}/full.trace", "rb") as file:
+        tester.expect(next(file) == b"trace 2\n" and sum(1 for _ in file) == 16777215, "the beginning isn't kept")
+    error, trace = recorded(tester, folder, f"{folder}/region.c")
+    found = [sorted(value for kind, _, value in steps if kind != "load") for steps in trace.steps] if trace else []
+    tester.expect(found == [[4, 5], [7]], f"a region of interest: {error} {found}")
+    error, _ = recorded(tester, folder, f"{folder}/power.c", "-lm")
+    tester.expect(error == "1024\n", f"-lm: {error}")
 
 
 def main(program):

@@ -1,8 +1,9 @@
 #!/bin/sh
 # Runs tools/seeds.py as a job array on a real Slurm of one node, on this machine's loopback: tests/slurm.sh PROGRAM
 # 8 tasks run 80,000 seeds. One is cancelled: then tools/merge.py must say which seeds are missing. It is made again,
-# and the joined report must be that of one run. Slurm and munge (Debian: slurm-wlm, munge) run from a folder of their
-# own and with a key of their own. Where they aren't installed or can't start, standard error says so and the test passes.
+# and the joined report must be that of one run. An array of tools/sweep.py has the rows of one sweep. Slurm and munge
+# (Debian: slurm-wlm, munge) run from a folder of their own and with a key of their own. Where they aren't installed or
+# can't start, standard error says so and the test passes.
 top=$(CDPATH='' cd -- "$(dirname -- "$0")/.." && pwd) || exit 1
 TARDIS=$(readlink -f -- "$1") || exit 1
 export TARDIS PATH="$PATH:/usr/sbin:/sbin"
@@ -123,4 +124,14 @@ job=$(submit "$cancelled") || fail "the task isn't taken again"
 until_so 60 is_done "$job" || fail "the task doesn't end: $(logs)"
 tools/merge.py "$work"/reports/*.report >"$work/joined" || fail "8 reports aren't joined: $(logs)"
 "$TARDIS" litmus --schedule seed --runs "$runs" "$test" | cmp - "$work/joined" || fail "another report than of one run"
-echo "slurm.sh: $tasks tasks, one cancelled and made again: the report of one run"
+
+# A sweep in parts: the joined table has the rows of one sweep, in the order of the parts.
+leases='--lease 1..20 examples/traces/MIXED.trace'
+job=$(sbatch --parsable --array=0-3 --output="$work/%a.log" --wrap \
+    "tools/sweep.py --csv '$work/sweep.csv' --part \$SLURM_ARRAY_TASK_ID --parts 4 $leases") || fail "no sweep is taken"
+until_so 120 is_done "$job" || fail "the sweep doesn't end: $(logs)"
+# shellcheck disable=SC2086
+tools/sweep.py --csv "$work/sweep.csv" --parts 4 $leases >&2 && tools/sweep.py --csv "$work/one.csv" $leases >&2 ||
+    fail "the sweep's parts aren't joined: $(logs)"
+sort "$work/one.csv" >"$work/one" && sort "$work/sweep.csv" | cmp - "$work/one" || fail "other rows than of one sweep"
+echo "slurm.sh: $tasks tasks, one cancelled and made again: the report of one run; a sweep of 4 tasks"

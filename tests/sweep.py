@@ -6,14 +6,17 @@ on, and the plot's points are where they belong. The last line is `N tried, M wr
 """
 import csv
 import os
+import signal
+import subprocess
 import sys
 import tempfile
+import time
 import xml.etree.ElementTree as xml
 from pathlib import Path
 
 sys.path.insert(0, str(Path(__file__).resolve().parent.parent))
 from tests.texts import TOP, Tester, oracle  # noqa: E402
-from tools import sweep  # noqa: E402
+from tools import plots, sweep  # noqa: E402
 
 
 # Two loads of a word, with three advances between them. The second load, at time 3, asks anew if the lease is below 3.
@@ -26,7 +29,7 @@ LOOKED = ["lease", "line-words", "completed", "end", "renewals", "stale-hits", "
           "turns", "events", "dram-loads", "RenewRep-delivered", "failed"]
 BY_LEASE = {"1": "2 all-done 1 0 legal 0 2 3 12 23 1 1", "2": "2 all-done 1 0 legal 0 2 3 12 23 1 1",
             "3": "2 all-done 0 0 legal 1 1 3 10 19 1 0", "4": "2 all-done 0 0 legal 1 1 3 10 19 1 0"}
-FAILED = "bad configuration"
+FAILED = "bad configuration: --line-words 2: 1 or 8"
 SVG = "{http://www.w3.org/2000/svg}"
 
 
@@ -150,6 +153,90 @@ def plot(tester):
     tester.expect(len(points) == 1 and len(points[0].split(" ")) == 100, f"100 points: {points}")
 
 
+def logarithmic(tester):
+    """Leases 0, 1, 10 and 100 on a logarithmic axis, without 0, and a panel for each private-write."""
+    rows = tester.sweep("--csv", "log.csv", "--time", "1,10,100", "--private-write", "both", "--plot", "time:last-time",
+                        "--counts", "--player", tester.player, "--log", "xy", "--panel", "private-write", "alone.trace",
+                        made=6, rows=6, table="log.csv")
+    got = [(row["time"], row["last-time"]) for row in rows[::2]]
+    tester.expect(got == [("1", "2"), ("10", "11"), ("100", "101")], f"logarithmic: {got}")
+    root = xml.parse("log.svg").getroot()
+    tester.expect(root.get("height") == "960", f"two panels: {root.get('height')}")
+    moved = [group.get("transform") for group in root.iter(f"{SVG}g")]
+    tester.expect(moved == ["translate(0 0)", "translate(0 480)"], f"panels: {moved}")
+    lines = [line.get("points").split(" ") for line in root.iter(f"{SVG}polyline")]
+    # From 80 to 640 for the times 1 to 100: 10 is half-way. From 430 up to 30 for 1 to 101.
+    tester.expect([[point.split(",")[0] for point in line] for line in lines] == [["80.0", "360.0", "640.0"]] * 2 and
+                  [line[2] for line in lines] == ["640.0,30.0"] * 2, f"logarithmic points: {lines}")
+    said = [text.text for text in root.iter(f"{SVG}text")]
+    tester.expect(said[:7] == ["1", "10", "100", "1", "10", "100", "time"] and
+                  said.count("last-time, private-write no") == said.count("last-time, private-write yes") == 1,
+                  f"what the panels say: {said}")
+    tester.sweep("--csv", "log.csv", "--time", "0,1", "--plot", "time:renewals", "--log", "x", "--counts", "--player",
+                 tester.player, "alone.trace", made=1, rows=2, table="log.csv")
+    points = [line.get("points") for line in xml.parse("log.svg").getroot().iter(f"{SVG}polyline")]
+    tester.expect(points == ["80.0,430.0"], f"a time of 0 on a logarithmic axis: {points}")
+
+
+def shown(tester):
+    """--where leaves rows out of the plot and of the short table, which has no columns that are equal in each row."""
+    tester.sweep("--csv", "all.csv", "--counts", "--player", tester.player, "--lease", "1..4", "--plot",
+                 "lease:renewals", "--where", "lease=2..3,4", "--where", "trace=renewed.trace", "--short", "short.csv",
+                 "renewed.trace", "alone.trace", made=8, rows=8, table="all.csv")
+    points = [line.get("points") for line in xml.parse("all.svg").getroot().iter(f"{SVG}polyline")]
+    tester.expect(points == ["360.0,30.0 500.0,430.0 640.0,430.0"], f"--where: {points}")
+    # With lease 2 the second load is a renewal, and takes two rounds and four events more.
+    wanted = "lease,renewals,turns,events,hits,misses,ShReq-sent,RenewRep-sent\n" \
+             "2,1,12,23,0,2,2,1\n3,0,10,19,1,1,1,0\n4,0,10,19,1,1,1,0\n"
+    tester.expect(Path("short.csv").read_text() == wanted, f"--short: {Path('short.csv').read_text()}")
+    # After three rounds the request isn't yet delivered, and no reply is sent.
+    tester.sweep("--csv", "cut-2.csv", "--counts", "--player", tester.player, "--limit", "3,9", "--short", "short.csv",
+                 "alone.trace", status=1, made=2, rows=2, cut=1, table="cut-2.csv")
+    head = Path("short.csv").read_text().split("\n", 1)[0].split(",")
+    tester.expect("ExReq-delivered" in head and "ExRep-sent" in head and "ExRep-delivered" not in head,
+                  f"--short of a run that was cut: {head}")
+    tester.refused("--where no=1: there is no column no", "--where", "no=1", "alone.trace")
+    tester.refused("--panel no: there is no such column", "--panel", "no", "alone.trace")
+    tester.refused("no row is left to be drawn", "--csv", "all.csv", "--where", "lease=7", "--plot", "lease:renewals",
+                   "--lease", "1", "--counts", "--player", tester.player, "alone.trace")
+
+
+def parts(tester):
+    """Three parts of seven rows, joined; and parts that lack rows."""
+    words = ["--lease", "1..7", "renewed.trace"]
+    whole = tester.sweep("--csv", "whole.csv", *words, made=7, rows=7, table="whole.csv")
+    for part, count in ((0, 3), (1, 2), (2, 2)):
+        tester.sweep("--csv", "p.csv", "--part", str(part), "--parts", "3", *words, made=count, rows=count,
+                     table=f"p.{part:06}.csv")
+    joined = tester.sweep("--csv", "p.csv", "--parts", "3", *words, rows=7, table="p.csv")
+    tester.expect(sorted(joined, key=lambda row: row["lease"]) == whole, f"joined: {joined}")
+    Path("p.000001.csv").write_text("".join(Path("p.000001.csv").read_text().splitlines(True)[:-1]))
+    Path("p.csv").unlink()
+    tester.refused("p.000001.csv lacks 1 rows: make them by --part 1", "--csv", "p.csv", "--parts", "3", *words)
+    Path("p.000002.csv").unlink()
+    tester.sweep("--csv", "p.csv", "--part", "1", "--parts", "3", *words, made=1, rows=2, table="p.000001.csv")
+    tester.refused("p.000002.csv lacks 2 rows: make them by --part 2", "--csv", "p.csv", "--parts", "3", *words)
+    for bad in (["--part", "3", "--parts", "3"], ["--part", "0"]):
+        tester.refused("--part K is one of --parts N, from 0", *bad, "alone.trace")
+    tester.refused("isn't a number from 1 to", "--parts", "0", "alone.trace")
+
+
+def interrupted(tester):
+    """Ctrl-C ends a sweep without a word but its progress, and the table goes on from there."""
+    words = ["--csv", "stopped.csv", "--jobs", "2", "--lease", "1..4000", "renewed.trace"]
+    with subprocess.Popen([tester.program, *words], stdout=subprocess.PIPE, stderr=subprocess.PIPE) as ran:
+        while ran.poll() is None and not (Path("stopped.csv").exists() and
+                                          Path("stopped.csv").read_text().count("\n") > 3):
+            time.sleep(0.05)
+        ran.send_signal(signal.SIGINT)
+        out, error = ran.communicate(timeout=60)
+    made = Path("stopped.csv").read_text().count("\n") - 1
+    tester.expect((ran.returncode, out) == (1, b"") and b"Traceback" not in error and 3 <= made < 4000,
+                  f"Ctrl-C: {ran.returncode} {out} {error[-300:]} {made}")
+    rows = tester.sweep("--csv", "stopped.csv", "--lease", "1..3", "renewed.trace", rows=3, table="stopped.csv")
+    tester.expect([row["renewals"] for row in rows[:3]] == ["1", "1", "0"], f"behind Ctrl-C: {rows}")
+
+
 def cut_short(tester):
     """Runs that a limit cuts are crosses next to the line, and counted apart. The store takes six rounds."""
     rows = tester.sweep("--csv", "short.csv", "--plot", "limit:completed", "--limit", "5..8", "--lease", "0,1",
@@ -257,9 +344,11 @@ def refusals(tester):
 
 def large(tester):
     """Thirty lines of a picture, and a scale up to 10 ^ 19."""
-    lines = list(sweep.picture({f"l{k}": ([(0, 1), (2 ** 64 - 1, 2 ** 64 - 1)], []) for k in range(30)}, "x", "y"))
+    found = {f"l{k}": ([(0, 1), (2 ** 64 - 1, 2 ** 64 - 1)], []) for k in range(30)}
+    lines = list(plots.picture({"": found}, "x", "y"))
     tester.expect('height="570"' in lines[0] and sum("<polyline" in line for line in lines) == 30, lines[0])
-    tester.expect(list(sweep.ticks(10 ** 19)) == [k * 2 * 10 ** 18 for k in range(6)], "ticks of 64 bits")
+    for is_log, ticks in ((False, [k * 2 * 10 ** 18 for k in range(6)]), (True, [10 ** k for k in range(20)])):
+        tester.expect(list(plots.Axis(10 ** 19, 0, 1, is_log).ticks()) == ticks, f"ticks of 64 bits: {is_log}")
 
 
 def appended(tester):
@@ -279,8 +368,8 @@ def main(program, player):
         Path("line").write_text("no table")
         for name, text in (("renewed", RENEWED), ("alone", ALONE), ("loads", LOADS), ("bad", "x\n")):
             Path(f"{name}.trace").write_text(text)
-        for part in (by_hand, advances, names, goes_on, plot, cut_short, fair, passed_on, compared, traces_apart,
-                     by_the_second, refusals, large, appended):
+        for part in (by_hand, advances, names, goes_on, plot, logarithmic, shown, parts, interrupted, cut_short, fair,
+                     passed_on, compared, traces_apart, by_the_second, refusals, large, appended):
             part(tester)
         os.chdir(TOP)
     print(f"{tester.tried} tried, {tester.wrong} wrong")

@@ -15,7 +15,7 @@ from pathlib import Path
 
 sys.path.insert(0, str(Path(__file__).resolve().parent.parent))
 from reference import told  # noqa: E402
-from reference.given import Bad, Subject, Words, contents, tool  # noqa: E402
+from reference.given import Bad, Subject, bad_configuration, Words, contents, tool  # noqa: E402
 from tools.program import TOP  # noqa: E402
 from tools.shown.played import drive_call, machine_call, player_of, say_second, steps_of  # noqa: E402
 
@@ -119,7 +119,7 @@ def counted(command, given, options):
         raise Bad(f"{command[0]}: {error.strerror}") from None
     lines = ran.stdout.decode().splitlines()
     if "wanted opened, came refused BadConfig" in "".join(lines[:1]):
-        raise Bad("bad configuration: an option is out of its range (docs/TEXTS.md)")
+        raise Bad(bad_configuration(options))
     if ran.returncode or len(lines) != 3 or not lines[1].startswith("counts : core 0"):
         said = "".join(f": {line[:160]}" for line in lines[:1])
         raise Bad(f"the player failed, with status {ran.returncode}{said} (--player reference/play.py needs no kit)")

@@ -6,9 +6,10 @@
     tools/explain.py TEST|TRACE       the fault of a text, with its cell, its cause and what is often meant; of a test
                                         that has none, what can't be meant: names in the condition that no
                                         instruction changes, addresses that none uses, values that nothing sets
-    tools/explain.py -- COMMAND ..      a run by a command line of tardis, as `-- trace --line-words 8 my.trace`, that
-                                        ended stalled or at its limit: the cores that wait, for which lines, and the
-                                        cause (docs/ENDING.md). The second program makes the run again
+    tools/explain.py -- COMMAND ..      a command line of tardis, as `-- trace --line-words 8 my.trace`: the fault of
+                                        its text, options out of range, or, of a run that ended stalled or at its limit,
+                                        the cores that wait, for which lines, and the cause (docs/ENDING.md). The second
+                                        program makes the run again
 
 A text is a litmus test if its name ends in .litmus, or if it has a brace and no name that ends in .trace. Verdicts and
 faults are the program's: what TARDIS names, else the one that ./tardis built, else reference/oracle.py.
@@ -236,6 +237,8 @@ def main(paths):
     if paths in (["-h"], ["--help"]):
         print(__doc__)
         return 0
+    if paths[:2] == ["--", "check"]:
+        paths = paths[2:]
     is_run = paths[:1] == ["--"]
     if not is_run and (len(paths) not in (1, 2) or any(path.startswith("-") for path in paths)):
         fail("one file is wanted, or a trace and records, or -- and a command line (--help tells all)")

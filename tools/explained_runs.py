@@ -5,13 +5,15 @@ from collections import Counter, deque
 from copy import deepcopy
 
 from reference import oracle
-from reference.given import Bad, has_machine
+from reference.given import Bad, bad_configuration, has_machine
+from reference.litmus_faults import LitmusFault
 from reference.machine import Machine
 from reference.reports import seed_of
 from reference.schedules import Run, a_round, by_rounds, by_seed
 from reference.told import Teller, operation
 from reference.traces import Fault
-from tools.program import fail
+from tools.explained_texts import explained_text
+from tools.program import fail, text_of
 
 # A run is taken to starve after so many rounds without anything done: fair rounds were seen to take sixteen at most.
 LONG = 100
@@ -198,11 +200,14 @@ def explained_run(words):
         oracle.refuse_fair(options)
         if options.command == "check" or options.schedule == "threads":
             fail("a run by rounds or by a seed is wanted, of litmus or trace: others can't be made again")
+        text = text_of(options.FILE)
         read = oracle.read_litmus(options.FILE) if options.command == "litmus" else oracle.read_trace(options.FILE)
-    except (Bad, Fault, oracle.Refused) as cause:
+    except (Fault, LitmusFault) as fault:
+        return explained_text(options.FILE, text, str(fault), "test" if options.command == "litmus" else "trace"), True
+    except (Bad, oracle.Refused) as cause:
         fail(str(cause).split("\n", maxsplit=1)[0].removeprefix("error: ").removeprefix("tardis: "))
     if not has_machine(options, len(read.programs())):
-        fail("bad configuration")
+        return bad_configuration(options).split("; "), True
     for number in range(getattr(options, "runs", 1) if options.schedule == "seed" else 1):
         run, end = run_of(read, options, number)
         if end != "all-done":

@@ -4,6 +4,8 @@ The causes are those of the lists of kinds in docs/TEXTS.md. This file has what 
 it; tests/explain.py compares the two.
 """
 import re
+from io import StringIO
+from itertools import islice
 
 from tools import litmus_hints
 from tools.program import TOP, fail
@@ -49,8 +51,13 @@ TEST = {
          (rf"\d+:{ABI}\b|:x0\d", REGISTERS), (None, "A thread that isn't there, or a parenthesis too many.")],
     14: [(None, "The condition, or a closing brace or parenthesis, is missing.")],
 }
-MOST_SHOWN = 100
+MOST_SHOWN, MOST_LINES, MOST_LOOKED = 100, 16_777_216, 100_000
 NUMBERS = ("PLACE", "VALUE", "RECEIVED", "TIME", "NUMBER")
+# What each of these is, where it is at fault.
+NUMBER_OF = {name: f"{name}: 1 to 20 decimal digits of a number that fits {32 if name == 'PLACE' else 64} bits: " + what
+             for name, what in (("PLACE", "the operation's place in its core's program, from 0"),
+                                ("VALUE", "what is stored"), ("RECEIVED", "what the operation received"),
+                                ("TIME", "its time"), ("NUMBER", "its completion number"))}
 CARRIAGE = "A carriage return: `tr -d '\\r'` takes it out."
 FORM_2 = "Cores from 16 on, and advances, need `trace 2` as the first line."
 LINES = {
@@ -182,23 +189,45 @@ def field_at_fault(line, kind, is_record):
     return f"{name}: {shown(fields[at])}" if at < len(fields) else f"{name} is missing"
 
 
+def of_whole(text, what, number):
+    """What the whole text may be in place of what is read; None if that isn't known."""
+    if text.startswith(b"\x1f\x8b"):
+        return "It is compressed by gzip: `zcat FILE` unpacks it, and the program reads it as /dev/stdin."
+    if text.startswith((b"\xff\xfe", b"\xfe\xff")):
+        return "It is in UTF-16: `iconv -f UTF-16 -t ASCII FILE` converts it."
+    if text.startswith(b"\xef\xbb\xbf") and number == 1:
+        return "A byte order mark stands at the front: `tail -c +4 FILE` leaves it out."
+    if what != "test" and number > MOST_LINES:
+        return "It has more lines than are read: `head -n 16777216 FILE` is its beginning."
+    fields = next((line.split() for line in text[:MOST_LOOKED].split(b"\n") if line.partition(b"#")[0].split()), [])
+    is_number = len(fields) > 1 and fields[0].isdigit()
+    if what == "test" and (is_number and fields[1] in (b"R", b"W", b"S") or fields[:2] == [b"trace", b"2"]):
+        return "It is a trace, and no litmus test: `tardis trace FILE` runs it."
+    if what != "test" and fields[:1] == [b"RISCV"]:
+        return "It is a litmus test: `tardis litmus FILE` runs it."
+    if what == "trace" and is_number and fields[1].isdigit() and fields[2:3] in ([b"R"], [b"W"], [b"S"]):
+        return "It has records: `tardis check TRACE FILE` reads them, and their trace."
+    return None
+
+
 def explained_text(path, text, fault, what):
     """The lines that explain the fault of a test, a trace or records, given as `line 6: 8 BadInstruction`."""
     found = re.fullmatch(r"line (\d+): (\d+) \w+", fault)
     if not found or found[1] == "0":
         fail(f"{path}: {fault}")
     number, kind = int(found[1]), int(found[2])
-    text = text.decode("latin-1")
-    line = (text.split("\n") + [""])[number - 1]
+    whole, text = of_whole(text, what, number), text.decode("latin-1")
+    line = next(islice(StringIO(text, "\n"), number - 1, None), "").removesuffix("\n")
     title = "Litmus tests" if what == "test" else "Texts of traces and of records"
     name, where, _ = causes(title)[kind]
     if what == "test":
         cell = cell_at_fault(text, number, kind)
         place = f"P{cell[0]}: {shown(cell[1])}" if cell else shown(line.strip(" \t\r"))
-        meant = meant_by_test(path, text, number, kind, cell and cell[1], line)
+        meant = whole or meant_by_test(path, text, number, kind, cell and cell[1], line)
     else:
         field = field_at_fault(line, kind, what == "records")
         place = shown(line.strip(" \t")) + (f", {field}" if field else "")
-        meant = often(LINES, kind, line, field or "")
+        where = NUMBER_OF.get((field or "").split(":")[0].split(" ")[0], where) if kind == 7 else where
+        meant = whole or often(LINES, kind, line, field or "")
     lines = [f"{path}, line {number}, {place}", f"  {kind} {name}: {where}"]
     return lines + [f"  often meant: {meant}"] * bool(meant)

@@ -36,7 +36,7 @@ from types import SimpleNamespace
 
 sys.path.insert(0, str(Path(__file__).resolve().parent.parent))
 from reference import machine  # noqa: E402
-from reference.given import NUMBERS, Bad, Subject, Words, contents, has_machine, tool  # noqa: E402
+from reference.given import NUMBERS, Bad, Subject, Words, bad_configuration, contents, has_machine, tool  # noqa: E402
 from tools.explored.ahead import ahead  # noqa: E402
 from tools.explored.frozen import Elsewhere, Numbered, Unread  # noqa: E402
 from tools.explored.parts import Full, Parts  # noqa: E402
@@ -94,7 +94,7 @@ def system_of(options, subject, keeps=()):
     of = SimpleNamespace(**vars(options))
     of.cores = subject.cores
     if not has_machine(options, subject.cores):
-        raise Bad("bad configuration: an option is out of its range (docs/TEXTS.md)")
+        raise Bad(bad_configuration(options))
     how = SimpleNamespace(evict=options.evict, advances=options.advances)
     return (Whole if "whole" in keeps else Parts)(machine, of, subject, how, keeps)
 

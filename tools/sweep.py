@@ -2,6 +2,8 @@
 """Runs traces with all combinations of options, and writes a table and a plot (docs/SCALING.md, Many options).
 
     tools/sweep.py [--csv TABLE] [--counts] [--plot X:Y [--svg PICTURE]] [--jobs N] [--named FILE] [options] TRACE ..
+    tools/sweep.py --part K --parts N [the same]    the rows of one part of N, from 0, into a table of its own
+    tools/sweep.py --parts N [the same]             joins the tables of all parts
 
 An option has a list of values, as --lease 1..100 or --line-words 1,8 or --banks 1,2,4..8; --schedule, --fair and
 --private-write have words, as --private-write both. Any other option has the program's default. --advance N has an
@@ -13,6 +15,9 @@ report, with --counts the rows of docs/COUNTS.md, and the program's file. A run 
 why in its last column. The script doesn't make a row again that TABLE already has. PICTURE (TABLE's name with .svg)
 shows column Y over column X: a line for each name, or for each combination of the others. A run that was cut short, so
 that its numbers are of a part of the trace, is a cross next to the lines (docs/ENDING.md says why runs don't end).
+--log x, y or xy has logarithmic axes, without numbers below 1, and --panel COLUMN a plot for each of its values.
+--short SHORT writes the rows once more, without the columns that are equal in all of them, and without KIND-delivered
+where it equals KIND-sent. --where COLUMN=LIST leaves only rows with these values in SHORT and PICTURE.
 
 The program is what TARDIS names, else the one that ./tardis built, else reference/oracle.py. With --counts a player
 counts (tools/counts.py). The script makes N runs at a time, by default as many as there are processors.
@@ -31,13 +36,13 @@ from concurrent.futures import ThreadPoolExecutor
 from contextlib import contextmanager
 from itertools import product
 from pathlib import Path
-from xml.sax.saxutils import escape
 
 sys.path.insert(0, str(Path(__file__).resolve().parent.parent))
-from reference.given import NUMBERS, Bad, Words, contents, tool  # noqa: E402
+from reference.given import NUMBERS, Bad, Words, bad_configuration, contents, tool  # noqa: E402
 from reference.machine import COUNTED  # noqa: E402
 from tools import counts, program  # noqa: E402
 from tools.advance import new_trace  # noqa: E402
+from tools.plots import picture  # noqa: E402
 from tools.program import Refused  # noqa: E402
 from tools.shown.played import player_of, say_second  # noqa: E402
 
@@ -53,9 +58,6 @@ SAME = {"loads": "loads", "stores": "stores", "swaps": "swaps", "stale-hits": "s
 COUNTS = ["turns", "events", *(name for name in [*counts.OF_CORES, *counts.OF_BANKS, *counts.OF_MESSAGES]
                                if name not in REPORT)]
 MOST_ROWS = 1_000_000
-COLOURS = ("#3b7dd8", "#d8663b", "#5a9a3c", "#8d6bc7", "#e0b13c", "#3aa6a6", "#c14f8a", "#777777")
-# Of the picture, and of what lies left, right, above and below of the plot.
-WIDTH, HEIGHT, LEFT, RIGHT, HIGHEST, BELOW = 960, 480, 80, 320, 30, 50
 
 
 def values_of(text):
@@ -87,17 +89,26 @@ def parser():
     words.add_argument("--counts", action="store_true", help="with the rows of docs/COUNTS.md")
     words.add_argument("--plot", metavar="X:Y", help="the columns that are drawn")
     words.add_argument("--svg", metavar="PICTURE", help="the picture (TABLE's name with .svg)")
+    words.add_argument("--log", choices=["x", "y", "xy"], default="", help="the axes that are logarithmic")
+    words.add_argument("--panel", metavar="COLUMN", help="a plot for each of its values")
+    words.add_argument("--where", action="append", default=[], metavar="COLUMN=LIST", help="the rows that are shown")
+    words.add_argument("--short", metavar="SHORT", help="a table without columns that are equal in every row")
+    words.add_argument("--part", type=program.number(0, MOST_ROWS), metavar="K", help="the part that is made, from 0")
+    words.add_argument("--parts", type=program.number(1, MOST_ROWS), metavar="N", help="how many parts there are")
     words.add_argument("--jobs", type=int, default=os.cpu_count(), metavar="N", help="how many runs are made at a time")
     words.add_argument("--named", metavar="FILE", help="names with options, one a line")
     words.player_option()
     return with_lists(words)
 
 
-def with_lists(words):
-    for name, (usual, says) in LISTED.items():
-        words.add_argument("--" + name, default=str(usual), metavar="LIST", help=f"{says} ({usual})")
-    for name, choices in CHOICES.items():
-        words.add_argument("--" + name, default=choices[0], metavar="LIST", help=f"{', '.join(choices)}, or both")
+def with_lists(words, fixed=None):
+    """The words with all options, but for those that are fixed: each of these has its value."""
+    told = {name: (str(usual), f"{says} ({usual})") for name, (usual, says) in LISTED.items()} | {
+        name: (choices[0], f"{', '.join(choices)}, or both") for name, choices in CHOICES.items()}
+    for name, (usual, says) in told.items():
+        if name not in (fixed or {}):
+            words.add_argument("--" + name, default=usual, metavar="LIST", help=says)
+    words.set_defaults(**{name.replace("-", "_"): value for name, value in (fixed or {}).items()})
     return words
 
 
@@ -181,8 +192,14 @@ class Sweep:
                 row |= self.report(file, chosen)
                 row |= self.counted((trace, chosen["advance"]), file, row) if self.counts else {}
         except (Bad, Refused) as cause:
-            row["failed"] = str(cause).replace("\n", " ") or "the program prints nothing"
+            said = str(cause).replace("\n", " ")
+            row["failed"] = bad_configuration(self.numbers(row)) if said == "bad configuration" else said or \
+                "the program prints nothing"
         return row
+
+    def numbers(self, row):
+        """The options of a row that are numbers."""
+        return Namespace(**{name.replace("-", "_"): int(row[name]) for name in NUMBERS})
 
     def report(self, file, chosen):
         lines = dict(line.split(" ", 1) for line in program.run("trace", *options_of(chosen), file).splitlines())
@@ -191,9 +208,8 @@ class Sweep:
         return {name: lines[name] for name in REPORT}
 
     def counted(self, key, file, row):
-        values = {name.replace("-", "_"): int(row[name]) for name in NUMBERS}
         flags = {name.replace("-", "_"): row[name] == "yes" for name in FLAGS}
-        options = Namespace(**values, **flags, schedule=row["schedule"])
+        options = Namespace(**vars(self.numbers(row)), **flags, schedule=row["schedule"])
         if key not in self.given:
             self.given[key] = counts.Given(file)
         found = counts.counted(self.player, self.given[key], options)
@@ -248,10 +264,34 @@ def line_of(values):
     return line.getvalue()
 
 
+def table_of(options, part=None):
+    """The path of the table, or of a part's."""
+    path = Path(options.csv)
+    return str(path if part is None else path.with_name(f"{path.stem}.{part:06}{path.suffix}"))
+
+
+def join(options, table, keys):
+    """Takes the rows of the parts' tables that the table doesn't have."""
+    for part in range(options.parts):
+        path = table_of(options, part)
+        rows = Table(path, table.columns).rows if Path(path).exists() else {}
+        found = [(key, rows.get(key, table.rows.get(key))) for key in keys[part::options.parts]]
+        missing = sum(row is None for _, row in found)
+        if missing:
+            raise Bad(f"{path} lacks {missing} rows: make them by --part {part}")
+        for key, row in found:
+            if key not in table.rows:
+                table.add(row)
+
+
 def sweep(options, made):
     """The rows that the words ask for, as they are in the table once they are all made."""
-    asked, table = combinations(options), Table(options.csv, made.columns)
+    asked, table = combinations(options), Table(table_of(options, options.part), made.columns)
     keys = [(trace, chosen) for trace in made.traces for chosen in asked]
+    if options.part is not None:
+        keys = keys[options.part::options.parts]
+    elif options.parts:
+        join(options, table, [table.key({"trace": trace} | chosen) for trace, chosen in keys])
     left = [(trace, chosen) for trace, chosen in keys if table.key({"trace": trace} | chosen) not in table.rows]
     with ThreadPoolExecutor(max(1, options.jobs)) as pool:
         try:
@@ -269,6 +309,38 @@ def tell(number, what, is_last):
         print(f"\r{what}", end="\n" if is_last else "", file=sys.stderr, flush=True)
     elif is_last or number % 1000 == 0:
         print(what, file=sys.stderr, flush=True)
+
+
+def wanted(row, options):
+    """Whether a row has the values that are asked for."""
+    for said in options.where:
+        column, _, values = said.partition("=")
+        if column not in row:
+            raise Bad(f"--where {said}: there is no column {column or 'without a name'}")
+        if row[column] not in [value for part in values.split(",") for value in
+                               (values_of(part) if ".." in part else [part])]:
+            return False
+    return True
+
+
+def short_table(rows, columns):
+    """The rows without the columns that are equal in each, and those of messages delivered that equal those sent."""
+    def says_more(name):
+        sent = name.replace("-delivered", "-sent")
+        return len({row[name] for row in rows}) > 1 and (sent == name or any(row[name] != row[sent] for row in rows))
+
+    left = list(filter(says_more, columns))
+    return "".join(map(line_of, [left, *([row[name] for name in left] for row in rows)]))
+
+
+def panels(rows, options, x, y):
+    """By the panels' labels the lines of each."""
+    if not options.panel:
+        return {"": series(rows, x, y)}
+    found = {}
+    for row in rows:
+        found.setdefault(f"{options.panel} {row[options.panel]}", []).append(row)
+    return {label: series(of, x, y) for label, of in found.items()}
 
 
 def is_cut(row):
@@ -292,62 +364,6 @@ def series(rows, x, y):
     return {said: tuple(map(sorted, kinds)) for said, kinds in found.items()}
 
 
-def ticks(most):
-    """Some five numbers from 0 to `most`, in steps of 1, 2 or 5 and zeros behind it."""
-    steps = (digit * 10 ** zeros for zeros in range(21) for digit in (1, 2, 5))
-    step = next(step for step in steps if most <= 5 * step)
-    return range(0, most + 1, step)
-
-
-def words(x, y, text, anchor="start", more=""):
-    return f'<text x="{x:.1f}" y="{y:.1f}" text-anchor="{anchor}"{more}>{escape(text)}</text>'
-
-
-def grid(most, place):
-    """The lines of the plot's grid, with their numbers."""
-    for number in ticks(most[0]):
-        at, down = place((number, 0))
-        yield f'<path d="M{at:.1f} {HIGHEST}V{down + 5:.1f}" stroke="#ddd"/>'
-        yield words(at, down + 20, str(number), "middle")
-    for number in ticks(most[1]):
-        at, down = place((0, number))
-        yield f'<path d="M{at - 5:.1f} {down:.1f}H{WIDTH - RIGHT}" stroke="#ddd"/>'
-        yield words(at - 9, down + 4, str(number), "end")
-
-
-def drawn(number, said, of, cut):
-    """A line of the plot, with its label at the right, and the crosses next to it."""
-    colour = COLOURS[number % len(COLOURS)]
-    joined = " ".join(f"{at:.1f},{down:.1f}" for at, down in of)
-    yield f'<polyline fill="none" stroke="{colour}" points="{joined}"/>'
-    if len(of) <= 50:
-        yield from (f'<circle cx="{at:.1f}" cy="{down:.1f}" r="2.5" fill="{colour}"/>' for at, down in of)
-    yield from (f'<path d="M{at - 3:.1f} {down - 3:.1f}l6 6m0 -6l-6 6" stroke="{colour}"/>' for at, down in cut)
-    said += f" ({len(cut)} cut short: \N{MULTIPLICATION SIGN})" if cut else ""
-    yield words(WIDTH - RIGHT + 12, HIGHEST + 18 * number + 4, said, more=f' fill="{colour}"')
-
-
-def picture(found, x, y):
-    """The plot's text. Both axes begin at 0."""
-    points = [point for kinds in found.values() for of in kinds for point in of]
-    most = [max((point[axis] for point in points), default=0) or 1 for axis in (0, 1)]
-
-    def place(point):
-        return (LEFT + point[0] * (WIDTH - LEFT - RIGHT) / most[0],
-                HEIGHT - BELOW - point[1] * (HEIGHT - HIGHEST - BELOW) / most[1])
-
-    high = max(HEIGHT, HIGHEST + 18 * len(found))
-    yield f'<svg xmlns="http://www.w3.org/2000/svg" width="{WIDTH}" height="{high}" font-family="sans-serif" ' \
-          'font-size="12">'
-    yield '<rect width="100%" height="100%" fill="white"/>'
-    yield from grid(most, place)
-    yield words((LEFT + WIDTH - RIGHT) / 2, HEIGHT - 8, x, "middle", ' font-weight="bold"')
-    yield words(LEFT, HIGHEST - 12, y, "middle", ' font-weight="bold"')
-    for number, (said, kinds) in enumerate(found.items()):
-        yield from drawn(number, said, *(list(map(place, of)) for of in kinds))
-    yield "</svg>"
-
-
 def axes(options, columns):
     """The columns that are drawn."""
     x, _, y = options.plot.partition(":")
@@ -358,19 +374,38 @@ def axes(options, columns):
     return x, y
 
 
+def save(path, text):
+    try:
+        Path(path).write_text(text, encoding="utf-8")
+    except OSError as error:
+        raise Bad(f"{path}: {error.strerror}") from None
+
+
+def refuse(options, columns):
+    """What can be said of the words before rows are made."""
+    if options.part is not None and options.part >= (options.parts or 0):
+        raise Bad("--part K is one of --parts N, from 0")
+    if options.panel and options.panel not in columns:
+        raise Bad(f"--panel {options.panel}: there is no such column")
+    wanted(dict.fromkeys(columns, ""), options)
+
+
 def main(given):
     options = parser().parse_args(given)
     made = Sweep(options)
+    refuse(options, made.columns)
     x, y = axes(options, made.columns) if options.plot else (None, None)
-    rows = sweep(options, made)
+    rows, path = sweep(options, made), table_of(options, options.part)
+    shown = [row for row in rows if wanted(row, options)]
     if options.plot:
-        path = options.svg or str(Path(options.csv).with_suffix(".svg"))
-        try:
-            Path(path).write_text("\n".join(picture(series(rows, x, y), x, y)) + "\n", encoding="utf-8")
-        except OSError as error:
-            raise Bad(f"{path}: {error.strerror}") from None
+        if not shown:
+            raise Bad("no row is left to be drawn")
+        save(options.svg or str(Path(path).with_suffix(".svg")),
+             "\n".join(picture(panels(shown, options, x, y), x, y, options.log)) + "\n")
+    if options.short:
+        save(options.short, short_table(shown, made.columns))
     failed, cut = sum(bool(row["failed"]) for row in rows), sum(map(is_cut, rows))
-    print(f"{options.csv}: {len(rows)} rows, {failed} failed, {cut} cut short")
+    print(f"{path}: {len(rows)} rows, {failed} failed, {cut} cut short")
     say_second("sweep.py", made.counted_by, options)
     return int(failed + cut > 0)
 

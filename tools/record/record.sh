@@ -1,12 +1,13 @@
 #!/bin/sh
 # Compiles a program of one or more files in C or C++, runs it, and writes its trace:
 #     record.sh TRACE FILE.c|FILE.cpp .. [compiler options]
+# The options reach the linker, too, as -fopenmp or -lm, and the compiler finds tardis_record.h.
 # Files that end in .cpp, .cc or .cxx are C++. CC and CXX name the compilers; if they aren't set, they are gcc and g++,
 # or clang and clang++ where these aren't there. What the program prints goes to standard error. The status is that of
 # the compiler if it refuses the files, else that of the program.
 case ${1-} in -h | --help) exec sed -n '2,/^[^#]/s/^# \{0,1\}//p' "$0" ;; esac
 here=$(CDPATH='' cd -- "$(dirname -- "$0")" && pwd) || exit 1
-[ $# -ge 2 ] || { sed -n '2,6s/^# //p' "$0" >&2; exit 3; }
+[ $# -ge 2 ] || { sed -n '2,7s/^# //p' "$0" >&2; exit 3; }
 trace=$1
 shift
 cc=${CC:-$(command -v gcc || command -v clang)} || { echo "record.sh: there is no C compiler" >&2; exit 1; }
@@ -30,8 +31,9 @@ for file in $files; do
         compile=$link
         ;;
     esac
-    $compile -O1 $options -fsanitize=thread -c "$file" -o "$work/$number.o" || exit
+    $compile -O1 "-I$here" $options -fsanitize=thread -c "$file" -o "$work/$number.o" || exit
 done
 "$cc" -std=gnu11 -O2 -Wall -Wextra -c "$here/recorder.c" -o "$work/recorder.o" &&
-    "$link" "$work"/*.o -pthread -o "$work/program" || exit
+    # shellcheck disable=SC2086
+    "$link" "$work"/*.o $options -pthread -o "$work/program" || exit
 TRACE=$trace "$work/program" >&2

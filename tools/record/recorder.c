@@ -37,14 +37,19 @@ struct page {
 };
 
 static struct operation *operations;
-static size_t recorded;
+static size_t recorded, left_out;
 static int cores;
 static bool closed;
+// Whether the program is outside of its region of interest, and how often all that was recorded was dropped: once,
+// where the first region begins.
+static bool is_outside;
+static int dropped;
 
 static unsigned next_ticket;
 static unsigned turn;
 
-static _Thread_local int this_core = -1;
+// This thread's core, and how often all had been dropped when it got that number.
+static _Thread_local int this_core = -1, numbered = 0;
 // The stores of this thread whose values are not known: a range of operations.
 static _Thread_local size_t open_from, open_to;
 
@@ -70,7 +75,7 @@ static uint64_t word_at(uintptr_t address) {
 }
 
 static void look_up_open_stores(void) {
-    for (size_t at = open_from; at < open_to; at++) {
+    for (size_t at = open_from; at < open_to && numbered == dropped; at++) {
         operations[at].value = word_at(operations[at].address);
         operations[at].known = true;
     }
@@ -91,23 +96,44 @@ static void end_turn(void) {
 
 // Adds an operation on each word of the bytes that begin here. Letter R, W or S; of a known value the word is read now.
 static void add(char letter, const volatile void *start, size_t size, bool known) {
-    if (closed || size == 0) {
+    if (closed || is_outside || size == 0) {
         return;
     }
-    if (this_core < 0) {
+    if (this_core < 0 || numbered != dropped) {
         if (cores == MOST_CORES) {
             stop("more threads than a trace has cores");
         }
         this_core = cores++;
+        numbered = dropped;
     }
     uintptr_t end = (uintptr_t)start + size;
     for (uintptr_t address = (uintptr_t)start & ~(uintptr_t)(WORD - 1); address < end; address += WORD) {
         if (recorded == MOST_LINES - 1) {
-            stop("more accesses than a trace has lines");
+            left_out++;
+            continue;
         }
         uint64_t value = letter != 'R' && known ? word_at(address) : 0;
         operations[recorded++] = (struct operation){address, value, (uint8_t)this_core, letter, known};
     }
+}
+
+// The region of interest of tardis_record.h.
+void tardis_record_begin(void) {
+    __tsan_init();
+    take_turn();
+    if (dropped == 0) {
+        dropped = 1;
+        recorded = left_out = 0;
+        cores = 0;
+    }
+    is_outside = false;
+    end_turn();
+}
+
+void tardis_record_end(void) {
+    take_turn();
+    is_outside = true;
+    end_turn();
 }
 
 static void loaded(const volatile void *start, size_t size) {
@@ -300,6 +326,9 @@ static void write_trace(FILE *file) {
         } else {
             unknown++;
         }
+    }
+    if (left_out > 0) {
+        fprintf(stderr, "recorder: the trace has the first %zu accesses; %zu more are left out\n", recorded, left_out);
     }
     if (unknown > 0) {
         fprintf(stderr, "recorder: %zu stores are left out, of threads that went on when the program ended\n", unknown);

@@ -10,7 +10,7 @@ from pathlib import Path
 from types import SimpleNamespace
 
 from reference import order, told
-from reference.given import NUMBERS, Bad
+from reference.given import NUMBERS, Bad, bad_configuration
 from reference.schedules import ADVANCE
 from reference.traces import read_records
 
@@ -89,7 +89,7 @@ class Played:
         asked = [f"made {MOST_EVENTS}", "shape", "arranged", "stale", "check", *(f"record {n}" for n in range(total))]
         answers = self.player.ask(calls + asked)
         if answers[0] != "opened":
-            raise Bad("bad configuration: an option is out of its range (docs/TEXTS.md)")
+            raise Bad(bad_configuration(self.options))
         self.end, count = answers[len(calls) - 1].removesuffix(" events").split(", ")
         made, _, arranged, stale, self.verdict, *records = answers[len(calls):]
         if int(count) > MOST_EVENTS:

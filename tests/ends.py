@@ -1,54 +1,212 @@
 #!/usr/bin/env python3
-"""Tries reference/sequential.py with its options: tests/ends.py
+"""Tries the lists of all ends: tests/ends.py [PROGRAM]
 
-For each test of the catalogue and of examples/outcomes, the order of each end is made, step by step: it must lead
-there, and leave no thread an instruction. Store buffering has 13 states, counted by hand: 1, 2, 3, 4 and 3 by how many
-instructions are done. One state fewer must be refused. The last line is `N tried, M wrong`.
+Some texts were worked out by hand, and so was the least --states that they need. Each order of an end is made step by
+step: it must lead there and leave no thread an instruction. `PROGRAM ends` must print what reference/sequential.py
+prints of the catalogue, of examples/outcomes, of all critical cycles of at most 8 edges and of 1,000 random tests, and
+refuse the same bounds. Without PROGRAM, nothing is compared. The last line is `N tried, M wrong`.
 """
+import random
 import sys
+from concurrent.futures import ProcessPoolExecutor
+from os import cpu_count
 from pathlib import Path
 
 sys.path.insert(0, str(Path(__file__).resolve().parent.parent))
 from reference import sequential  # noqa: E402
 from reference.litmus import Test  # noqa: E402
 from tests.texts import TOP, Tester  # noqa: E402
+from tools import cycles  # noqa: E402
 
-SB, STATES = "examples/litmus/SB.litmus", 13
-ENDS = """SB: 3 ends, exists: forbidden by sequential consistency
-  0:x7=0 1:x7=1 : P0:1 P0:2 P1:1 P1:2
-  0:x7=1 1:x7=0 : P1:1 P1:2 P0:1 P0:2
-  0:x7=1 1:x7=1 : P1:1 P0:1 P1:2 P0:2
+EDGES, RANDOM = 8, 1000
+SB = "examples/litmus/SB.litmus"
+# Texts of ends, by hand. Store buffering has 1, 2, 3, 4 and 3 states by how many instructions are done.
+TEXTS = {"SB": """test SB
+threads 2
+states 13
+ends 3
+  0:x7=0 1:x7=1
+  0:x7=1 1:x7=0
+  0:x7=1 1:x7=1
+condition exists
+held 0
+observation SB Never 0 3
+""", "SB+yes": """test SB+yes
+threads 2
+states 13
+ends 3
+  0:x7=0 1:x7=1
+* 0:x7=1 1:x7=0
+  0:x7=1 1:x7=1
+condition exists
+held 1
+observation SB+yes Sometimes 1 2
+""", "SB+forall": """test SB+forall
+threads 2
+states 13
+ends 3
+* 0:x7=0 1:x7=1 x=1 y=1
+* 0:x7=1 1:x7=0 x=1 y=1
+* 0:x7=1 1:x7=1 x=1 y=1
+condition forall
+held 3
+observation SB+forall Always 3 0
+"""}
+ORDERS = """  0:x7=0 1:x7=1   P0:1 P0:2 P1:1 P1:2
+  0:x7=1 1:x7=0   P1:1 P1:2 P0:1 P0:2
 """
-REFUSED = {"0": "--states: 1 or more", "-1": "--states: 1 or more", "many": "--states: 1 or more"}
+# Two stores: each is the last once, and 9 comes before 10. Its three layers have 1, 2 and 2 states.
+NUMBERS = """RISCV NUMBERS
+{ 0:x5=10; 0:x6=x; 1:x5=9; 1:x6=x; }
+P0 | P1 ;
+sw x5,0(x6) | sw x5,0(x6) ;
+~exists x=10
+"""
+# No instruction: one state, and one end.
+NOTHING = """RISCV NOTHING
+{ y=3; }
+P0 ;
+exists x=0 /\\ y=4
+"""
+# Of four swaps each order is an end; k steps lead to 4!/(4 - k)! states.
+SWAPS = """RISCV SWAPS
+{ 0:x5=1; 0:x6=x; 1:x5=2; 1:x6=x; 2:x5=3; 2:x6=x; 3:x5=4; 3:x6=x; }
+P0 | P1 | P2 | P3 ;
+amoswap.w x7,x5,(x6) | amoswap.w x7,x5,(x6) | amoswap.w x7,x5,(x6) | amoswap.w x7,x5,(x6) ;
+exists 0:x7=0 /\\ 1:x7=1 /\\ 2:x7=2 /\\ 3:x7=3
+"""
+# A register that is written twice: the first value counts for the states, though nothing reads it. The layers have 1, 2,
+# 3 and 2 states.
+TWICE = """RISCV TWICE
+{ 0:x5=1; 0:x6=x; 1:x6=x; 1:x8=y; }
+P0 | P1 ;
+sw x5,0(x6) | lw x7,0(x6) ;
+ | lw x7,0(x8) ;
+exists 1:x7=1
+"""
+# By text: the states, the ends, the least bound, and the last line.
+COUNTS = {NUMBERS: (5, ["  x=9", "* x=10"], 4, "observation NUMBERS Sometimes 1 1"),
+          NOTHING: (1, ["  x=0 y=3"], 1, "observation NOTHING Never 0 1"),
+          SWAPS: (65, 24, 48, "observation SWAPS Sometimes 1 23"),
+          TWICE: (8, ["  1:x7=0"], 5, "observation TWICE Never 0 1")}
+REFUSED = ("0", "-1", "many", "4294967296")
 
 
 def end_of(test, order):
-    """Where the order leads, None if it leaves a thread an instruction or names one that has none."""
+    """Where the order leads, None if it leaves a thread an instruction or names one that isn't its thread's next."""
     threads, memory = test.programs(), dict(test.memory)
-    for number in order:
-        if not threads[number].next():
+    done = [0] * len(threads)
+    for step in order:
+        number, place = map(int, step[1:].split(":"))
+        done[number] += 1
+        if done[number] != place or not threads[number].next():
             return None
-        sequential.perform(threads[number], memory)
+        kind, word, value = threads[number].next()
+        threads[number].done(memory.get(word, 0))
+        if kind != "load":
+            memory[word] = value
     return None if any(thread.next() for thread in threads) else test.end_values(threads, memory)
 
 
-def main():
-    tester = Tester(str(TOP / "reference/sequential.py"))
+def least_bound(sizes):
+    return max(size + after for size, after in zip(sizes, [*sizes[1:], 0]))
+
+
+def drawn(number):
+    """A random test."""
+    draw = random.Random(number)
+    threads, words = draw.randint(1, 4), "xyz"[:draw.randint(1, 3)]
+    width = draw.choice("wd")
+
+    def register():
+        return draw.choice(["x0", "x5", "x7", "x9", "x11"])
+
+    def cell():
+        address = f"x{20 + 2 * draw.randrange(len(words))}"
+        return draw.choice([f"l{width} {register()},0({address})", f"s{width} {register()},0({address})",
+                            f"amoswap.{width}{draw.choice(['', '.aq', '.rl'])} {register()},{register()},({address})",
+                            f"li {register()},{draw.randrange(4)}", f"ori {register()},x0,{draw.randrange(4)}",
+                            f"fence {draw.choice(['r', 'w', 'rw'])},{draw.choice(['r', 'w', 'rw'])}"])
+
+    def atom():
+        thread, location = draw.randrange(threads), draw.choice([*words, "w"])
+        name = draw.choice([f"{thread}:x{draw.choice([5, 7, 9])}", location])
+        return f"{name}={draw.randrange(4)}"
+
+    opening = [f"{thread}:x{20 + 2 * at}={word};" for thread in range(threads) for at, word in enumerate(words)]
+    opening += [f"{thread}:x{draw.choice([5, 7])}={draw.randint(1, 3)};" for thread in range(threads)]
+    opening += [f"{word}={draw.randrange(4)};" for word in words if draw.random() < 0.3]
+    columns = [[cell() for _ in range(draw.randint(0, 8 - threads))] for _ in range(threads)]
+    rows = [" | ".join(column[at] if at < len(column) else "" for column in columns)
+            for at in range(max(map(len, columns)))]
+    condition = atom()
+    for _ in range(draw.randrange(4)):
+        condition = f"({condition}) " + draw.choice(["/\\ ", "\\/ "]) + atom()
+    return "\n".join([f"RISCV RANDOM-{number}", f"{{ {' '.join(opening)} }}",
+                      " | ".join(f"P{thread}" for thread in range(threads)) + " ;", *(row + " ;" for row in rows),
+                      f"{draw.choice(['exists', '~exists', 'forall'])} {condition}", ""])
+
+
+def texts():
+    """What is compared, each with its name."""
     for path in sorted([*TOP.glob("examples/litmus/*.litmus"), *TOP.glob("examples/outcomes/*.litmus")]):
-        test = Test(path.read_text(encoding="ascii"))
-        for end, order in sequential.orders_of(test).items():
-            tester.expect(end_of(test, order) == end, f"{test.name}: {order} doesn't lead to {end}")
-    got = tester.run("--states", str(STATES), "--orders", str(TOP / SB))
-    tester.expect(got == (0, ENDS, ""), f"{STATES} states: {got}")
-    status, out, error = tester.run("--states", str(STATES - 1), str(TOP / SB))
-    tester.expect((status, out) == (1, "") and f"more than {STATES - 1} states" in error, f"refused: {status} {out}")
-    for states, said in REFUSED.items():
+        yield path.stem, path.read_text(encoding="ascii")
+    for edges in cycles.family(EDGES):
+        yield cycles.name_of(edges), "\n".join(cycles.Cycle(edges).test()) + "\n"
+    for number in range(RANDOM):
+        yield f"random {number}", drawn(number)
+
+
+def compared(case):
+    """How many things are tried of a text, and what is wrong of it."""
+    program, name, text = case
+    test, tester = Test(text), Tester(program)
+    ends, sizes = sequential.explored(sequential.Flat(test))
+    for end, order in ends.items():
+        tester.expect(end_of(test, order) == end, f"{name}: {order} doesn't lead to {end}")
+    if program:
+        bound, given = least_bound(sizes), text.encode()
+        got = tester.run("ends", "--states", str(bound), "/dev/stdin", text=given)
+        tester.expect(got == (0, sequential.report(test), ""), f"{name}: {got}")
+        if bound > 1:
+            got = tester.run("ends", "--states", str(bound - 1), "/dev/stdin", text=given)
+            tester.expect(got == (1, "", f"tardis: more than {bound - 1} states\n"), f"{name}: refused: {got}")
+    return tester.tried, tester.wrong
+
+
+def by_hand(tester):
+    for name, text in TEXTS.items():
+        got = tester.run(str(TOP / f"examples/litmus/{name}.litmus"))
+        tester.expect(got == (0, text, ""), f"{name}: {got}")
+    for text, (states, ends, bound, last) in COUNTS.items():
+        for most, status in ((bound, 0), (bound - 1, 1)):
+            if most:
+                got = tester.run("--states", str(most), "/dev/stdin", text=text.encode())
+                tester.expect(got[0] == status and bool(got[1]) == (status == 0), f"{most} states: {got} of {text}")
+        lines = tester.run("/dev/stdin", text=text.encode())[1].splitlines()
+        listed = [line for line in lines if line[0] in " *"]
+        tester.expect(lines[2] == f"states {states}" and lines[-1] == last, f"{lines} of {text}")
+        tester.expect(ends in (listed, len(listed)), f"{lines} of {text}")
+    status, out, error = tester.run("--orders", str(TOP / SB))
+    tester.expect((status, error) == (0, "") and ORDERS in out, f"orders: {status} {out} {error}")
+    for states in REFUSED:
         status, out, error = tester.run("--states", states, str(TOP / SB))
-        tester.expect((status, out) == (2, "") and said in error, f"{states}: {status} {out} {error}")
+        tester.expect((status, out) == (2, "") and "--states: 1 to 4294967295" in error, f"{states}: {status} {out} {error}")
     tester.expect(f"by default {sequential.MOST_STATES})" in sequential.__doc__, "the default of the help")
+    got = Tester(str(TOP / "reference/oracle.py")).run("ends", "--states", "6", str(TOP / SB))
+    tester.expect(got == (1, "", "tardis: more than 6 states\n"), f"oracle.py ends: {got}")
+
+
+def main(program=None):
+    tester = Tester(str(TOP / "reference/sequential.py"))
+    by_hand(tester)
+    with ProcessPoolExecutor(cpu_count()) as pool:
+        for tried, wrong in pool.map(compared, ((program, *case) for case in texts()), chunksize=8):
+            tester.tried += tried
+            tester.wrong += wrong
     print(f"{tester.tried} tried, {tester.wrong} wrong")
     return int(bool(tester.wrong))
 
 
 if __name__ == "__main__":
-    sys.exit(main())
+    sys.exit(main(*sys.argv[1:]) if len(sys.argv) <= 2 else __doc__)

@@ -4,7 +4,8 @@
 Some texts were worked out by hand, and so was the least --states that they need. Each order of an end is made step by
 step: it must lead there and leave no thread an instruction. `PROGRAM ends` must print what reference/sequential.py
 prints of the catalogue, of examples/outcomes, of all critical cycles of at most 8 edges and of 1,000 random tests, and
-refuse the same bounds. Without PROGRAM, nothing is compared. The last line is `N tried, M wrong`.
+refuse the same bounds. Under total store order a critical cycle is allowed exactly if it has a store before a load
+(PodWR). Without PROGRAM, nothing is compared. The last line is `N tried, M wrong`.
 """
 import random
 import sys
@@ -75,8 +76,8 @@ P0 | P1 | P2 | P3 ;
 amoswap.w x7,x5,(x6) | amoswap.w x7,x5,(x6) | amoswap.w x7,x5,(x6) | amoswap.w x7,x5,(x6) ;
 exists 0:x7=0 /\\ 1:x7=1 /\\ 2:x7=2 /\\ 3:x7=3
 """
-# A register that is written twice: the first value counts for the states, though nothing reads it. The layers have 1, 2,
-# 3 and 2 states.
+# A register that is written twice: the first value counts for the states, though nothing reads it. The layers have 1,
+# 2, 3 and 2 states.
 TWICE = """RISCV TWICE
 { 0:x5=1; 0:x6=x; 1:x6=x; 1:x8=y; }
 P0 | P1 ;
@@ -90,6 +91,39 @@ COUNTS = {NUMBERS: (5, ["  x=9", "* x=10"], 4, "observation NUMBERS Sometimes 1 
           SWAPS: (65, 24, 48, "observation SWAPS Sometimes 1 23"),
           TWICE: (8, ["  1:x7=0"], 5, "observation TWICE Never 0 1")}
 REFUSED = ("0", "-1", "many", "4294967296")
+
+# Under total store order: tests of the catalogue with their ends, and those in which the expression holds.
+BUFFERED = {"SB": (4, 1), "SB+fence": (4, 1), "SB+fences": (3, 0), "SB+swaps": (3, 0), "MP": (3, 0), "MP+swaps": (3, 0),
+            "LB": (3, 0), "S": (3, 0), "R": (4, 1), "2+2W": (3, 0), "CoRR": (3, 0), "IRIW": (15, 0), "WRC": (7, 0),
+            "RWC": (8, 1)}
+PETERSON = "examples/exercises/peterson.litmus"
+# Store buffering with a fence of each kind between: only one of stores before loads forbids the end.
+FENCED = """RISCV FENCED
+{ 0:x5=1; 0:x6=x; 0:x8=y; 1:x5=1; 1:x6=y; 1:x8=x; }
+P0 | P1 ;
+sw x5,0(x6) | sw x5,0(x6) ;
+fence A,B | fence A,B ;
+lw x7,0(x8) | lw x7,0(x8) ;
+exists 0:x7=0 /\\ 1:x7=0
+"""
+# A load of the own store, which the other thread can't see yet; and a store that is overwritten while it is buffered.
+FORWARDED = """RISCV FORWARDED
+{ 0:x5=1; 0:x6=x; 0:x8=y; 1:x5=2; 1:x6=x; 1:x8=y; }
+P0 | P1 ;
+sw x5,0(x6) | sw x5,0(x8) ;
+lw x7,0(x6) | sw x5,0(x6) ;
+lw x9,0(x8) | ;
+exists 0:x7=1 /\\ 0:x9=0 /\\ x=1
+"""
+# Each load of a thread's own word receives its last store, or a later one of the other thread.
+LAST_ONE = """RISCV LAST-ONE
+{ 0:x5=1; 0:x6=x; 0:x9=2; }
+P0 ;
+sw x5,0(x6) ;
+sw x9,0(x6) ;
+lw x7,0(x6) ;
+exists 0:x7=1
+"""
 
 
 def end_of(test, order):
@@ -191,15 +225,42 @@ def by_hand(tester):
     tester.expect((status, error) == (0, "") and ORDERS in out, f"orders: {status} {out} {error}")
     for states in REFUSED:
         status, out, error = tester.run("--states", states, str(TOP / SB))
-        tester.expect((status, out) == (2, "") and "--states: 1 to 4294967295" in error, f"{states}: {status} {out} {error}")
+        good = (status, out) == (2, "") and "--states: 1 to 4294967295" in error
+        tester.expect(good, f"{states}: {status} {out} {error}")
     tester.expect(f"by default {sequential.MOST_STATES})" in sequential.__doc__, "the default of the help")
     got = Tester(str(TOP / "reference/oracle.py")).run("ends", "--states", "6", str(TOP / SB))
     tester.expect(got == (1, "", "tardis: more than 6 states\n"), f"oracle.py ends: {got}")
 
 
+def buffered(text):
+    """The ends of a text under total store order, and in how many the expression holds."""
+    test = Test(text)
+    ends, _ = sequential.explored(sequential.Buffered(test))
+    return len(ends), sum(map(test.holds, ends))
+
+
+def total_store_order(tester):
+    for name, wanted in BUFFERED.items():
+        got = buffered((TOP / f"examples/litmus/{name}.litmus").read_text(encoding="ascii"))
+        tester.expect(got == wanted, f"{name} under TSO: {got}, wanted {wanted}")
+    for sets, held in {"w,r": 0, "rw,r": 0, "w,rw": 0, "rw,rw": 0, "w,w": 1, "r,r": 1, "r,rw": 1, "rw,w": 1}.items():
+        got = buffered(FENCED.replace("A,B", sets))
+        tester.expect(got == (3 + held, held), f"fence {sets} under TSO: {got}")
+    tester.expect(buffered(FORWARDED)[1] == 1, "a load of the own buffered store")
+    tester.expect(buffered(LAST_ONE) == (1, 0), "the last buffered store")
+    tester.expect(buffered((TOP / PETERSON).read_text(encoding="ascii"))[1] > 0, "Peterson's lock holds under TSO")
+    for edges in cycles.family(EDGES):
+        held = buffered("\n".join(cycles.Cycle(edges).test()))[1]
+        tester.expect(held == ("PodWR" in edges), f"{' '.join(edges)} under TSO: {held}")
+    status, out, error = tester.run("--model", "tso", str(TOP / SB))
+    tester.expect((status, error) == (0, "") and out.startswith("model total store order, not proved\ntest SB\n")
+                  and "\n* 0:x7=0 1:x7=0\n" in out, f"TSO: {status} {out} {error}")
+
+
 def main(program=None):
     tester = Tester(str(TOP / "reference/sequential.py"))
     by_hand(tester)
+    total_store_order(tester)
     with ProcessPoolExecutor(cpu_count()) as pool:
         for tried, wrong in pool.map(compared, ((program, *case) for case in texts()), chunksize=8):
             tester.tried += tried

@@ -38,7 +38,7 @@ class Test:
         return self.words.setdefault(location, len(self.words))
 
     def instruction(self, thread, cell):
-        """(kind, xD, xS or number, word); kind is load, store, swap, set or fence. A fence's two sets are its registers."""
+        """(kind, xD, xS or number, word); kind is load, store, swap, set or fence. A fence has its two sets."""
         cell = re.sub(r"\s*([,()])\s*", r"\1", re.sub(r"\s+", " ", cell))
         if m := re.fullmatch(r"([ls])[wd] (x\d+),0\((x\d+)\)", cell):
             return "load" if m[1] == "l" else "store", m[2], m[2], self.start[thread, m[3]]

@@ -1,22 +1,28 @@
 #!/usr/bin/env python3
-"""Tries the lists of all ends: tests/ends.py [PROGRAM]
+"""Tries the lists of all ends, and tools/ends.py: tests/ends.py [PROGRAM]
 
 Some texts were worked out by hand, and so was the least --states that they need. Each order of an end is made step by
 step: it must lead there and leave no thread an instruction. `PROGRAM ends` must print what reference/sequential.py
 prints of the catalogue, of examples/outcomes, of all critical cycles of at most 8 edges and of 1,000 random tests, and
 refuse the same bounds. Under total store order a critical cycle is allowed exactly if it has a store before a load
-(PodWR). Without PROGRAM, nothing is compared. The last line is `N tried, M wrong`.
+(PodWR). tools/ends.py must say of each end which runs meet it, as the second program makes them one by one. Without
+PROGRAM nothing is compared, and the second program makes the tool's runs. The last line is `N tried, M wrong`.
 """
+import os
 import random
+import re
+import shlex
 import sys
+import tempfile
 from concurrent.futures import ProcessPoolExecutor
 from os import cpu_count
 from pathlib import Path
 
 sys.path.insert(0, str(Path(__file__).resolve().parent.parent))
-from reference import sequential  # noqa: E402
+from reference import oracle, sequential  # noqa: E402
 from reference.litmus import Test  # noqa: E402
 from tests.texts import TOP, Tester  # noqa: E402
+from tests.witness import ends_by_hand  # noqa: E402
 from tools import cycles  # noqa: E402
 
 EDGES, RANDOM = 8, 1000
@@ -124,6 +130,38 @@ sw x9,0(x6) ;
 lw x7,0(x6) ;
 exists 0:x7=1
 """
+
+
+# What tools/ends.py is tried with: a test of the catalogue, options, how many seeds from which one on. In the last two
+# some ends aren't met, and in the last one some runs aren't all done.
+MET = [("SB+yes", "", 60, 0), ("LEASE", "--lease 1", 40, 990), ("WRC", "", 20, 2 ** 64 - 7),
+       ("MP", "--limit 70", 30, 0)]
+# A name that nothing writes, one that nothing reads either, and an address that nothing uses.
+UNMEANT = """RISCV UNMEANT
+{ 0:x5=1; 0:x6=x; 1:x6=x; 1:x8=y; }
+P0 | P1 ;
+sw x5,0(x6) | lw x7,0(x6) ;
+exists 1:x9=0 /\\ z=1 /\\ 1:x7=1
+"""
+WARNINGS = ["  but 1:x9 in the condition: no instruction of P1 writes x9, so it is always 0",
+            "  but z in the condition: no instruction loads or stores it, so it is always 0",
+            "  but 1:x8=y: no instruction of P1 uses that address"]
+# Programs: one that is older than `ends`, one that leaves out an end which each run by rounds has, and one that is
+# called like the proved one.
+OLD = """if [ "$1" = ends ]; then echo "error: unrecognized subcommand 'ends'" >&2; exit 3; fi"""
+SHORT = """if [ "$1" = ends ]; then "$oracle" "$@" | grep -v '0:x7=1 1:x7=1'; exit; fi"""
+NOT_PROVED = "(listed by reference/oracle.py, not proved)"
+PROVED = "(listed by tardis ends, proved: no run has another)"
+# Students' lists of the ends of store buffering: how many are right, missing and impossible.
+LISTS = {"0:x7=0 1:x7=1\n0:x7=1 1:x7=0\n0:x7=1 1:x7=1\n": (3, 0, 0), "": (0, 3, 0),
+         "# mine\n\n* 1:x7=1, 0:x7=1 # both\n0:x7=00 /\\ 1:x7 = 0;\n0:x7=1 1:x7=1   P0:1 P1:1 P0:2 P1:2\n": (1, 2, 1),
+         TEXTS["SB"]: (3, 0, 0), TEXTS["SB"] + "0:x7=0 1:x7=0\n0:x7=2 1:x7=1\n": (3, 0, 2)}
+GRADED = """right       0:x7=1 1:x7=1
+missing     0:x7=0 1:x7=1   P0:1 P0:2 P1:1 P1:2
+missing     0:x7=1 1:x7=0   P1:1 P1:2 P0:1 P0:2
+impossible  0:x7=0 1:x7=0
+"""
+NO_LISTS = ("0:x7=0", "0:x7=0 1:x7=1 x=1", "0:x7=0 1:x7=1 1:x7=1", "0:x7=0 1:x7=y", "both of them", "test=1", "testing")
 
 
 def end_of(test, order):
@@ -257,8 +295,99 @@ def total_store_order(tester):
                   and "\n* 0:x7=0 1:x7=0\n" in out, f"TSO: {status} {out} {error}")
 
 
+def wanted_lines(path, options, seeds, first):
+    """What tools/ends.py must say of each end, and of runs that aren't all done; but for commands and orders."""
+    test, of = oracle.read_litmus(path), f"{seeds:,} from {first:,}" if first else f"{seeds:,}"
+    rounds, _ = oracle.run(oracle.words().parse_args(["litmus", *options, path]))
+    by_seed = ends_by_hand(path, options, seeds, first)
+    ends = [("* "[not test.holds(end)], sequential.text_of(end)) for end in sorted(sequential.ends_of(test))]
+    for mark, end in ends + [("-", end) for end in by_seed if "=" not in end]:
+        how = ["by rounds"] * any(line in rounds.splitlines() for line in (f"1 {end}", f"{end} 1"))
+        if end in by_seed:
+            count, seed, _ = by_seed[end]
+            how.append(f"by seed {seed} (first of {of}: {100 * count / seeds:.3g} %)")
+        else:
+            how = (how or ["possible"]) + [f"not met in {of} seeds"]
+        yield f"{mark} {end}: {', '.join(how)}"
+
+
+def met(tester, name, options, seeds, first):
+    path, options = f"examples/litmus/{name}.litmus", options.split()
+    status, out, error = tester.run("--threads", "0", "--seeds", str(seeds), "--seed", str(first), *options, path)
+    lines = out.splitlines()
+    tester.expect((status, error) == (0, "") and lines[0].startswith(f"{name}: "), f"{name}: {status} {out} {error}")
+    told, wanted = [line for line in lines[1:] if line[:4] != "    "], list(wanted_lines(path, options, seeds, first))
+    tester.expect(told == wanted, f"{name}: {told}, wanted {wanted}")
+    test, end = oracle.read_litmus(path), None
+    for line in lines[1:]:
+        if line.startswith("    order "):
+            got = end_of(test, line.split()[1:])
+            tester.expect(got and sequential.text_of(got) == end, f"{name}: {line} doesn't lead to {end}")
+        elif line.startswith("    "):
+            report = Tester(os.environ["TARDIS"]).run(*shlex.split(line)[1:])[1].splitlines()
+            tester.expect({f"1 {end}", f"{end} 1"} & {*report}, f"{name}: {line} doesn't end with {end}")
+        else:
+            end = line[2:].split(": ")[0]
+
+
+def graded(tester, folder):
+    listed = Path(folder, "list")
+    for text, counts in LISTS.items():
+        listed.write_text(text)
+        status, out, error = tester.run("--grade", str(listed), SB)
+        line = "{}: {} right, {} missing, {} impossible".format(listed, *counts)
+        good = (status, out.splitlines()[1], error) == (int(counts[1:] != (0, 0)), line, "")
+        tester.expect(good and (counts != (1, 2, 1) or out.endswith(GRADED)), f"{text}: {status} {out} {error}")
+    for text in NO_LISTS:
+        listed.write_text("\n" + text)
+        status, out, error = tester.run("--grade", str(listed), SB)
+        said = f"ends.py: {listed}: line 2: an end is 0:x7=N 1:x7=N\n"
+        tester.expect((status, out, error) == (2, "", said), f"{text}: {status} {out} {error}")
+    status, out, error = tester.run("--grade", str(listed), SB, SB)
+    tester.expect((status, out) == (2, "") and "one test" in error, f"two tests: {status} {out} {error}")
+
+
+def by_others(tester, folder):
+    """What the tool says of a program that is older, that leaves an end out, or that has the proved one's name."""
+    path, kept = Path(folder, "tardis"), os.environ["TARDIS"]
+    few = ("--seeds", "1", "--threads", "0", SB)
+    for first, status, said in ((OLD, 0, NOT_PROVED), (SHORT, 2, "0:x7=1 1:x7=1 is met and not listed"),
+                                ("", 0, PROVED), (None, 0, NOT_PROVED)):
+        path.write_text(f"#!/bin/sh\noracle='{TOP / 'reference/oracle.py'}'\n{first}\nexec \"$oracle\" \"$@\"\n")
+        path.chmod(0o755)
+        os.environ["TARDIS"] = str(path) if first is not None else str(TOP / "reference/oracle.py")
+        got = tester.run(*few)
+        tester.expect(got[0] == status and said in got[1] + got[2], f"{first}: {got}, wanted {said}")
+    os.environ["TARDIS"] = kept
+
+
+def of_tool(program):
+    """Tries tools/ends.py."""
+    tester = Tester(str(TOP / "tools/ends.py"))
+    os.environ["TARDIS"] = program or str(TOP / "reference/oracle.py")
+    for case in MET:
+        met(tester, *case)
+    with tempfile.TemporaryDirectory() as folder:
+        graded(tester, folder)
+        by_others(tester, folder)
+        path = Path(folder, "unmeant.litmus")
+        path.write_text(UNMEANT)
+        lines = tester.run("--seeds", "1", "--threads", "0", str(path))[1].splitlines()
+        tester.expect(lines[1:4] == WARNINGS, f"warnings: {lines}")
+    if program:
+        status, out, error = tester.run("--seeds", "1", "--threads", "20", SB)
+        runs = sum(map(int, re.findall(r"by threads \((\d+) of 20\)", out)))
+        tester.expect((status, error, runs) == (0, "", 20), f"by threads: {status} {out} {error}")
+    got = tester.run("--states", "6", SB)
+    tester.expect(got == (2, "", f"ends.py: {SB}: more than 6 states\n"), f"6 states: {got}")
+    return tester
+
+
 def main(program=None):
-    tester = Tester(str(TOP / "reference/sequential.py"))
+    program = program and os.path.abspath(program)
+    os.chdir(TOP)
+    tester = of_tool(program)
+    tester.program = str(TOP / "reference/sequential.py")
     by_hand(tester)
     total_store_order(tester)
     with ProcessPoolExecutor(cpu_count()) as pool:

@@ -132,8 +132,8 @@ exists 0:x7=1
 """
 
 
-# What tools/ends.py is tried with: a test of the catalogue, options, how many seeds from which one on. In the last two
-# some ends aren't met, and in the last one some runs aren't all done.
+# What tools/ends.py is tried with: a test of the catalogue, options, how many seeds from which one on. Some ends of WRC
+# aren't met, and in the last one a run isn't all done.
 MET = [("SB+yes", "", 60, 0), ("LEASE", "--lease 1", 40, 990), ("WRC", "", 20, 2 ** 64 - 7),
        ("MP", "--limit 70", 30, 0)]
 # A name that nothing writes, one that nothing reads either, and an address that nothing uses.

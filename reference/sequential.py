@@ -4,7 +4,7 @@
     reference/sequential.py [--states N] [--orders] [--model sc|tso] TEST ..
 
 It prints for each test what `tardis ends` prints, as docs/TEXTS.md has it. With --orders each end has an order of the
-threads' memory instructions behind it that leads there: P0:2 is the second of thread 0. The program may give another.
+threads' memory instructions behind it that leads there: P0:2 is the second of thread 0.
 
 The search goes depth first and keeps each state that it has seen: what each thread has received, and the memory. The
 program keeps a layer and the next, a layer being the states after one number of steps, and gives up if these are more

@@ -103,10 +103,12 @@ BUFFERED = {"SB": (4, 1), "SB+fence": (4, 1), "SB+fences": (3, 0), "SB+swaps": (
             "LB": (3, 0), "S": (3, 0), "R": (4, 1), "2+2W": (3, 0), "CoRR": (3, 0), "IRIW": (15, 0), "WRC": (7, 0),
             "RWC": (8, 1)}
 PETERSON = "examples/exercises/peterson.litmus"
-# Store buffering with a fence of each kind between: only one of stores before loads forbids the end.
+# Store buffering with a fence of each kind between: only one of stores before loads forbids the end. One before the
+# store doesn't.
 FENCED = """RISCV FENCED
 { 0:x5=1; 0:x6=x; 0:x8=y; 1:x5=1; 1:x6=y; 1:x8=x; }
 P0 | P1 ;
+fence rw,rw | fence rw,rw ;
 sw x5,0(x6) | sw x5,0(x6) ;
 fence A,B | fence A,B ;
 lw x7,0(x8) | lw x7,0(x8) ;

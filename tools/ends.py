@@ -42,28 +42,28 @@ class Ends:
     def __init__(self, path, states):
         self.path = f"./{path}" if path.startswith("-") else path
         self.text = contents(path)
-        self.test = litmus_test(path, self.text)
-        self.by, lines = self.listed(states)
+        self.test, self.most = litmus_test(path, self.text), states
+        self.by, lines = self.listed()
         self.marks = {line[2:]: line[0] for line in lines if line[0] in " *"}  # by end, in rising order
         self.states = next(line for line in lines if line.startswith("states ")).split()[1]
 
-    def listed(self, states):
+    def listed(self):
         """What lists them, and its lines."""
         try:
-            told = program.run("ends", "--states", states, self.path)
+            told = program.run("ends", "--states", self.most, self.path)
             return Path(program.program()).name, told.splitlines()
         except Refused as refused:
             if "unrecognized subcommand" not in str(refused):
                 raise Bad(f"{self.path}: {refused}") from None
         try:  # the program is older than `ends`
-            return "oracle.py", sequential.report(self.test, states).splitlines()
+            return "oracle.py", sequential.report(self.test, self.most).splitlines()
         except sequential.TooManyStates:
-            raise Bad(f"{self.path}: more than {states} states") from None
+            raise Bad(f"{self.path}: more than {self.most} states") from None
 
     @functools.cached_property
     def orders(self):
         """By end the order that the second program finds."""
-        found, _ = sequential.explored(sequential.Flat(self.test))
+        found, _ = sequential.explored(sequential.Flat(self.test), self.most)
         return {sequential.text_of(end): " ".join(order) for end, order in found.items()}
 
     def first_line(self):

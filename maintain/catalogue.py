@@ -35,8 +35,8 @@ TABLES = {
 # Those whose forbidden ends have one ring, or two that are mirror images.
 RINGS = ("two threads", "one location", "more threads", "swaps and fences", "locks")
 MOST_RINGS = 2
-HEAD = ["| Test | Question | One memory | Rounds | Held | Stale hits |",
-        "|---|---|---|---|---|---|"]
+HEAD = ["| Test | Question | One memory | Ends met | Rounds | Held | Stale hits |",
+        "|---|---|---|---|---|---|---|"]
 
 
 class Report:
@@ -52,8 +52,9 @@ class Report:
 def row(name):
     text = (TESTS / (name + ".litmus")).read_text(encoding="ascii")
     test, rounds, seeds = Test(text), Report(name, ".report"), Report(name, ".seeds")
+    ends = sequential.ends_of(test)
     cells = [f"[{name}](../examples/litmus/{name}.litmus)", re.search(r'^"(.*)"$', text, re.M)[1],
-             sequential.answer(test, sequential.ends_of(test)), rounds.said["verdict"], seeds.said["held"],
+             sequential.answer(test, ends), f"{len(seeds.states)} of {len(ends)}", rounds.said["verdict"], seeds.said["held"],
              seeds.said["stale-hits"]]
     return "| " + " | ".join(cells) + " |"
 

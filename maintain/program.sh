@@ -71,7 +71,7 @@ run_unproved() {
         word=$1
         shift
         case $word in
-            /* | -* | litmus | trace | check) ;;
+            /* | -* | litmus | ends | trace | check) ;;
             *) [ ! -f "$word" ] || word=$PWD/$word ;;
         esac
         set -- "$@" "$word"

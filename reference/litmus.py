@@ -38,7 +38,7 @@ class Test:
         return self.words.setdefault(location, len(self.words))
 
     def instruction(self, thread, cell):
-        """(kind, xD, xS or number, word); kind is load, store, swap, set or fence."""
+        """(kind, xD, xS or number, word); kind is load, store, swap, set or fence. A fence has its two sets."""
         cell = re.sub(r"\s*([,()])\s*", r"\1", re.sub(r"\s+", " ", cell))
         if m := re.fullmatch(r"([ls])[wd] (x\d+),0\((x\d+)\)", cell):
             return "load" if m[1] == "l" else "store", m[2], m[2], self.start[thread, m[3]]
@@ -46,8 +46,8 @@ class Test:
             return "swap", m[1], m[2], self.start[thread, m[3]]
         if m := re.fullmatch(r"(?:li (x\d+)|ori (x\d+),x0),(\d+)", cell):
             return "set", m[1] or m[2], int(m[3]), None
-        assert re.fullmatch(r"fence (r|w|rw),(r|w|rw)", cell), cell
-        return "fence", None, None, None
+        m = re.fullmatch(r"fence (r|w|rw),(r|w|rw)", cell)
+        return "fence", m[1], m[2], None
 
     def programs(self):
         return [Thread(self, number) for number in range(len(self.threads))]

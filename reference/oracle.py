@@ -1,11 +1,12 @@
 #!/usr/bin/env python3
-"""Prints what `tardis litmus|trace|check [options] FILE..` must print, without the program.
+"""Prints what `tardis litmus|ends|trace|check [options] FILE..` must print, without the program.
 
 Written from docs/ alone: PROTOCOL.md, SCHEDULES.md, SEATS.md, TEXTS.md, ORDER.md. Its parts are in reference/. A
 refusal has the program's status and its line on standard error. But a wrong option has this script's own words, with
 status 2.
 
     reference/oracle.py litmus [--schedule seed --seed N] [--runs N] [--fair] [--lease N] .. [--private-write] FILE
+    reference/oracle.py ends [--states N] FILE
     reference/oracle.py trace [--records] [--schedule seed --seed N] [--fair] [--lease N] .. FILE
     reference/oracle.py check TRACE RECORDS
     reference/oracle.py --rows <ROWS
@@ -23,7 +24,7 @@ import sys
 from pathlib import Path
 
 sys.path.insert(0, str(Path(__file__).resolve().parent.parent))
-from reference import litmus_faults  # noqa: E402
+from reference import litmus_faults, sequential  # noqa: E402
 from reference.events import list_of_events  # noqa: E402
 from reference.given import NUMBERS, Bad, has_machine  # noqa: E402
 from reference.litmus import Test  # noqa: E402
@@ -78,6 +79,9 @@ def words():
         command.add_argument("FILE")
     commands.choices["litmus"].add_argument("--runs", type=number("runs", 1, 1_000_000), default=1)
     commands.choices["trace"].add_argument("--records", action="store_true")
+    command = commands.add_parser("ends", allow_abbrev=False)
+    command.add_argument("--states", type=number("states", 1, sequential.GREATEST), default=sequential.MOST_STATES)
+    command.add_argument("FILE")
     command = commands.add_parser("check", allow_abbrev=False)
     command.add_argument("TRACE")
     command.add_argument("RECORDS")
@@ -107,7 +111,7 @@ def read_trace(path):
 
 def refuse_fair(options):
     """Only rounds can be fair."""
-    if options.command != "check" and options.fair and options.schedule != "round":
+    if options.command in ("litmus", "trace") and options.fair and options.schedule != "round":
         raise Refused(3, f"error: '--fair' needs '--schedule round'{MORE}")
 
 
@@ -119,6 +123,13 @@ def refuse_threads(options):
         raise Bad("a run by threads has no list of events")
 
 
+def ends_report(options):
+    try:
+        return sequential.report(read_litmus(options.FILE), options.states)
+    except sequential.TooManyStates:
+        raise Refused(1, f"tardis: more than {options.states} states") from None
+
+
 def run(options):
     """What is printed, and the status."""
     refuse_fair(options)
@@ -126,6 +137,8 @@ def run(options):
         trace = read_trace(options.TRACE)
         verdict = check({}, trace.issued(), read_records(contents(options.RECORDS)))
         return verdict + "\n", int(verdict != "legal")
+    if options.command == "ends":
+        return ends_report(options), 0
     read = read_litmus(options.FILE) if options.command == "litmus" else read_trace(options.FILE)
     if not has_machine(options, len(read.programs())):
         raise Refused(3, "tardis: bad configuration")
@@ -165,7 +178,7 @@ def main(given):
         for row in sys.stdin.read().splitlines():
             write_row(row)
         return 0
-    if given and given[0] not in ("litmus", "trace", "check", "-h", "--help"):
+    if given and given[0] not in ("litmus", "ends", "trace", "check", "-h", "--help"):
         given = ["litmus", *given]
     try:
         text, status = run(words().parse_args(given))

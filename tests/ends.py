@@ -1,54 +1,404 @@
 #!/usr/bin/env python3
-"""Tries reference/sequential.py with its options: tests/ends.py
+"""Tries the lists of all ends, and tools/ends.py: tests/ends.py [PROGRAM]
 
-For each test of the catalogue and of examples/outcomes, the order of each end is made, step by step: it must lead
-there, and leave no thread an instruction. Store buffering has 13 states, counted by hand: 1, 2, 3, 4 and 3 by how many
-instructions are done. One state fewer must be refused. The last line is `N tried, M wrong`.
+Some texts were worked out by hand, and so was the least --states that they need. Each order of an end is made step by
+step: it must lead there and leave no thread an instruction. `PROGRAM ends` must print what reference/sequential.py
+prints of the catalogue, of examples/outcomes, of all critical cycles of at most 8 edges and of 1,000 random tests, and
+refuse the same bounds. Under total store order a critical cycle is allowed exactly if it has a store before a load
+(PodWR). tools/ends.py must say of each end which runs meet it, as the second program makes them one by one. Without
+PROGRAM nothing is compared, and the second program makes the tool's runs. The last line is `N tried, M wrong`.
 """
+import os
+import random
+import re
+import shlex
 import sys
+import tempfile
+from concurrent.futures import ProcessPoolExecutor
+from os import cpu_count
 from pathlib import Path
 
 sys.path.insert(0, str(Path(__file__).resolve().parent.parent))
-from reference import sequential  # noqa: E402
+from reference import oracle, sequential  # noqa: E402
 from reference.litmus import Test  # noqa: E402
 from tests.texts import TOP, Tester  # noqa: E402
+from tests.witness import ends_by_hand  # noqa: E402
+from tools import cycles  # noqa: E402
 
-SB, STATES = "examples/litmus/SB.litmus", 13
-ENDS = """SB: 3 ends, exists: forbidden by sequential consistency
-  0:x7=0 1:x7=1 : P0:1 P0:2 P1:1 P1:2
-  0:x7=1 1:x7=0 : P1:1 P1:2 P0:1 P0:2
-  0:x7=1 1:x7=1 : P1:1 P0:1 P1:2 P0:2
+EDGES, RANDOM = 8, 1000
+SB = "examples/litmus/SB.litmus"
+# Texts of ends, by hand. Store buffering has 1, 2, 3, 4 and 3 states by how many instructions are done.
+TEXTS = {"SB": """test SB
+threads 2
+states 13
+ends 3
+  0:x7=0 1:x7=1
+  0:x7=1 1:x7=0
+  0:x7=1 1:x7=1
+condition exists
+held 0
+observation SB Never 0 3
+""", "SB+yes": """test SB+yes
+threads 2
+states 13
+ends 3
+  0:x7=0 1:x7=1
+* 0:x7=1 1:x7=0
+  0:x7=1 1:x7=1
+condition exists
+held 1
+observation SB+yes Sometimes 1 2
+""", "SB+forall": """test SB+forall
+threads 2
+states 13
+ends 3
+* 0:x7=0 1:x7=1 x=1 y=1
+* 0:x7=1 1:x7=0 x=1 y=1
+* 0:x7=1 1:x7=1 x=1 y=1
+condition forall
+held 3
+observation SB+forall Always 3 0
+"""}
+ORDERS = """  0:x7=0 1:x7=1   P0:1 P0:2 P1:1 P1:2
+  0:x7=1 1:x7=0   P1:1 P1:2 P0:1 P0:2
 """
-REFUSED = {"0": "--states: 1 or more", "-1": "--states: 1 or more", "many": "--states: 1 or more"}
+# Two stores: each is the last once, and 9 comes before 10. Its three layers have 1, 2 and 2 states.
+NUMBERS = """RISCV NUMBERS
+{ 0:x5=10; 0:x6=x; 1:x5=9; 1:x6=x; }
+P0 | P1 ;
+sw x5,0(x6) | sw x5,0(x6) ;
+~exists x=10
+"""
+# No instruction: one state, and one end.
+NOTHING = """RISCV NOTHING
+{ y=3; }
+P0 ;
+exists x=0 /\\ y=4
+"""
+# Of four swaps each order is an end; k steps lead to 4!/(4 - k)! states.
+SWAPS = """RISCV SWAPS
+{ 0:x5=1; 0:x6=x; 1:x5=2; 1:x6=x; 2:x5=3; 2:x6=x; 3:x5=4; 3:x6=x; }
+P0 | P1 | P2 | P3 ;
+amoswap.w x7,x5,(x6) | amoswap.w x7,x5,(x6) | amoswap.w x7,x5,(x6) | amoswap.w x7,x5,(x6) ;
+exists 0:x7=0 /\\ 1:x7=1 /\\ 2:x7=2 /\\ 3:x7=3
+"""
+# A register that is written twice: the first value counts for the states, though nothing reads it. The layers have 1,
+# 2, 3 and 2 states.
+TWICE = """RISCV TWICE
+{ 0:x5=1; 0:x6=x; 1:x6=x; 1:x8=y; }
+P0 | P1 ;
+sw x5,0(x6) | lw x7,0(x6) ;
+ | lw x7,0(x8) ;
+exists 1:x7=1
+"""
+# By text: the states, the ends, the least bound, and the last line.
+COUNTS = {NUMBERS: (5, ["  x=9", "* x=10"], 4, "observation NUMBERS Sometimes 1 1"),
+          NOTHING: (1, ["  x=0 y=3"], 1, "observation NOTHING Never 0 1"),
+          SWAPS: (65, 24, 48, "observation SWAPS Sometimes 1 23"),
+          TWICE: (8, ["  1:x7=0"], 5, "observation TWICE Never 0 1")}
+REFUSED = ("0", "-1", "many", "4294967296")
+
+# Under total store order: tests of the catalogue with their ends, and those in which the expression holds.
+BUFFERED = {"SB": (4, 1), "SB+fence": (4, 1), "SB+fences": (3, 0), "SB+swaps": (3, 0), "MP": (3, 0), "MP+swaps": (3, 0),
+            "LB": (3, 0), "S": (3, 0), "R": (4, 1), "2+2W": (3, 0), "CoRR": (3, 0), "IRIW": (15, 0), "WRC": (7, 0),
+            "RWC": (8, 1)}
+PETERSON = "examples/exercises/peterson.litmus"
+# Store buffering with a fence of each kind between: only one of stores before loads forbids the end. One before the
+# store doesn't.
+FENCED = """RISCV FENCED
+{ 0:x5=1; 0:x6=x; 0:x8=y; 1:x5=1; 1:x6=y; 1:x8=x; }
+P0 | P1 ;
+fence rw,rw | fence rw,rw ;
+sw x5,0(x6) | sw x5,0(x6) ;
+fence A,B | fence A,B ;
+lw x7,0(x8) | lw x7,0(x8) ;
+exists 0:x7=0 /\\ 1:x7=0
+"""
+# A load of the own store, which the other thread can't see yet; and a store that is overwritten while it is buffered.
+FORWARDED = """RISCV FORWARDED
+{ 0:x5=1; 0:x6=x; 0:x8=y; 1:x5=2; 1:x6=x; 1:x8=y; }
+P0 | P1 ;
+sw x5,0(x6) | sw x5,0(x8) ;
+lw x7,0(x6) | sw x5,0(x6) ;
+lw x9,0(x8) | ;
+exists 0:x7=1 /\\ 0:x9=0 /\\ x=1
+"""
+# Each load of a thread's own word receives its last store, or a later one of the other thread.
+LAST_ONE = """RISCV LAST-ONE
+{ 0:x5=1; 0:x6=x; 0:x9=2; }
+P0 ;
+sw x5,0(x6) ;
+sw x9,0(x6) ;
+lw x7,0(x6) ;
+exists 0:x7=1
+"""
+
+
+# What tools/ends.py is tried with: a test of the catalogue, options, how many seeds from which one on. Some ends of WRC
+# aren't met, and in the last one a run isn't all done.
+MET = [("SB+yes", "", 60, 0), ("LEASE", "--lease 1", 40, 990), ("WRC", "", 20, 2 ** 64 - 7),
+       ("MP", "--limit 70", 30, 0)]
+# A name that nothing writes, one that nothing reads either, and an address that nothing uses.
+UNMEANT = """RISCV UNMEANT
+{ 0:x5=1; 0:x6=x; 1:x6=x; 1:x8=y; }
+P0 | P1 ;
+sw x5,0(x6) | lw x7,0(x6) ;
+exists 1:x9=0 /\\ z=1 /\\ 1:x7=1
+"""
+WARNINGS = ["  but 1:x9 in the condition: no instruction of P1 writes x9, so it is always 0",
+            "  but z in the condition: no instruction loads or stores it, so it is always 0",
+            "  but 1:x8=y: no instruction of P1 uses that address"]
+# Programs: one that is older than `ends`, one that leaves out an end which each run by rounds has, and one that is
+# called like the proved one.
+OLD = """if [ "$1" = ends ]; then echo "error: unrecognized subcommand 'ends'" >&2; exit 3; fi"""
+SHORT = """if [ "$1" = ends ]; then "$oracle" "$@" | grep -v '0:x7=1 1:x7=1'; exit; fi"""
+NOT_PROVED = "(listed by reference/oracle.py, not proved)"
+PROVED = "(listed by tardis ends, proved: no run has another)"
+# Students' lists of the ends of store buffering: how many are right, missing and impossible.
+LISTS = {"0:x7=0 1:x7=1\n0:x7=1 1:x7=0\n0:x7=1 1:x7=1\n": (3, 0, 0), "": (0, 3, 0),
+         "# mine\n\n* 1:x7=1, 0:x7=1 # both\n0:x7=00 /\\ 1:x7 = 0;\n0:x7=1 1:x7=1   P0:1 P1:1 P0:2 P1:2\n": (1, 2, 1),
+         TEXTS["SB"]: (3, 0, 0), TEXTS["SB"] + "0:x7=0 1:x7=0\n0:x7=2 1:x7=1\n": (3, 0, 2)}
+GRADED = """right       0:x7=1 1:x7=1
+missing     0:x7=0 1:x7=1   P0:1 P0:2 P1:1 P1:2
+missing     0:x7=1 1:x7=0   P1:1 P1:2 P0:1 P0:2
+impossible  0:x7=0 1:x7=0
+"""
+NO_LISTS = ("0:x7=0", "0:x7=0 1:x7=1 x=1", "0:x7=0 1:x7=1 1:x7=1", "0:x7=0 1:x7=y", "both of them", "test=1", "testing")
 
 
 def end_of(test, order):
-    """Where the order leads, None if it leaves a thread an instruction or names one that has none."""
+    """Where the order leads, None if it leaves a thread an instruction or names one that isn't its thread's next."""
     threads, memory = test.programs(), dict(test.memory)
-    for number in order:
-        if not threads[number].next():
+    done = [0] * len(threads)
+    for step in order:
+        number, place = map(int, step[1:].split(":"))
+        done[number] += 1
+        if done[number] != place or not threads[number].next():
             return None
-        sequential.perform(threads[number], memory)
+        kind, word, value = threads[number].next()
+        threads[number].done(memory.get(word, 0))
+        if kind != "load":
+            memory[word] = value
     return None if any(thread.next() for thread in threads) else test.end_values(threads, memory)
 
 
-def main():
-    tester = Tester(str(TOP / "reference/sequential.py"))
+def least_bound(sizes):
+    return max(size + after for size, after in zip(sizes, [*sizes[1:], 0]))
+
+
+def drawn(number):
+    """A random test."""
+    draw = random.Random(number)
+    threads, words = draw.randint(1, 4), "xyz"[:draw.randint(1, 3)]
+    width = draw.choice("wd")
+
+    def register():
+        return draw.choice(["x0", "x5", "x7", "x9", "x11"])
+
+    def cell():
+        address = f"x{20 + 2 * draw.randrange(len(words))}"
+        return draw.choice([f"l{width} {register()},0({address})", f"s{width} {register()},0({address})",
+                            f"amoswap.{width}{draw.choice(['', '.aq', '.rl'])} {register()},{register()},({address})",
+                            f"li {register()},{draw.randrange(4)}", f"ori {register()},x0,{draw.randrange(4)}",
+                            f"fence {draw.choice(['r', 'w', 'rw'])},{draw.choice(['r', 'w', 'rw'])}"])
+
+    def atom():
+        thread, location = draw.randrange(threads), draw.choice([*words, "w"])
+        name = draw.choice([f"{thread}:x{draw.choice([5, 7, 9])}", location])
+        return f"{name}={draw.randrange(4)}"
+
+    opening = [f"{thread}:x{20 + 2 * at}={word};" for thread in range(threads) for at, word in enumerate(words)]
+    opening += [f"{thread}:x{draw.choice([5, 7])}={draw.randint(1, 3)};" for thread in range(threads)]
+    opening += [f"{word}={draw.randrange(4)};" for word in words if draw.random() < 0.3]
+    columns = [[cell() for _ in range(draw.randint(0, 8 - threads))] for _ in range(threads)]
+    rows = [" | ".join(column[at] if at < len(column) else "" for column in columns)
+            for at in range(max(map(len, columns)))]
+    condition = atom()
+    for _ in range(draw.randrange(4)):
+        condition = f"({condition}) " + draw.choice(["/\\ ", "\\/ "]) + atom()
+    return "\n".join([f"RISCV RANDOM-{number}", f"{{ {' '.join(opening)} }}",
+                      " | ".join(f"P{thread}" for thread in range(threads)) + " ;", *(row + " ;" for row in rows),
+                      f"{draw.choice(['exists', '~exists', 'forall'])} {condition}", ""])
+
+
+def texts():
+    """What is compared, each with its name."""
     for path in sorted([*TOP.glob("examples/litmus/*.litmus"), *TOP.glob("examples/outcomes/*.litmus")]):
-        test = Test(path.read_text(encoding="ascii"))
-        for end, order in sequential.orders_of(test).items():
-            tester.expect(end_of(test, order) == end, f"{test.name}: {order} doesn't lead to {end}")
-    got = tester.run("--states", str(STATES), "--orders", str(TOP / SB))
-    tester.expect(got == (0, ENDS, ""), f"{STATES} states: {got}")
-    status, out, error = tester.run("--states", str(STATES - 1), str(TOP / SB))
-    tester.expect((status, out) == (1, "") and f"more than {STATES - 1} states" in error, f"refused: {status} {out}")
-    for states, said in REFUSED.items():
+        yield path.stem, path.read_text(encoding="ascii")
+    for edges in cycles.family(EDGES):
+        yield cycles.name_of(edges), "\n".join(cycles.Cycle(edges).test()) + "\n"
+    for number in range(RANDOM):
+        yield f"random {number}", drawn(number)
+
+
+def compared(case):
+    """How many things are tried of a text, and what is wrong of it."""
+    program, name, text = case
+    test, tester = Test(text), Tester(program)
+    ends, sizes = sequential.explored(sequential.Flat(test))
+    for end, order in ends.items():
+        tester.expect(end_of(test, order) == end, f"{name}: {order} doesn't lead to {end}")
+    if program:
+        bound, given = least_bound(sizes), text.encode()
+        got = tester.run("ends", "--states", str(bound), "/dev/stdin", text=given)
+        tester.expect(got == (0, sequential.report(test), ""), f"{name}: {got}")
+        if bound > 1:
+            got = tester.run("ends", "--states", str(bound - 1), "/dev/stdin", text=given)
+            tester.expect(got == (1, "", f"tardis: more than {bound - 1} states\n"), f"{name}: refused: {got}")
+    return tester.tried, tester.wrong
+
+
+def by_hand(tester):
+    for name, text in TEXTS.items():
+        got = tester.run(str(TOP / f"examples/litmus/{name}.litmus"))
+        tester.expect(got == (0, text, ""), f"{name}: {got}")
+    for text, (states, ends, bound, last) in COUNTS.items():
+        for most, status in ((bound, 0), (bound - 1, 1)):
+            if most:
+                got = tester.run("--states", str(most), "/dev/stdin", text=text.encode())
+                tester.expect(got[0] == status and bool(got[1]) == (status == 0), f"{most} states: {got} of {text}")
+        lines = tester.run("/dev/stdin", text=text.encode())[1].splitlines()
+        listed = [line for line in lines if line[0] in " *"]
+        tester.expect(lines[2] == f"states {states}" and lines[-1] == last, f"{lines} of {text}")
+        tester.expect(ends in (listed, len(listed)), f"{lines} of {text}")
+    status, out, error = tester.run("--orders", str(TOP / SB))
+    tester.expect((status, error) == (0, "") and ORDERS in out, f"orders: {status} {out} {error}")
+    for states in REFUSED:
         status, out, error = tester.run("--states", states, str(TOP / SB))
-        tester.expect((status, out) == (2, "") and said in error, f"{states}: {status} {out} {error}")
+        good = (status, out) == (2, "") and "--states: 1 to 4294967295" in error
+        tester.expect(good, f"{states}: {status} {out} {error}")
     tester.expect(f"by default {sequential.MOST_STATES})" in sequential.__doc__, "the default of the help")
+    got = Tester(str(TOP / "reference/oracle.py")).run("ends", "--states", "6", str(TOP / SB))
+    tester.expect(got == (1, "", "tardis: more than 6 states\n"), f"oracle.py ends: {got}")
+
+
+def buffered(text):
+    """The ends of a text under total store order, and in how many the expression holds."""
+    test = Test(text)
+    ends, _ = sequential.explored(sequential.Buffered(test))
+    return len(ends), sum(map(test.holds, ends))
+
+
+def total_store_order(tester):
+    for name, wanted in BUFFERED.items():
+        got = buffered((TOP / f"examples/litmus/{name}.litmus").read_text(encoding="ascii"))
+        tester.expect(got == wanted, f"{name} under TSO: {got}, wanted {wanted}")
+    for sets, held in {"w,r": 0, "rw,r": 0, "w,rw": 0, "rw,rw": 0, "w,w": 1, "r,r": 1, "r,rw": 1, "rw,w": 1}.items():
+        got = buffered(FENCED.replace("A,B", sets))
+        tester.expect(got == (3 + held, held), f"fence {sets} under TSO: {got}")
+    tester.expect(buffered(FORWARDED)[1] == 1, "a load of the own buffered store")
+    tester.expect(buffered(LAST_ONE) == (1, 0), "the last buffered store")
+    tester.expect(buffered((TOP / PETERSON).read_text(encoding="ascii"))[1] > 0, "Peterson's lock holds under TSO")
+    for edges in cycles.family(EDGES):
+        held = buffered("\n".join(cycles.Cycle(edges).test()))[1]
+        tester.expect(held == ("PodWR" in edges), f"{' '.join(edges)} under TSO: {held}")
+    status, out, error = tester.run("--model", "tso", str(TOP / SB))
+    tester.expect((status, error) == (0, "") and out.startswith("model total store order, not proved\ntest SB\n")
+                  and "\n* 0:x7=0 1:x7=0\n" in out, f"TSO: {status} {out} {error}")
+
+
+def wanted_lines(path, options, seeds, first):
+    """What tools/ends.py must say of each end, and of runs that aren't all done; but for commands and orders."""
+    test, of = oracle.read_litmus(path), f"{seeds:,} from {first:,}" if first else f"{seeds:,}"
+    rounds, _ = oracle.run(oracle.words().parse_args(["litmus", *options, path]))
+    by_seed = ends_by_hand(path, options, seeds, first)
+    ends = [("* "[not test.holds(end)], sequential.text_of(end)) for end in sorted(sequential.ends_of(test))]
+    for mark, end in ends + [("-", end) for end in by_seed if "=" not in end]:
+        how = ["by rounds"] * any(line in rounds.splitlines() for line in (f"1 {end}", f"{end} 1"))
+        if end in by_seed:
+            count, seed, _ = by_seed[end]
+            how.append(f"by seed {seed} (first of {of}: {100 * count / seeds:.3g} %)")
+        else:
+            how = (how or ["possible"]) + [f"not met in {of} seeds"]
+        yield f"{mark} {end}: {', '.join(how)}"
+
+
+def met(tester, name, options, seeds, first):
+    path, options = f"examples/litmus/{name}.litmus", options.split()
+    status, out, error = tester.run("--threads", "0", "--seeds", str(seeds), "--seed", str(first), *options, path)
+    lines = out.splitlines()
+    tester.expect((status, error) == (0, "") and lines[0].startswith(f"{name}: "), f"{name}: {status} {out} {error}")
+    told, wanted = [line for line in lines[1:] if line[:4] != "    "], list(wanted_lines(path, options, seeds, first))
+    tester.expect(told == wanted, f"{name}: {told}, wanted {wanted}")
+    test, end = oracle.read_litmus(path), None
+    for line in lines[1:]:
+        if line.startswith("    order "):
+            got = end_of(test, line.split()[1:])
+            tester.expect(got and sequential.text_of(got) == end, f"{name}: {line} doesn't lead to {end}")
+        elif line.startswith("    "):
+            report = Tester(os.environ["TARDIS"]).run(*shlex.split(line)[1:])[1].splitlines()
+            tester.expect({f"1 {end}", f"{end} 1"} & {*report}, f"{name}: {line} doesn't end with {end}")
+        else:
+            end = line[2:].split(": ")[0]
+
+
+def graded(tester, folder):
+    listed = Path(folder, "list")
+    for text, counts in LISTS.items():
+        listed.write_text(text)
+        status, out, error = tester.run("--grade", str(listed), SB)
+        line = "{}: {} right, {} missing, {} impossible".format(listed, *counts)
+        good = (status, out.splitlines()[1], error) == (int(counts[1:] != (0, 0)), line, "")
+        tester.expect(good and (counts != (1, 2, 1) or out.endswith(GRADED)), f"{text}: {status} {out} {error}")
+    for text in NO_LISTS:
+        listed.write_text("\n" + text)
+        status, out, error = tester.run("--grade", str(listed), SB)
+        said = f"ends.py: {listed}: line 2: an end is 0:x7=N 1:x7=N\n"
+        tester.expect((status, out, error) == (2, "", said), f"{text}: {status} {out} {error}")
+    status, out, error = tester.run("--grade", str(listed), SB, SB)
+    tester.expect((status, out) == (2, "") and "one test" in error, f"two tests: {status} {out} {error}")
+
+
+def by_others(tester, folder):
+    """What the tool says of a program that is older, that leaves an end out, or that has the proved one's name."""
+    path, kept = Path(folder, "tardis"), os.environ["TARDIS"]
+    few = ("--seeds", "1", "--threads", "0", SB)
+    for first, status, said in ((OLD, 0, NOT_PROVED), (SHORT, 2, "0:x7=1 1:x7=1 is met and not listed"),
+                                ("", 0, PROVED), (None, 0, NOT_PROVED)):
+        path.write_text(f"#!/bin/sh\noracle='{TOP / 'reference/oracle.py'}'\n{first}\nexec \"$oracle\" \"$@\"\n")
+        path.chmod(0o755)
+        os.environ["TARDIS"] = str(path) if first is not None else str(TOP / "reference/oracle.py")
+        got = tester.run(*few)
+        tester.expect(got[0] == status and said in got[1] + got[2], f"{first}: {got}, wanted {said}")
+    os.environ["TARDIS"] = kept
+
+
+def of_tool(program):
+    """Tries tools/ends.py."""
+    tester = Tester(str(TOP / "tools/ends.py"))
+    os.environ["TARDIS"] = program or str(TOP / "reference/oracle.py")
+    for case in MET:
+        met(tester, *case)
+    with tempfile.TemporaryDirectory() as folder:
+        graded(tester, folder)
+        by_others(tester, folder)
+        path = Path(folder, "unmeant.litmus")
+        path.write_text(UNMEANT)
+        lines = tester.run("--seeds", "1", "--threads", "0", str(path))[1].splitlines()
+        tester.expect(lines[1:4] == WARNINGS, f"warnings: {lines}")
+    if program:
+        status, out, error = tester.run("--seeds", "1", "--threads", "20", SB)
+        runs = sum(map(int, re.findall(r"by threads \((\d+) of 20\)", out)))
+        tester.expect((status, error, runs) == (0, "", 20), f"by threads: {status} {out} {error}")
+    got = tester.run("--states", "6", SB)
+    tester.expect(got == (2, "", f"ends.py: {SB}: more than 6 states\n"), f"6 states: {got}")
+    return tester
+
+
+def main(program=None):
+    program = program and os.path.abspath(program)
+    os.chdir(TOP)
+    tester = of_tool(program)
+    tester.program = str(TOP / "reference/sequential.py")
+    by_hand(tester)
+    total_store_order(tester)
+    with ProcessPoolExecutor(cpu_count()) as pool:
+        for tried, wrong in pool.map(compared, ((program, *case) for case in texts()), chunksize=8):
+            tester.tried += tried
+            tester.wrong += wrong
     print(f"{tester.tried} tried, {tester.wrong} wrong")
     return int(bool(tester.wrong))
 
 
 if __name__ == "__main__":
-    sys.exit(main())
+    sys.exit(main(*sys.argv[1:]) if len(sys.argv) <= 2 else __doc__)

@@ -24,12 +24,13 @@ READERS = ["tools/advance.py 1 {}", "env TARDIS=reference/oracle.py tools/seeds.
            "tools/steps.py 0x0 {}", "tools/timeline.py {}", "tools/counts.py {}",
            "tools/compare.py {}", "tools/clock.py {}", "tools/from_lackey.py --csv {}",
            "tools/cycles.py --why {}", "tools/explore.py {}", "tools/order.py {}",
-           "tools/number.py {}", "reference/tso.py {0} {0}"]
+           "tools/number.py {}", "tools/ends.py {}", "reference/tso.py {0} {0}"]
 
 
 PIPED = ["tools/explore.py examples/litmus/SB.litmus", "tools/mesi.py",
          "tools/order.py examples/histories/lost.history", "tools/cycles.py --all 8", "tools/cycles.py SB", "reference/sequential.py examples/litmus/Z6.0.litmus",
          "env TARDIS=reference/oracle.py tools/witness.py --seeds 20 examples/litmus/SB.litmus",
+         "env TARDIS=reference/oracle.py tools/ends.py --seeds 20 examples/litmus/SB.litmus",
          "tools/from_herd.py tests/herd/Z6.0.litmus",
          "tools/page.py --player reference/play.py examples/litmus/SB.litmus",
          "env TARDIS=reference/oracle.py tools/explain.py examples/exercises/history.trace "

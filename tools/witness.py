@@ -34,9 +34,8 @@ def no_runs(_):
     raise argparse.ArgumentTypeError("each seed is one run; --seeds says how many")
 
 
-def words():
-    parser = argparse.ArgumentParser(allow_abbrev=False, description=__doc__.split("\n")[0],
-                                     epilog="The other options are the program's (docs/TEXTS.md).")
+def add_options(parser):
+    """Those of the runs, and of the commands that make them again."""
     parser.add_argument("--seeds", type=program.number(*RANGES["seeds"]), default=1000, metavar="N",
                         help="how many seeds are run (1000)")
     parser.add_argument("--runs", type=no_runs, help=argparse.SUPPRESS)
@@ -47,6 +46,12 @@ def words():
     for option in (*NUMBERS, "workers"):
         parser.add_argument("--" + option, type=program.number(*RANGES[option]),
                             **({"metavar": "FIRST", "help": "the first seed (0)"} if option == "seed" else {}))
+
+
+def words():
+    parser = argparse.ArgumentParser(allow_abbrev=False, description=__doc__.split("\n")[0],
+                                     epilog="The other options are the program's (docs/TEXTS.md).")
+    add_options(parser)
     parser.add_argument("TEST")
     parser.error = lambda said: fail(f"{said} (--help tells all)")
     return parser
@@ -59,6 +64,19 @@ def passed_on(options):
     return found + ["--private-write"] * options.private_write
 
 
+def report(test, words):
+    """The ends of a report on a test, with how many runs had each; and its lines by their names."""
+    try:
+        lines = program.run("litmus", *words).splitlines()
+    except Refused as refused:
+        said = str(refused)
+        fail(said if said.startswith(test) else f"{test}: {said}")
+    told = dict(line.split(" ", 1) for line in lines if not line[0].isdigit())
+    ends = {line.split(" ", 1)[1]: int(line.split()[0]) for line in lines if line[0].isdigit()}
+    ends.update((end, int(told[end])) for end in NO_STATES if told[end] != "0")
+    return ends, told
+
+
 class Seeds:
     """Reports of ranges of seeds, and what was found in them."""
 
@@ -68,22 +86,17 @@ class Seeds:
         self.name, self.counts = None, {}  # how many runs have each end
         self.found = {}                    # by end the first seed, and whether the expression holds
 
+    def seed(self, start):
+        return (self.first + start) % 2 ** 64
+
     def command(self, start, runs):
         """The words of a range's report, from the options on; `start` counts from the first seed."""
-        seed = (self.first + start) % 2 ** 64
-        return ["--schedule", "seed", "--seed", str(seed), *(["--runs", str(runs)] if runs > 1 else []), *self.options,
-                self.test]
+        return ["--schedule", "seed", "--seed", str(self.seed(start)), *(["--runs", str(runs)] if runs > 1 else []),
+                *self.options, self.test]
 
     def report(self, start, runs):
         """The ends of a range, with how many runs had each; and in how many the expression holds."""
-        try:
-            lines = program.run("litmus", *self.command(start, runs)).splitlines()
-        except Refused as refused:
-            said = str(refused)
-            fail(said if said.startswith(self.test) else f"{self.test}: {said}")
-        told = dict(line.split(" ", 1) for line in lines if not line[0].isdigit())
-        ends = {line.split(" ", 1)[1]: int(line.split()[0]) for line in lines if line[0].isdigit()}
-        ends.update((end, int(told[end])) for end in NO_STATES if told[end] != "0")
+        ends, told = report(self.test, self.command(start, runs))
         self.name = told["test"]
         return ends, int(told["held"])
 
@@ -109,8 +122,7 @@ class Seeds:
 def told(seeds, runs, command):
     yield f"{seeds.name}: {runs} seeds from {seeds.first}, {len(seeds.found)} ends"
     for end, (start, holds) in sorted(seeds.found.items(), key=lambda found: found[1]):
-        seed = (seeds.first + start) % 2 ** 64
-        yield f"{'*' if holds else ' '} {end}: {seeds.counts[end]} of {runs}, first by seed {seed}"
+        yield f"{'*' if holds else ' '} {end}: {seeds.counts[end]} of {runs}, first by seed {seeds.seed(start)}"
         yield f"    {command} {shlex.join(seeds.command(start, 1))}"
 
 

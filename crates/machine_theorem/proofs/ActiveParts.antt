@@ -6,7 +6,7 @@ use Rattle.std.specs.List as list
 use Rattle.std.specs.List.{list_all}
 use Rattle.std.specs.Ordering.{nat_cmp}
 use Rattle.std.specs.FinMap.{FinMap}
-use Rattle.std.proofs.lemmas.Bool.{cond-true, cond-false, eq-eqb, ne_eqb}
+use Rattle.std.proofs.lemmas.Bool.{and_parts, cond-true, cond-false, eq-eqb, ne_eqb}
 use Rattle.physiological_order.specs.declared.operation.Op.{Op}
 use Rattle.physiological_order.specs.declared.operation.Op.TheVariants.{Load, Store, Swap}
 use Rattle.network.specs.declared.message.Body.{Body}
@@ -40,7 +40,6 @@ use Rattle.machine_table.specs.Step.{Keeps, attempted, copy_evicted, entry_evict
 use Rattle.machine_theorem.specs.Rounds.{IsRequest}
 use Rattle.protocol.proofs.Lemmas.{Some_injective}
 use Rattle.machine_theorem.proofs.Deliveries.{and_right}
-use Rattle.machine_theorem.proofs.Routes.{left_of}
 use Rattle.machine_theorem.proofs.RoundEvents.{IsActive, IsTrying}
 
 -- a bank's recall of a line
@@ -239,7 +238,7 @@ chosen_there (p ∷ ps) some settled = go (bank_table.first_of is_shared (p ∷ 
   where
     first : bank_table.first_of is_settled (p ∷ ps) ≡ Some p.0
     first = ap (option_map (λ (e : ℕ × Entry). e.0)) (cond-true (is_settled p.1) (Some p)
-        (list.find (λ e. is_settled e.1) ps) (left_of (is_settled p.1) _ settled))
+        (list.find (λ e. is_settled e.1) ps) (and_parts (is_settled p.1) _ settled).0)
 
     go : (o : Option ℕ) → bank_table.first_of is_shared (p ∷ ps) ≡ o →
         (v : ℕ) × (bank_table.or_else o (bank_table.first_of is_settled (p ∷ ps)) ≡ Some v)

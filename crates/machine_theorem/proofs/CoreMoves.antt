@@ -18,12 +18,10 @@ use Rattle.network.specs.declared.message.Node.TheVariants as node
 use Rattle.network.specs.declared.counts.Counts.{Counts}
 use Rattle.network.specs.Mail.{counted}
 use Rattle.private_cache.specs.declared.line_copy.LineCopy.{LineCopy}
-use Rattle.private_cache.specs.declared.cache.CacheError.TheVariants.{Pinned}
 use Rattle.private_cache.specs.CopyTable as cache
 use Rattle.line_sets.specs.SetTable.{Sets}
 use Rattle.private_cache.specs.CopyTable.{copy_of, place_for, with_used, without_copy}
 use Rattle.core_pts.specs.declared.attempt.Attempt.{Attempt}
-use Rattle.core_pts.specs.declared.attempt.Attempt.TheVariants as attempted
 use Rattle.core_pts.specs.declared.attempt.IssueError.{IssueError}
 use Rattle.core_pts.specs.declared.attempt.IssueError.TheVariants as not_issued
 use Rattle.core_pts.specs.CoreTable as core_table

@@ -1,6 +1,6 @@
 -- What a core's table does with one line: operations use copies as the protocol by lines says, and what is done at a
 -- message is a reply to the core or a move of the line.
-use Rattle.std.proofs.Common.{◌≡◌, ℕ, ◌+◌, ◌%◌, ◌<◌, max, Bool, true, false, ◌||◌, ◌&&◌, cond, leb, List, ◌∷◌, Option}
+use Rattle.std.proofs.Common.{◌≡◌, ℕ, ◌+◌, ◌%◌, max, Bool, true, false, ◌&&◌, cond, leb, List, ◌∷◌, Option}
 use Rattle.std.proofs.Common.{Some, None, refl, sym, ap, ◌∙◌, subst, arith}
 use Rattle.std.specs.List.Sorted.{IsPermutation}
 use Rattle.std.proofs.lemmas.Bool.{and_parts, cond_both, or_parts, leb-true, leb-false}
@@ -11,12 +11,12 @@ use Rattle.network.specs.declared.message.Body.{Body}
 use Rattle.network.specs.declared.message.Body.TheVariants as body
 use Rattle.private_cache.specs.declared.line_copy.LineCopy.{LineCopy}
 use Rattle.private_cache.specs.CopyTable.{copy_of, renewed, upgraded}
-use Rattle.timestamp_manager.specs.Lease.{fits, returned_lease}
+use Rattle.timestamp_manager.specs.Lease.{fits}
 use Rattle.core_pts.specs.CoreTable.{CoreState, comes_to_core, waits_for, is_shared_copy}
 use Rattle.core_pts.specs.OnCopy as on_copy
 use Rattle.core_pts.specs.OnCopy.{is_exclusive, serves, time_of, received_at, copy_after, words_of_copy, at_core}
 use Rattle.core_pts.specs.declared.decision.CoreReaction.{CoreReaction}
-use Rattle.core_pts.specs.declared.decision.CoreReaction.TheVariants.{Arrives, Grants, Returns, Drops, Holds, NoCase}
+use Rattle.core_pts.specs.declared.decision.CoreReaction.TheVariants.{Arrives, Grants, Returns, Drops, NoCase}
 use Rattle.protocol.specs.Machine.{Config, Message, RenewRep, UpgradeRep, FlushReq, WbReq, Line, with_at, CannotUse}
 use Rattle.protocol.specs.Machine.{Copy, NotOwned, LineTransition, dropped, wb_dropped, flushed, written_back, Answers}
 use Rattle.protocol.specs.Machine.{shared, exclusive, renews, upgrades, Uses, load_hit, load_own, store_own, swap_own}

@@ -3,7 +3,7 @@ use Rattle.std.proofs.Common.{◌≡◌, ◌≢◌, ℕ, suc, ◌+◌, ◌/◌, 
 use Rattle.std.proofs.Common.{length, Option, Some, None, ◌⊎◌, inl, inr, refl, sym, ap, ◌∙◌, subst, arith, ⊎_elim}
 use Rattle.std.proofs.Common.{le_trans}
 use Rattle.std.specs.Prelude.{option_map}
-use Rattle.std.proofs.lemmas.Bool.{cases_eq, cond-true, cond-false, eq-eqb, eqb-true}
+use Rattle.std.proofs.lemmas.Bool.{cases_eq, cond-true, eq-eqb, eqb-true}
 use Rattle.physiological_order.specs.declared.operation.Op.{Op}
 use Rattle.physiological_order.specs.declared.operation.Op.TheVariants.{Load, Store, Swap}
 use Rattle.physiological_order.specs.Order.{address, of_core}
@@ -23,7 +23,6 @@ use Rattle.core_pts.specs.OnCopy as on_copy
 use Rattle.core_pts.specs.OnCopy.{is_exclusive, words_of_copy}
 use Rattle.core_pts.specs.CoreTable as core_table
 use Rattle.core_pts.specs.CoreTable.{CoreState, pinned_line}
-use Rattle.machine_table.specs.declared.config.Config.{Config}
 use Rattle.machine_table.specs.declared.event.Answer.TheVariants.{Delivered}
 use Rattle.machine_table.specs.Step.{Makes, Does, Getting, core_step, reacted, Evicting}
 use Rattle.protocol.specs.Machine as by_line
@@ -33,7 +32,7 @@ use Rattle.protocol.proofs.Lemmas.{with_at_same, with_at_other, Some_injective, 
 use Rattle.protocol.proofs.Lemmas.{waits_here, waits_there, one_if}
 use Rattle.machine_theorem.specs.Bags.{weigh, SameBag}
 use Rattle.machine_theorem.specs.States.{State}
-use Rattle.machine_theorem.specs.Moves.{with_core, with_answer, Move, core_steps, completes, goes_on}
+use Rattle.machine_theorem.specs.Moves.{with_core, with_answer, Move, core_steps, goes_on}
 use Rattle.machine_theorem.specs.View.{body_seen, message_seen, messages_of, core_seen, entry_seen, set_up, line_seen}
 use Rattle.machine_theorem.specs.View.{view, copy_or_none}
 use Rattle.machine_theorem.proofs.Services.{a_core, IsLate, IsService, leads_late, leads_within}

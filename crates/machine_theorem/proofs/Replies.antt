@@ -72,7 +72,7 @@ module _ (who : Setting) (how : Waits who) where
   HasRoom a = (entry_of (a.banks (home l)) l ≡ None) ×
       (has_room (a.banks (home l)).table (bank_table.set_of (a.banks (home l)) l) ≡ true)
 
-  -- a line that a bank has is one of its own who, in its set
+  -- a line that a bank has is one of its own, in its set
   module _ (a : State) (st : Stands who a) (b : ℕ) where
     abbrev the_bank : BankState
     the_bank = a.banks b
@@ -173,7 +173,7 @@ module _ (who : Setting) (how : Waits who) where
     at_bank = let z = asks_bank q.body is_request.asks in
         to_bank config opening a (kept who a st) q request.rest request.taken q.body refl z.0 z.1
 
-    -- what the bank of its line is decided to do
+    -- its bank has a case for it
     beside : AreBeside a.bag (node.Bank (home q.line)) (bank_has_case (a.banks (home q.line))) (Some q) request.rest
     beside = (request.taken, at_bank.to, at_bank.has)
 

@@ -62,7 +62,7 @@ module _ (who : Setting) where
       LeadsTo config (suc n) k (λ b. Replied Suits b × (of_core c b.records ≡ of_core c a.records)) a
 
 module _ (who : Setting) (how : Waits who) where
-  open who use {config, good, opening, n, c, l, K, w}
+  open who use {config, good, opening, n, c, l, w}
 
   abbrev home : ℕ → ℕ
   home h = h % config.banks

@@ -188,7 +188,7 @@ module _ (who : Setting) where
   exclusive_still i ts (Swap a v) held ex = ex
 
   module _ (how : Waits who) where
-    open how use {op, is_out, opens, on, one_needed}
+    open how use {op, is_out, opens, on}
 
     -- the core that waits owns no copy of its line
     pub no_own : (a : State) → Stands who a → (held : LineCopy) → copy_of (a.cores c).cache l ≡ Some held →

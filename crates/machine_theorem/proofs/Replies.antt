@@ -1,6 +1,6 @@
 -- The bank of a line that a core asks for makes room, loads the line, gets it back, and replies.
-use Rattle.std.proofs.Common.{◌≡◌, ◌≢◌, ℕ, suc, ◌+◌, ◌/◌, ◌%◌, ◌≤◌, Bool, true, false, ◌&&◌, cond, List, ◌∷◌}
-use Rattle.std.proofs.Common.{length, Option, Some, None, refl, sym, ap, ◌∙◌, subst, arith, ⊎_elim}
+use Rattle.std.proofs.Common.{◌≡◌, ◌≢◌, ℕ, suc, ◌+◌, ◌/◌, ◌%◌, ◌≤◌, Bool, true, false, ◌&&◌, cond, List, ◌∷◌, length}
+use Rattle.std.proofs.Common.{Option, Some, None, refl, sym, ap, ◌∙◌, subst, arith, ⊎_elim}
 use Rattle.std.specs.Option.{is_some}
 use Rattle.std.proofs.lemmas.Bool.{cases_Bool, cond_both, cases_eq, lt-ltb, ltb-false}
 use Rattle.physiological_order.specs.Order.{of_core}
@@ -62,7 +62,7 @@ module _ (who : Setting) where
       LeadsTo config (suc n) k (λ b. Replied Suits b × (of_core c b.records ≡ of_core c a.records)) a
 
 module _ (who : Setting) (how : Waits who) where
-  open who use {config, good, opening, n, c, l, K, w}
+  open who use {config, good, opening, n, c, l, w}
 
   abbrev home : ℕ → ℕ
   home h = h % config.banks
@@ -72,7 +72,7 @@ module _ (who : Setting) (how : Waits who) where
   HasRoom a = (entry_of (a.banks (home l)) l ≡ None) ×
       (has_room (a.banks (home l)).table (bank_table.set_of (a.banks (home l)) l) ≡ true)
 
-  -- a line that a bank has is one of its own who, in its set
+  -- a line that a bank has is one of its own, in its set
   module _ (a : State) (st : Stands who a) (b : ℕ) where
     abbrev the_bank : BankState
     the_bank = a.banks b
@@ -173,7 +173,7 @@ module _ (who : Setting) (how : Waits who) where
     at_bank = let z = asks_bank q.body is_request.asks in
         to_bank config opening a (kept who a st) q request.rest request.taken q.body refl z.0 z.1
 
-    -- what the bank of its line is decided to do
+    -- its bank has a case for it
     beside : AreBeside a.bag (node.Bank (home q.line)) (bank_has_case (a.banks (home q.line))) (Some q) request.rest
     beside = (request.taken, at_bank.to, at_bank.has)
 

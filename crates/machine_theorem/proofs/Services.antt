@@ -48,7 +48,7 @@ pub record LeadsTo (config : Config) (most services : ℕ) (G : State → Type 0
   pub serves : Serves config most made a after
   pub ends : G after ⊎ IsLate config after
 
--- they complete it
+-- they complete a core's open operation
 abbrev pub EndsWithin : Config → ℕ → ℕ → ℕ → Op → State → Type 0
 EndsWithin config most services core op a = LeadsTo config most services (Completes core op a) a
 

@@ -87,7 +87,7 @@ answered w s bag (Some q) =
     record { cores = refl; banks = refl; records = refl; few = omega arith; weighs = omega arith }
 
 module _ (who : Setting) where
-  open who use {config, good, opening, n, c, l, K, w}
+  open who use {config, good, opening, n, c, K, w}
 
   abbrev home : ℕ → ℕ
   home h = h % config.banks
@@ -282,6 +282,17 @@ module _ (who : Setting) where
         (decided here x b (Some old) (decision.Becomes (entry.Shared dirty line)) is there by)
         (λ s e same. ((dirty, line, e), same))
 
+    -- the line of an owned entry is dirty from now on
+    given_back : ToBank config opening a (kept a st) x rest taken → (line : TimedLine) → ((room : Bool)
+        (e : Option Entry) → on_entry.at_bank here.lease here.mts room (core_of x.from) e b
+        ≡ on_entry.given_back line e) → (e : Option Entry) → entry_of here x.line ≡ e → is_owned e ≡ true →
+        Way x.line 1 (λ s. IsShared x.line s × (s.cores ≡ a.cores)) a
+    given_back at line by (Some (entry.Exclusive i)) there has =
+        shared true line (entry.Exclusive i) at there (λ room. by room (Some (entry.Exclusive i)))
+    given_back at line by (Some (entry.Recalling i)) there has =
+        shared true line (entry.Recalling i) at there (λ room. by room (Some (entry.Recalling i)))
+    given_back at line by _ there has = absurd (let z : false ≡ true = has in cc)
+
     answered_by_dram : {k : ℕ} {Goal : State → Type 0} (lines : FinMap nat_cmp (List ℕ)) (reply : Body) →
         ToDram config opening a (kept a st) x rest taken →
         dram_case (a.drams (home x.line)) x b ≡ Some (Done (Some (answer_to x reply)), lines) →
@@ -308,31 +319,16 @@ module _ (who : Setting) where
       let k = found_of h (return_of o) a.bag some in
       rw (← k.line) (go k.message k.rest k.taken k.message.body refl k.weighs)
     where
-      -- the line of an owned entry is dirty from now on
-      owned : (x : Message) (rest : List Message) (taken : SameBag a.bag (x ∷ rest)) (b : Body) → x.body ≡ b →
-          (IsAsk b → ⊥) → ToBank config opening a (kept a st) x rest taken → (line : TimedLine) →
-          ((room : Bool) (e : Option Entry) → on_entry.at_bank (a.banks (home x.line)).lease
-          (a.banks (home x.line)).mts room (core_of x.from) e b ≡ on_entry.given_back line e) → (e : Option Entry) →
-          entry_of (a.banks (home x.line)) x.line ≡ e → is_owned e ≡ true →
-          Way x.line 1 (λ s. IsShared x.line s × (s.cores ≡ a.cores)) a
-      owned x rest taken b is no_ask at line by (Some (entry.Exclusive i)) there has =
-          shared a st size x rest taken b is no_ask true line (entry.Exclusive i) at there
-          (λ room. by room (Some (entry.Exclusive i)))
-      owned x rest taken b is no_ask at line by (Some (entry.Recalling i)) there has =
-          shared a st size x rest taken b is no_ask true line (entry.Recalling i) at there
-          (λ room. by room (Some (entry.Recalling i)))
-      owned x rest taken b is no_ask at line by _ there has = absurd (let z : false ≡ true = has in cc)
-
       go : (x : Message) (rest : List Message) (taken : SameBag a.bag (x ∷ rest)) (b : Body) → x.body ≡ b →
           1 ≤ return_of o (body_seen (core_of x.from) (core_of x.to) b) →
           Way x.line 1 (λ s. IsShared x.line s × (s.cores ≡ a.cores)) a
       go x rest taken (body.FlushRep line) is weighs =
           let at = to_bank config opening a (kept a st) x rest taken (body.FlushRep line) is (λ k i. refl) refl in
-          owned x rest taken (body.FlushRep line) is (λ z. z) at line (λ room e. refl) _ refl
+          given_back a st size x rest taken (body.FlushRep line) is (λ z. z) at line (λ room e. refl) _ refl
           (comes config opening a (kept a st) x rest taken at (body.FlushRep line) is)
       go x rest taken (body.WbRep line) is weighs =
           let at = to_bank config opening a (kept a st) x rest taken (body.WbRep line) is (λ k i. refl) refl in
-          owned x rest taken (body.WbRep line) is (λ z. z) at line (λ room e. refl) _ refl
+          given_back a st size x rest taken (body.WbRep line) is (λ z. z) at line (λ room e. refl) _ refl
           (comes config opening a (kept a st) x rest taken at (body.WbRep line) is)
       go x rest taken _ is weighs = absurd (omega arith)
 

@@ -344,6 +344,43 @@ def tried(browser, path, says):
     return compared.faults
 
 
+# Texts that are hard to read: their contrast with what is behind them is below 4.5 to 1.
+FAINT = """(() => {
+  const parts = text => text.match(/[0-9.]+/g).map(Number);
+  const light = color => color.slice(0, 3).map(one => one / 255).map(one => one <= .03928 ? one / 12.92 :
+    ((one + .055) / 1.055) ** 2.4).reduce((sum, one, place) => sum + one * [.2126, .7152, .0722][place], 0);
+  const ground = one => parts(getComputedStyle(one).backgroundColor);
+  const behind = one => one.parentElement && ground(one)[3] === 0 ? behind(one.parentElement) : ground(one);
+  const contrast = one => {
+    const [low, high] = [parts(getComputedStyle(one).color), behind(one)].map(light).sort((a, b) => a - b);
+    return (high + .05) / (low + .05);
+  };
+  return [...document.querySelectorAll("body *")].filter(one => one.offsetParent && !one.disabled
+    && !one.matches(".behind") && [...one.childNodes].some(node => node.nodeType === 3 && node.textContent.trim())
+    && contrast(one) < 4.5).map(one => one.textContent.trim()).join("; ");
+})()"""
+MOVING = """[...document.querySelectorAll("*")].map(one => getComputedStyle(one)).filter(style =>
+  style.transitionDuration !== "0s" || style.animationName !== "none" || style.scrollBehavior !== "auto").length"""
+
+
+def accessible(browser, path):
+    """Contrast in light and in dark; that nothing moves by itself; and the names that a screen reader has."""
+    compared = Compared(CASES["the past"])
+    for dark in (False, True):
+        browser.open(path, dark=dark)
+        for key in ("s", "q", "End"):
+            browser.press(key)
+            compared.same(f"faint, {'dark' if dark else 'light'}, {key}", browser.value(FAINT), "")
+    compared.same("what moves", browser.value(MOVING), 0)
+    nodes = browser.call("Accessibility.getFullAXTree")["nodes"]
+    named = {role: [node["name"]["value"] for node in nodes if node.get("role", {}).get("value") == role]
+             for role in ("button", "slider", "image", "region")}
+    compared.same("what is named", {role: len(names) for role, names in named.items()},
+                  {"button": 11, "slider": 1, "image": 1, "region": 2})
+    compared.same("what has no name", [role for role, names in named.items() if not all(names)], [])
+    return compared.faults
+
+
 def quizzed(browser, path):
     """A quiz on the page of the stale hit: by rounds core 0's load of 0x8 completes first, then core 1's loads, and
     between them core 0's store, which isn't asked."""
@@ -535,6 +572,7 @@ def in_browser(browser, player, pages, folder):
                 yield from [f"{name} at {size}: {fault} is cut" for fault in [cut(browser)] if fault]
     yield from tried(browser, pages["the past"], says["the past"])
     yield from quizzed(browser, pages["the past"])
+    yield from accessible(browser, pages["the past"])
     yield from asked(browser, folder)
     yield from narrow(browser, folder)
     browser.open(f"{folder / 'long.html'}#3000")

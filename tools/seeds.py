@@ -147,7 +147,8 @@ def main():
     try:
         return print_whole(parts) if given.part is None else put_part(parts, given.part, file)
     except (Bad, Refused) as cause:
-        fail(f"{given.TEST}: {cause}")
+        says = f": 'tools/explain.py -- litmus {given.TEST}' says why" if str(cause).startswith("line ") else ""
+        fail(f"{given.TEST}: {cause}{says}")
 
 
 if __name__ == "__main__":

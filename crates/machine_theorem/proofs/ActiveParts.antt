@@ -6,7 +6,7 @@ use Rattle.std.specs.List as list
 use Rattle.std.specs.List.{list_all}
 use Rattle.std.specs.Ordering.{nat_cmp}
 use Rattle.std.specs.FinMap.{FinMap}
-use Rattle.std.proofs.lemmas.Bool.{cond-true, cond-false, eq-eqb, ne_eqb}
+use Rattle.std.proofs.lemmas.Bool.{and_parts, cond-true, cond-false, eq-eqb, ne_eqb}
 use Rattle.physiological_order.specs.declared.operation.Op.{Op}
 use Rattle.physiological_order.specs.declared.operation.Op.TheVariants.{Load, Store, Swap}
 use Rattle.network.specs.declared.message.Body.{Body}
@@ -39,8 +39,6 @@ use Rattle.machine_table.specs.declared.event.Answer.TheVariants.{Held}
 use Rattle.machine_table.specs.Step.{Keeps, attempted, copy_evicted, entry_evicted, reacted}
 use Rattle.machine_theorem.specs.Rounds.{IsRequest}
 use Rattle.protocol.proofs.Lemmas.{Some_injective}
-use Rattle.machine_theorem.proofs.Deliveries.{and_right}
-use Rattle.machine_theorem.proofs.Routes.{left_of}
 use Rattle.machine_theorem.proofs.RoundEvents.{IsActive, IsTrying}
 
 -- a bank's recall of a line
@@ -82,9 +80,9 @@ module _ (core : CoreState) (line : ℕ) where
   core_active (body.ShRep y) pinned comes = inl tt
   core_active (body.ExRep y) pinned comes = inl tt
   core_active (body.RenewRep rts) pinned comes =
-      inl (changes (cache.renewed rts) (copy_of core.cache line) (and_right (core_table.waits_for core line) _ comes))
+      inl (changes (cache.renewed rts) (copy_of core.cache line) (and_parts (core_table.waits_for core line) _ comes).1)
   core_active (body.UpgradeRep rts) pinned comes =
-      inl (changes (cache.upgraded rts) (copy_of core.cache line) (and_right (core_table.waits_for core line) _ comes))
+      inl (changes (cache.upgraded rts) (copy_of core.cache line) (and_parts (core_table.waits_for core line) _ comes).1)
   core_active body.FlushReq true comes = inr (tt, refl)
   core_active body.FlushReq false comes = inl (flushes (copy_of core.cache line))
   core_active (body.WbReq until) true comes = inr (tt, refl)
@@ -239,7 +237,7 @@ chosen_there (p ∷ ps) some settled = go (bank_table.first_of is_shared (p ∷ 
   where
     first : bank_table.first_of is_settled (p ∷ ps) ≡ Some p.0
     first = ap (option_map (λ (e : ℕ × Entry). e.0)) (cond-true (is_settled p.1) (Some p)
-        (list.find (λ e. is_settled e.1) ps) (left_of (is_settled p.1) _ settled))
+        (list.find (λ e. is_settled e.1) ps) (and_parts (is_settled p.1) _ settled).0)
 
     go : (o : Option ℕ) → bank_table.first_of is_shared (p ∷ ps) ≡ o →
         (v : ℕ) × (bank_table.or_else o (bank_table.first_of is_settled (p ∷ ps)) ≡ Some v)

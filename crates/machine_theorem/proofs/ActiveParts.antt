@@ -39,7 +39,6 @@ use Rattle.machine_table.specs.declared.event.Answer.TheVariants.{Held}
 use Rattle.machine_table.specs.Step.{Keeps, attempted, copy_evicted, entry_evicted, reacted}
 use Rattle.machine_theorem.specs.Rounds.{IsRequest}
 use Rattle.protocol.proofs.Lemmas.{Some_injective}
-use Rattle.machine_theorem.proofs.Deliveries.{and_right}
 use Rattle.machine_theorem.proofs.RoundEvents.{IsActive, IsTrying}
 
 -- a bank's recall of a line
@@ -81,9 +80,9 @@ module _ (core : CoreState) (line : ℕ) where
   core_active (body.ShRep y) pinned comes = inl tt
   core_active (body.ExRep y) pinned comes = inl tt
   core_active (body.RenewRep rts) pinned comes =
-      inl (changes (cache.renewed rts) (copy_of core.cache line) (and_right (core_table.waits_for core line) _ comes))
+      inl (changes (cache.renewed rts) (copy_of core.cache line) (and_parts (core_table.waits_for core line) _ comes).1)
   core_active (body.UpgradeRep rts) pinned comes =
-      inl (changes (cache.upgraded rts) (copy_of core.cache line) (and_right (core_table.waits_for core line) _ comes))
+      inl (changes (cache.upgraded rts) (copy_of core.cache line) (and_parts (core_table.waits_for core line) _ comes).1)
   core_active body.FlushReq true comes = inr (tt, refl)
   core_active body.FlushReq false comes = inl (flushes (copy_of core.cache line))
   core_active (body.WbReq until) true comes = inr (tt, refl)

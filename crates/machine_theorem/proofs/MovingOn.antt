@@ -7,7 +7,8 @@ use Rattle.std.specs.Prelude.{option_map, is_some, not}
 use Rattle.std.specs.List.{slice_get}
 use Rattle.std.specs.Ordering.{nat_cmp}
 use Rattle.std.specs.FinMap.{FinMap}
-use Rattle.std.proofs.lemmas.Bool.{cases_Bool, cases_eq, cond-true, cond-false, eqb-true, eq-eqb, ne_eqb, ltb-false}
+use Rattle.std.proofs.lemmas.Bool.{and_parts, or_parts, cases_Bool, cases_eq, cond-true, cond-false, eqb-true, eq-eqb}
+use Rattle.std.proofs.lemmas.Bool.{ne_eqb, ltb-false}
 use Rattle.std.proofs.lemmas.Option.{get_or_from_slice_get}
 use Rattle.physiological_order.specs.declared.operation.Op.{Op}
 use Rattle.physiological_order.specs.Order.{address}
@@ -61,7 +62,7 @@ use Rattle.machine_theorem.proofs.ActiveParts.{IsRecall, core_active, copy_activ
 use Rattle.machine_theorem.proofs.ActiveParts.{bank_active, request_active, load_active, held_without, entry_active}
 use Rattle.machine_theorem.proofs.ActiveParts.{dram_active, all_pass, chosen_there}
 use Rattle.machine_theorem.proofs.Consistency.{consistent}
-use Rattle.machine_theorem.proofs.Deliveries.{and_right, serving_attempt, owner_serves}
+use Rattle.machine_theorem.proofs.Deliveries.{serving_attempt, owner_serves}
 use Rattle.machine_theorem.proofs.FoundCases.{messages_find_cases}
 use Rattle.machine_theorem.proofs.Lookups.{each_at_number}
 use Rattle.machine_theorem.proofs.Events.{invariant}
@@ -139,10 +140,6 @@ no_recall w flush wb x is = go x.body is
     go (body.WbReq until) is = wb (core_of x.to) until
     go _ is = absurd is
 
-or_right : (p q : Bool) → (p || q) ≡ false → q ≡ false
-or_right true q e = absurd (cc)
-or_right false q e = e
-
 -- a message that may stay as it is
 data Stays (m : Machine) (x : Message) : Type 0 where
   a_request : (b : ℕ) (bank : BankState) → x.to ≡ node.Bank b → slice_get m.banks b ≡ Some bank →
@@ -171,7 +168,7 @@ module _ (m : Machine) (able : CanSend m) (s : Invariant m) (rising : IsRising 0
           (λ (held : IsRecall x.body × (is_pinned (pinned_line core) x.line ≡ true)).
           inr (a_recall c core to at held.1 held.0))
           (core_active core x.line x.body (is_pinned (pinned_line core) x.line)
-          (and_right (core_table.is_this_core core.number x.to) _ has))
+          (and_parts (core_table.is_this_core core.number x.to) _ has).1)
 
       at_bank : (b : ℕ) → x.to ≡ node.Bank b → (o : Option BankState) → slice_get m.banks b ≡ o →
           takes bank_has_case o x ≡ true → MovesOn m ⊎ Stays m x
@@ -180,14 +177,14 @@ module _ (m : Machine) (able : CanSend m) (s : Invariant m) (rising : IsRising 0
           (λ active. inl (bank_moves m able n x number b bank to at has active))
           (λ (is : IsRequest x.body). inr (a_request b bank to at has is))
           (bank_active bank x bank.lease bank.mts (core_of x.from) (has_room bank.table (bank_table.set_of bank x.line))
-          x.from x.body (entry_of bank x.line) (and_right (is_this_bank bank.number x.to) _ has))
+          x.from x.body (entry_of bank x.line) (and_parts (is_this_bank bank.number x.to) _ has).1)
 
       at_dram : (b : ℕ) → x.to ≡ node.Dram b → (o : Option (FinMap nat_cmp (List ℕ))) → slice_get m.drams b ≡ o →
           takes dram_has_case o x ≡ true → MovesOn m ⊎ Stays m x
       at_dram b to None at has = absurd (cc)
       at_dram b to (Some lines) at has =
           inl (dram_moves m able n x number b lines to at has
-          (dram_active lines x x.body (and_right (is_dram x.to) _ has)))
+          (dram_active lines x x.body (and_parts (is_dram x.to) _ has).1))
 
       go : (to : Node) → x.to ≡ to → has_case_at m x to ≡ true → MovesOn m ⊎ Stays m x
       go (node.Core c) to has = at_core c to (slice_get m.cores c) refl has
@@ -455,7 +452,7 @@ module _ (m : Machine) (able : CanSend m) (s : Invariant m) (rising : IsRising 0
                 ∙ cond-false (place_for core.cache line) _ tried.NoRoom full)
 
             no_room : has_room core.cache j ≡ false
-            no_room = or_right (is_there (set_at core.cache.sets j) line) _ full
+            no_room = (or_parts (is_there (set_at core.cache.sets j) line) _ full).1
 
             by_set : (ps : List (ℕ × LineCopy)) → set_at core.cache.sets j ≡ ps → MovesOn m
             by_set [] is = absurd (let z = ap length is in

@@ -1,14 +1,11 @@
 -- What is so of all cores below a number is so of each of them.
 use Rattle.std.proofs.Common.{◌≡◌, ℕ, zero, suc, ◌<◌, ◌&&◌, Bool, true, false, List, refl, sym, ap, ◌∙◌, arith, subst}
 use Rattle.std.proofs.Common.{⊎_elim}
+use Rattle.std.proofs.Math.Bool.{and-true}
 use Rattle.std.proofs.lemmas.Bool.{cases_eq, and_left, and_right, and_parts}
 use Rattle.machine_table.specs.Machine.{Machine}
 use Rattle.programs.specs.Acts.{Acts}
 use Rattle.schedules.specs.Runs.{is_over, are_over}
-
-and_true : (b : Bool) → (b && true) ≡ b
-and_true true = refl
-and_true false = refl
 
 module _ {P : Type 0} (acts : Acts P) (m : Machine) (programs : List P) where
   pub not_over : (cores core : ℕ) → core < cores → is_over acts m programs core ≡ false →
@@ -44,6 +41,6 @@ module _ {P : Type 0} (acts : Acts P) (m : Machine) (programs : List P) where
           (core : ℕ) × (core < suc cores) × (is_over acts m programs core ≡ false)
       by_last false is before = (cores, omega arith, is)
       by_last true is before =
-          let k = before (sym (and_true (are_over acts m programs cores))
+          let k = before (sym (and-true (are_over acts m programs cores))
           ∙ sym (ap (λ b. are_over acts m programs cores && b) is) ∙ work) in
           (k.0, omega (arith, k.1), k.2)

@@ -2,7 +2,7 @@
 use Rattle.std.proofs.Common.{◌≡◌, ◌⊎◌, cond, ℕ, ◌||◌, Bool, true, false, List, [], ◌∷◌, ◌++◌, inl, inr, refl, sym, ap}
 use Rattle.std.proofs.Common.{◌∙◌, subst, ⊎_elim}
 use Rattle.std.specs.List.{AllByRecursion as Each}
-use Rattle.std.proofs.lemmas.Bool.{cases_Bool, cond-true, cond-false}
+use Rattle.std.proofs.lemmas.Bool.{or_parts, cases_Bool, cond-true, cond-false}
 use Rattle.machine_table.specs.Answered.{Answered}
 use Rattle.machine_table.specs.declared.event.Answer.{Answer}
 use Rattle.machine_table.specs.declared.event.Answer.TheVariants as answer
@@ -34,14 +34,6 @@ calm_leaves m _ after says calm = absurd (let z : true ≡ false = calm.quiet in
 abbrev pub IsAmong : ℕ → List ℕ → Type 0
 IsAmong n [] = ⊥
 IsAmong n (k ∷ ks) = (n ≡ k) ⊎ IsAmong n ks
-
-or_left : (p q : Bool) → (p || q) ≡ false → p ≡ false
-or_left true q e = absurd (cc)
-or_left false q e = refl
-
-or_right : (p q : Bool) → (p || q) ≡ false → q ≡ false
-or_right true q e = absurd (cc)
-or_right false q e = e
 
 -- each action of a list is answered so at one machine
 abbrev pub IsStill : Machine → Action → Type 0
@@ -97,7 +89,7 @@ module _ {P : Type 0} (acts : Acts P) where
         GoesOn (cond s.is_out s (after_answer s tells (transition s.machine e))) → IsCalm (transition s.machine e).0
     event_calm e tells after =
         let x = subst GoesOn (cond-false s.is_out s (after_answer s tells (transition s.machine e)) so.in_time) after in
-        record { quiet = or_right s.has_progressed _ x.quiet; in_time = x.in_time }
+        record { quiet = (or_parts s.has_progressed _ x.quiet).1; in_time = x.in_time }
 
     action_still : (action : Action) → GoesOn (after_action acts s action) → IsStill s.machine action
     action_still (Does e) after = event_calm e (programs_told acts s.programs) after
@@ -117,7 +109,7 @@ module _ {P : Type 0} (acts : Acts P) where
     | inl out ↦ subst GoesOn (cond-true s.is_out s (after_answer s tells (transition s.machine e)) out) after
     | inr more ↦
         let x = subst GoesOn (cond-false s.is_out s (after_answer s tells (transition s.machine e)) more) after in
-        record { quiet = or_left s.has_progressed _ x.quiet; in_time = more }
+        record { quiet = (or_parts s.has_progressed _ x.quiet).0; in_time = more }
   ]
 
   action_went : (s : Standing P) (action : Action) → GoesOn (after_action acts s action) → GoesOn s

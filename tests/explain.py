@@ -80,6 +80,7 @@ RUNS = [
         "  core 2 waits for line 0x0 of bank 0 since turn 1 (R 0x0): its request is m2",
         "Set 0 of bank 0 has places for 1 lines:", "  0x0 left it 33 times in the last 100 turns", "Remedy: --fair;"]),
     (LIVELOCK.format("--fair "), 0, ["nothing is wrong, all is done"]),
+    ("litmus --seed 4 examples/litmus/SB+yes.litmus", 0, ["nothing is wrong", "--seed means nothing by rounds"]),
     (LIVELOCK.format("--fair --limit 11 "), 1, [
         "end limit: 2 operations of 3 issued are completed after turn 11", "Cause: too few turns.",
         "the last in turn 9", "  core 2 waits for line 0x0 of bank 0 since turn 1 (R 0x0)",

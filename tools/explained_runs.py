@@ -213,4 +213,6 @@ def explained_run(words):
         if end != "all-done":
             which = [f"{options.FILE}, by seed {seed_of(options, number)}"] if options.schedule == "seed" else []
             return which + list(told(run, end, options)), True
-    return [f"{options.FILE}: nothing is wrong, all is done"], False
+    is_idle = options.schedule == "round" and any(word.partition("=")[0] == "--seed" for word in words)
+    return [f"{options.FILE}: nothing is wrong, all is done",
+            *["--seed means nothing by rounds: --schedule seed makes runs by it"] * is_idle], False

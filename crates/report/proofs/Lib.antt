@@ -1,4 +1,5 @@
 mod Refused
+mod EveryLine
 mod Unread
 mod CoreCounts
 mod InTrace

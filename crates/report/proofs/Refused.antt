@@ -20,20 +20,22 @@ use Rattle.litmus_reader.specs.Litmus.{Litmus}
 use Rattle.litmus_reader.specs.ReadingTest.{IsReadOrNoMemory, test_at}
 use Rattle.litmus_reader.specs.TestViews.{test_of}
 use Rattle.litmus_reader.specs.declared.contents.Test.{Test}
+use Rattle.run_options.specs.declared.options.EndsOptions.{EndsOptions}
 use Rattle.run_options.specs.declared.options.LitmusOptions.{LitmusOptions}
 use Rattle.run_results.specs.declared.results.RunError.{RunError}
-use Rattle.run_results.specs.declared.results.RunError.TheVariants.{Read, Write, NoMemory, Litmus as Refused}
-use Rattle.run_results.specs.declared.results.RunError.TheVariants.{Trace, BadConfig}
+use Rattle.run_results.specs.declared.results.RunError.TheVariants.{Read, NoMemory, BadConfig}
+use Rattle.run_results.specs.declared.results.RunError.TheVariants.{Litmus as Refused, TooManyStates}
 use Rattle.report.specs.Bytes.{HasNoText, OfBytes}
-use Rattle.report.specs.Litmus.{HasNoReport, HasNoReportInMemory, IsLitmusFault, ReadingAllocates, litmus_refusal}
-use Rattle.report.specs.Litmus.{litmus_refusal_of}
+use Rattle.report.specs.Ends.{HasNoEnds}
+use Rattle.report.specs.Litmus.{HasNoReport, HasNoReportInMemory, HasNoTest, HasNoTestInMemory, IsLitmusFault}
+use Rattle.report.specs.Litmus.{ReadingAllocates, litmus_refusal, litmus_refusal_of}
 
 -- the kind of an answer's fault
 abbrev kind_told : {X : Type 0} → Result X LitmusError → Kind → Kind
 kind_told (Ok x) none = none
 kind_told (Err e) none = e.kind
 
-module _ (options : LitmusOptions) (text : List ℕ) (error : LitmusError) where
+module _ (text : List ℕ) (error : LitmusError) where
   -- an answer of reading that isn't want of memory
   or_memory : (P : Type 0) → error.kind ≢ LackOfMemory → (error ≡ record { line = 0; kind = LackOfMemory }) ⊎ P → P
   or_memory P found (inl none) = absurd (found (ap (λ (e : LitmusError). e.kind) none))
@@ -41,8 +43,8 @@ module _ (options : LitmusOptions) (text : List ℕ) (error : LitmusError) where
 
   refused_as : (kind : Kind) → (kind ≡ LackOfMemory → ReadingAllocates text) → (kind ≢ LackOfMemory → IsLitmusFault
       text error) →
-      HasNoReportInMemory options text (litmus_refusal_of kind error)
-  refused_as LackOfMemory allocates is = inl (allocates refl)
+      HasNoTestInMemory text (litmus_refusal_of kind error)
+  refused_as LackOfMemory allocates is = allocates refl
   refused_as TooLarge allocates is = is (λ e. absurd cc)
   refused_as BadByte allocates is = is (λ e. absurd cc)
   refused_as BadHeader allocates is = is (λ e. absurd cc)
@@ -64,7 +66,7 @@ module _ (options : LitmusOptions) (text : List ℕ) (error : LitmusError) where
       (error.kind ≢ LackOfMemory) × Fault text error.kind error.line)
       → (MOST_BYTES < length text → ◌≡◌ {A = Result Test LitmusError} (Err error)
       (Err (record { line = 1; kind = TooLarge }))) →
-      HasNoReportInMemory options text (litmus_refusal error)
+      HasNoTestInMemory text (litmus_refusal error)
   refused fault only told early large = refused_as error.kind allocates (λ found. (
     or_memory _ found told,
     (
@@ -85,15 +87,31 @@ module _ (options : LitmusOptions) (text : List ℕ) (error : LitmusError) where
         λ kind n before. (early kind n before).0 lacks,
       )
 
+-- what is no test has no report in memory
+pub no_report : (options : LitmusOptions) (text : List ℕ) (e : RunError) → HasNoTestInMemory text e →
+    HasNoReportInMemory options text e
+no_report options text NoMemory allocates = inl allocates
+no_report options text BadConfig is = absurd is
+no_report options text e is = is
+
+-- and no list of ends
+no_ends : (options : EndsOptions) (text : List ℕ) (e : RunError) → HasNoTest text e → HasNoEnds options text e
+no_ends options text (TooManyStates most) is = absurd is
+no_ends options text e is = is
+
+pub no_list : (options : EndsOptions) (text : List ℕ) (e : RunError) → HasNoTestInMemory text e →
+    HasNoEnds options text e
+no_list options text NoMemory allocates = some_before_block text allocates.1
+no_list options text e is = no_ends options text e is
+
 -- too many bytes are no test
 refused_long : (text : List ℕ) → MOST_BYTES < length text →
     test_at text ≡ Err (record { line = 1; kind = TooLarge })
 unfolding test_at
 refused_long text long = cond-true (nat_lt MOST_BYTES (length text)) _ _ (lt-ltb MOST_BYTES (length text) long)
 
-too_long : (options : LitmusOptions) (text : List ℕ) → MOST_BYTES < length text →
-    HasNoReport options text (Refused (record { line = 1; kind = TooLarge }))
-too_long options text long = (
+too_long : (text : List ℕ) → MOST_BYTES < length text → HasNoTest text (Refused (record { line = 1; kind = TooLarge }))
+too_long text long = (
   refused_long text long,
   (λ test is. let few : length text ≤ MOST_BYTES = is.length_is in absurd (omega (arith, long, few)), too_large long),
   λ e. absurd cc,
@@ -105,31 +123,45 @@ many_bytes : (known : Option (List ℕ)) (n : ℕ) → IfSome known (λ bytes. n
 many_bytes None n more = (replicate (suc n) 0, tt, omega (arith, length-replicate {A = ℕ} (suc n) 0))
 many_bytes (Some bytes) n more = (bytes, refl, more)
 
--- why there is no text is why there is no report
+-- why there is no text is why there is no test
+untold : (known : Option (List ℕ)) (before after : ℕ) (e : RunError) → HasNoText known before after e → e ≢ Read →
+    OfBytes known (λ bytes. HasNoTest bytes e)
+untold known before after Read is other = absurd (other refl)
+untold known before after NoMemory is other = many_bytes known 0 is.1
+untold known before after (Refused e) is other =
+    let b = many_bytes known MOST_BYTES is.1.1 in
+    (b.0, b.1, subst (λ e. HasNoTest b.0 (Refused e)) (sym is.1.0) (too_long b.0 b.2))
+untold known before after e is other = absurd is
+
+of_test : (options : LitmusOptions) (text : List ℕ) (e : RunError) → HasNoTest text e → HasNoReport options text e
+of_test options text BadConfig is = absurd is
+of_test options text e is = is
+
+-- so there is no report
 pub unread : (known : Option (List ℕ)) (options : LitmusOptions) (before after : ℕ) (e : RunError) →
     HasNoText known before after e → e ≢ Read → OfBytes known (λ bytes. HasNoReport options bytes e)
-unread known options before after Read is other = absurd (other refl)
-unread known options before after NoMemory is other = many_bytes known 0 is.1
-unread known options before after (Refused e) is other =
-    let b = many_bytes known MOST_BYTES is.1.1 in
-    (b.0, b.1, subst (λ e. HasNoReport options b.0 (Refused e)) (sym is.1.0) (too_long options b.0 b.2))
-unread known options before after Write is other = absurd is
-unread known options before after (Trace e) is other = absurd is
-unread known options before after BadConfig is other = absurd is
+unread known options before after e is other =
+    let b = untold known before after e is other in (b.0, b.1, of_test options b.0 e b.2)
+
+-- and no list of ends
+pub unlisted : (known : Option (List ℕ)) (options : EndsOptions) (before after : ℕ) (e : RunError) →
+    HasNoText known before after e → e ≢ Read → OfBytes known (λ bytes. HasNoEnds options bytes e)
+unlisted known options before after e is other =
+    let b = untold known before after e is other in (b.0, b.1, no_ends options b.0 e b.2)
 
 of_bytes : (options : LitmusOptions) (text : List ℕ) (e : RunError) → HasNoReportInMemory options text e →
     HasNoReport options text e
 of_bytes options text NoMemory is = ⊎_elim (λ allocates. some_before_block text allocates.1)
     (λ run. some_of_test text run.0 run.1) is
-of_bytes options text Read is = is
-of_bytes options text Write is = is
-of_bytes options text (Refused e) is = is
-of_bytes options text (Trace e) is = is
-of_bytes options text BadConfig is = is
+of_bytes options text e is = is
 
 -- and a fault speaks of those that were read
+pub of_read : (P : List ℕ → Type 0) (known : Option (List ℕ)) (bytes text : List ℕ) → ReadsAll known bytes →
+    text ≡ bytes → P text → OfBytes known P
+of_read P known bytes text all same is = (bytes, all, subst P same is)
+
 pub unreported : (known : Option (List ℕ)) (options : LitmusOptions) (bytes text : List ℕ) (e : RunError) →
     ReadsAll known bytes → text ≡ bytes → HasNoReportInMemory options text e →
     OfBytes known (λ b. HasNoReport options b e)
 unreported known options bytes text e all same is =
-    (bytes, all, subst (λ b. HasNoReport options b e) same (of_bytes options text e is))
+    of_read (λ b. HasNoReport options b e) known bytes text all same (of_bytes options text e is)

@@ -4,7 +4,7 @@ use Rattle.byte_streams.specs.Device.{Grows}
 use Rattle.byte_streams.specs.Whole.{GrowsByFront}
 use Rattle.run_results.specs.declared.results.Done.{Done}
 use Rattle.run_results.specs.declared.results.RunError.{RunError}
-use Rattle.run_results.specs.declared.results.RunError.TheVariants.{Read, Write, NoMemory, Litmus, Trace, BadConfig}
+use Rattle.run_results.specs.declared.results.RunError.TheVariants.{Read, Write}
 
 -- the call wrote one right text, and nothing else
 abbrev pub IsReported : (List ℕ → Type 0) → Option (List ℕ) → Option (List ℕ) → Type 0
@@ -23,8 +23,4 @@ FailuresAreCounted came read read' written written' = (read' ≡ read) × (writt
 -- writing failed: that is counted, and the bytes that were written are a beginning of the text
 abbrev pub IsWriteError : Option (List ℕ) → Option (List ℕ) → (before after : ℕ) → List ℕ → RunError → Type 0
 IsWriteError old new before after text Write = GrowsByFront old new text × (before < after)
-IsWriteError old new before after text Read = ⊥
-IsWriteError old new before after text NoMemory = ⊥
-IsWriteError old new before after text (Litmus e) = ⊥
-IsWriteError old new before after text (Trace e) = ⊥
-IsWriteError old new before after text BadConfig = ⊥
+IsWriteError old new before after text e = ⊥

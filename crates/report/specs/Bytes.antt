@@ -5,7 +5,7 @@ use Rattle.litmus_lexer.specs.declared.errors.Kind.TheVariants.{TooLarge}
 use Rattle.litmus_lexer.specs.declared.errors.LitmusError.{LitmusError}
 use Rattle.litmus_lexer.specs.declared.limits.TheConstants.{MOST_BYTES}
 use Rattle.run_results.specs.declared.results.RunError.{RunError}
-use Rattle.run_results.specs.declared.results.RunError.TheVariants.{Read, Write, NoMemory, Litmus, Trace, BadConfig}
+use Rattle.run_results.specs.declared.results.RunError.TheVariants.{Read, NoMemory, Litmus}
 
 -- this holds of bytes that are all the source's, if those are known
 abbrev pub OfBytes : Option (List ℕ) → (List ℕ → Type 0) → Type 0
@@ -21,6 +21,4 @@ abbrev pub HasNoText : Option (List ℕ) → (before after : ℕ) → RunError �
 HasNoText known before after Read = before < after
 HasNoText known before after NoMemory = (after ≡ before) × IfSome known (λ bytes. 0 < length bytes)
 HasNoText known before after (Litmus e) = (after ≡ before) × IsTooLargeTest known e
-HasNoText known before after Write = ⊥
-HasNoText known before after (Trace e) = ⊥
-HasNoText known before after BadConfig = ⊥
+HasNoText known before after e = ⊥

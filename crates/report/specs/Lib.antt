@@ -1,6 +1,8 @@
 pub mod Answers
 pub mod Bytes
 pub mod Litmus
+pub mod EveryText
+pub mod Ends
 pub mod Runs
 pub mod Refusals
 pub mod Reports

@@ -17,8 +17,7 @@ use Rattle.programs.specs.declared.ends.End.TheVariants.{AllDone}
 use Rattle.report_text.specs.declared.run_end.RunEnd.{RunEnd}
 use Rattle.run_options.specs.declared.options.LitmusOptions.{LitmusOptions}
 use Rattle.run_results.specs.declared.results.RunError.{RunError}
-use Rattle.run_results.specs.declared.results.RunError.TheVariants.{Read, Write, NoMemory, Litmus as Refused}
-use Rattle.run_results.specs.declared.results.RunError.TheVariants.{Trace, BadConfig}
+use Rattle.run_results.specs.declared.results.RunError.TheVariants.{BadConfig, NoMemory, Litmus as Refused}
 use Rattle.worker_driver.specs.Outcomes.{HasOutcome}
 use Rattle.worker_driver.specs.Runs.{AreFrom}
 
@@ -50,21 +49,27 @@ IsNoTest bytes e = ((test : Litmus) → IsTest bytes test → ⊥) × Fault byte
 abbrev pub IsLitmusFault : List ℕ → LitmusError → Type 0
 IsLitmusFault bytes e = (test_at bytes ≡ Err e) × IsNoTest bytes e × (e.kind ≢ LackOfMemory)
 
+-- why no test is read of bytes: they are none, or memory was refused for bytes that there are
+abbrev pub HasNoTest : List ℕ → RunError → Type 0
+HasNoTest bytes (Refused e) = IsLitmusFault bytes e
+HasNoTest bytes NoMemory = 0 < length bytes
+HasNoTest bytes e = ⊥
+
 -- why bytes have no report
 abbrev pub HasNoReport : LitmusOptions → List ℕ → RunError → Type 0
-HasNoReport options bytes (Refused e) = IsLitmusFault bytes e
-HasNoReport options bytes (Trace e) = ⊥
 HasNoReport options bytes BadConfig =
     (test : Litmus) × IsTest bytes test × (is_good (config_of options.run.machine test.threads) ≡ false)
--- memory was refused for bytes that there are
-HasNoReport options bytes NoMemory = 0 < length bytes
-HasNoReport options bytes Read = ⊥
-HasNoReport options bytes Write = ⊥
+HasNoReport options bytes e = HasNoTest bytes e
 
 -- reading the bytes allocates only if they are few enough, and no fault stands before the initial block
 abbrev pub ReadingAllocates : List ℕ → Type 0
 ReadingAllocates bytes =
     (length bytes ≤ MOST_BYTES) × ((kind : Kind) (n : ℕ) → FaultBefore (good_lines bytes) kind n → ⊥)
+
+-- why no test is read of a text in memory; NoMemory only if reading it allocates
+abbrev pub HasNoTestInMemory : List ℕ → RunError → Type 0
+HasNoTestInMemory bytes NoMemory = ReadingAllocates bytes
+HasNoTestInMemory bytes e = HasNoTest bytes e
 
 -- why a text in memory has no report; NoMemory only if reading it allocates, or the machine is good
 abbrev pub HasNoReportInMemory : LitmusOptions → List ℕ → RunError → Type 0

@@ -2,7 +2,7 @@
 use Rattle.std.specs.Prelude.{◌≡◌, ◌<◌, ℕ, List, Option, Result, Ok, Err, IfSome}
 use Rattle.run_results.specs.declared.results.Done.{Done}
 use Rattle.run_results.specs.declared.results.RunError.{RunError}
-use Rattle.run_results.specs.declared.results.RunError.TheVariants.{Read, Write, NoMemory, Litmus, Trace, BadConfig}
+use Rattle.run_results.specs.declared.results.RunError.TheVariants.{Read, Write, NoMemory, Trace, BadConfig}
 use Rattle.trace_lines.specs.declared.errors.Kind.{Kind}
 use Rattle.trace_lines.specs.declared.errors.Kind.TheVariants.{Read as ReadingFailed, NoMemory as LackOfMemory}
 use Rattle.trace_lines.specs.declared.errors.TraceError.{TraceError}
@@ -36,9 +36,7 @@ abbrev pub IsUnread : (IsFaultOf : TraceError → Type 0) → (Wants : Type 0) �
 IsUnread IsFaultOf Wants before after Read = before < after
 IsUnread IsFaultOf Wants before after NoMemory = (after ≡ before) × Wants
 IsUnread IsFaultOf Wants before after (Trace e) = (after ≡ before) × IsFaultOf e
-IsUnread IsFaultOf Wants before after Write = ⊥
-IsUnread IsFaultOf Wants before after (Litmus e) = ⊥
-IsUnread IsFaultOf Wants before after BadConfig = ⊥
+IsUnread IsFaultOf Wants before after e = ⊥
 
 -- what is so if the answer is one that comes only after each text was accepted
 abbrev pub OnAccepted : Result Done RunError → Type 0 → Type 0

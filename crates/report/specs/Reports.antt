@@ -7,7 +7,7 @@ use Rattle.worker_driver.specs.SetUp.{config_of, limit_of, policy_of}
 use Rattle.programs.specs.declared.ends.End.{End}
 use Rattle.run_options.specs.declared.options.TraceOptions.{TraceOptions}
 use Rattle.run_results.specs.declared.results.RunError.{RunError}
-use Rattle.run_results.specs.declared.results.RunError.TheVariants.{Read, Write, NoMemory, Litmus, Trace, BadConfig}
+use Rattle.run_results.specs.declared.results.RunError.TheVariants.{NoMemory, Trace, BadConfig}
 use Rattle.trace_lines.specs.declared.errors.TraceError.{TraceError}
 use Rattle.programs.specs.declared.steps.Step.{Step}
 use Rattle.trace_reader.specs.declared.limits.TheConstants.{MOST_LINES}
@@ -57,10 +57,7 @@ IsTraceFault known e = IsFault IsTrace TraceFault steps_read known e
 abbrev pub HasNoRun : TraceOptions → List (List Step) → RunError → Type 0
 HasNoRun options lanes NoMemory = is_good (config_of options.run.machine (trace_cores lanes)) ≡ true
 HasNoRun options lanes BadConfig = is_good (config_of options.run.machine (trace_cores lanes)) ≡ false
-HasNoRun options lanes Read = ⊥
-HasNoRun options lanes Write = ⊥
-HasNoRun options lanes (Litmus e) = ⊥
-HasNoRun options lanes (Trace e) = ⊥
+HasNoRun options lanes e = ⊥
 
 -- why there is no report on what the source had; NoMemory only if reading it allocates, or the machine is good
 abbrev pub HasNoTraceReport : TraceOptions → Option (List ℕ) → RunError → Type 0
@@ -70,6 +67,4 @@ HasNoTraceReport options known BadConfig = (lanes : List (List Step)) × IsRead 
 HasNoTraceReport options known NoMemory =
     WantsMemory steps_in known ⊎ ((lanes : List (List Step)) × IsRead known lanes
     × (is_good (config_of options.run.machine (trace_cores lanes)) ≡ true))
-HasNoTraceReport options known Read = ⊥
-HasNoTraceReport options known Write = ⊥
-HasNoTraceReport options known (Litmus e) = ⊥
+HasNoTraceReport options known e = ⊥

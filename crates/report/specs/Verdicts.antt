@@ -9,7 +9,7 @@ use Rattle.physiological_order.specs.Faults.{IsVerdict}
 use Rattle.physiological_order.specs.Order.{flat}
 use Rattle.run_results.specs.declared.results.Done.{Done}
 use Rattle.run_results.specs.declared.results.RunError.{RunError}
-use Rattle.run_results.specs.declared.results.RunError.TheVariants.{Read, Write, NoMemory, Litmus, Trace, BadConfig}
+use Rattle.run_results.specs.declared.results.RunError.TheVariants.{Read, Write, NoMemory, Trace}
 use Rattle.trace_lines.specs.declared.errors.TraceError.{TraceError}
 use Rattle.programs.specs.declared.steps.Step.{Step}
 use Rattle.trace_reader.specs.Causes.{RecordFault}
@@ -56,10 +56,7 @@ HasNoVerdict trace records (Trace e) =
 HasNoVerdict trace records NoMemory =
     WantsMemory steps_in trace ⊎ (((lanes : List (List Step)) × IsRead trace lanes) ×
     (WantsMemory records_in records ⊎ ((told : List Record) × AreRead records told)))
-HasNoVerdict trace records Read = ⊥
-HasNoVerdict trace records Write = ⊥
-HasNoVerdict trace records (Litmus e) = ⊥
-HasNoVerdict trace records BadConfig = ⊥
+HasNoVerdict trace records e = ⊥
 
 -- failures of two sources, of which the second is read after the first, are counted exactly if the answer reports them
 abbrev pub ReadsCounted : {X : Type 0} → Result X RunError → (first first' second second' : ℕ) → Type 0

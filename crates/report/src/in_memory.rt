@@ -67,7 +67,7 @@ pub fn litmus_report(
         IsLitmusReport options.now text.now report.all_done report.text.items) }
     ensures refused { IfErr result (HasNoReportInMemory options.now text.now) }
 {
-    let test = match test_in(alloc, text, options) {
+    let test = match test_in(alloc, text) {
         Ok(test) => test,
         Err(error) => return Err(error),
     };

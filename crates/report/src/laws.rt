@@ -1,7 +1,7 @@
-//! What a verdict shows, how many turns a run may have, and that what is written is accepted. The functions do nothing:
-//! their contracts are the laws.
-ghost use Rattle.std.specs.Prelude.{◌≡◌, ◌<◌, ◌≤◌, Bool, List, [], Some, true, ℕ};
-ghost use Rattle.std.specs.List.{AllByRecursion};
+//! What a verdict shows, where runs end, how many turns a run may have, and that what is written is accepted. The
+//! functions do nothing: their contracts are the laws.
+ghost use Rattle.std.specs.Prelude.{◌≡◌, ◌<◌, ◌≤◌, Bool, IfSome, List, [], Some, true, ℕ};
+ghost use Rattle.std.specs.List.{AllByRecursion, Contains};
 ghost use Rattle.litmus_parser.specs.declared.syntax.Quantifier.TheVariants.{Exists};
 ghost use Rattle.litmus_reader.specs.Grammar.{IsTest};
 ghost use Rattle.litmus_reader.specs.Litmus.{Litmus};
@@ -11,6 +11,7 @@ ghost use Rattle.programs.specs.declared.ends.End.TheVariants.{AllDone};
 ghost use Rattle.report_text.specs.Ends.{runs_ended, runs_held};
 ghost use Rattle.report_text.specs.Text.{is_yes};
 ghost use Rattle.report_text.specs.declared.run_end.RunEnd.{RunEnd};
+ghost use Rattle.run_options.specs.declared.options.EndsOptions.{EndsOptions};
 ghost use Rattle.run_options.specs.declared.options.LitmusOptions.{LitmusOptions};
 ghost use Rattle.run_options.specs.declared.options.TraceOptions.{TraceOptions};
 ghost use Rattle.run_results.specs.declared.results.RunError.{RunError};
@@ -18,10 +19,12 @@ ghost use Rattle.run_results.specs.declared.results.RunError.TheVariants.{NoMemo
 ghost use Rattle.sequential_machine.specs.SequentialMachine.{SequentialState, Steps, sequential_opening, value_at};
 ghost use Rattle.trace_texts.specs.Verdicts.{check_text};
 ghost use Rattle.worker_driver.specs.Outcomes.{HasOutcome};
-ghost use Rattle.report.specs.Litmus.{turns};
+ghost use Rattle.report.specs.Ends.{IsEndsReport};
+ghost use Rattle.report.specs.Litmus.{IsLitmusReport, turns};
 ghost use Rattle.report.specs.Reports.{IsTraceReport};
 ghost use Rattle.report.specs.Verdicts.{HasNoVerdict, IsCheckReport};
 
+use litmus_reader::laws::one_text_is_one_test;
 use physiological_order::laws::one_verdict;
 use trace_reader::laws::one_text_tells_one_list;
 
@@ -35,6 +38,17 @@ pub fn a_yes_shows_an_outcome()
         × ((t : ℕ) → t < test.threads → last.left t ≡ [])
         × (holds (value_at last) test.tree ≡ true) }
 {}
+
+/// The end state of each run that a report tells of is in each list of the ends of the same bytes, if the run is all
+/// done.
+pub fn runs_end_as_listed()
+    ensures { (options : LitmusOptions) (bounds : EndsOptions) (bytes text list : List ℕ)
+        (all_done done : Bool) (told : IsLitmusReport options bytes all_done text)
+        (listed : IsEndsReport bounds bytes done list) →
+        AllByRecursion (λ run. IfSome run.state (Contains listed.every.values)) told.runs }
+{
+    one_text_is_one_test();
+}
 
 /// A run has as many turns as its options allow, up to 4,294,967,295.
 pub fn turns_are_those_of_the_options()

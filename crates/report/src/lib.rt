@@ -1,8 +1,10 @@
-//! Goes from a text to the report on it. A litmus test or a trace is run, or records of any origin are checked against a
-//! trace.
+//! Goes from a text to the report on it. A litmus test or a trace is run, or all ends of a test are listed, or records
+//! of any origin are checked against a trace.
 #![tactic(auto)]
 
 mod checks;
+mod ends;
+mod every_text;
 mod in_memory;
 pub mod laws;
 mod litmus;
@@ -16,11 +18,14 @@ mod words;
 
 pub use byte_streams::{FromRead, Sink, Source, ToWrite};
 pub use checks::run_check;
+pub use ends::run_ends;
 pub use in_memory::{check_report, litmus_report, trace_report};
 pub use litmus::run_litmus;
 pub use outputs::Report;
 pub use report_text::litmus_text;
 pub use reports::run_trace;
-pub use run_options::{LitmusOptions, MachineOptions, RunOptions, Schedule, TraceOptions};
+pub use run_options::{
+    EndsOptions, LitmusOptions, MachineOptions, RunOptions, Schedule, TraceOptions,
+};
 pub use run_results::{Done, RunError, exit_status};
 pub use trace_texts::{TraceEnd, records_text, trace_text};

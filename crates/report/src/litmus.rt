@@ -9,7 +9,7 @@ ghost use Rattle.report.specs.Answers.{FailuresAreCounted, IsCutOff, IsReported}
 ghost use Rattle.worker_driver.specs.SetUp.{policy_of};
 ghost use Rattle.report_text.specs.Ends.{ends_as};
 ghost use Rattle.report.specs.Bytes.{OfBytes};
-ghost use Rattle.report.specs.Litmus.{HasNoReport, HasNoReportInMemory, IsLitmusReport};
+ghost use Rattle.report.specs.Litmus.{HasNoReport, HasNoReportInMemory, HasNoTestInMemory, IsLitmusReport};
 ghost use Rattle.report.specs.Litmus.{litmus_refusal, turns};
 ghost use Rattle.worker_driver.specs.Outcomes.{HasOutcome};
 ghost use Rattle.worker_driver.specs.Runs.{AreFrom};
@@ -69,15 +69,11 @@ pub fn run_litmus<R: Threads + Sync, S: Source, K: Sink>(
     put_out(sink, &report.text, done)
 }
 
-/// The litmus test that these bytes are, or why they have no report.
-pub(crate) fn test_in(
-    alloc: Global,
-    bytes: &[u8],
-    options: &LitmusOptions,
-) -> Result<Test, RunError>
+/// The litmus test that these bytes are, or why they are none.
+pub(crate) fn test_in(alloc: Global, bytes: &[u8]) -> Result<Test, RunError>
     ensures found { IfOk result (λ test. IsTest bytes.now (test_of test)) }
     ensures few { IfOk result (λ test. (test_of test).threads ≤ 16) }
-    ensures refused { IfErr result (HasNoReportInMemory options.now bytes.now) }
+    ensures refused { IfErr result (HasNoTestInMemory bytes.now) }
 {
     match read(alloc, bytes) {
         Ok(test) => Ok(test),
@@ -96,7 +92,7 @@ fn report_of<R: Threads + Sync>(
         IsLitmusReport options.now bytes.now report.all_done report.text.items) }
     ensures refused { IfErr result (HasNoReportInMemory options.now bytes.now) }
 {
-    let test = match test_in(alloc, bytes, options) {
+    let test = match test_in(alloc, bytes) {
         Ok(test) => test,
         Err(error) => return Err(error),
     };

@@ -10,7 +10,7 @@ use litmus_reader::{Name, Quantifier, Test};
 use std::alloc::AllocError;
 
 /// The condition's first word, as it is written.
-pub(crate) fn quantifier_text(quantifier: Quantifier) -> &'static [u8]
+pub fn quantifier_text(quantifier: Quantifier) -> &'static [u8]
     ensures { result.now ≡ quantifier_text quantifier }
 {
     match quantifier {
@@ -57,8 +57,9 @@ fn put_value(out: &mut Vec<u8>, test: &Test, name: Name, value: u64) -> Result<(
     Ok(())
 }
 
-/// The condition's names with their values, in order.
-fn put_values(out: &mut Vec<u8>, test: &Test, values: &[u64]) -> Result<(), AllocError>
+/// The condition's names with their values, in order, each behind a space. If allocation fails, part of them may be in
+/// the text.
+pub fn put_values(out: &mut Vec<u8>, test: &Test, values: &[u64]) -> Result<(), AllocError>
     ensures { OnOk result (out.new.items ≡
         out.old.items ++ values_text (test_of test.now).locations (test_of test.now).seen
         values.now) }

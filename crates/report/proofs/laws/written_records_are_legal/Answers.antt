@@ -5,7 +5,7 @@ use Rattle.physiological_order.specs.declared.verdict.Verdict.TheVariants.{Legal
 use Rattle.physiological_order.specs.Faults.{IsVerdict}
 use Rattle.physiological_order.specs.Order.{flat}
 use Rattle.run_results.specs.declared.results.RunError.{RunError}
-use Rattle.run_results.specs.declared.results.RunError.TheVariants.{Read, Write, NoMemory, Litmus, Trace, BadConfig}
+use Rattle.run_results.specs.declared.results.RunError.TheVariants.{NoMemory, Trace}
 use Rattle.programs.specs.declared.steps.Step.{Step}
 use Rattle.trace_reader.specs.Grammar.{AreRecords, IsTrace}
 use Rattle.trace_reader.specs.declared.limits.TheConstants.{MOST_LINES}
@@ -21,10 +21,7 @@ no_fault : (trace text : List ℕ) (lanes : List (List Step)) (records : List Re
 no_fault trace text lanes records is are NoMemory refused = refl
 no_fault trace text lanes records is are (Trace e) (inl fault) = absurd (fault.1.0 lanes is)
 no_fault trace text lanes records is are (Trace e) (inr fault) = absurd (fault.1.1.0 records are)
-no_fault trace text lanes records is are Read refused = absurd refused
-no_fault trace text lanes records is are Write refused = absurd refused
-no_fault trace text lanes records is are (Litmus e) refused = absurd refused
-no_fault trace text lanes records is are BadConfig refused = absurd refused
+no_fault trace text lanes records is are e refused = absurd refused
 
 pub returns-clause-legal : goal.returns-clause-legal
 returns-clause-legal c = λ options trace text line all_done legal asked reported checked.

@@ -1,0 +1,34 @@
+use Rattle.std.proofs.Common.{refl}
+use Rattle.litmus_reader.proofs.Lemmas.{some_of_test}
+use Rattle.litmus_reader.specs.TestViews.{test_of}
+use Rattle.report.proofs.Refused.{no_list}
+use Rattle.report.proofs.ends.list_of.Goals as goal
+
+pub returns-in-Err-clause-refused : goal.returns-in-Err-clause-refused
+returns-in-Err-clause-refused c =
+    no_list c.args.options.now c.args.bytes.now c.in-Err.error c.in-Err.ensures.refused
+
+pub returns-in-Err-NoMemory-clause-refused : goal.returns-in-Err-NoMemory-clause-refused
+returns-in-Err-NoMemory-clause-refused c = some_of_test c.args.bytes.now _ c.in-Ok.ensures.found
+
+pub returns-in-Ok-every_text-clause-list : goal.returns-in-Ok-every_text-clause-list
+returns-in-Ok-every_text-clause-list c =
+    let listed = c.in-Ok-list_ends.ensures in
+    record {
+      test = test_of c.in-Ok.test;
+      every = c.in-Ok-list_ends.every;
+      is_test = c.in-Ok.ensures.found;
+      lists = record {
+        outcomes = λ values has. listed.outcomes c.args.bytes.now values c.in-Ok.ensures.found has;
+        all = λ values is. listed.all c.args.bytes.now values c.in-Ok.ensures.found is;
+        rising = listed.rising;
+        once = listed.once;
+        states = listed.states;
+        few = listed.few;
+      };
+      text_is = c.in-Ok-every_text.ensures;
+      done = refl;
+    }
+
+pub returns-clause-refused : goal.returns-clause-refused
+returns-clause-refused c = some_of_test c.args.bytes.now _ c.in-Ok.ensures.found

@@ -1,0 +1,72 @@
+//! From a source with a litmus text to a sink for the list of its ends.
+ghost use Rattle.std.specs.Prelude.{◌≡◌, ◌≢◌, ◌+◌, IfErr, IfOk, IsErrOf, true};
+ghost use Rattle.byte_streams.specs.Whole.{TakesAtMost};
+ghost use Rattle.report.specs.Answers.{FailuresAreCounted, IsCutOff, IsReported};
+ghost use Rattle.report.specs.Bytes.{OfBytes};
+ghost use Rattle.report.specs.Ends.{HasNoEnds, IsEndsReport};
+
+use crate::every_text::every_text;
+use crate::litmus::test_in;
+use crate::outputs::put_out;
+use crate::sources::text_of;
+use byte_streams::{Sink, Source};
+use run_options::EndsOptions;
+use run_results::{Done, RunError};
+use sequential_ends::{EndsError, list_ends};
+use std::alloc::{AllocError, Global};
+
+/// Reads a litmus test to the end of the source, and writes the list of its ends: those of the sequential machine, all
+/// of them and no other. If the source has more bytes than a litmus text may have, the call doesn't read it to its
+/// end. Read takes precedence over Litmus, that over TooManyStates, and Write comes last; on any error but Write the
+/// sink is unchanged.
+pub fn run_ends<S: Source, K: Sink>(
+    alloc: Global,
+    source: &mut S,
+    sink: &mut K,
+    options: &EndsOptions,
+) -> Result<Done, RunError>
+    ensures reported { IfOk result (λ done. OfBytes (S.remaining source.old) (λ bytes.
+        IsReported (IsEndsReport options.now bytes done.all_done)
+        (K.contents sink.old) (K.contents sink.new))) }
+
+    // Why there is no list, or not all of it.
+    ensures refused { IfErr result (λ e. e ≢ RunError.Read → e ≢ RunError.Write →
+        OfBytes (S.remaining source.old) (λ bytes. HasNoEnds options.now bytes e)) }
+    ensures cut_off { IsErrOf result RunError.Write → OfBytes (S.remaining source.old) (λ bytes.
+        (all_done : _) × IsCutOff (IsEndsReport options.now bytes all_done)
+        (K.contents sink.old) (K.contents sink.new)) }
+
+    // A litmus text has at most 65,536 bytes, and at most one block of 4,096 is taken beyond them.
+    ensures taken { TakesAtMost (65536 + 4096) (S.remaining source.old) (S.remaining source.new) }
+
+    // Failures are told, and nothing else is written.
+    ensures counted { FailuresAreCounted result
+        (S.failures source.old) (S.failures source.new)
+        (K.failures sink.old) (K.failures sink.new) }
+    ensures nothing { IfErr result (λ e. e ≢ RunError.Write → sink.new ≡ sink.old) }
+{
+    let bytes = text_of(alloc, source)?;
+    let text = list_of(alloc, &bytes, options)?;
+    put_out(sink, &text, Done { all_done: true })
+}
+
+// The list of the ends of the litmus test that these bytes are.
+fn list_of(alloc: Global, bytes: &[u8], options: &EndsOptions) -> Result<Vec<u8>, RunError>
+    ensures list { IfOk result (λ text. IsEndsReport options.now bytes.now true text.items) }
+    ensures refused { IfErr result (HasNoEnds options.now bytes.now) }
+{
+    let test = match test_in(alloc, bytes) {
+        Ok(test) => test,
+        Err(error) => return Err(error),
+    };
+    let most = options.most_states;
+    let every = match list_ends(alloc, &test, most as usize) {
+        Ok(every) => every,
+        Err(EndsError::TooMany) => return Err(RunError::TooManyStates(most)),
+        Err(EndsError::NoMemory) => return Err(RunError::NoMemory),
+    };
+    match every_text(alloc, &test, &every) {
+        Ok(text) => Ok(text),
+        Err(AllocError) => Err(RunError::NoMemory),
+    }
+}

@@ -124,6 +124,14 @@ impl Test {
         ensures { result ≡
             holds (value_of (test_of self.now).seen state.now) (test_of self.now).tree }
     {
-        holds(&self.expr, &self.seen, &state.values)
+        self.values_hold(&state.values)
+    }
+
+    /// Whether it holds if the names of the condition have these values, in the order of `Test::seen`.
+    pub fn values_hold(&self, values: &[u64]) -> bool
+        ensures { result ≡
+            holds (value_of (test_of self.now).seen values.now) (test_of self.now).tree }
+    {
+        holds(&self.expr, &self.seen, values)
     }
 }

@@ -101,6 +101,20 @@ impl LitmusOptions {
     };
 }
 
+/// The list of a litmus test's ends.
+#[derive(Clone, Copy, Debug, PartialEq, Eq)]
+pub struct EndsOptions {
+    /// How many states may be kept at once.
+    pub most_states: u64,
+}
+
+impl EndsOptions {
+    /// The list of a litmus test's ends if no option says otherwise.
+    pub const DEFAULT: EndsOptions = EndsOptions {
+        most_states: 4_194_304,
+    };
+}
+
 /// The run of a trace.
 #[derive(Clone, Copy, Debug, PartialEq, Eq)]
 pub struct TraceOptions {

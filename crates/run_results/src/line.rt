@@ -1,7 +1,7 @@
 //! The line on standard error that says why there is no report.
 
 ghost use Rattle.std.specs.Prelude.{◌≡◌, ◌+◌, ◌++◌, ◌≤◌, length};
-ghost use Rattle.run_results.specs.ErrorLine.{error_line, fault_line};
+ghost use Rattle.run_results.specs.ErrorLine.{error_line, fault_line, states_line};
 
 use crate::results::RunError;
 use arrayvec::ArrayVec;
@@ -44,6 +44,17 @@ fn fault_line(place: usize, number: u8, name: &str) -> ErrorLine
     line
 }
 
+// The line that says how many states are too few.
+fn states_line(most: u64) -> ErrorLine
+    ensures { result.items ≡ states_line most }
+{
+    let mut digits = Buffer::new();
+    let mut line = line_of(b"tardis: more than ");
+    put(&mut line, digits.format(most).as_bytes());
+    put(&mut line, b" states\n");
+    line
+}
+
 /// The line of an error, with its line feed.
 pub fn error_line(error: &RunError) -> ErrorLine
     ensures { result.items ≡ error_line error.now }
@@ -55,5 +66,6 @@ pub fn error_line(error: &RunError) -> ErrorLine
         RunError::Litmus(e) => fault_line(e.line, e.kind.number(), e.kind.name()),
         RunError::Trace(e) => fault_line(e.line, e.kind.number(), e.kind.name()),
         RunError::BadConfig => line_of(b"tardis: bad configuration\n"),
+        RunError::TooManyStates(most) => states_line(*most),
     }
 }

@@ -35,11 +35,14 @@ pub enum RunError {
     /// A value of the machine's configuration is out of its range.
     #[error("bad configuration")]
     BadConfig,
+    /// The ends of a test can't be listed with so many states kept at once.
+    #[error("more than {0} states")]
+    TooManyStates(u64),
 }
 
 impl RunError {
     /// Its number: 1 reading, 2 writing, 3 no memory, 4 a litmus text, 5 a text of a trace or of records, 6 a
-    /// configuration.
+    /// configuration, 7 too many states.
     pub fn number(&self) -> u8
         ensures { result ≡ run_number self.now }
     {
@@ -50,12 +53,13 @@ impl RunError {
             RunError::Litmus(_) => 4,
             RunError::Trace(_) => 5,
             RunError::BadConfig => 6,
+            RunError::TooManyStates(_) => 7,
         }
     }
 }
 
-/// The exit status: 0 all done, 1 a run ended otherwise or an allocation failed, 2 the text is refused, 3 the
-/// configuration is, 4 reading or writing failed.
+/// The exit status: 0 all done, 1 a run ended otherwise, an allocation failed or there are too many states, 2 the text
+/// is refused, 3 the configuration is, 4 reading or writing failed.
 pub fn exit_status(came: &Result<Done, RunError>) -> u8
     ensures { result ≡ status_of came.now }
 {
@@ -63,6 +67,7 @@ pub fn exit_status(came: &Result<Done, RunError>) -> u8
         Ok(done) if done.all_done => 0,
         Ok(_) => 1,
         Err(RunError::NoMemory) => 1,
+        Err(RunError::TooManyStates(_)) => 1,
         Err(RunError::Litmus(_)) => 2,
         Err(RunError::Trace(_)) => 2,
         Err(RunError::BadConfig) => 3,

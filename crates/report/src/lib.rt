@@ -3,6 +3,7 @@
 #![tactic(auto)]
 
 mod checks;
+mod complete;
 mod ends;
 mod every_text;
 mod in_memory;

@@ -1,5 +1,6 @@
 //! From two sources, with the texts of a trace and of records, to a sink for the line of the verdict.
-ghost use Rattle.std.specs.Prelude.{◌≡◌, ◌≢◌, ◌<◌, ◌⊎◌, length, IfErr, IfOk, IfSome, IsErrOf, List, OnOk};
+ghost use Rattle.std.specs.Prelude.{◌≡◌, ◌≢◌, ◌<◌, ◌⊎◌, length, IfErr, IfOk, IfSome, IsErrOf, List, OnOk, false};
+ghost use Rattle.std.specs.FinMap.{empty};
 ghost use Rattle.byte_streams.specs.Device.{AtEnd};
 ghost use Rattle.physiological_order.specs.Faults.{issued_by};
 ghost use Rattle.physiological_order.specs.Order.{flat};
@@ -19,11 +20,56 @@ use std::alloc::{AllocError, Global};
 use trace_reader::Trace;
 use trace_texts::{check_text, lack_text};
 
+/// `check_history` over a memory of zeros, for any number of records: all done exactly if the verdict is Legal.
+pub fn run_check<S: Source, R: Source, K: Sink>(
+    alloc: Global,
+    trace: &mut S,
+    records: &mut R,
+    sink: &mut K,
+) -> Result<Done, RunError>
+    ensures reported { IfOk result (λ done.
+        IsReported (IsCheckReport (flat empty) false
+        (S.remaining trace.old) (R.remaining records.old) done.all_done)
+        (K.contents sink.old) (K.contents sink.new)) }
+
+    // Why there is no verdict, or not all of its line.
+    ensures refused { IfErr result (λ e. e ≢ RunError.Read → e ≢ RunError.Write →
+        HasNoVerdict (S.remaining trace.old) (R.remaining records.old) e) }
+    ensures cut_off { IsErrOf result RunError.Write → (legal : _) × IsCutOff
+        (IsCheckReport (flat empty) false
+        (S.remaining trace.old) (R.remaining records.old) legal)
+        (K.contents sink.old) (K.contents sink.new) }
+
+    // Records are read only behind a trace that was accepted, and not at all where a call failed before its end.
+    ensures later { (records.new ≡ records.old)
+        ⊎ ((lanes : List (List Step)) × IsRead (S.remaining trace.old) lanes) }
+    ensures untouched { S.failures trace.old < S.failures trace.new → records.new ≡ records.old }
+
+    // Texts that were accepted were read to their end.
+    ensures trace_end { OnAccepted result (IfSome (S.remaining trace.old)
+        (λ known. AtEnd (S.remaining trace.new))) }
+    ensures records_end { OnAccepted result (IfSome (R.remaining records.old)
+        (λ known. AtEnd (R.remaining records.new))) }
+
+    // Failures are told, and nothing else is written.
+    ensures reads { ReadsCounted result
+        (S.failures trace.old) (S.failures trace.new)
+        (R.failures records.old) (R.failures records.new) }
+    ensures writes { WritesCounted result (K.failures sink.old) (K.failures sink.new) }
+    ensures nothing { IfErr result (λ e. e ≢ RunError.Write → sink.new ≡ sink.old) }
+{
+    let zeros = Memory::new(alloc);
+    match check_history(alloc, trace, records, sink, &zeros, false) {
+        Ok(done) => Ok(done),
+        Err(error) => Err(error),
+    }
+}
+
 /// Reads a trace, and records only if that was accepted, and writes what the checker says of the records, for the
 /// operations of the trace over a memory that opens as given: one line, all done exactly if the verdict is Legal and,
 /// where `complete` asks for that, each core has as many records as operations. Read and Trace for the trace take
 /// precedence over those for the records, and Write comes last; on any error but Write the sink is unchanged.
-pub fn run_check<S: Source, R: Source, K: Sink>(
+pub fn check_history<S: Source, R: Source, K: Sink>(
     alloc: Global,
     trace: &mut S,
     records: &mut R,
@@ -33,7 +79,8 @@ pub fn run_check<S: Source, R: Source, K: Sink>(
 ) -> Result<Done, RunError>
     ensures reported { IfOk result (λ done.
         IsReported (IsCheckReport (flat opening.now) complete
-        (S.remaining trace.old) (R.remaining records.old) done.all_done) (K.contents sink.old) (K.contents sink.new)) }
+        (S.remaining trace.old) (R.remaining records.old) done.all_done)
+        (K.contents sink.old) (K.contents sink.new)) }
 
     // Why there is no verdict, or not all of its line.
     ensures refused { IfErr result (λ e. e ≢ RunError.Read → e ≢ RunError.Write →
@@ -159,11 +206,7 @@ fn told_if_complete(
 }
 
 // The line on legal records of which each operation is to have one.
-fn all_told(
-    alloc: Global,
-    issued: &[Vec<Op>],
-    records: &[Record],
-) -> Result<Report, AllocError>
+fn all_told(alloc: Global, issued: &[Vec<Op>], records: &[Record]) -> Result<Report, AllocError>
     ensures { IfOk result (λ report. TellsAll (length issued.now) (issued_by issued.now)
         records.now report.all_done report.text.items) }
 {

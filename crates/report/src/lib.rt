@@ -18,7 +18,7 @@ mod trace_programs;
 mod words;
 
 pub use byte_streams::{FromRead, Sink, Source, ToWrite};
-pub use checks::run_check;
+pub use checks::{check_history, run_check};
 pub use ends::run_ends;
 pub use in_memory::{check_report, litmus_report, trace_report};
 pub use litmus::run_litmus;

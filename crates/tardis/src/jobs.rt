@@ -7,7 +7,7 @@ use crate::files::Files;
 use byte_streams::{DeviceError, Sink, Source};
 use command_line::Job;
 use physiological_order::Memory;
-use report::{run_check, run_litmus, run_trace};
+use report::{check_history, run_litmus, run_trace};
 use run_options::{LitmusOptions, TraceOptions};
 use run_results::{Done, RunError};
 use std::alloc::Global;
@@ -132,5 +132,5 @@ fn check_on<S: Source + Drop, K: Sink>(
     let mut first = trace;
     let mut second = records;
     let zeros = Memory::new(alloc);
-    run_check(alloc, &mut first, &mut second, out, &zeros, complete)
+    check_history(alloc, &mut first, &mut second, out, &zeros, complete)
 }

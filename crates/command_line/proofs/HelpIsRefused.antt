@@ -16,7 +16,7 @@ use Rattle.clap.specs.Faults.{fault_of, other_fault, turn_fault, walk_fault}
 use Rattle.clap.specs.Kinds.{Kinds, or_else}
 use Rattle.clap.specs.Walk.{nothing_held, walk, walk_from}
 use Rattle.clap.proofs.OnLiterals.{clap_on_literals}
-use Rattle.command_line.specs.App.{Parsers, check_app, litmus_app, tardis_app, trace_app}
+use Rattle.command_line.specs.App.{Parsers, check_app, ends_app, litmus_app, tardis_app, trace_app}
 
 no_first : (a b : Kinds) → or_else a b ≡ [] → a ≡ []
 no_first [] b e = refl
@@ -182,15 +182,20 @@ unfolding clap_on_literals
 enabled p = refl
 
 abbrev commands : Parsers → List Shape
-commands p = built_leaf (litmus_app p.0).top ∷ built_leaf (trace_app p.1).top ∷ built_leaf check_app.top ∷ []
+commands p =
+    built_leaf (litmus_app p.0).top ∷ built_leaf ends_app.top ∷ built_leaf (trace_app p.1).top
+    ∷ built_leaf check_app.top ∷ []
 
 subs : (p : Parsers) → (built (tardis_app p)).subs ≡ commands p ++ built_leaf help_shape ∷ []
 unfolding clap_on_literals
 subs p = refl
 
+abbrev IsCommand : Text → Type 0
+IsCommand n = (n ≡ codes "litmus") ⊎ (n ≡ codes "ends") ⊎ (n ≡ codes "trace") ⊎ (n ≡ codes "check")
+
 pub one_is_named : (p : Parsers) (words : List Text) (n : Text) (r : List Row) → fault_of (tardis_app p) words ≡ [] →
     subcommand_of (tardis_app p) words ≡ Some (n, r) →
-    (n ≡ codes "litmus") ⊎ (n ≡ codes "trace") ⊎ (n ≡ codes "check")
+    IsCommand n
 one_is_named p words n r passes e =
     let top = (built (tardis_app p)).top in
     let names = names_of (built (tardis_app p)) in
@@ -201,8 +206,9 @@ one_is_named p words n r passes e =
     (ap (λ shapes. option_and_then (λ q. option_map (λ s. rows_at s q.1) (find (λ s. answers_to q.0 (label_of s))
     shapes)) stop) (sym (subs p)) ∙ e))
   where
-    named : IsNameOf n (commands p) → (n ≡ codes "litmus") ⊎ (n ≡ codes "trace") ⊎ (n ≡ codes "check")
+    named : IsNameOf n (commands p) → IsCommand n
     named (inl litmus) = inl litmus
-    named (inr (inl trace)) = inr (inl trace)
-    named (inr (inr (inl check))) = inr (inr check)
-    named (inr (inr (inr none))) = absurd none
+    named (inr (inl ends)) = inr (inl ends)
+    named (inr (inr (inl trace))) = inr (inr (inl trace))
+    named (inr (inr (inr (inl check)))) = inr (inr (inr check))
+    named (inr (inr (inr (inr none)))) = absurd none

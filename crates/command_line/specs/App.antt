@@ -74,6 +74,13 @@ abbrev pub litmus_app : ValueParser → App
 litmus_app p =
     with_run_and_file (with_rule (new_app (codes "litmus")) (number_rule (codes "runs") (codes "1") (up_to 1000000))) p
 
+-- the ends of a litmus test are listed with so many states at once
+abbrev pub ends_app : App
+ends_app =
+    with_rule
+    (with_rule (new_app (codes "ends")) (number_rule (codes "states") (codes "4194304") (up_to 4294967295)))
+    (file_rule (codes "FILE"))
+
 -- a trace may be run with its records reported
 abbrev pub trace_app : ValueParser → App
 trace_app p = with_run_and_file (with_rule (new_app (codes "trace")) (flag_rule (codes "records"))) p
@@ -96,5 +103,7 @@ wanting app = record app { top = record (app.top) { subcommand_required = true }
 abbrev pub tardis_app : Parsers → App
 tardis_app p =
     with_subcommand
-    (with_subcommand (with_subcommand (wanting (new_app (codes "tardis"))) (litmus_app p.0).top) (trace_app p.1).top)
+    (with_subcommand
+    (with_subcommand (with_subcommand (wanting (new_app (codes "tardis"))) (litmus_app p.0).top) ends_app.top)
+    (trace_app p.1).top)
     check_app.top

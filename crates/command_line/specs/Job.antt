@@ -3,9 +3,9 @@ use Rattle.std.specs.Prelude.{◌≡◌, ◌⊎◌, ℕ, List, [], Some, None, c
 use Rattle.clap.specs.Words.{IsAmong, Row, Text, fault_of, subcommand_of}
 use Rattle.clap.specs.declared.error.kind.ErrorKind.{ErrorKind}
 use Rattle.command_line.specs.App.{NameSchedules, Parsers, tardis_app}
-use Rattle.command_line.specs.Options.{HasWord, IsOrder, TellsLitmus, TellsTrace}
+use Rattle.command_line.specs.Options.{HasWord, IsOrder, TellsEnds, TellsLitmus, TellsTrace}
 use Rattle.command_line.specs.declared.words.Job.{Job}
-use Rattle.command_line.specs.declared.words.Job.TheVariants.{Litmus, Trace, Check}
+use Rattle.command_line.specs.declared.words.Job.TheVariants.{Litmus, Ends, Trace, Check}
 use Rattle.command_line.specs.declared.words.WordsError.{WordsError}
 use Rattle.command_line.specs.declared.words.WordsError.TheVariants.{NoMemory, Refused}
 
@@ -13,6 +13,8 @@ use Rattle.command_line.specs.declared.words.WordsError.TheVariants.{NoMemory, R
 abbrev pub GivesJob : Text → List Row → Job → Type 0
 GivesJob command rows (Litmus options file) =
     (command ≡ codes "litmus") × TellsLitmus rows options × HasWord rows (codes "FILE") file.now
+GivesJob command rows (Ends options file) =
+    (command ≡ codes "ends") × TellsEnds rows options × HasWord rows (codes "FILE") file.now
 GivesJob command rows (Trace options file) =
     (command ≡ codes "trace") × TellsTrace rows options × HasWord rows (codes "FILE") file.now
 GivesJob command rows (Check trace records) =

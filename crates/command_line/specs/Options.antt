@@ -2,9 +2,11 @@
 use Rattle.std.specs.Prelude.{◌≡◌, ◌⊎◌, ℕ, ◌≤◌, Bool, true, false, List, [], Option, Some, None, codes, unwrap_or}
 use Rattle.std.specs.Str.Parse.{IsNumeral, digits_value, without_leading_plus}
 use Rattle.clap.specs.Words.{Row, Text, first_of, one_of}
+use Rattle.run_options.specs.declared.options.TheConstants.EndsOptions.{DEFAULT as ends_default}
 use Rattle.run_options.specs.declared.options.TheConstants.LitmusOptions.{DEFAULT as litmus_default}
 use Rattle.run_options.specs.declared.options.TheConstants.MachineOptions.{DEFAULT as machine_default}
 use Rattle.run_options.specs.declared.options.TheConstants.RunOptions.{DEFAULT as run_default}
+use Rattle.run_options.specs.declared.options.EndsOptions.{EndsOptions}
 use Rattle.run_options.specs.declared.options.LitmusOptions.{LitmusOptions}
 use Rattle.run_options.specs.declared.options.MachineOptions.{MachineOptions}
 use Rattle.run_options.specs.declared.options.RunOptions.{RunOptions}
@@ -101,6 +103,11 @@ pub record RunIsInRange (options : RunOptions) : Type 0 where
 abbrev pub TellsLitmus : List Row → LitmusOptions → Type 0
 TellsLitmus rows options =
     HasNumber rows (codes "runs") 1 1000000 litmus_default.runs options.runs × TellsRun rows options.run
+
+-- how many states a list of ends may keep at once
+abbrev pub TellsEnds : List Row → EndsOptions → Type 0
+TellsEnds rows options =
+    HasNumber rows (codes "states") 1 4294967295 ends_default.most_states options.most_states
 
 -- whether the records of a trace are asked for, and how it is run
 abbrev pub TellsTrace : List Row → TraceOptions → Type 0

@@ -4,7 +4,7 @@ ghost use Rattle.std.specs.Prelude.{◌≡◌, IfOk, codes, false, true};
 ghost use Rattle.clap.specs.Words.{App, Rule, app_of, new_app, with_rule, with_subcommand};
 ghost use Rattle.clap.specs.declared.builder.command.Command.TheViews.{out-Command as fields_of};
 ghost use Rattle.command_line.specs.Additions.{Adds, IsApp, IsArg};
-ghost use Rattle.command_line.specs.App.{NameSchedules, NamesSchedules, any_number, check_app};
+ghost use Rattle.command_line.specs.App.{NameSchedules, NamesSchedules, any_number, check_app, ends_app};
 ghost use Rattle.command_line.specs.App.{file_rule, flag_rule, litmus_app, machine_rules, number_rule, run_rules};
 ghost use Rattle.command_line.specs.App.{tardis_app, trace_app, wanting, with_rules, with_run_and_file};
 
@@ -60,6 +60,8 @@ const MESSAGES: &str =
     "How many messages can be in flight, 1 to 65536; of no effect by schedule threads";
 
 const RECORDS: &str = "Writes the records of the completed operations in place of the report";
+
+const STATES: &str = "How many states may be kept at once, 1 to 4294967295";
 
 const LITMUS_FILE: &str = "The file with the text of the litmus test";
 
@@ -204,6 +206,18 @@ fn litmus_command<'a>(alloc: Global) -> Result<Command<'a>, AllocError>
     with_run(repeated, alloc, LITMUS_FILE)
 }
 
+/// The command `ends`.
+fn ends_command<'a>(alloc: Global) -> Result<Command<'a>, AllocError>
+    ensures { IfOk result (IsApp ends_app) }
+{
+    let about =
+        "Lists every end of a litmus test on a sequential machine, and whether its condition holds there";
+    let named = empty(alloc, "ends", about);
+    let states = value_parser!(u64).range(1..4294967296);
+    let bounded = with(named, option(alloc, "states", "4194304", states, STATES));
+    with(bounded, file(alloc, "FILE", LITMUS_FILE))
+}
+
 /// The command `trace`.
 fn trace_command<'a>(alloc: Global) -> Result<Command<'a>, AllocError>
     ensures { (p : _) × NamesSchedules p × IfOk result (IsApp (trace_app p)) }
@@ -253,9 +267,11 @@ pub(crate) fn command<'a>(alloc: Global) -> Result<Command<'a>, AllocError>
     ensures required { IfOk result (λ c. (fields_of c).subcommand_required ≡ true) }
 {
     let litmus = litmus_command(alloc);
+    let ends = ends_command(alloc);
     let trace = trace_command(alloc);
     let check = check_command(alloc);
     let one = with_command(program(alloc), litmus);
-    let two = with_command(one, trace);
-    with_command(two, check)
+    let two = with_command(one, ends);
+    let three = with_command(two, trace);
+    with_command(three, check)
 }

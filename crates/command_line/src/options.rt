@@ -3,10 +3,10 @@
 ghost use Rattle.std.specs.Prelude.{◌≡◌, IfSome, None};
 ghost use Rattle.clap.specs.Words.{found_of, rows_of};
 ghost use Rattle.command_line.specs.Options.{HasWord, HasAnyNumber, IsFlag, HasNumber, IsOrder, IsSchedule};
-ghost use Rattle.command_line.specs.Options.{TellsLitmus, TellsMachine, TellsRun, TellsTrace, fairly};
+ghost use Rattle.command_line.specs.Options.{TellsEnds, TellsLitmus, TellsMachine, TellsRun, TellsTrace, fairly};
 
 use clap::ArgMatches;
-use run_options::{LitmusOptions, MachineOptions, RunOptions, Schedule, TraceOptions};
+use run_options::{EndsOptions, LitmusOptions, MachineOptions, RunOptions, Schedule, TraceOptions};
 
 /// The number from least to most that an option's text writes, or this one if it writes none.
 fn number(matches: &ArgMatches<'_>, name: &str, least: u64, most: u64, other: u64) -> u64
@@ -116,6 +116,16 @@ pub(crate) fn litmus_options(matches: &ArgMatches<'_>) -> Option<LitmusOptions>
         runs: number(matches, "runs", 1, 1000000, LitmusOptions::DEFAULT.runs),
         run,
     })
+}
+
+/// The list of ends that the words ask for.
+pub(crate) fn ends_options(matches: &ArgMatches<'_>) -> EndsOptions
+    ensures { TellsEnds (rows_of (found_of matches.now)) result }
+{
+    let default = EndsOptions::DEFAULT.most_states;
+    EndsOptions {
+        most_states: number(matches, "states", 1, 4294967295, default),
+    }
 }
 
 /// The run of a trace that the words ask for; none as for any run.

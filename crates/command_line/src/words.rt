@@ -7,10 +7,10 @@ ghost use Rattle.command_line.specs.Job.{words_number};
 ghost use Rattle.command_line.specs.Options.{IsOrder};
 
 use crate::app::command;
-use crate::options::{litmus_options, trace_options, word_of};
+use crate::options::{ends_options, litmus_options, trace_options, word_of};
 use clap::error::ErrorKind;
 use clap::{ArgMatches, Error};
-use run_options::{LitmusOptions, TraceOptions};
+use run_options::{EndsOptions, LitmusOptions, TraceOptions};
 use std::alloc::Global;
 
 /// What the words ask for.
@@ -18,6 +18,8 @@ use std::alloc::Global;
 pub enum Job<'a> {
     /// To run the litmus test of the file that has this path.
     Litmus(LitmusOptions, &'a str),
+    /// To list the ends of the litmus test of the file that has this path.
+    Ends(EndsOptions, &'a str),
     /// To run the trace of the file that has this path.
     Trace(TraceOptions, &'a str),
     /// To check the records of the file at the second path against the trace of the file at the first.
@@ -69,7 +71,8 @@ fn unfair(alloc: Global) -> WordsError
 
 /// The job of a command that the program has; none if it asks for a fair run that isn't by rounds.
 fn job_of<'a>(name: &str, matches: &ArgMatches<'a>) -> Option<Job<'a>>
-    requires { (name.now ≡ codes "litmus") ⊎ (name.now ≡ codes "trace") ⊎ (name.now ≡ codes "check") }
+    requires { (name.now ≡ codes "litmus") ⊎ (name.now ≡ codes "ends") ⊎ (name.now ≡ codes "trace")
+        ⊎ (name.now ≡ codes "check") }
     ensures job { IfSome result (GivesJob name.now (rows_of (found_of matches.now))) }
     ensures unfair { result ≡ None → IsOrder (rows_of (found_of matches.now)) None }
 {
@@ -78,6 +81,7 @@ fn job_of<'a>(name: &str, matches: &ArgMatches<'a>) -> Option<Job<'a>>
             let options = litmus_options(matches)?;
             Some(Job::Litmus(options, word_of(matches, "FILE")))
         }
+        "ends" => Some(Job::Ends(ends_options(matches), word_of(matches, "FILE"))),
         "trace" => {
             let options = trace_options(matches)?;
             Some(Job::Trace(options, word_of(matches, "FILE")))

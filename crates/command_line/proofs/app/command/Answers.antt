@@ -8,8 +8,9 @@ pub returns : goal.returns
 returns c =
     let litmus = c.litmus_command-litmus.ensures in
     let trace = c.trace_command-trace.ensures in
-    let all = c.with_command.ensures _ c.check_command-check.ensures _ (c.with_command-two.ensures _ trace.2 _
-    (c.with_command-one.ensures _ litmus.2 _ c.program.ensures)) in
+    let all = c.with_command.ensures _ c.check_command-check.ensures _ (c.with_command-three.ensures _ trace.2 _
+    (c.with_command-two.ensures _ c.ends_command-ends.ensures _
+    (c.with_command-one.ensures _ litmus.2 _ c.program.ensures))) in
     record {
       app = IfOk-weaker c.with_command.result _
           (λ m. (p : Parsers) × NameSchedules p × (app_of m ≡ tardis_app p))

@@ -24,6 +24,8 @@ from tests.refused_threads import refused_threads  # noqa: E402
 
 
 LITMUS = TOP / "examples" / "litmus"
+SB_ENDS = ("test SB\nthreads 2\nstates 13\nends 3\n  0:x7=0 1:x7=1\n  0:x7=1 1:x7=0\n  0:x7=1 1:x7=1\n"
+           "condition exists\nheld 0\nobservation SB Never 0 3\n")
 TRACES = TOP / "examples" / "traces"
 NO_MEMORY = (1, "", "tardis: no memory\n")
 
@@ -184,6 +186,7 @@ def without_runs(folder):
     yield "records whose times fall", ["check", loads, falling], (1, "out of program order 39\n", "")
     yield "no records, all asked for", ["check", "--complete", loads, "/dev/null"], (
         1, "no record of operation 0 of core 0\n", "")
+    yield "the ends of SB", ["ends", LITMUS / "SB.litmus"], (0, SB_ENDS, "")
     yield "a test that is cut", ["litmus", cut], (2, "", "tardis: line 2: 14 CutShort\n")
     yield "a trace with a fault", ["trace", late], (2, "", "tardis: line 41: 6 BadAddress\n")
     yield "records with a fault", ["check", trace, late], (2, "", "tardis: line 1: 7 BadValue\n")
@@ -202,6 +205,7 @@ def commands(folder):
     options = options_of(trace)
     return [
         (["litmus", text], text.with_suffix(".report").read_text()),
+        (["ends", text], SB_ENDS),
         (["trace", *options, trace], trace.with_suffix(".report").read_text()),
         (["trace", "--records", *options, trace], trace.with_suffix(".records").read_text()),
         (["check", trace, trace.with_suffix(".records")], "legal\n"),

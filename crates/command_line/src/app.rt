@@ -212,7 +212,8 @@ fn litmus_command<'a>(alloc: Global) -> Result<Command<'a>, AllocError>
 fn ends_command<'a>(alloc: Global) -> Result<Command<'a>, AllocError>
     ensures { IfOk result (IsApp ends_app) }
 {
-    let about = "Lists every end of a litmus test on a sequential machine, and whether its condition holds there";
+    let about =
+        "Lists every end of a litmus test on a sequential machine, and whether its condition holds there";
     let named = empty(alloc, "ends", about);
     let states = value_parser!(u64).range(1..4294967296);
     let bounded = with(named, option(alloc, "states", "4194304", states, STATES));

@@ -4,8 +4,8 @@ use Rattle.std.specs.FinMap.{empty}
 use Rattle.byte_streams.specs.Device.{Grows}
 use Rattle.byte_streams.specs.Whole.{GrowsByFront}
 use Rattle.command_line.specs.declared.words.Job.{Job}
-use Rattle.command_line.specs.declared.words.Job.TheVariants.{Litmus as LitmusJob, Trace as TraceJob}
-use Rattle.command_line.specs.declared.words.Job.TheVariants.{Check as CheckJob}
+use Rattle.command_line.specs.declared.words.Job.TheVariants.{Litmus as LitmusJob, Ends as EndsJob}
+use Rattle.command_line.specs.declared.words.Job.TheVariants.{Trace as TraceJob, Check as CheckJob}
 use Rattle.command_line.specs.declared.words.WordsError.{WordsError}
 use Rattle.command_line.specs.declared.words.WordsError.TheVariants.{Refused as RefusedWords}
 use Rattle.command_line.specs.declared.words.WordsError.TheVariants.{NoMemory as NoMemoryForWords}
@@ -13,7 +13,9 @@ use Rattle.byte_streams.specs.declared.device.DeviceError.{DeviceError}
 use Rattle.physiological_order.specs.Order.{flat}
 use Rattle.report.specs.Bytes.{OfBytes}
 use Rattle.report.specs.Answers.{FailuresAreCounted, IsCutOff, IsReported}
+use Rattle.report.specs.Ends.{HasNoEnds, IsEndsReport}
 use Rattle.report.specs.Litmus.{HasNoReport, IsLitmusReport}
+use Rattle.run_options.specs.declared.options.EndsOptions.{EndsOptions}
 use Rattle.run_options.specs.declared.options.LitmusOptions.{LitmusOptions}
 use Rattle.run_options.specs.declared.options.TraceOptions.{TraceOptions}
 use Rattle.run_results.specs.ErrorLine.{error_line}
@@ -69,17 +71,26 @@ Came d IsReport HasNone old new (Err Write) =
     (all_done : Bool) × IsCutOff (IsReport all_done) (d.contents old) (d.contents new)
 Came d IsReport HasNone old new (Err error) = HasNone error × (new ≡ old)
 
--- the same of a litmus test
+-- the same of what has a report by its bytes
+abbrev pub CameOf : {F K : Type 0} → Devices F K → (List ℕ → Bool → List ℕ → Type 0) →
+    (List ℕ → RunError → Type 0) → Option (List ℕ) → K → K → Result Done RunError → Type 0
+CameOf d IsReport HasNone known old new (Ok done) =
+    OfBytes known (λ bytes. IsReported (IsReport bytes done.all_done) (d.contents old) (d.contents new))
+CameOf d IsReport HasNone known old new (Err Read) = new ≡ old
+CameOf d IsReport HasNone known old new (Err Write) =
+    OfBytes known (λ bytes. (all_done : Bool) × IsCutOff (IsReport bytes all_done) (d.contents old) (d.contents new))
+CameOf d IsReport HasNone known old new (Err error) = OfBytes known (λ bytes. HasNone bytes error) × (new ≡ old)
+
+-- the report of a litmus test
 abbrev pub RunsLitmus : {F K : Type 0} → Devices F K → LitmusOptions → Option (List ℕ) → K → K →
     Result Done RunError → Type 0
-RunsLitmus d options known old new (Ok done) =
-    OfBytes known (λ bytes. IsReported (IsLitmusReport options bytes done.all_done) (d.contents old) (d.contents new))
-RunsLitmus d options known old new (Err Read) = new ≡ old
-RunsLitmus d options known old new (Err Write) =
-    OfBytes known (λ bytes. (all_done : Bool)
-    × IsCutOff (IsLitmusReport options bytes all_done) (d.contents old) (d.contents new))
-RunsLitmus d options known old new (Err error) =
-    OfBytes known (λ bytes. HasNoReport options bytes error) × (new ≡ old)
+RunsLitmus d options known old new came =
+    CameOf d (IsLitmusReport options) (HasNoReport options) known old new came
+
+-- the list of its ends
+abbrev pub ListsEndsOf : {F K : Type 0} → Devices F K → EndsOptions → Option (List ℕ) → K → K →
+    Result Done RunError → Type 0
+ListsEndsOf d options known old new came = CameOf d (IsEndsReport options) (HasNoEnds options) known old new came
 
 -- the report of a trace, or its records
 abbrev pub RunsTrace : {F K : Type 0} → Devices F K → TraceOptions → Option (List ℕ) → K → K →
@@ -124,6 +135,8 @@ abbrev pub Does : {F K : Type 0} → Devices F K → (List ℕ → Result F Devi
     Result Done RunError → Type 0
 Does {F} d opens (LitmusJob options name) old new came = (opened : Result F DeviceError) × opens name.now opened
     × OnFile d (RunsLitmus d options) opened old new came
+Does {F} d opens (EndsJob options name) old new came = (opened : Result F DeviceError) × opens name.now opened
+    × OnFile d (ListsEndsOf d options) opened old new came
 Does {F} d opens (TraceJob options name) old new came = (opened : Result F DeviceError) × opens name.now opened
     × OnFile d (RunsTrace d options) opened old new came
 Does {F} d opens (CheckJob complete trace records) old new came = (opened opened' : Result F DeviceError)

@@ -1,14 +1,15 @@
 //! The jobs that words ask for, each done on its files.
 
 ghost use Rattle.std.specs.Prelude.{◌≡◌};
-ghost use Rattle.tardis.specs.Answers.{ChecksOn, Does, OnFile, OnFiles, RunsLitmus, RunsOn, RunsTrace, devices};
+ghost use Rattle.tardis.specs.Answers.{ChecksOn, Does, ListsEndsOf, OnFile, OnFiles};
+ghost use Rattle.tardis.specs.Answers.{RunsLitmus, RunsOn, RunsTrace, devices};
 
 use crate::files::Files;
 use byte_streams::{DeviceError, Sink, Source};
 use command_line::Job;
 use physiological_order::Memory;
-use report::{check_history, run_litmus, run_trace};
-use run_options::{LitmusOptions, TraceOptions};
+use report::{check_history, run_ends, run_litmus, run_trace};
+use run_options::{EndsOptions, LitmusOptions, TraceOptions};
 use run_results::{Done, RunError};
 use std::alloc::Global;
 use std::thread::Threads;
@@ -26,6 +27,7 @@ pub(crate) fn run_job<R: Threads + Sync, F: Files, K: Sink>(
 {
     match job {
         Job::Litmus(options, name) => litmus_of(rt, alloc, files.open(name), options, out),
+        Job::Ends(options, name) => ends_of(alloc, files.open(name), options, out),
         Job::Trace(options, name) => trace_of(rt, alloc, files.open(name), options, out),
         Job::Check(complete, trace, records) => {
             let trace = files.open(trace);
@@ -66,6 +68,37 @@ fn litmus_on<R: Threads + Sync, S: Source + Drop, K: Sink>(
 {
     let mut source = file;
     run_litmus(rt, alloc, &mut source, out, options)
+}
+
+// Lists the ends of the litmus test of a file that was opened.
+fn ends_of<S: Source + Drop, K: Sink>(
+    alloc: Global,
+    opened: Result<S, DeviceError>,
+    options: &EndsOptions,
+    out: &mut K,
+) -> Result<Done, RunError>
+    ensures { OnFile (devices S.remaining S.failures K.contents K.failures)
+        (ListsEndsOf (devices S.remaining S.failures K.contents K.failures) options.now) opened
+        out.old out.new result }
+{
+    match opened {
+        Ok(file) => ends_on(alloc, file, options, out),
+        Err(DeviceError) => Err(RunError::Read),
+    }
+}
+
+fn ends_on<S: Source + Drop, K: Sink>(
+    alloc: Global,
+    file: S,
+    options: &EndsOptions,
+    out: &mut K,
+) -> Result<Done, RunError>
+    ensures { (left : S) × RunsOn (devices S.remaining S.failures K.contents K.failures)
+        (ListsEndsOf (devices S.remaining S.failures K.contents K.failures) options.now) file left
+        out.old out.new result }
+{
+    let mut source = file;
+    run_ends(alloc, &mut source, out, options)
 }
 
 // Runs the trace of a file that was opened.

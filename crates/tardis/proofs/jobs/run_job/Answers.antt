@@ -3,6 +3,9 @@ use Rattle.tardis.proofs.jobs.run_job.Goals as goal
 pub returns-in-Litmus : goal.returns-in-Litmus
 returns-in-Litmus g c = rw c.in-Litmus.is (c.open.result, c.open.ensures, c.litmus_of.ensures)
 
+pub returns-in-Ends : goal.returns-in-Ends
+returns-in-Ends g c = rw c.in-Ends.is (c.open-in-Ends.result, c.open-in-Ends.ensures, c.ends_of.ensures)
+
 pub returns-in-Trace : goal.returns-in-Trace
 returns-in-Trace g c = rw c.in-Trace.is (c.open-in-Trace.result, c.open-in-Trace.ensures, c.trace_of.ensures)
 

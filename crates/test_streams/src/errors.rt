@@ -86,6 +86,7 @@ const ERRORS: &[(RunError, &str)] = &[
     (RunError::Write, "writing failed"),
     (RunError::NoMemory, "no memory"),
     (RunError::BadConfig, "bad configuration"),
+    (RunError::TooManyStates(7), "more than 7 states"),
     (
         RunError::Litmus(LitmusError {
             line: 4_294_967_299,
@@ -132,8 +133,9 @@ fn errors_have_these_numbers(rt: HostRuntime) {
         RunError::Litmus(cut).number(),
         RunError::Trace(fault).number(),
         RunError::BadConfig.number(),
+        RunError::TooManyStates(7).number(),
     ];
-    assert_eq!(rt; numbers, [1, 2, 3, 4, 5, 6]);
+    assert_eq!(rt; numbers, [1, 2, 3, 4, 5, 6, 7]);
 }
 
 // No report names these kinds.

@@ -1,0 +1,98 @@
+//! Lists of ends of texts that come and go a few bytes a call. Each is worked out by hand.
+use crate::limited::Limited;
+use byte_streams::{FromRead, ToWrite};
+use report::{EndsOptions, run_ends};
+use std::alloc::Global;
+
+// Three states, one behind the other: two are kept at once.
+const ONE: &[u8] = b"RISCV T
+{ 0:x5=1; 0:x6=x; }
+ P0          ;
+ sw x5,0(x6) ;
+ lw x7,0(x6) ;
+~exists (x=1 /\\ 0:x7=1)
+";
+
+const ONE_END: &[u8] = b"test T
+threads 1
+states 3
+ends 1
+* x=1 0:x7=1
+condition ~exists
+held 1
+observation T Always 1 0
+";
+
+// The opening, two states with one store done and two with both: four are kept at once.
+const TWO: &[u8] = b"RISCV 2+W
+{ 0:x5=10; 0:x6=x; 1:x5=9; 1:x6=x; }
+ P0          | P1          ;
+ sw x5,0(x6) | sw x5,0(x6) ;
+forall x=10
+";
+
+const TWO_ENDS: &[u8] = b"test 2+W
+threads 2
+states 5
+ends 2
+  x=9
+* x=10
+condition forall
+held 1
+observation 2+W Sometimes 1 1
+";
+
+// The same stores, and a condition that holds in no end.
+const NONE: &[u8] = b"RISCV 2+W
+{ 0:x5=10; 0:x6=x; 1:x5=9; 1:x6=x; }
+ P0          | P1          ;
+ sw x5,0(x6) | sw x5,0(x6) ;
+exists x=0
+";
+
+const NONE_HELD: &[u8] = b"test 2+W
+threads 2
+states 5
+ends 2
+  x=9
+  x=10
+condition exists
+held 0
+observation 2+W Never 0 2
+";
+
+// A text, how many states may be kept, the number of the error or 0, and what is written.
+const CASES: &[(&[u8], u64, u8, &[u8])] = &[
+    (ONE, 1, 7, b""),
+    (ONE, 2, 0, ONE_END),
+    (TWO, 3, 7, b""),
+    (TWO, 4, 0, TWO_ENDS),
+    (NONE, 18446744073709551615, 0, NONE_HELD),
+    (b"RISCV\n", 4, 4, b""),
+];
+
+fn is_listed(alloc: Global, step: usize, case: &(&[u8], u64, u8, &[u8])) -> bool {
+    let (inner, most_states, wanted, text) = *case;
+    let calls = 1000;
+    let mut out = Vec::new(alloc);
+    let mut source = FromRead::new(Limited { inner, step, calls });
+    let mut sink = ToWrite::new(Limited {
+        inner: &mut out,
+        step,
+        calls,
+    });
+    let number = match run_ends(alloc, &mut source, &mut sink, &EndsOptions { most_states }) {
+        Ok(_) => 0,
+        Err(error) => error.number(),
+    };
+    number == wanted && out.as_slice() == text
+}
+
+#[test]
+fn ends_are_listed(rt: HostRuntime) {
+    for step in [1, 5, 4096] {
+        for case in CASES {
+            assert!(rt; is_listed(rt.alloc(), step, case));
+        }
+    }
+}

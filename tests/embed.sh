@@ -43,6 +43,7 @@ strict="-O1 -Wall -Wextra -Werror -I$crate"
     gcc -std=c11 -pedantic $strict $memory -o "$work/numbers_c" "$embed/numbers.c" $library &&
     g++ -x c++ -std=c++11 -pedantic $strict $memory -o "$work/numbers_cpp" "$embed/numbers.c" -x none $library &&
     gcc -std=c11 -pedantic $strict -o "$work/check" "$embed/check.c" $library &&
+    gcc -std=c11 -pedantic $strict -o "$work/directory" "$embed/directory.c" $library &&
     g++ -std=c++17 -pedantic $strict -o "$work/tardis" "$embed/tardis.cpp" $library
 } || exit 1
 
@@ -66,6 +67,29 @@ checks "$work/trace" "$work/long" 1 'wrong value 0'
 checks "$work/legal" "$work/legal" 2 'tardis: line 1: 5 BadOperation'
 checks "$work/trace" "$work/none" 2 'check: give a trace and its records: two files that can be read'
 checks "$work/trace" "$work" 2 'check: give a trace and its records: two files that can be read'
+
+# A machine that has its own history checked: its verdict is that of the second program on its log. By effect a right
+# machine's is legal; by completion some has an order that isn't its own, and a lost invalidation is met.
+for way in effect completion lost; do
+    option=$(echo "$way" | grep completion) met=
+    for seed in 0 1 2 3 4 5; do
+        # shellcheck disable=SC2086
+        "$work/directory" "$seed" ${way#effect} >"$work/machine.log"
+        echo "$?" >"$work/status"
+        "$embed/from_log.py" ${option:+--completion} "$work/machine.log" >"$work/machine.history"
+        said=$(TARDIS=$top/reference/oracle.py "$top/tools/number.py" --out "$work" "$work/machine.history" |
+            sed -n '1 { $!N; s/\nat [^,]*\(, line [0-9]*\).*/\1/; p; }')
+        [ "$(tail -n 1 "$work/machine.log"), $(cat "$work/status")" = "# $said, $([ "$said" = legal ]; echo $?)" ] ||
+            { echo "embed.sh: directory $seed $way: $(tail -n 1 "$work/machine.log"), not $said"; exit 1; }
+        [ "$said" = legal ] || met=$seed
+    done
+    [ "$way" = effect ] && [ -n "$met" ] && { echo "embed.sh: directory $met isn't legal"; exit 1; }
+    [ "$way" = effect ] || [ -n "$met" ] || { echo "embed.sh: directory .. $way is always legal"; exit 1; }
+done
+"$work/directory" 0 completion >"$work/machine.log"
+"$embed/from_log.py" --completion "$work/machine.log" >"$work/machine.history"
+TARDIS=$top/reference/oracle.py "$top/tools/order.py" --out "$work" "$work/machine.history" | grep -q '^consistent' ||
+    { echo "embed.sh: directory 0 completion has no order"; exit 1; }
 
 # spent CORES RECORDS: the instructions of the call that checks so many records, as arrays.
 spent() {

@@ -78,9 +78,12 @@ litmus_app p =
 abbrev pub trace_app : ValueParser → App
 trace_app p = with_run_and_file (with_rule (new_app (codes "trace")) (flag_rule (codes "records"))) p
 
--- a check needs two files
+-- a check needs two files, and may ask for all records
 abbrev pub check_app : App
-check_app = with_rule (with_rule (new_app (codes "check")) (file_rule (codes "TRACE"))) (file_rule (codes "RECORDS"))
+check_app =
+    with_rule
+    (with_rule (with_rule (new_app (codes "check")) (flag_rule (codes "complete"))) (file_rule (codes "TRACE")))
+    (file_rule (codes "RECORDS"))
 
 -- what the two commands that run take as a schedule
 abbrev pub Parsers : Type 0

@@ -3,7 +3,7 @@ use Rattle.std.specs.Prelude.{◌≡◌, ◌⊎◌, ℕ, List, [], Some, None, c
 use Rattle.clap.specs.Words.{IsAmong, Row, Text, fault_of, subcommand_of}
 use Rattle.clap.specs.declared.error.kind.ErrorKind.{ErrorKind}
 use Rattle.command_line.specs.App.{NameSchedules, Parsers, tardis_app}
-use Rattle.command_line.specs.Options.{HasWord, IsOrder, TellsLitmus, TellsTrace}
+use Rattle.command_line.specs.Options.{HasWord, IsFlag, IsOrder, TellsLitmus, TellsTrace}
 use Rattle.command_line.specs.declared.words.Job.{Job}
 use Rattle.command_line.specs.declared.words.Job.TheVariants.{Litmus, Trace, Check}
 use Rattle.command_line.specs.declared.words.WordsError.{WordsError}
@@ -15,8 +15,8 @@ GivesJob command rows (Litmus options file) =
     (command ≡ codes "litmus") × TellsLitmus rows options × HasWord rows (codes "FILE") file.now
 GivesJob command rows (Trace options file) =
     (command ≡ codes "trace") × TellsTrace rows options × HasWord rows (codes "FILE") file.now
-GivesJob command rows (Check trace records) =
-    (command ≡ codes "check")
+GivesJob command rows (Check complete trace records) =
+    (command ≡ codes "check") × IsFlag rows (codes "complete") complete
     × HasWord rows (codes "TRACE") trace.now × HasWord rows (codes "RECORDS") records.now
 
 -- clap's rules find no fault in the words, which name a command and what it has

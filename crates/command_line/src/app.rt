@@ -61,6 +61,8 @@ const MESSAGES: &str =
 
 const RECORDS: &str = "Writes the records of the completed operations in place of the report";
 
+const COMPLETE: &str = "Asks for a record of each operation of the trace";
+
 const LITMUS_FILE: &str = "The file with the text of the litmus test";
 
 const TRACE_FILE: &str = "The file with the text of the trace";
@@ -220,7 +222,8 @@ fn check_command<'a>(alloc: Global) -> Result<Command<'a>, AllocError>
 {
     let about = "Says whether records are a legal history of a trace over a memory of zeros";
     let named = empty(alloc, "check", about);
-    let traced = with(named, file(alloc, "TRACE", TRACE_FILE));
+    let whole = with(named, flag(alloc, "complete", COMPLETE));
+    let traced = with(whole, file(alloc, "TRACE", TRACE_FILE));
     with(traced, file(alloc, "RECORDS", RECORDS_FILE))
 }
 

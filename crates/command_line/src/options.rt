@@ -27,7 +27,7 @@ fn any_number(matches: &ArgMatches<'_>, name: &str, other: u64) -> u64
 }
 
 /// Whether a flag is there.
-fn flag(matches: &ArgMatches<'_>, name: &str) -> bool
+pub(crate) fn flag(matches: &ArgMatches<'_>, name: &str) -> bool
     ensures { IsFlag (rows_of (found_of matches.now)) name.now result }
 {
     matches.get_one::<bool>(name).unwrap_or(false)

@@ -7,7 +7,7 @@ ghost use Rattle.command_line.specs.Job.{words_number};
 ghost use Rattle.command_line.specs.Options.{IsOrder};
 
 use crate::app::command;
-use crate::options::{litmus_options, trace_options, word_of};
+use crate::options::{flag, litmus_options, trace_options, word_of};
 use clap::error::ErrorKind;
 use clap::{ArgMatches, Error};
 use run_options::{LitmusOptions, TraceOptions};
@@ -20,8 +20,9 @@ pub enum Job<'a> {
     Litmus(LitmusOptions, &'a str),
     /// To run the trace of the file that has this path.
     Trace(TraceOptions, &'a str),
-    /// To check the records of the file at the second path against the trace of the file at the first.
-    Check(&'a str, &'a str),
+    /// To check the records of the file at the second path against the trace of the file at the first, and whether each
+    /// operation has its record, if that is asked for.
+    Check(bool, &'a str, &'a str),
 }
 
 /// Why words are no job.
@@ -82,7 +83,11 @@ fn job_of<'a>(name: &str, matches: &ArgMatches<'a>) -> Option<Job<'a>>
             let options = trace_options(matches)?;
             Some(Job::Trace(options, word_of(matches, "FILE")))
         }
-        _ => Some(Job::Check(word_of(matches, "TRACE"), word_of(matches, "RECORDS"))),
+        _ => Some(Job::Check(
+            flag(matches, "complete"),
+            word_of(matches, "TRACE"),
+            word_of(matches, "RECORDS"),
+        )),
     }
 }
 

@@ -158,6 +158,8 @@ pub fn is_checked<R: Threads + Sync>(
         &mut FromRead::new(trace),
         &mut FromRead::new(records.as_slice()),
         &mut verdict,
+        &Memory::new(alloc),
+        true,
     )?;
     Ok(done.all_done)
 }

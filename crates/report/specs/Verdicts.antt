@@ -1,12 +1,12 @@
 -- The verdict on a trace and records, and why there is none.
-use Rattle.std.specs.Prelude.{◌≡◌, ◌⊎◌, ◌<◌, ℕ, Bool, true, false, List, Option, Result, Err, IfSome}
-use Rattle.std.specs.FinMap.{empty}
+use Rattle.std.specs.Prelude.{◌≡◌, ◌⊎◌, ◌<◌, ℕ, Bool, true, false, List, length, Option, Result, Err, IfSome}
+use Rattle.physiological_order.specs.declared.operation.Op.{Op}
 use Rattle.physiological_order.specs.declared.operation.Record.{Record}
 use Rattle.physiological_order.specs.declared.verdict.Verdict.{Verdict}
 use Rattle.physiological_order.specs.declared.verdict.Verdict.TheVariants.{Legal, BadNumber, OutOfProgramOrder}
 use Rattle.physiological_order.specs.declared.verdict.Verdict.TheVariants.{WrongValue}
 use Rattle.physiological_order.specs.Faults.{IsVerdict}
-use Rattle.physiological_order.specs.Order.{flat}
+use Rattle.physiological_order.specs.Order.{Memory}
 use Rattle.run_results.specs.declared.results.Done.{Done}
 use Rattle.run_results.specs.declared.results.RunError.{RunError}
 use Rattle.run_results.specs.declared.results.RunError.TheVariants.{Read, Write, NoMemory, Litmus, Trace, BadConfig}
@@ -15,11 +15,12 @@ use Rattle.programs.specs.declared.steps.Step.{Step}
 use Rattle.trace_reader.specs.Causes.{RecordFault}
 use Rattle.trace_reader.specs.Grammar.{AreRecords}
 use Rattle.trace_reader.specs.Reading.{records_at, records_in, steps_in}
+use Rattle.report.specs.Complete.{AreAll, IsFirstLack, count_of_core}
 use Rattle.report.specs.Refusals.{IsFault, IsRead}
 use Rattle.trace_reader.specs.Outcomes.{WantsMemory}
 use Rattle.report.specs.Reports.{IsTraceFault}
 use Rattle.trace_reader.specs.Steps.{trace_ops}
-use Rattle.trace_texts.specs.Verdicts.{check_text}
+use Rattle.trace_texts.specs.Verdicts.{check_text, lack_text}
 
 -- the records that were read: their text is all that the source had, if that is known
 abbrev pub AreRead : Option (List ℕ) → List Record → Type 0
@@ -35,18 +36,37 @@ is_legal (BadNumber number) = false
 is_legal (OutOfProgramOrder number) = false
 is_legal (WrongValue number) = false
 
--- the text is the line of the verdict on these records, for what the trace issues over a memory of zeros
-pub record IsVerdictLine (lanes : List (List Step)) (records : List Record) (legal : Bool) (text : List ℕ) :
-    Type 0 where
+-- the line of a verdict
+abbrev pub Tells : Verdict → Bool → List ℕ → Type 0
+Tells verdict legal text = (text ≡ check_text verdict) × (legal ≡ is_legal verdict)
+
+-- the line on legal records of which each operation is to have one
+abbrev pub TellsAll : (cores : ℕ) → (ℕ → List Op) → List Record → Bool → List ℕ → Type 0
+TellsAll cores issued records legal text = (AreAll cores issued records × Tells Legal legal text)
+    ⊎ ((core : ℕ) × IsFirstLack cores issued records core
+    × (text ≡ lack_text (count_of_core core records) core) × (legal ≡ false))
+
+-- the line on records that have this verdict, if each operation is to have one, and if not
+abbrev pub TellsComplete : (cores : ℕ) → (ℕ → List Op) → List Record → Verdict → Bool → List ℕ → Type 0
+TellsComplete cores issued records Legal legal text = TellsAll cores issued records legal text
+TellsComplete cores issued records verdict legal text = Tells verdict legal text
+
+abbrev pub TellsVerdict : (complete : Bool) → (cores : ℕ) → (ℕ → List Op) → List Record → Verdict → Bool → List ℕ →
+    Type 0
+TellsVerdict false cores issued records verdict legal text = Tells verdict legal text
+TellsVerdict true cores issued records verdict legal text = TellsComplete cores issued records verdict legal text
+
+-- the text is the line on these records, for what the trace issues over a memory
+pub record IsVerdictLine (opening : Memory) (complete : Bool) (lanes : List (List Step)) (records : List Record)
+    (legal : Bool) (text : List ℕ) : Type 0 where
   pub verdict : Verdict
-  pub is_verdict : IsVerdict (flat empty) (trace_ops lanes) records verdict
-  pub text_is : text ≡ check_text verdict
-  pub legal_is : legal ≡ is_legal verdict
+  pub is_verdict : IsVerdict opening (trace_ops lanes) records verdict
+  pub told : TellsVerdict complete (length lanes) (trace_ops lanes) records verdict legal text
 
 -- it is the line on the trace and the records that the sources had
-abbrev pub IsCheckReport : (trace records : Option (List ℕ)) → Bool → List ℕ → Type 0
-IsCheckReport trace records legal text = (lanes : List (List Step)) × (told : List Record)
-    × IsRead trace lanes × AreRead records told × IsVerdictLine lanes told legal text
+abbrev pub IsCheckReport : Memory → (complete : Bool) → (trace records : Option (List ℕ)) → Bool → List ℕ → Type 0
+IsCheckReport opening complete trace records legal text = (lanes : List (List Step)) × (told : List Record)
+    × IsRead trace lanes × AreRead records told × IsVerdictLine opening complete lanes told legal text
 
 -- why there is no verdict: the trace is refused, or it was read and the records are refused; NoMemory comes from
 -- reading the trace, after that from reading the records, or after both from the line

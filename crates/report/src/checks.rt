@@ -1,40 +1,46 @@
 //! From two sources, with the texts of a trace and of records, to a sink for the line of the verdict.
-ghost use Rattle.std.specs.Prelude.{◌≡◌, ◌≢◌, ◌<◌, ◌⊎◌, IfErr, IfOk, IfSome, IsErrOf, List, OnOk};
+ghost use Rattle.std.specs.Prelude.{◌≡◌, ◌≢◌, ◌<◌, ◌⊎◌, length, IfErr, IfOk, IfSome, IsErrOf, List, OnOk};
 ghost use Rattle.byte_streams.specs.Device.{AtEnd};
+ghost use Rattle.physiological_order.specs.Faults.{issued_by};
+ghost use Rattle.physiological_order.specs.Order.{flat};
 ghost use Rattle.report.specs.Answers.{IsCutOff, IsReported};
 ghost use Rattle.programs.specs.declared.steps.Step.{Step};
 ghost use Rattle.report.specs.Refusals.{IsRead, OnAccepted};
-ghost use Rattle.report.specs.Verdicts.{HasNoVerdict, IsCheckReport, IsVerdictLine};
-ghost use Rattle.report.specs.Verdicts.{ReadsCounted, WritesCounted, is_legal};
+ghost use Rattle.report.specs.Verdicts.{HasNoVerdict, IsCheckReport, IsVerdictLine, ReadsCounted, Tells};
+ghost use Rattle.report.specs.Verdicts.{TellsAll, TellsComplete, TellsVerdict, WritesCounted, is_legal};
 
+use crate::complete::{count_of_core, first_lack};
 use crate::outputs::{Report, put_out};
 use crate::texts::{records_of, trace_of};
 use byte_streams::{Sink, Source};
-use physiological_order::{Memory, Record, Verdict, check};
+use physiological_order::{Memory, Op, Record, Verdict, check};
 use run_results::{Done, RunError};
 use std::alloc::{AllocError, Global};
 use trace_reader::Trace;
-use trace_texts::check_text;
+use trace_texts::{check_text, lack_text};
 
 /// Reads a trace, and records only if that was accepted, and writes what the checker says of the records, for the
-/// operations of the trace over a memory of zeros: one line, all done exactly if the verdict is Legal. Read and Trace
-/// for the trace take precedence over those for the records, and Write comes last; on any error but Write the sink is
-/// unchanged.
+/// operations of the trace over a memory that opens as given: one line, all done exactly if the verdict is Legal and,
+/// where `complete` asks for that, each core has as many records as operations. Read and Trace for the trace take
+/// precedence over those for the records, and Write comes last; on any error but Write the sink is unchanged.
 pub fn run_check<S: Source, R: Source, K: Sink>(
     alloc: Global,
     trace: &mut S,
     records: &mut R,
     sink: &mut K,
+    opening: &Memory,
+    complete: bool,
 ) -> Result<Done, RunError>
     ensures reported { IfOk result (λ done.
-        IsReported (IsCheckReport (S.remaining trace.old) (R.remaining records.old) done.all_done)
-        (K.contents sink.old) (K.contents sink.new)) }
+        IsReported (IsCheckReport (flat opening.now) complete
+        (S.remaining trace.old) (R.remaining records.old) done.all_done) (K.contents sink.old) (K.contents sink.new)) }
 
     // Why there is no verdict, or not all of its line.
     ensures refused { IfErr result (λ e. e ≢ RunError.Read → e ≢ RunError.Write →
         HasNoVerdict (S.remaining trace.old) (R.remaining records.old) e) }
     ensures cut_off { IsErrOf result RunError.Write → (legal : _) × IsCutOff
-        (IsCheckReport (S.remaining trace.old) (R.remaining records.old) legal)
+        (IsCheckReport (flat opening.now) complete
+        (S.remaining trace.old) (R.remaining records.old) legal)
         (K.contents sink.old) (K.contents sink.new) }
 
     // Records are read only behind a trace that was accepted, and not at all where a call failed before its end.
@@ -55,7 +61,7 @@ pub fn run_check<S: Source, R: Source, K: Sink>(
     ensures writes { WritesCounted result (K.failures sink.old) (K.failures sink.new) }
     ensures nothing { IfErr result (λ e. e ≢ RunError.Write → sink.new ≡ sink.old) }
 {
-    let report = match verdict_on(alloc, trace, records) {
+    let report = match verdict_on(alloc, trace, records, opening, complete) {
         Ok(report) => report,
         Err(error) => return Err(error),
     };
@@ -70,9 +76,11 @@ pub(crate) fn verdict_on<S: Source, R: Source>(
     alloc: Global,
     trace: &mut S,
     records: &mut R,
+    opening: &Memory,
+    complete: bool,
 ) -> Result<Report, RunError>
-    ensures report { IfOk result (λ report. IsCheckReport (S.remaining trace.old)
-        (R.remaining records.old) report.all_done report.text.items) }
+    ensures report { IfOk result (λ report. IsCheckReport (flat opening.now) complete
+        (S.remaining trace.old) (R.remaining records.old) report.all_done report.text.items) }
     ensures refused { IfErr result (λ e. e ≢ RunError.Read →
         HasNoVerdict (S.remaining trace.old) (R.remaining records.old) e) }
     ensures later { (records.new ≡ records.old)
@@ -94,22 +102,89 @@ pub(crate) fn verdict_on<S: Source, R: Source>(
         Ok(records) => records,
         Err(error) => return Err(error),
     };
-    match line_of(alloc, trace, &records) {
+    match line_of(alloc, trace, &records, opening, complete) {
         Ok(report) => Ok(report),
         Err(AllocError) => Err(RunError::NoMemory),
     }
 }
 
-// The line of the verdict on these records, for what the trace issues.
-fn line_of(alloc: Global, trace: Trace, records: &[Record]) -> Result<Report, AllocError>
-    ensures { IfOk result (λ report.
-        IsVerdictLine trace records.now report.all_done report.text.items) }
+// The line on these records, for what the trace issues.
+fn line_of(
+    alloc: Global,
+    trace: Trace,
+    records: &[Record],
+    opening: &Memory,
+    complete: bool,
+) -> Result<Report, AllocError>
+    ensures { IfOk result (λ report. IsVerdictLine (flat opening.now) complete trace records.now
+        report.all_done report.text.items) }
 {
     let issued = trace.into_issued()?;
-    let verdict = check(alloc, &Memory::new(alloc), &issued, records)?;
-    let text = check_text(alloc, verdict)?;
+    let verdict = check(alloc, opening, &issued, records)?;
+    told(alloc, complete, &issued, records, verdict)
+}
+
+// The line on records that have this verdict.
+fn told(
+    alloc: Global,
+    complete: bool,
+    issued: &[Vec<Op>],
+    records: &[Record],
+    verdict: Verdict,
+) -> Result<Report, AllocError>
+    ensures { IfOk result (λ report. TellsVerdict complete (length issued.now)
+        (issued_by issued.now) records.now verdict report.all_done report.text.items) }
+{
+    if complete {
+        told_if_complete(alloc, issued, records, verdict)
+    } else {
+        verdict_told(alloc, verdict)
+    }
+}
+
+// The line on records that have this verdict, if each operation is to have one.
+fn told_if_complete(
+    alloc: Global,
+    issued: &[Vec<Op>],
+    records: &[Record],
+    verdict: Verdict,
+) -> Result<Report, AllocError>
+    ensures { IfOk result (λ report. TellsComplete (length issued.now) (issued_by issued.now)
+        records.now verdict report.all_done report.text.items) }
+{
+    match verdict {
+        Verdict::Legal => all_told(alloc, issued, records),
+        _ => verdict_told(alloc, verdict),
+    }
+}
+
+// The line on legal records of which each operation is to have one.
+fn all_told(
+    alloc: Global,
+    issued: &[Vec<Op>],
+    records: &[Record],
+) -> Result<Report, AllocError>
+    ensures { IfOk result (λ report. TellsAll (length issued.now) (issued_by issued.now)
+        records.now report.all_done report.text.items) }
+{
+    match first_lack(issued, records) {
+        None => verdict_told(alloc, Verdict::Legal),
+        Some(core) => {
+            let place = count_of_core(core, records);
+            Ok(Report {
+                text: lack_text(alloc, place as u64, core as u64)?,
+                all_done: false,
+            })
+        }
+    }
+}
+
+// The line of a verdict.
+fn verdict_told(alloc: Global, verdict: Verdict) -> Result<Report, AllocError>
+    ensures { IfOk result (λ report. Tells verdict report.all_done report.text.items) }
+{
     Ok(Report {
-        text,
+        text: check_text(alloc, verdict)?,
         all_done: is_legal(verdict),
     })
 }

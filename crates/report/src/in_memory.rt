@@ -1,10 +1,13 @@
 //! Reports on texts in memory, for a caller that has no threads: the calling thread makes all runs.
-ghost use Rattle.std.specs.Prelude.{◌≡◌, ◌≢◌, IfErr, IfOk, List, None, Ok, Some, length, min, true, ℕ};
+ghost use Rattle.std.specs.Prelude.{◌≡◌, ◌≢◌, IfErr, IfOk, List, None, Ok, Some, false, length, min, true};
+ghost use Rattle.std.specs.Prelude.{ℕ};
+ghost use Rattle.std.specs.FinMap.{empty};
 ghost use Rattle.std.specs.List.{AllByRecursion};
 ghost use Rattle.byte_streams.specs.Device.{Counts, GivesBytes};
 ghost use Rattle.litmus_reader.specs.Grammar.{IsTest};
 ghost use Rattle.litmus_reader.specs.TestViews.{test_of};
 ghost use Rattle.machine_table.specs.SetUp.{is_good};
+ghost use Rattle.physiological_order.specs.Order.{flat};
 ghost use Rattle.report.specs.Litmus.{HasNoReportInMemory, IsLitmusReport, turns};
 ghost use Rattle.report.specs.Reports.{HasNoRun, HasNoTraceReport, IsTraceReport, TellsTraceRun};
 ghost use Rattle.report.specs.Verdicts.{HasNoVerdict, IsCheckReport};
@@ -20,6 +23,7 @@ use crate::texts::trace_of;
 use byte_streams::{DeviceError, Source};
 use interleaving_core::Config;
 use litmus_reader::Test;
+use physiological_order::Memory;
 use report_text::{RunEnd, litmus_text};
 use run_options::{LitmusOptions, TraceOptions};
 use run_results::RunError;
@@ -144,14 +148,16 @@ fn report_of(alloc: Global, trace: &Trace, options: &TraceOptions) -> Result<Rep
     }
 }
 
-/// The line of the verdict on records for what a trace issues, both as texts. The trace's fault takes precedence over
-/// the records'.
+/// The line of the verdict on records for what a trace issues over a memory of zeros, both as texts. The trace's fault
+/// takes precedence over the records'.
 pub fn check_report(alloc: Global, trace: &[u8], records: &[u8]) -> Result<Report, RunError>
     ensures report { IfOk result (λ report.
-        IsCheckReport (Some trace.now) (Some records.now) report.all_done report.text.items) }
+        IsCheckReport (flat empty) false (Some trace.now) (Some records.now)
+        report.all_done report.text.items) }
     ensures refused { IfErr result (HasNoVerdict (Some trace.now) (Some records.now)) }
 {
     let mut trace = InMemory { rest: trace };
     let mut records = InMemory { rest: records };
-    verdict_on(alloc, &mut trace, &mut records)
+    let zeros = Memory::new(alloc);
+    verdict_on(alloc, &mut trace, &mut records, &zeros, false)
 }

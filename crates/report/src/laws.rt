@@ -1,11 +1,13 @@
 //! What a verdict shows, how many turns a run may have, and that what is written is accepted. The functions do nothing:
 //! their contracts are the laws.
-ghost use Rattle.std.specs.Prelude.{◌≡◌, ◌<◌, ◌≤◌, Bool, List, [], Some, true, ℕ};
+ghost use Rattle.std.specs.Prelude.{◌≡◌, ◌<◌, ◌≤◌, Bool, List, [], Some, false, true, ℕ};
+ghost use Rattle.std.specs.FinMap.{empty};
 ghost use Rattle.std.specs.List.{AllByRecursion};
 ghost use Rattle.litmus_parser.specs.declared.syntax.Quantifier.TheVariants.{Exists};
 ghost use Rattle.litmus_reader.specs.Grammar.{IsTest};
 ghost use Rattle.litmus_reader.specs.Litmus.{Litmus};
 ghost use Rattle.litmus_reader.specs.Truth.{holds};
+ghost use Rattle.physiological_order.specs.Order.{flat};
 ghost use Rattle.physiological_order.specs.declared.verdict.Verdict.TheVariants.{Legal};
 ghost use Rattle.programs.specs.declared.ends.End.TheVariants.{AllDone};
 ghost use Rattle.report_text.specs.Ends.{runs_ended, runs_held};
@@ -45,12 +47,12 @@ pub fn turns_are_those_of_the_options()
 {}
 
 /// The text that `run_trace` writes of a trace, if the options ask for its records, is one that `run_check` accepts
-/// with that trace. What it then writes is the line of the verdict Legal, and it answers that all is done. Only a
+/// with that trace, over a memory of zeros. What it then writes is the line of the verdict Legal, and it answers that all is done. Only a
 /// failed allocation or a failed call of a source or sink keeps it from writing that.
 pub fn written_records_are_legal()
     ensures legal { (options : TraceOptions) (trace text line : List ℕ) (all_done legal : Bool) →
         options.records ≡ true → IsTraceReport options (Some trace) all_done text →
-        IsCheckReport (Some trace) (Some text) legal line →
+        IsCheckReport (flat empty) false (Some trace) (Some text) legal line →
         (legal ≡ true) × (line ≡ check_text Legal) }
     ensures accepted { (options : TraceOptions) (trace text : List ℕ)
         (all_done : Bool) (e : RunError) →

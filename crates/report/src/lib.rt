@@ -3,6 +3,7 @@
 #![tactic(auto)]
 
 mod checks;
+mod complete;
 mod in_memory;
 pub mod laws;
 mod litmus;

@@ -1,5 +1,6 @@
 -- What the program answers.
 use Rattle.std.specs.Prelude.{◌≡◌, ◌<◌, ◌⊎◌, ℕ, Bool, List, [], Option, Result, Ok, Err, codes, string_bytes}
+use Rattle.std.specs.FinMap.{empty}
 use Rattle.byte_streams.specs.Device.{Grows}
 use Rattle.byte_streams.specs.Whole.{GrowsByFront}
 use Rattle.command_line.specs.declared.words.Job.{Job}
@@ -9,6 +10,7 @@ use Rattle.command_line.specs.declared.words.WordsError.{WordsError}
 use Rattle.command_line.specs.declared.words.WordsError.TheVariants.{Refused as RefusedWords}
 use Rattle.command_line.specs.declared.words.WordsError.TheVariants.{NoMemory as NoMemoryForWords}
 use Rattle.byte_streams.specs.declared.device.DeviceError.{DeviceError}
+use Rattle.physiological_order.specs.Order.{flat}
 use Rattle.report.specs.Bytes.{OfBytes}
 use Rattle.report.specs.Answers.{FailuresAreCounted, IsCutOff, IsReported}
 use Rattle.report.specs.Litmus.{HasNoReport, IsLitmusReport}
@@ -98,12 +100,12 @@ abbrev pub OnFile : {F K : Type 0} → Devices F K → (Option (List ℕ) → K 
 OnFile {F} d Runs (Ok file) old new came = (left : F) × RunsOn d Runs file left old new came
 OnFile d Runs (Err error) old new came = (came ≡ Err Read) × (new ≡ old)
 
--- the records of the second file were checked against the trace of the first; they were read only after a trace that
+-- the records of the second file were checked against the trace of the first over a memory of zeros; they were read only after a trace that
 -- was accepted, and not at all if reading the trace failed
-abbrev pub ChecksOn : {F K : Type 0} → Devices F K → (trace records trace' records' : F) → K → K →
+abbrev pub ChecksOn : {F K : Type 0} → Devices F K → (complete : Bool) → (trace records trace' records' : F) → K → K →
     Result Done RunError → Type 0
-ChecksOn d trace records trace' records' old new came =
-    Came d (IsCheckReport (d.remaining trace) (d.remaining records))
+ChecksOn d complete trace records trace' records' old new came =
+    Came d (IsCheckReport (flat empty) complete (d.remaining trace) (d.remaining records))
     (HasNoVerdict (d.remaining trace) (d.remaining records)) old new came
     × ((records' ≡ records) ⊎ ((lanes : List (List Step)) × IsRead (d.remaining trace) lanes))
     × (d.unread trace < d.unread trace' → records' ≡ records)
@@ -111,11 +113,11 @@ ChecksOn d trace records trace' records' old new came =
     × WritesCounted came (d.unwritten old) (d.unwritten new)
 
 -- both files could be opened; if one couldn't, that is reported as a failed read, and nothing was written
-abbrev pub OnFiles : {F K : Type 0} → Devices F K → (trace records : Result F DeviceError) → K → K →
+abbrev pub OnFiles : {F K : Type 0} → Devices F K → (complete : Bool) → (trace records : Result F DeviceError) → K → K →
     Result Done RunError → Type 0
-OnFiles {F} d (Ok trace) (Ok records) old new came =
-    (trace' records' : F) × ChecksOn d trace records trace' records' old new came
-OnFiles d trace records old new came = (came ≡ Err Read) × (new ≡ old)
+OnFiles {F} d complete (Ok trace) (Ok records) old new came =
+    (trace' records' : F) × ChecksOn d complete trace records trace' records' old new came
+OnFiles d complete trace records old new came = (came ≡ Err Read) × (new ≡ old)
 
 -- the job was done on the files that have its names, given what opening each name may answer
 abbrev pub Does : {F K : Type 0} → Devices F K → (List ℕ → Result F DeviceError → Type 0) → Job → K → K →
@@ -124,5 +126,5 @@ Does {F} d opens (LitmusJob options name) old new came = (opened : Result F Devi
     × OnFile d (RunsLitmus d options) opened old new came
 Does {F} d opens (TraceJob options name) old new came = (opened : Result F DeviceError) × opens name.now opened
     × OnFile d (RunsTrace d options) opened old new came
-Does {F} d opens (CheckJob trace records) old new came = (opened opened' : Result F DeviceError)
-    × opens trace.now opened × opens records.now opened' × OnFiles d opened opened' old new came
+Does {F} d opens (CheckJob complete trace records) old new came = (opened opened' : Result F DeviceError)
+    × opens trace.now opened × opens records.now opened' × OnFiles d complete opened opened' old new came

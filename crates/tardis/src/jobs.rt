@@ -6,6 +6,7 @@ ghost use Rattle.tardis.specs.Answers.{ChecksOn, Does, OnFile, OnFiles, RunsLitm
 use crate::files::Files;
 use byte_streams::{DeviceError, Sink, Source};
 use command_line::Job;
+use physiological_order::Memory;
 use report::{run_check, run_litmus, run_trace};
 use run_options::{LitmusOptions, TraceOptions};
 use run_results::{Done, RunError};
@@ -26,10 +27,10 @@ pub(crate) fn run_job<R: Threads + Sync, F: Files, K: Sink>(
     match job {
         Job::Litmus(options, name) => litmus_of(rt, alloc, files.open(name), options, out),
         Job::Trace(options, name) => trace_of(rt, alloc, files.open(name), options, out),
-        Job::Check(trace, records) => {
+        Job::Check(complete, trace, records) => {
             let trace = files.open(trace);
             let records = files.open(records);
-            check_of(alloc, trace, records, out)
+            check_of(alloc, *complete, trace, records, out)
         }
     }
 }
@@ -103,30 +104,33 @@ fn trace_on<R: Threads + Sync, S: Source + Drop, K: Sink>(
 // Checks the records of a file against the trace of another, where both were opened.
 fn check_of<S: Source + Drop, K: Sink>(
     alloc: Global,
+    complete: bool,
     trace: Result<S, DeviceError>,
     records: Result<S, DeviceError>,
     out: &mut K,
 ) -> Result<Done, RunError>
-    ensures { OnFiles (devices S.remaining S.failures K.contents K.failures) trace records
+    ensures { OnFiles (devices S.remaining S.failures K.contents K.failures) complete trace records
         out.old out.new result }
 {
     match (trace, records) {
-        (Ok(trace), Ok(records)) => check_on(alloc, trace, records, out),
+        (Ok(trace), Ok(records)) => check_on(alloc, complete, trace, records, out),
         _ => Err(RunError::Read),
     }
 }
 
 fn check_on<S: Source + Drop, K: Sink>(
     alloc: Global,
+    complete: bool,
     trace: S,
     records: S,
     out: &mut K,
 ) -> Result<Done, RunError>
     ensures { (trace' records' : S) ×
-        ChecksOn (devices S.remaining S.failures K.contents K.failures)
+        ChecksOn (devices S.remaining S.failures K.contents K.failures) complete
         trace records trace' records' out.old out.new result }
 {
     let mut first = trace;
     let mut second = records;
-    run_check(alloc, &mut first, &mut second, out)
+    let zeros = Memory::new(alloc);
+    run_check(alloc, &mut first, &mut second, out, &zeros, complete)
 }

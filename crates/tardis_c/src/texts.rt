@@ -1,5 +1,7 @@
 //! Runs of litmus tests and of traces, and checks of records, from texts to texts.
-ghost use Rattle.std.specs.Prelude.{◌≡◌, Some};
+ghost use Rattle.std.specs.Prelude.{◌≡◌, Some, false};
+ghost use Rattle.std.specs.FinMap.{empty};
+ghost use Rattle.physiological_order.specs.Order.{flat};
 ghost use Rattle.report.specs.Litmus.{HasNoReportInMemory, IsLitmusReport};
 ghost use Rattle.report.specs.Reports.{HasNoTraceReport, IsTraceReport};
 ghost use Rattle.report.specs.Verdicts.{HasNoVerdict, IsCheckReport};
@@ -45,7 +47,8 @@ pub extern "C" fn tardis_c_trace(
     tell(&came, buffer, long)
 }
 
-/// Checks records against a trace, both as texts, and puts the line of the verdict into the buffer.
+/// Checks records against a trace over a memory of zeros, both as texts, and puts the line of the verdict into the
+/// buffer.
 #[unsafe(no_mangle)]
 pub extern "C" fn tardis_c_check(
     alloc: Global,
@@ -54,7 +57,7 @@ pub extern "C" fn tardis_c_check(
     buffer: &mut [u8],
     long: &mut usize,
 ) -> u32
-    ensures { IsTold (IsCheckReport (Some trace.now) (Some records.now))
+    ensures { IsTold (IsCheckReport (flat empty) false (Some trace.now) (Some records.now))
         (HasNoVerdict (Some trace.now) (Some records.now))
         buffer.old buffer.new long.new result }
 {

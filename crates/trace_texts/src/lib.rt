@@ -10,4 +10,4 @@ mod verdicts;
 
 pub use records::records_text;
 pub use reports::{TraceEnd, legal_trace_text, trace_text};
-pub use verdicts::check_text;
+pub use verdicts::{check_text, lack_text};

@@ -1,8 +1,9 @@
 //! A verdict on records in words: each is put after the text so far.
 
 ghost use Rattle.std.specs.Prelude.{◌≡◌, ◌++◌, OnOk, IfOk};
-ghost use Rattle.trace_texts.specs.Verdicts.{check_text, order_line};
+ghost use Rattle.trace_texts.specs.Verdicts.{check_text, lack_text, order_line};
 
+use itoa::Buffer;
 use physiological_order::Verdict;
 use report_lines::put_field;
 use std::alloc::{AllocError, Global};
@@ -13,6 +14,18 @@ pub fn check_text(alloc: Global, verdict: Verdict) -> Result<Vec<u8>, AllocError
 {
     let mut out = Vec::new(alloc);
     put_verdict(&mut out, verdict)?;
+    Ok(out)
+}
+
+/// The line on legal records that lack those of a core from this place on (docs/TEXTS.md).
+pub fn lack_text(alloc: Global, place: u64, core: u64) -> Result<Vec<u8>, AllocError>
+    ensures { IfOk result (λ text. text.items ≡ lack_text place core) }
+{
+    let mut digits = Buffer::new();
+    let mut out = Vec::new(alloc);
+    out.extend_from_slice(b"no record of operation ")?;
+    out.extend_from_slice(digits.format(place).as_bytes())?;
+    put_field(&mut out, b" of core", u128::from(core))?;
     Ok(out)
 }
 

@@ -44,7 +44,7 @@ returns-clause-legal c = λ options trace text line all_done legal asked reporte
     (subst (λ (rs : List Record). IsVerdict (flat empty) (trace_ops lanes) rs said.verdict) same_records
     (subst (λ (ls : List (List Step)). IsVerdict (flat empty) (trace_ops ls) told said.verdict) same_lanes
     said.is_verdict)) tells.run.legal_in_trace in
-    (said.legal_is ∙ ap is_legal verdict_is, said.text_is ∙ ap check_text verdict_is)
+    (said.told.1 ∙ ap is_legal verdict_is, said.told.0 ∙ ap check_text verdict_is)
 
 pub returns-clause-accepted : goal.returns-clause-accepted
 returns-clause-accepted c = λ options trace text all_done e asked reported refused.

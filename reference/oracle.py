@@ -7,7 +7,7 @@ status 2.
 
     reference/oracle.py litmus [--schedule seed --seed N] [--runs N] [--fair] [--lease N] .. [--private-write] FILE
     reference/oracle.py trace [--records] [--schedule seed --seed N] [--fair] [--lease N] .. FILE
-    reference/oracle.py check TRACE RECORDS
+    reference/oracle.py check [--complete] TRACE RECORDS
     reference/oracle.py --rows <ROWS
     reference/oracle.py --self-test
 
@@ -28,7 +28,7 @@ from reference.events import list_of_events  # noqa: E402
 from reference.given import NUMBERS, Bad, has_machine  # noqa: E402
 from reference.litmus import Test  # noqa: E402
 from reference.litmus_faults import LitmusFault  # noqa: E402
-from reference.order import check  # noqa: E402
+from reference.order import check, first_lack  # noqa: E402
 from reference.reports import litmus_report, trace_report  # noqa: E402
 from reference.schedules import test_generator  # noqa: E402
 from reference.traces import Fault, Trace, read_records, record_line  # noqa: E402
@@ -79,6 +79,7 @@ def words():
     commands.choices["litmus"].add_argument("--runs", type=number("runs", 1, 1_000_000), default=1)
     commands.choices["trace"].add_argument("--records", action="store_true")
     command = commands.add_parser("check", allow_abbrev=False)
+    command.add_argument("--complete", action="store_true")
     command.add_argument("TRACE")
     command.add_argument("RECORDS")
     return parser
@@ -123,8 +124,11 @@ def run(options):
     """What is printed, and the status."""
     refuse_fair(options)
     if options.command == "check":
-        trace = read_trace(options.TRACE)
-        verdict = check({}, trace.issued(), read_records(contents(options.RECORDS)))
+        issued = read_trace(options.TRACE).issued()
+        records = read_records(contents(options.RECORDS))
+        verdict = check({}, issued, records)
+        if options.complete and verdict == "legal":
+            verdict = first_lack(issued, records) or verdict
         return verdict + "\n", int(verdict != "legal")
     read = read_litmus(options.FILE) if options.command == "litmus" else read_trace(options.FILE)
     if not has_machine(options, len(read.programs())):

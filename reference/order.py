@@ -35,6 +35,15 @@ def check(opening, issued, records):
     return "legal"
 
 
+def first_lack(issued, records):
+    """The line on legal records that lack those of some core; None if each operation has its record."""
+    for core, operations in enumerate(issued):
+        place = sum(record.core == core for record in records)
+        if place != len(operations):
+            return f"no record of operation {place} of core {core}"
+    return None
+
+
 def end_memory(opening, records):
     """The memory that the arranged records leave."""
     memory = dict(opening)

@@ -7,7 +7,7 @@
 # The parts that are run, each a function below; PARTS names others.
 case ${1-} in -h | --help) exec sed -n '2,/^[^#]/s/^# \{0,1\}//p' "$0" ;; esac
 parts=${PARTS:-litmus catalogue settings refusals seeds workers threads traces seeded_traces lines verdicts \
-trace_faults trace_refusals}
+complete trace_faults trace_refusals}
 
 top=$(CDPATH='' cd -- "$(dirname -- "$0")/.." && pwd) || exit 1
 tardis=${1:-$top/tardis}
@@ -592,8 +592,10 @@ late_faults() {
     told "a late bad number" 1 "$work/wanted" /dev/null check "$work/steps" "$work/text"
 }
 
-# Rows: the verdict, the trace, the records.
-verdicts() {
+# table FILE OPTION ..: rows of a verdict, a trace and records, for a check with these options.
+table() {
+    file=$1
+    shift
     while IFS='|' read -r verdict steps records; do
         case $verdict in '#'*) continue ;; esac
         printf '%b' "$steps" >"$work/steps"
@@ -601,10 +603,16 @@ verdicts() {
         printf '%s\n' "$verdict" >"$work/wanted"
         status=1
         if [ "$verdict" = legal ]; then status=0; fi
-        told "$verdict: $steps and $records" "$status" "$work/wanted" /dev/null check "$work/steps" "$work/records"
-    done <"$examples/verdicts.table"
+        told "$verdict: $steps and $records" "$status" "$work/wanted" /dev/null check "$@" "$work/steps" "$work/records"
+    done <"$file"
+}
+
+verdicts() {
+    table "$examples/verdicts.table"
     falling_times
 }
+
+complete() { table "$examples/complete.table" --complete; }
 
 # 140,000 stores of one core, whose times fall as their numbers rise, so that the records must be sorted.
 falling_times() {

@@ -9,7 +9,8 @@ The options of an example are in its text: in a litmus test in the header line `
 line `# options= ..`. A .seeds is the report on the seeds 0 to 999. A .also is there for a test with a header line
 `also=..`: it is the report with these options. Every end state of the catalogue must be one that plain enumeration
 finds (sequential.py). Each trace's records must be legal. The tables (bad/traces.table, bad/records.table,
-lines.table, verdicts.table) are written by hand: the script also reports a row that the oracle answers otherwise.
+lines.table, verdicts.table, complete.table) are written by hand: the script also reports a row that the oracle answers
+otherwise.
 """
 import re
 import sys
@@ -18,7 +19,7 @@ from pathlib import Path
 sys.path.insert(0, str(Path(__file__).resolve().parent.parent))
 from reference import oracle, sequential  # noqa: E402
 from reference.litmus import Test  # noqa: E402
-from reference.order import check  # noqa: E402
+from reference.order import check, first_lack  # noqa: E402
 from reference.reports import trace_report  # noqa: E402
 from reference.traces import Fault, Trace, read_records  # noqa: E402
 
@@ -98,11 +99,16 @@ def differing_rows():
     def verdict(trace, records):
         return check({}, Trace(trace).issued(), read_records(records))
 
+    def complete(trace, records):
+        said = verdict(trace, records)
+        return said if said != "legal" else first_lack(Trace(trace).issued(), read_records(records)) or said
+
     for path in sorted(FOLDER.glob("traces/*.trace")):
         said = said_of(verdict, path.read_bytes(), path.with_suffix(".records").read_bytes())
         if said != "legal":
             yield f"{path.relative_to(FOLDER)} and its records: {said}"
-    for name, reader in (("bad/traces.table", Trace), ("bad/records.table", read_records), ("verdicts.table", verdict)):
+    for name, reader in (("bad/traces.table", Trace), ("bad/records.table", read_records), ("verdicts.table", verdict),
+                         ("complete.table", complete)):
         for number, words, texts in rows(name):
             said = said_of(reader, *texts)
             if said != words:

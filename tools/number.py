@@ -76,7 +76,7 @@ def main(given):
             raise program.Refused(f"all {MOST_CORE + 1} cores have operations, and one is to store the opening")
         operations, order = whole
         paths = write(options, operations, order)
-        verdict = program.run("check", *paths).strip()
+        verdict = program.run("check", "--complete", *paths).strip()
     except (Fault, program.Refused) as cause:
         program.fail(f"{options.HISTORY}: {cause}")
     print(verdict)

@@ -25,7 +25,7 @@ from pathlib import Path
 sys.path.insert(0, str(Path(__file__).resolve().parent.parent))
 from reference import tso  # noqa: E402
 from reference.given import tool  # noqa: E402
-from reference.traces import Trace, read_records  # noqa: E402
+from reference.traces import read_records  # noqa: E402
 from tools import program  # noqa: E402
 from tools.orders import witness  # noqa: E402
 from tools.orders.answer import answer  # noqa: E402
@@ -82,13 +82,11 @@ def confirmed(options, *paths):
             program.fail(f"reference/tso.py says of the order found: {said}")
         return "checked by reference/tso.py"
     try:
-        said = program.run("check", *paths).strip()
+        said = program.run("check", "--complete", *paths).strip()
     except program.Refused as refused:
         program.fail(str(refused))
     if said != "legal":
         program.fail(f"check says of the order found: {said}")
-    if len(read_records(records)) < sum(map(len, Trace(trace).issued())):  # such a part is legal, too
-        program.fail("the order found lacks operations")
     is_proved = Path(program.program()).name != "oracle.py"
     return "proved by tardis check" if is_proved else \
         "checked by reference/oracle.py (not proved: ./tardis isn't built)"

@@ -182,6 +182,8 @@ def without_runs(folder):
     yield "records, checked", ["check", trace, records], (0, "legal\n", "")
     yield "other records, checked", ["check", trace, wrong], (1, "out of program order 0\n", "")
     yield "records whose times fall", ["check", loads, falling], (1, "out of program order 39\n", "")
+    yield "no records, all asked for", ["check", "--complete", loads, "/dev/null"], (
+        1, "no record of operation 0 of core 0\n", "")
     yield "a test that is cut", ["litmus", cut], (2, "", "tardis: line 2: 14 CutShort\n")
     yield "a trace with a fault", ["trace", late], (2, "", "tardis: line 41: 6 BadAddress\n")
     yield "records with a fault", ["check", trace, late], (2, "", "tardis: line 1: 7 BadValue\n")

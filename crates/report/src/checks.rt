@@ -33,7 +33,8 @@ pub fn run_check<S: Source, R: Source, K: Sink>(
 ) -> Result<Done, RunError>
     ensures reported { IfOk result (λ done.
         IsReported (IsCheckReport (flat opening.now) complete
-        (S.remaining trace.old) (R.remaining records.old) done.all_done) (K.contents sink.old) (K.contents sink.new)) }
+        (S.remaining trace.old) (R.remaining records.old) done.all_done)
+        (K.contents sink.old) (K.contents sink.new)) }
 
     // Why there is no verdict, or not all of its line.
     ensures refused { IfErr result (λ e. e ≢ RunError.Read → e ≢ RunError.Write →
@@ -159,11 +160,7 @@ fn told_if_complete(
 }
 
 // The line on legal records of which each operation is to have one.
-fn all_told(
-    alloc: Global,
-    issued: &[Vec<Op>],
-    records: &[Record],
-) -> Result<Report, AllocError>
+fn all_told(alloc: Global, issued: &[Vec<Op>], records: &[Record]) -> Result<Report, AllocError>
     ensures { IfOk result (λ report. TellsAll (length issued.now) (issued_by issued.now)
         records.now report.all_done report.text.items) }
 {

@@ -21,6 +21,6 @@ loop-core-preserved c =
     let listed = get_or-map (λ (ops : Vec Op Global). ops.items) lists core c.index-issued-core.result []
     c.loop-core-test.true in
     let items : issued_by lists core ≡ c.index-issued-core.result.items =
-        listed ∙ sym (ap (λ (ops : Vec Op Global). ops.items) c.index-issued-core.is) in
+    listed ∙ sym (ap (λ (ops : Vec Op Global). ops.items) c.index-issued-core.is) in
     one_more core (issued_by lists) c.args.records.now c.loop-core.invariant (sym c.count_of_core.ensures ∙
     c.if-count_of_core-as_slice.false ∙ ap (λ (ops : List Op). length ops) (c.as_slice.ensures.value ∙ sym items))

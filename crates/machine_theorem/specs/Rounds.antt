@@ -18,7 +18,7 @@ use Rattle.machine_table.specs.declared.event.Refusal.TheVariants.{Exhausted, No
 use Rattle.machine_table.specs.Machine.{Machine}
 use Rattle.machine_table.specs.Transition.{transition}
 
--- the machine isn't left as it was: the answer is none of Waiting, Held and the refusals, or times are exhausted
+-- the answer is none of Waiting, Held and the refusals, or times are exhausted. No event of a round is answered Idle
 abbrev pub IsMoving : Answer → Type 0
 IsMoving Waiting = ⊥
 IsMoving Held = ⊥

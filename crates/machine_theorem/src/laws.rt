@@ -78,10 +78,10 @@ pub fn every_history_is_legal()
         (transition m (Deliver number)).0 ≢ Refused NoSuch }
 {}
 
-/// Nothing is stuck where there is room for two more messages, and numbers for 35. After any list of events, refused ones
-/// included, of a machine that opened with a good set-up and hasn't stopped: for each core's open operation there are at
-/// most 35 events that complete it, or that stop the machine, since a time doesn't fit. None of them is an Issue or an
-/// Advance. Operations of other cores may be completed on the way; of this core that one alone is.
+/// Nothing is stuck where there is room for two more messages, and numbers for 35. After any list of events, refused
+/// ones included, of a machine that opened with a good set-up and hasn't stopped: for each core's open operation there
+/// are at most 35 events that complete it, or that stop the machine, since a time doesn't fit. None of them is an Issue
+/// or an Advance. Operations of other cores may be completed on the way; of this core that one alone is.
 pub fn nothing_is_stuck()
     ensures { (config : Config) (opening : FinMap nat_cmp ℕ) (events : List Event) → is_good config ≡ true →
         let m = after_all (at_start config opening) events in
@@ -90,10 +90,10 @@ pub fn nothing_is_stuck()
         operation_of (slice_get m.cores core) ≡ Some op → IsServed 35 core op m }
 {}
 
-/// A round changes the machine where there is room for one more message, and a number. After any list of events,
-/// refused ones included, of a machine that opened with a good set-up and hasn't stopped: if a core has an operation
-/// open, one of the events that a round makes of the machine as it is changes it. Its answer is none of Waiting, Held
-/// and the refusals, or times are exhausted.
+/// A round changes the machine where an operation is open, and there is room for one more message, and a number. After
+/// any list of events, refused ones included, of a machine that opened with a good set-up and hasn't stopped: if a core
+/// has an operation open, one of the events that a round makes of the machine as it is changes it. Its answer is none of
+/// Waiting, Held and the refusals, or times are exhausted.
 pub fn rounds_move_on()
     ensures { (config : Config) (opening : FinMap nat_cmp ℕ) (events : List Event) → is_good config ≡ true →
         let m = after_all (at_start config opening) events in

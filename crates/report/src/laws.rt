@@ -61,8 +61,8 @@ pub fn turns_are_those_of_the_options()
 {}
 
 /// The text that `run_trace` writes of a trace, if the options ask for its records, is one that `run_check` accepts
-/// with that trace, over a memory of zeros. What it then writes is the line of the verdict Legal, and it answers that all is done. Only a
-/// failed allocation or a failed call of a source or sink keeps it from writing that.
+/// with that trace, over a memory of zeros. What it then writes is the line of the verdict Legal, and it answers that
+/// all is done. Only a failed allocation or a failed call of a source or sink keeps it from writing that.
 pub fn written_records_are_legal()
     ensures legal { (options : TraceOptions) (trace text line : List ℕ) (all_done legal : Bool) →
         options.records ≡ true → IsTraceReport options (Some trace) all_done text →

@@ -66,10 +66,10 @@ pub fn rounds_make_their_events<P: Program>()
         (opened start opening) events }
 {}
 
-/// A run by rounds, fair or not, stalls only where the network is full. Its machine is one that any list of events made
-/// of one that opened with a good set-up, and it hasn't stopped. If the run ends as stalled, as many messages are in
-/// flight as may be, or their numbers are used up. Or no operation is open, and a program has one more than its core
-/// may be issued. So while one more message has room, no run by rounds stalls.
+/// A run by rounds, fair or not, stalls only where it can't send or issue. Its machine is one that any list of events
+/// made of one that opened with a good set-up, and it hasn't stopped. If the run ends as stalled, as many messages are
+/// in flight as may be, or their numbers are used up. Or no operation is open, and a program has one more than its core
+/// may be issued. So while one more message has room and a number, a run by rounds stalls only with no operation open.
 pub fn rounds_stall_on_a_full_network<P: Program>()
     ensures { (config : Config) (memory : FinMap nat_cmp ℕ) (earlier : List Event) → is_good config ≡ true →
         let start = after_all (at_start config memory) earlier in

@@ -111,8 +111,8 @@ abbrev pub OnFile : {F K : Type 0} → Devices F K → (Option (List ℕ) → K 
 OnFile {F} d Runs (Ok file) old new came = (left : F) × RunsOn d Runs file left old new came
 OnFile d Runs (Err error) old new came = (came ≡ Err Read) × (new ≡ old)
 
--- the records of the second file were checked against the trace of the first over a memory of zeros; they were read only after a trace that
--- was accepted, and not at all if reading the trace failed
+-- the records of the second file were checked against the trace of the first over a memory of zeros; they were read
+-- only after a trace that was accepted, and not at all if reading the trace failed
 abbrev pub ChecksOn : {F K : Type 0} → Devices F K → (complete : Bool) → (trace records trace' records' : F) → K → K →
     Result Done RunError → Type 0
 ChecksOn d complete trace records trace' records' old new came =

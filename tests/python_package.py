@@ -7,8 +7,10 @@ proved player and to the second program's. Then the package: answers by hand, fa
 shared library that TARDIS_LIBRARY names, against the reports in examples/; without the option, by the second program.
 """
 import os
+import signal
 import subprocess
 import sys
+import tempfile
 import warnings
 from itertools import islice
 from pathlib import Path
@@ -100,6 +102,57 @@ def machine():
     return opened.is_proved
 
 
+def refuses(kind, make, what):
+    """What was raised, which must be of that kind."""
+    try:
+        make()
+    except kind as error:
+        return error
+    return fail(f"{what} isn't refused")
+
+
+def on_alarm(*_):
+    raise InterruptedError("an alarm")
+
+
+def troubles():
+    """A machine that is closed, whose player dies, or that is interrupted in a call: the next call is a TardisError, and
+    nothing is left open. Options that a machine doesn't have, and values of wrong types."""
+    before = len(os.listdir("/proc/self/fd"))
+    for options in ({"runs": 5}, {"fair": True}, {"cores": 2.0}, {"lease": True}, {"private_write": "no"}):
+        refuses(TypeError, lambda: tardis.Machine(**options), options)
+    refuses(ValueError, lambda: tardis.Machine(memory={4: 1}), "an address of no word")
+    closed = tardis.Machine()
+    if os.getpgid(closed._player.pid) == os.getpgid(0):
+        fail("Ctrl-C ends the player")
+    refuses(ValueError, lambda: closed.call("flight \udc80"), "no ASCII")
+    closed.close()
+    closed.close()
+    dead = tardis.Machine()
+    dead._player.kill()
+    dead._player.wait()
+    interrupted = tardis.Machine()
+    interrupted.call("program 0 1000000 R 0x0")
+    signal.signal(signal.SIGALRM, on_alarm)
+    signal.setitimer(signal.ITIMER_REAL, 0.05)
+    refuses(InterruptedError, lambda: interrupted.call("rounds 4000000"), "an interrupted call")
+    for machine in (closed, dead, interrupted):
+        refuses(tardis.TardisError, lambda: machine.load(0, 8), "a machine without a player")
+        machine.close()
+    tardis.Machine()  # and not closed
+    with tempfile.TemporaryDirectory() as folder:
+        player = Path(folder, "player")
+        player.write_text("#!/bin/sh\nfor answer in opened 'refused NoMemory'; do read -r _; echo \"$answer\"; done\n")
+        player.chmod(0o755)
+        named, os.environ["TARDIS_PLAYER"] = os.environ["TARDIS_PLAYER"], str(player)
+        with tardis.Machine() as full:
+            refuses(tardis.NoMemory, full.in_flight, "a list without memory")
+    refuses(FileNotFoundError, tardis.Machine, "a player that isn't there")
+    os.environ["TARDIS_PLAYER"] = named
+    if len(os.listdir("/proc/self/fd")) != before:
+        fail("what is left open")
+
+
 def latency():
     """Cycles of one store by hand: a hop, DRAM both ways, the request once more a hop later, a hop, a hit. And what
     three traces print."""
@@ -129,6 +182,13 @@ def runs(is_proved):
     records = tardis.trace("0 W 0x8 7\n", records=True)
     if records != [tardis.Record(0, 0, "W", 8, 7, None, 1, 0)]:
         fail(f"records: {records}")
+    if tardis.trace("", records=True) or tardis.trace("0 W 0x8 7\n", records=True, limit=1):
+        fail("records where none is")
+    with warnings.catch_warnings(record=True) as told:
+        warnings.simplefilter("always")
+        tardis.trace("0 R 0x0\n")
+    if [each.filename for each in told] != ([] if is_proved else [__file__]):
+        fail(f"the place that a warning names: {told}")
     for told, wanted in ((tardis.check("0 W 0x0 1\n", "0 0 W 0x0 1 1 0\n"), "legal"),
                          (tardis.check("0 W 0x0 1\n1 R 0x0\n", "0 0 W 0x0 1 1 0\n1 0 R 0x0 0 1 1\n"), "wrong value 1")):
         if told != wanted:
@@ -166,6 +226,7 @@ def main(words):
         tried = texts(command, 2000 if named else 30)
         if machine() != bool(named):
             fail("which player answers")
+        troubles()
         told.append(latency())
         print(f"python_package.py: {tried} calls, one by one")
     if told[0] != told[1]:

@@ -45,7 +45,8 @@ strict="-O1 -Wall -Wextra -Werror -I$crate"
     gcc -std=c11 -pedantic $strict -o "$work/check" "$embed/check.c" $library &&
     gcc -std=c11 -pedantic $strict -o "$work/directory" "$embed/directory.c" $library &&
     g++ -std=c++17 -pedantic $strict -o "$work/tardis" "$embed/tardis.cpp" $library &&
-    g++ -std=c++17 -pedantic $strict -o "$work/latency" "$embed/latency.cpp" $library
+    g++ -std=c++17 -pedantic $strict -o "$work/latency" "$embed/latency.cpp" $library &&
+    g++ -std=c++17 -pedantic $strict -o "$work/machines" "$top/tests/machines.cpp" $library
 } || exit 1
 
 timeout 120 "$work/numbers_c" || exit 1
@@ -122,6 +123,10 @@ for trace in FIRST-STORE MIGRATORY FALSE-SHARING; do
     TARDIS_PLAYER="$work/prefix/bin/tardis-play-events" "$embed/latency.py" "$top/examples/traces/$trace.trace" 1 100 |
         diff "$work/said" - || exit 1
 done
+# Machines in C++ whose players live side by side, are interrupted or gone.
+printf '#!/bin/sh\nfor answer in opened "refused NoMemory"; do read -r _; echo "$answer"; done\n' >"$work/full"
+chmod +x "$work/full"
+"$work/machines" "$work/prefix/bin/tardis-play-events" "$work/full" || exit 1
 # found NAME: a program that was built over what is installed checks a history.
 found() {
     said=$("$work/$1" "$work/trace" "$work/legal")

@@ -2,6 +2,7 @@
 // cycles, DRAM 100, and a hit 1; a message that is held tries again a hop later.
 #include "tardis.hpp"
 
+#include <algorithm>
 #include <fstream>
 #include <iostream>
 #include <map>
@@ -24,8 +25,8 @@ class Network {
         for (unsigned core = 0; core < cores; core++) due.push({0, false, core});
     }
 
-    // The time of the last event.
-    uint64_t run() {
+    // The time of the last event; none if the player is gone.
+    std::optional<uint64_t> run() {
         uint64_t now = 0;
         while (!due.empty()) {
             const auto [time, is_message, number] = due.top();
@@ -33,9 +34,13 @@ class Network {
             now = time;
             if (is_message) arrive(number, now);
             else go_on(static_cast<unsigned>(number), now);
-            for (const uint64_t each : machine.in_flight()) {
+            const auto numbers = machine.in_flight();
+            if (!numbers) return std::nullopt;
+            for (const uint64_t each : *numbers) {
                 if (each < sent) continue;
-                const bool is_dram = machine.message(each)->kind.rfind("Dram", 0) == 0;
+                const auto message = machine.message(each);
+                if (!message) return std::nullopt;
+                const bool is_dram = message->kind.rfind("Dram", 0) == 0;
                 due.push({now + (is_dram ? DRAM : HOP), true, each});
                 sent = each + 1;
             }
@@ -65,14 +70,15 @@ class Network {
 
     // The message arrives; a core that got one goes on.
     void arrive(uint64_t number, uint64_t now) {
-        const std::string receiver = machine.message(number)->receiver;
+        const auto message = machine.message(number);
+        if (!message) return;  // the player is gone
         const std::string answer = machine.deliver(number);
         if (answer == "held" || answer == "started") {
             const std::string room = machine.call("room m" + std::to_string(number));
             if (room != "none") machine.call("evict " + room);
             due.push({now + HOP, true, number});
-        } else if (receiver.rfind("core ", 0) == 0) {
-            due.push({now, false, std::stoull(receiver.substr(5))});
+        } else if (message->receiver.rfind("core ", 0) == 0) {
+            due.push({now, false, std::stoull(message->receiver.substr(5))});
         }
     }
 
@@ -102,9 +108,12 @@ int main(int count, char **words) {
     for (int at = 3; at < count; at++) {
         const std::string lease = words[at];
         auto machine = tardis::Machine::open(words[1], "cores " + std::to_string(cores) + " lease " + lease);
-        if (!machine) return 1;
-        const uint64_t cycles = Network(*machine, programs, cores).run();
-        std::cout << "lease " << lease << ": " << cycles << " cycles, " << machine->call("records") << " operations, "
+        const auto cycles = machine ? Network(*machine, programs, cores).run() : std::nullopt;
+        if (!cycles) {
+            std::cerr << "latency: lease " << lease << ": no machine of " << cores << " cores, or its player is gone\n";
+            return 1;
+        }
+        std::cout << "lease " << lease << ": " << *cycles << " cycles, " << machine->call("records") << " operations, "
                   << machine->call("check") << '\n';
     }
 }

@@ -155,9 +155,9 @@ def troubles():
 
 def latency():
     """Cycles of one store by hand: a hop, DRAM both ways, the request once more a hop later, a hop, a hit. And what
-    three traces print."""
+    six traces print."""
     told = ""
-    for name in ("FIRST-STORE", "MIGRATORY", "FALSE-SHARING"):
+    for name in ("FIRST-STORE", "MIGRATORY", "FALSE-SHARING", "PAST", "COMMENTS", "EMPTY"):
         path = TOP / f"examples/traces/{name}.trace"
         told += subprocess.run([sys.executable, TOP / "examples/embed/latency.py", path, "1", "100"], text=True,
                                capture_output=True, check=True).stdout

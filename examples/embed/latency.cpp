@@ -1,5 +1,5 @@
 // A network of one's own drives the machine: latency PLAYER TRACE [LEASE ..], as latency.py in C++. A hop takes 10
-// cycles, DRAM 100, and a hit 1; a message that is held tries again a hop later.
+// cycles, DRAM 100, a hit 1, and an advance none; a message that is held tries again a hop later.
 #include "tardis.hpp"
 
 #include <algorithm>
@@ -25,7 +25,7 @@ class Network {
         for (unsigned core = 0; core < cores; core++) due.push({0, false, core});
     }
 
-    // The time of the last event; none if the player is gone.
+    // The time of the last event; none if a step is refused or the player is gone.
     std::optional<uint64_t> run() {
         uint64_t now = 0;
         while (!due.empty()) {
@@ -35,7 +35,7 @@ class Network {
             if (is_message) arrive(number, now);
             else go_on(static_cast<unsigned>(number), now);
             const auto numbers = machine.in_flight();
-            if (!numbers) return std::nullopt;
+            if (!numbers || is_refused) return std::nullopt;
             for (const uint64_t each : *numbers) {
                 if (each < sent) continue;
                 const auto message = machine.message(each);
@@ -52,10 +52,12 @@ class Network {
     // The core issues its next operation, if it has none open, and attempts it.
     void go_on(unsigned core, uint64_t now) {
         const std::string name = std::to_string(core);
-        if (machine.call("open " + name) == "none") {
+        while (machine.call("open " + name) == "none") {
             if (programs[core].empty()) return;
-            machine.call("issue " + name + ' ' + programs[core].front());
+            const std::string step = programs[core].front();
             programs[core].pop();
+            const std::string said = machine.call(step[0] == 'A' ? "advance " + name : "issue " + name + ' ' + step);
+            is_refused |= said != "issued" && said != "advanced";
         }
         std::string answer = machine.attempt(core);
         if (answer == "refused NoRoom") {
@@ -86,6 +88,7 @@ class Network {
     Programs programs;
     std::priority_queue<Due, std::vector<Due>, std::greater<Due>> due;
     uint64_t sent = 0;
+    bool is_refused = false;
 };
 
 } // namespace
@@ -96,8 +99,12 @@ int main(int count, char **words) {
         return 2;
     }
     Programs programs;
-    unsigned cores = 0;
+    unsigned cores = 1;
     std::ifstream file(words[2]);
+    if (!file) {
+        std::cerr << "latency: " << words[2] << " can't be read\n";
+        return 2;
+    }
     for (std::string line; std::getline(file, line);) {
         std::istringstream fields(line.substr(0, line.find('#')));
         std::string core, step;
@@ -105,12 +112,13 @@ int main(int count, char **words) {
         programs[static_cast<unsigned>(std::stoul(core))].push(step);
         cores = std::max(cores, static_cast<unsigned>(std::stoul(core)) + 1);
     }
-    for (int at = 3; at < count; at++) {
-        const std::string lease = words[at];
+    std::vector<std::string> leases(words + 3, words + count);
+    if (leases.empty()) leases = {"1", "10", "100", "1000", "10000"};
+    for (const std::string &lease : leases) {
         auto machine = tardis::Machine::open(words[1], "cores " + std::to_string(cores) + " lease " + lease);
         const auto cycles = machine ? Network(*machine, programs, cores).run() : std::nullopt;
         if (!cycles) {
-            std::cerr << "latency: lease " << lease << ": no machine of " << cores << " cores, or its player is gone\n";
+            std::cerr << "latency: lease " << lease << ": no machine of " << cores << " cores takes the trace\n";
             return 1;
         }
         std::cout << "lease " << lease << ": " << *cycles << " cycles, " << machine->call("records") << " operations, "

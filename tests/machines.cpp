@@ -25,6 +25,8 @@ int main(int, char **words) {
     auto first = tardis::Machine::open(words[1], "cores 2"), second = tardis::Machine::open(words[1], "cores 1");
     expect(first && second, "two machines");
     first.reset();  // while the player of the other one lives, which was started later
+    usleep(100000);
+    expect(waitpid(-1, nullptr, WNOHANG) == 0, "a player that nobody waits for");
     expect(second->in_flight() && second->in_flight()->empty(), "nothing is in flight");
     expect(second->call("").empty() && second->call(" \r").empty(), "a blank line");
     expect(second->call("flight\nflight").empty() && second->call("flight") == "none", "two lines");

@@ -133,8 +133,8 @@ class Machine {
         while (child > 0 && waitpid(child, nullptr, 0) < 0 && errno == EINTR) {}
     }
 
-    // The answer to a line of docs/EVENTS.md: `issue 1 R 0x8`, `deliver m3`, `copy 0 0x8`; empty if the player is gone, or
-    // if that isn't one line.
+    // The answer to a line of docs/EVENTS.md: `issue 1 R 0x8`, `deliver m3`, `copy 0 0x8`; empty if the player is
+    // gone, or if that isn't one line.
     std::string call(const std::string &line) {
         if (line.find('\n') != line.npos || line.find_first_not_of(" \t\r\v\f") == line.npos) return {};
         const std::string said = line + '\n';

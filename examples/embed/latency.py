@@ -73,7 +73,8 @@ def programs_of(path):
     """The operations of each core, in the text's order."""
     lines = [line.split("#")[0].split(maxsplit=1) for line in Path(path).read_text(encoding="latin-1").split("\n")]
     steps = [(int(words[0]), words[1].strip()) for words in lines if words and words[0] != "trace"]
-    return [[step for core, step in steps if core == each] for each in range(max((core for core, _ in steps), default=0) + 1)]
+    cores = max((core for core, _ in steps), default=0) + 1
+    return [[step for core, step in steps if core == each] for each in range(cores)]
 
 
 def main(path, *leases):

@@ -31,10 +31,10 @@ def first(*paths: str | Path | None) -> str | None:
 
 
 def library() -> str | None:
-    """The shared library: TARDIS_LIBRARY, the checkout's, or the one that the system finds."""
+    """The shared library: TARDIS_LIBRARY, or the one that the system finds."""
     if "TARDIS_LIBRARY" in os.environ:
         return named_by("TARDIS_LIBRARY")
-    return first(TOP / "crates/tardis_c/out/libtardis.so") or ctypes.util.find_library("tardis")
+    return ctypes.util.find_library("tardis")
 
 
 def player() -> str | None:

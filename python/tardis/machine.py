@@ -40,8 +40,8 @@ class Machine:
     """A machine of the proved simulator, which you drive: you say which core attempts, and when each message arrives.
 
     Addresses are in bytes, multiples of 8; times in ticks. An event that is refused changes nothing (but `Exhausted`,
-    which stops the machine). `is_proved` says whether the proved player answers. Close it, or use it in a `with`. A call
-    that is interrupted ends the player, since its answer would be taken for the next call's."""
+    which stops the machine). `is_proved` says whether the proved player answers. Close it, or use it in a `with`. A
+    call that is interrupted ends the player, since its answer would be taken for the next call's."""
 
     def __init__(self, cores: int = 2, memory: Mapping[int, int] | None = None, **options: Any) -> None:
         built = Options(**options)

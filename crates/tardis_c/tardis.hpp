@@ -97,6 +97,7 @@ struct Message {
 
 // A machine that you drive: you say which core attempts, and when each message arrives. It runs in the player of
 // events, a process of its own, which answers each call at once (docs/EVENTS.md). The machine ends with this value.
+// One thread at a time may call it.
 class Machine {
   public:
     // Starts the player at this path and opens a machine, as `cores 4 lease 10`; none if that is refused.

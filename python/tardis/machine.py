@@ -41,7 +41,8 @@ class Machine:
 
     Addresses are in bytes, multiples of 8; times in ticks. An event that is refused changes nothing (but `Exhausted`,
     which stops the machine). `is_proved` says whether the proved player answers. Close it, or use it in a `with`. A
-    call that is interrupted ends the player, since its answer would be taken for the next call's."""
+    call that is interrupted ends the player, since its answer would be taken for the next call's.
+    For the same reason one thread at a time may call it."""
 
     def __init__(self, cores: int = 2, memory: Mapping[int, int] | None = None, **options: Any) -> None:
         built = Options(**options)

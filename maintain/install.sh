@@ -2,7 +2,7 @@
 # Installs what is built for others to find: maintain/install.sh PREFIX
 # The program and the player of events (`tardis-play-events`), the library for C and C++ (static, and shared, which the
 # Python package loads, too), its headers, files for pkg-config and CMake, a page for man, and bash's completions.
-# `./tardis`, `./play` and `tests/embed.sh --build` build what is wanted; this builds nothing, and needs gcc and ar.
+# `./tardis`, `./play` and `tests/embed.sh --build` build what is wanted; this builds nothing, and needs rt, gcc and ar.
 case ${1-} in '' | -*) exec sed -n '2,/^[^#]/s/^# \{0,1\}//p' "$0" ;; esac
 top=$(CDPATH='' cd -- "$(dirname -- "$0")/.." && pwd) || exit 1
 tardis=${tardis:-$top/crates/tardis/out/tardis} events=${events:-$top/crates/play_events/out/play_events}
@@ -18,7 +18,9 @@ cp "$top/crates/tardis_c/tardis.h" "$top/crates/tardis_c/tardis.hpp" include/ ||
 
 rm -f lib/libtardis.a
 printf 'create lib/libtardis.a\naddlib %s\naddlib %s\nsave\nend\n' "$library" "$memory" | ar -M || exit 1
-gcc -shared -o lib/libtardis.so -Wl,--whole-archive "$library" -Wl,--no-whole-archive "$memory" || exit 1
+# With its name in it, by which Python's ctypes finds it.
+gcc -shared -o lib/libtardis.so -Wl,-soname,libtardis.so -Wl,--whole-archive "$library" \
+    -Wl,--no-whole-archive "$memory" || exit 1
 
 cat >lib/pkgconfig/tardis.pc <<END
 prefix=$prefix

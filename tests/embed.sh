@@ -45,7 +45,8 @@ strict="-O1 -Wall -Wextra -Werror -I$crate"
     gcc -std=c11 -pedantic $strict -o "$work/check" "$embed/check.c" $library &&
     gcc -std=c11 -pedantic $strict -o "$work/directory" "$embed/directory.c" $library &&
     g++ -std=c++17 -pedantic $strict -o "$work/tardis" "$embed/tardis.cpp" $library &&
-    g++ -std=c++17 -pedantic $strict -o "$work/latency" "$embed/latency.cpp" $library
+    g++ -std=c++17 -pedantic $strict -o "$work/latency" "$embed/latency.cpp" $library &&
+    g++ -std=c++17 -pedantic $strict -o "$work/machines" "$top/tests/machines.cpp" $library
 } || exit 1
 
 timeout 120 "$work/numbers_c" || exit 1
@@ -91,6 +92,11 @@ done
 "$embed/from_log.py" --completion "$work/machine.log" >"$work/machine.history"
 TARDIS=$top/reference/oracle.py "$top/tools/order.py" --out "$work" "$work/machine.history" | grep -q '^consistent' ||
     { echo "embed.sh: directory 0 completion has no order"; exit 1; }
+# Lines of a log that lack a value, or have one too many.
+for line in 'load 0x0' 'store 0x0 got 5' 'load 0x0 value 5' 'swap 0x0 value 5' 'store 0x0 value 5 sent 3 overtaken'; do
+    echo "12 core 0 $line" | "$embed/from_log.py" - >"$work/said" 2>&1 &&
+        { echo "embed.sh: from_log.py: $line"; exit 1; }
+done
 
 # spent CORES RECORDS: the instructions of the call that checks so many records, as arrays.
 spent() {
@@ -116,12 +122,20 @@ TARDIS_LIBRARY="$work/prefix/lib/libtardis.so" "$top/tests/python_package.py" --
 "$work/prefix/bin/tardis" check "$work/trace" "$work/wrong" >"$work/said"
 [ "$(cat "$work/said")" = 'wrong value 1' ] || { echo "embed.sh: the installed program: $(cat "$work/said")"; exit 1; }
 export PKG_CONFIG_PATH="$work/prefix/lib/pkgconfig" LD_LIBRARY_PATH="$work/prefix/lib"
+"$top/tests/python_package.py" --library || exit 1  # as the system finds it
 # A network of one's own, in C++ and in Python: the same cycles.
-for trace in FIRST-STORE MIGRATORY FALSE-SHARING; do
-    "$work/latency" "$work/prefix/bin/tardis-play-events" "$top/examples/traces/$trace.trace" 1 100 >"$work/said"
-    TARDIS_PLAYER="$work/prefix/bin/tardis-play-events" "$embed/latency.py" "$top/examples/traces/$trace.trace" 1 100 |
+awk 'BEGIN { for (line = 0; line < 9; line++) printf "0 W 0x%x 1\n", 2048 * line }' >"$work/full.trace"
+for trace in FIRST-STORE MIGRATORY FALSE-SHARING PAST COMMENTS EMPTY full; do
+    path="$top/examples/traces/$trace.trace"
+    [ -e "$path" ] || path="$work/$trace.trace"
+    "$work/latency" "$work/prefix/bin/tardis-play-events" "$path" 1 100 >"$work/said"
+    TARDIS_PLAYER="$work/prefix/bin/tardis-play-events" "$embed/latency.py" "$path" 1 100 |
         diff "$work/said" - || exit 1
 done
+# Machines in C++ whose players live side by side, are interrupted or gone.
+printf '#!/bin/sh\nfor answer in opened "refused NoMemory"; do read -r _; echo "$answer"; done\n' >"$work/full"
+chmod +x "$work/full"
+"$work/machines" "$work/prefix/bin/tardis-play-events" "$work/full" || exit 1
 # found NAME: a program that was built over what is installed checks a history.
 found() {
     said=$("$work/$1" "$work/trace" "$work/legal")

@@ -117,6 +117,7 @@ REFUSED = [("trace --lease 0 examples/traces/PAST.trace", ["bad configuration: -
                "bad configuration: --bank-ways 17: 1 to 16", "--line-words 4: 1 or 8"]),
            ("trace examples/traces/PAST.records", ["5 BadOperation", "It has records: `tardis check TRACE FILE`"]),
            ("litmus examples/traces/PAST.trace", ["4 BadHeader", "It is a trace, and no litmus test"]),
+           ("ends --states 3 examples/traces/PAST.trace", ["4 BadHeader", "It is a trace, and no litmus test"]),
            ("trace examples/litmus/SB.litmus", ["4 BadCore", "It is a litmus test: `tardis litmus FILE`"]),
            ("check examples/traces/PAST.trace examples/traces/SWAP-LOCK.records", ["out of program order"])]
 # Texts that are refused: the end of the file's name, the text, and what must be told.
@@ -310,6 +311,7 @@ def runs(tester):
                       f"{words}: {status} {out} {error}")
     full = tester.run("--", "trace", "examples/traces/PAST.trace")
     tester.expect(full[0] == 0, f"a run that is all done: {full}")
+    tester.expect(tester.run("--", "ends", "examples/litmus/SB.litmus")[0] == 0, "a list of ends")
     with open("/dev/full", "w", encoding="ascii") as device:
         ran = subprocess.run([tester.program, "--", "trace", "examples/traces/PAST.trace"], stdout=device,
                              stderr=subprocess.PIPE, check=False)

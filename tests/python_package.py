@@ -7,8 +7,10 @@ proved player and to the second program's. Then the package: answers by hand, fa
 shared library that TARDIS_LIBRARY names, against the reports in examples/; without the option, by the second program.
 """
 import os
+import signal
 import subprocess
 import sys
+import tempfile
 import warnings
 from itertools import islice
 from pathlib import Path
@@ -20,6 +22,22 @@ from reference.machine_texts import MachinePlayer  # noqa: E402
 from reference.texts import examples_of, is_answer  # noqa: E402
 
 STORE_BUFFERING = TOP / "examples/litmus/SB.litmus"
+
+
+# Traces whose options are, together, all that the package has.
+OPTIONS = ("FAIR-LIVELOCK", "FAIR-STARVED", "FOUR-BANKS", "ONE-MESSAGE", "PRIVATE-WRITES", "SEED-SETS",
+           "TIME-AT-ITS-END")
+
+
+def options_of(trace):
+    """The options that a comment of the trace names, as the package has them."""
+    words = next(line for line in trace.read_text().splitlines() if line.startswith("# options=")).split()[2:]
+    options = {}
+    for word in words:
+        if word.startswith("--"):
+            name = word[2:].replace("-", "_")
+        options[name] = True if word.startswith("--") else int(word) if word.isdigit() else word
+    return options
 
 
 def fail(why):
@@ -100,11 +118,90 @@ def machine():
     return opened.is_proved
 
 
+def places():
+    """By hand, on two banks where each part has one place: a swap, and what is evicted for a load of another line."""
+    with tardis.Machine(banks=2, sets=1, ways=1, bank_sets=1, bank_ways=1) as small:
+        small.swap(0, 8, 7)
+        small.attempt(0)
+        for number in (0, 1, 2, 0, 3):
+            small.deliver(number)
+        if small.attempt(0).record != tardis.Record(0, 0, "S", 8, 7, 0, 1, 0):
+            fail(f"a swap: {small.records()}")
+        small.load(0, 24)
+        came = small.attempt(0).cause, small.victim(0, 24), small.victim(0, 8), small.evict_copy(0, 8).name
+        if came != ("NoRoom", 8, None, "evicted"):
+            fail(f"a place in a cache: {came}")
+        small.attempt(0)
+        came = small.room(5), *(small.deliver(number).name for number in (4, 5)), small.room(5), small.room(4)
+        if came != ((1, 8), "delivered", "held", (1, 8), None) or small.evict_entry(1, 8).name != "evicted":
+            fail(f"a place in a bank: {came}")
+        if (small.advance(1).name, small.call("time 1")) != ("advanced", "1"):
+            fail("an advance")
+
+
+def refuses(kind, make, what):
+    """What was raised, which must be of that kind."""
+    try:
+        make()
+    except kind as error:
+        return error
+    return fail(f"{what} isn't refused")
+
+
+def on_alarm(*_):
+    raise InterruptedError("an alarm")
+
+
+def troubles():
+    """A machine that is closed, whose player dies, or that is interrupted in a call: the next call is a TardisError,
+    and nothing is left open. Options that a machine doesn't have, and values of wrong types."""
+    before = len(os.listdir("/proc/self/fd"))
+    for options in ({"runs": 5}, {"fair": True}, {"cores": 2.0}, {"lease": True}, {"private_write": "no"}):
+        refuses(TypeError, lambda: tardis.Machine(**options), options)
+    refuses(ValueError, lambda: tardis.Machine(memory={4: 1}), "an address of no word")
+    closed = tardis.Machine()
+    if os.getpgid(closed._player.pid) == os.getpgid(0):
+        fail("Ctrl-C ends the player")
+    refuses(ValueError, lambda: closed.call("flight \udc80"), "no ASCII")
+    closed.close()
+    closed.close()
+    dead = tardis.Machine()
+    dead._player.kill()
+    dead._player.wait()
+    interrupted = tardis.Machine()
+    interrupted.call("program 0 1000000 R 0x0")
+    signal.signal(signal.SIGALRM, on_alarm)
+    signal.setitimer(signal.ITIMER_REAL, 0.05)
+    refuses(InterruptedError, lambda: interrupted.call("rounds 4000000"), "an interrupted call")
+    for machine in (closed, dead, interrupted):
+        refuses(tardis.TardisError, lambda: machine.load(0, 8), "a machine without a player")
+        machine.close()
+    tardis.Machine()  # and not closed
+    with tempfile.TemporaryDirectory() as folder:
+        player = Path(folder, "player")
+        player.write_text("#!/bin/sh\nfor answer in opened 'refused NoMemory'; do read -r _; echo \"$answer\"; done\n")
+        player.chmod(0o755)
+        named, os.environ["TARDIS_PLAYER"] = os.environ["TARDIS_PLAYER"], str(player)
+        with tardis.Machine() as full:
+            refuses(tardis.NoMemory, full.in_flight, "a list without memory")
+    refuses(FileNotFoundError, tardis.Machine, "a player that isn't there")
+    os.environ["TARDIS_PLAYER"] = named
+    if len(os.listdir("/proc/self/fd")) != before:
+        fail("what is left open")
+
+
 def latency():
     """Cycles of one store by hand: a hop, DRAM both ways, the request once more a hop later, a hop, a hit. And what
-    three traces print."""
+    six traces print."""
     told = ""
-    for name in ("FIRST-STORE", "MIGRATORY", "FALSE-SHARING"):
+    with tempfile.TemporaryDirectory() as folder:  # nine lines of one set, of the cache and of the bank
+        full = Path(folder, "full.trace")
+        full.write_text("".join(f"0 W {0x800 * line:#x} 1\n" for line in range(9)))
+        told_of_full = subprocess.run([sys.executable, TOP / "examples/embed/latency.py", full, "1"], text=True,
+                                      capture_output=True, check=True).stdout
+    if not told_of_full.endswith(" cycles, 9 operations, legal\n"):
+        fail(f"latency.py: {told_of_full}")
+    for name in ("FIRST-STORE", "MIGRATORY", "FALSE-SHARING", "PAST", "COMMENTS", "EMPTY"):
         path = TOP / f"examples/traces/{name}.trace"
         told += subprocess.run([sys.executable, TOP / "examples/embed/latency.py", path, "1", "100"], text=True,
                                capture_output=True, check=True).stdout
@@ -120,15 +217,30 @@ def runs(is_proved):
         fail(f"the report of store buffering: {report}")
     if (report.states, report.verdict) != ([tardis.State(1, {"0:x7": 1, "1:x7": 1})], False):
         fail(f"its states: {report}")
+    if not tardis.litmus(STORE_BUFFERING.with_stem("SB+yes").read_text(), schedule="seed", seed=4).verdict:
+        fail("seed 4, which meets the condition")
     seeded = tardis.litmus(STORE_BUFFERING.read_text(), schedule="seed", runs=300, seed=5)
     if sum(state.times for state in seeded.states) != 300 or len(seeded.states) != 3:
         fail(f"300 seeds: {seeded}")
     trace = TOP / "examples/traces/MIGRATORY.trace"
     if tardis.trace(trace.read_text()).text != trace.with_suffix(".report").read_text():
         fail("the report of a trace")
+    if tardis.trace("0 W 0x8 7\n1 W 0x10 9\n").words != {8: 7, 16: 9}:
+        fail("the words that a trace leaves")
+    for name in OPTIONS:
+        trace = TOP / f"examples/traces/{name}.trace"
+        if tardis.trace(trace.read_bytes(), **options_of(trace)).text != trace.with_suffix(".report").read_text():
+            fail(f"the report of {name}")
     records = tardis.trace("0 W 0x8 7\n", records=True)
     if records != [tardis.Record(0, 0, "W", 8, 7, None, 1, 0)]:
         fail(f"records: {records}")
+    if tardis.trace("", records=True) or tardis.trace("0 W 0x8 7\n", records=True, limit=1):
+        fail("records where none is")
+    with warnings.catch_warnings(record=True) as told:
+        warnings.simplefilter("always")
+        tardis.trace("0 R 0x0\n")
+    if [each.filename for each in told] != ([] if is_proved else [__file__]):
+        fail(f"the place that a warning names: {told}")
     for told, wanted in ((tardis.check("0 W 0x0 1\n", "0 0 W 0x0 1 1 0\n"), "legal"),
                          (tardis.check("0 W 0x0 1\n1 R 0x0\n", "0 0 W 0x0 1 1 0\n1 0 R 0x0 0 1 1\n"), "wrong value 1")):
         if told != wanted:
@@ -148,8 +260,8 @@ def faults(is_proved):
             make()
             fail("what is refused was taken")
         except kind as error:
-            if line is not None and error.line != line:
-                fail(f"{error}: line {error.line}, not {line}")
+            if line is not None and (error.line != line or f" {line}: {error.kind}" not in str(error)):
+                fail(f"{error}: line {error.line}, not {line}, and {error.kind}")
 
 
 def main(words):
@@ -166,6 +278,8 @@ def main(words):
         tried = texts(command, 2000 if named else 30)
         if machine() != bool(named):
             fail("which player answers")
+        places()
+        troubles()
         told.append(latency())
         print(f"python_package.py: {tried} calls, one by one")
     if told[0] != told[1]:

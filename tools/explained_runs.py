@@ -198,14 +198,16 @@ def explained_run(words):
     try:
         options = oracle.words().parse_args(words)
         oracle.refuse_fair(options)
-        if options.command == "check" or options.schedule == "threads":
+        if options.command == "check" or getattr(options, "schedule", None) == "threads":
             fail("a run by rounds or by a seed is wanted, of litmus or trace: others can't be made again")
         text = text_of(options.FILE)
-        read = oracle.read_litmus(options.FILE) if options.command == "litmus" else oracle.read_trace(options.FILE)
+        read = oracle.read_trace(options.FILE) if options.command == "trace" else oracle.read_litmus(options.FILE)
     except (Fault, LitmusFault) as fault:
-        return explained_text(options.FILE, text, str(fault), "test" if options.command == "litmus" else "trace"), True
+        return explained_text(options.FILE, text, str(fault), "trace" if options.command == "trace" else "test"), True
     except (Bad, oracle.Refused) as cause:
         fail(str(cause).split("\n", maxsplit=1)[0].removeprefix("error: ").removeprefix("tardis: "))
+    if options.command == "ends":
+        return [f"{options.FILE}: nothing is wrong with this text"], False
     if not has_machine(options, len(read.programs())):
         return bad_configuration(options).split("; "), True
     for number in range(getattr(options, "runs", 1) if options.schedule == "seed" else 1):

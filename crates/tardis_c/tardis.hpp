@@ -6,7 +6,8 @@
 
 #include "tardis.h"
 
-#include <cstdio>
+#include <cerrno>
+#include <charconv>
 #include <functional>
 #include <optional>
 #include <sstream>
@@ -15,6 +16,7 @@
 #include <utility>
 #include <vector>
 
+#include <fcntl.h>
 #include <sys/socket.h>
 #include <sys/wait.h>
 #include <unistd.h>
@@ -95,18 +97,19 @@ struct Message {
 
 // A machine that you drive: you say which core attempts, and when each message arrives. It runs in the player of
 // events, a process of its own, which answers each call at once (docs/EVENTS.md). The machine ends with this value.
+// One thread at a time may call it.
 class Machine {
   public:
     // Starts the player at this path and opens a machine, as `cores 4 lease 10`; none if that is refused.
     static std::optional<Machine> open(const std::string &player, const std::string &options) {
         int ends[2];
-        if (socketpair(AF_UNIX, SOCK_STREAM, 0, ends) != 0) return std::nullopt;
+        // Closed in all other programs that are started: a player ends when the last copy of its machine's end is gone.
+        if (socketpair(AF_UNIX, SOCK_STREAM | SOCK_CLOEXEC, 0, ends) != 0) return std::nullopt;
         const pid_t child = fork();
         if (child == 0) {
-            dup2(ends[1], 0);
-            dup2(ends[1], 1);
-            close(ends[0]);
-            close(ends[1]);
+            setpgid(0, 0);  // so that Ctrl-C doesn't end it
+            const int far = fcntl(ends[1], F_DUPFD_CLOEXEC, 3);  // 0 and 1 may be the ends themselves
+            if (far < 0 || dup2(far, 0) < 0 || dup2(far, 1) < 0) _exit(127);
             execl(player.c_str(), player.c_str(), "--live", static_cast<char *>(nullptr));
             _exit(127);
         }
@@ -128,20 +131,24 @@ class Machine {
     }
     ~Machine() {
         if (end >= 0) close(end);
-        if (child > 0) waitpid(child, nullptr, 0);
+        while (child > 0 && waitpid(child, nullptr, 0) < 0 && errno == EINTR) {}
     }
 
-    // The answer to a line of docs/EVENTS.md: `issue 1 R 0x8`, `deliver m3`, `copy 0 0x8`; empty if the player is gone.
+    // The answer to a line of docs/EVENTS.md: `issue 1 R 0x8`, `deliver m3`, `copy 0 0x8`; empty if the player is
+    // gone, or if that isn't one line.
     std::string call(const std::string &line) {
+        if (line.find('\n') != line.npos || line.find_first_not_of(" \t\r\v\f") == line.npos) return {};
         const std::string said = line + '\n';
         for (size_t at = 0; at < said.size();) {
             const ssize_t count = send(end, said.data() + at, said.size() - at, MSG_NOSIGNAL);
+            if (count < 0 && errno == EINTR) continue;
             if (count <= 0) return {};
             at += static_cast<size_t>(count);
         }
         std::string answer;
         for (char block[4096]; answer.empty() || answer.back() != '\n';) {
             const ssize_t count = read(end, block, sizeof block);
+            if (count < 0 && errno == EINTR) continue;
             if (count <= 0) return {};
             answer.append(block, static_cast<size_t>(count));
         }
@@ -152,11 +159,18 @@ class Machine {
     std::string attempt(unsigned core) { return call("attempt " + std::to_string(core)); }
     std::string deliver(uint64_t number) { return call("deliver m" + std::to_string(number)); }
 
-    // The numbers of the messages in flight, in the order of sending.
-    std::vector<uint64_t> in_flight() {
+    // The numbers of the messages in flight, in the order of sending; none if memory is refused or the player is gone.
+    std::optional<std::vector<uint64_t>> in_flight() {
         std::vector<uint64_t> numbers;
-        std::istringstream words(call("flight"));
-        for (std::string word; words >> word && word != "none";) numbers.push_back(std::stoull(word.substr(1)));
+        const std::string told = call("flight");
+        if (told == "none") return numbers;
+        std::istringstream words(told);
+        for (std::string word; words >> word;) {
+            const auto number = word[0] == 'm' ? number_of(word, 1, 10) : std::nullopt;
+            if (!number) return std::nullopt;
+            numbers.push_back(*number);
+        }
+        if (numbers.empty()) return std::nullopt;
         return numbers;
     }
 
@@ -165,10 +179,20 @@ class Machine {
         std::istringstream words(call("message m" + std::to_string(number)));
         std::string kind, from, of, arrow, to, at, address;
         if (!(words >> kind >> from >> of >> arrow >> to >> at >> address)) return std::nullopt;
-        return Message{number, kind, from + ' ' + of, to + ' ' + at, std::stoull(address, nullptr, 16)};
+        const auto first = number_of(address, 2, 16);
+        if (!first) return std::nullopt;
+        return Message{number, kind, from + ' ' + of, to + ' ' + at, *first};
     }
 
   private:
+    // The number that a word has behind its first letters.
+    static std::optional<uint64_t> number_of(const std::string &word, size_t from, int base) {
+        uint64_t number = 0;
+        const char *const end = word.data() + word.size();
+        if (word.size() <= from) return std::nullopt;
+        const auto read = std::from_chars(word.data() + from, end, number, base);
+        return read.ec == std::errc() && read.ptr == end ? std::optional(number) : std::nullopt;
+    }
     Machine(pid_t child, int end) : child(child), end(end) {}
     pid_t child;
     int end;

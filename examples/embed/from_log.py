@@ -11,8 +11,8 @@ import argparse
 import re
 import sys
 
-LINE = re.compile(r"(?P<cycle>\d+) core (?P<core>\d+) (?P<kind>load|store|swap) (?P<address>0x[0-9a-f]+)"
-                  r"(?: value (?P<written>\d+))?(?: got (?P<received>\d+))?(?: sent (?P<sent>\d+) overtaken)?")
+LINE = re.compile(r"(?P<cycle>\d+) core (?P<core>\d+) (?P<kind>load|(?P<stores>store|swap)) (?P<address>0x[0-9a-f]+)"
+                  r"(?(stores) value (?P<written>\d+))(?: got (?P<received>\d+))?(?: sent (?P<sent>\d+) overtaken)?")
 LETTERS = {"load": "R", "store": "W", "swap": "S"}
 
 
@@ -29,7 +29,8 @@ def main():
     for number, text in enumerate(given.LOG, 1):
         text = text.partition("#")[0].strip()
         line = LINE.fullmatch(text)
-        if text and not line:
+        if text and not (line and (line["kind"] == "store") == (line["received"] is None)
+                         and (line["sent"] is None or line["kind"] == "load")):
             sys.exit(f"from_log.py: line {number}: `{text}`")
         values = [line[name] for name in ("written", "received") if line[name]] if line else []
         print(*[line["core"], LETTERS[line["kind"]], line["address"], *values, "@", effect(line, given.completion)]

@@ -1,7 +1,8 @@
 // A network of one's own drives the machine: latency PLAYER TRACE [LEASE ..], as latency.py in C++. A hop takes 10
-// cycles, DRAM 100, and a hit 1; a message that is held tries again a hop later.
+// cycles, DRAM 100, a hit 1, and an advance none; a message that is held tries again a hop later.
 #include "tardis.hpp"
 
+#include <algorithm>
 #include <fstream>
 #include <iostream>
 #include <map>
@@ -24,8 +25,8 @@ class Network {
         for (unsigned core = 0; core < cores; core++) due.push({0, false, core});
     }
 
-    // The time of the last event.
-    uint64_t run() {
+    // The time of the last event; none if a step is refused or the player is gone.
+    std::optional<uint64_t> run() {
         uint64_t now = 0;
         while (!due.empty()) {
             const auto [time, is_message, number] = due.top();
@@ -33,9 +34,13 @@ class Network {
             now = time;
             if (is_message) arrive(number, now);
             else go_on(static_cast<unsigned>(number), now);
-            for (const uint64_t each : machine.in_flight()) {
+            const auto numbers = machine.in_flight();
+            if (!numbers || is_refused) return std::nullopt;
+            for (const uint64_t each : *numbers) {
                 if (each < sent) continue;
-                const bool is_dram = machine.message(each)->kind.rfind("Dram", 0) == 0;
+                const auto message = machine.message(each);
+                if (!message) return std::nullopt;
+                const bool is_dram = message->kind.rfind("Dram", 0) == 0;
                 due.push({now + (is_dram ? DRAM : HOP), true, each});
                 sent = each + 1;
             }
@@ -47,10 +52,12 @@ class Network {
     // The core issues its next operation, if it has none open, and attempts it.
     void go_on(unsigned core, uint64_t now) {
         const std::string name = std::to_string(core);
-        if (machine.call("open " + name) == "none") {
+        while (machine.call("open " + name) == "none") {
             if (programs[core].empty()) return;
-            machine.call("issue " + name + ' ' + programs[core].front());
+            const std::string step = programs[core].front();
             programs[core].pop();
+            const std::string said = machine.call(step[0] == 'A' ? "advance " + name : "issue " + name + ' ' + step);
+            is_refused |= said != "issued" && said != "advanced";
         }
         std::string answer = machine.attempt(core);
         if (answer == "refused NoRoom") {
@@ -65,14 +72,15 @@ class Network {
 
     // The message arrives; a core that got one goes on.
     void arrive(uint64_t number, uint64_t now) {
-        const std::string receiver = machine.message(number)->receiver;
+        const auto message = machine.message(number);
+        if (!message) return;  // the player is gone
         const std::string answer = machine.deliver(number);
         if (answer == "held" || answer == "started") {
             const std::string room = machine.call("room m" + std::to_string(number));
             if (room != "none") machine.call("evict " + room);
             due.push({now + HOP, true, number});
-        } else if (receiver.rfind("core ", 0) == 0) {
-            due.push({now, false, std::stoull(receiver.substr(5))});
+        } else if (message->receiver.rfind("core ", 0) == 0) {
+            due.push({now, false, std::stoull(message->receiver.substr(5))});
         }
     }
 
@@ -80,6 +88,7 @@ class Network {
     Programs programs;
     std::priority_queue<Due, std::vector<Due>, std::greater<Due>> due;
     uint64_t sent = 0;
+    bool is_refused = false;
 };
 
 } // namespace
@@ -90,8 +99,12 @@ int main(int count, char **words) {
         return 2;
     }
     Programs programs;
-    unsigned cores = 0;
+    unsigned cores = 1;
     std::ifstream file(words[2]);
+    if (!file) {
+        std::cerr << "latency: " << words[2] << " can't be read\n";
+        return 2;
+    }
     for (std::string line; std::getline(file, line);) {
         std::istringstream fields(line.substr(0, line.find('#')));
         std::string core, step;
@@ -99,12 +112,16 @@ int main(int count, char **words) {
         programs[static_cast<unsigned>(std::stoul(core))].push(step);
         cores = std::max(cores, static_cast<unsigned>(std::stoul(core)) + 1);
     }
-    for (int at = 3; at < count; at++) {
-        const std::string lease = words[at];
+    std::vector<std::string> leases(words + 3, words + count);
+    if (leases.empty()) leases = {"1", "10", "100", "1000", "10000"};
+    for (const std::string &lease : leases) {
         auto machine = tardis::Machine::open(words[1], "cores " + std::to_string(cores) + " lease " + lease);
-        if (!machine) return 1;
-        const uint64_t cycles = Network(*machine, programs, cores).run();
-        std::cout << "lease " << lease << ": " << cycles << " cycles, " << machine->call("records") << " operations, "
+        const auto cycles = machine ? Network(*machine, programs, cores).run() : std::nullopt;
+        if (!cycles) {
+            std::cerr << "latency: lease " << lease << ": no machine of " << cores << " cores takes the trace\n";
+            return 1;
+        }
+        std::cout << "lease " << lease << ": " << *cycles << " cycles, " << machine->call("records") << " operations, "
                   << machine->call("check") << '\n';
     }
 }

@@ -2,8 +2,9 @@
 """A network of one's own drives the machine: examples/embed/latency.py TRACE [LEASE ..]
 
 For each lease the trace is run once, and the cycles that it took are printed. A hop takes 10 cycles, DRAM 100, and a
-hit 1. Cores run side by side; a core waits for its reply. The machine has no time of its own: this script decides when
-a message arrives, and the machine what happens then. A message that is held tries again a hop later.
+hit 1; an advance takes none. Cores run side by side; a core waits for its reply. The machine has no time of its own:
+this script decides when a message arrives, and the machine what happens then. A message that is held tries again a hop
+later.
 """
 import heapq
 import sys
@@ -34,10 +35,11 @@ class Network:
 
     def core(self, now, core):
         """The core issues its next operation, if it has none open, and attempts it."""
-        if self.machine.open_operation(core) is None:
+        while self.machine.open_operation(core) is None:
             if not self.programs[core]:
                 return
-            self.machine.call(f"issue {core} {self.programs[core].pop(0)}")
+            step = self.programs[core].pop(0)
+            self.machine.call(f"advance {core}" if step == "A" else f"issue {core} {step}")
         answer = self.machine.attempt(core)
         if answer.cause == "NoRoom":
             address = int(self.machine.open_operation(core).split()[1], 16)
@@ -69,9 +71,10 @@ class Network:
 
 def programs_of(path):
     """The operations of each core, in the text's order."""
-    lines = [line.split("#")[0].split(maxsplit=1) for line in Path(path).read_text().splitlines()]
+    lines = [line.split("#")[0].split(maxsplit=1) for line in Path(path).read_text(encoding="latin-1").split("\n")]
     steps = [(int(words[0]), words[1].strip()) for words in lines if words and words[0] != "trace"]
-    return [[step for core, step in steps if core == each] for each in range(max(core for core, _ in steps) + 1)]
+    cores = max((core for core, _ in steps), default=0) + 1
+    return [[step for core, step in steps if core == each] for each in range(cores)]
 
 
 def main(path, *leases):

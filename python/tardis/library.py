@@ -5,7 +5,7 @@ from typing import Any
 
 from tardis import found
 from tardis.errors import BadConfiguration, BadText, NoMemory, TardisError
-from tardis.options import Options
+from tardis.options import MOST, Options
 
 NO_MEMORY, BAD_TEST, BAD_LINE, BAD_MACHINE, SHORT_BUFFER = 3, 4, 5, 6, 8
 ERRORS = {NO_MEMORY: NoMemory, BAD_TEST: BadText, BAD_LINE: BadText, BAD_MACHINE: BadConfiguration}
@@ -26,6 +26,10 @@ def loaded() -> Any:
     if path is None:
         return None
     library = ctypes.CDLL(path)
+    room = (ctypes.c_uint64 * (len(FIELDS) + 8))(*[MOST] * (len(FIELDS) + 8))
+    library.tardis_c_defaults(room)
+    if list(room) != [*(int(getattr(Options(), name, 0)) for name in FIELDS), *[MOST] * 8]:
+        raise TardisError(f"{path} is of another version: its options are others")
     for name in ("tardis_c_litmus", "tardis_c_trace", "tardis_c_check"):
         getattr(library, name).restype = ctypes.c_uint32
     return library

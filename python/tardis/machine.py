@@ -1,4 +1,5 @@
 """The machine, event by event. Each call is one line of docs/EVENTS.md, which the player of events answers at once."""
+import contextlib
 import subprocess
 from collections.abc import Iterator, Mapping
 from dataclasses import dataclass
@@ -6,7 +7,7 @@ from typing import Any
 
 from tardis import found
 from tardis.errors import BadConfiguration, NoMemory, TardisError
-from tardis.options import Options
+from tardis.options import Options, whole
 from tardis.reports import Record, Records, record_of
 
 OF_MACHINE = ("banks", "sets", "ways", "bank_sets", "bank_ways", "line_words", "lease", "messages", "time")
@@ -39,33 +40,54 @@ class Machine:
     """A machine of the proved simulator, which you drive: you say which core attempts, and when each message arrives.
 
     Addresses are in bytes, multiples of 8; times in ticks. An event that is refused changes nothing (but `Exhausted`,
-    which stops the machine). `is_proved` says whether the proved player answers. Close it, or use it in a `with`."""
+    which stops the machine). `is_proved` says whether the proved player answers. Close it, or use it in a `with`. A
+    call that is interrupted ends the player, since its answer would be taken for the next call's.
+    For the same reason one thread at a time may call it."""
 
     def __init__(self, cores: int = 2, memory: Mapping[int, int] | None = None, **options: Any) -> None:
         built = Options(**options)
-        if not 1 <= cores <= 64:
+        for name in options:
+            if name not in (*OF_MACHINE, "private_write"):
+                raise TypeError(f"{name} is an option of a run, and not of a machine")
+        if not 1 <= whole("cores", cores) <= 64:
             raise BadConfiguration(f"cores is {cores}: it goes from 1 to 64")
         path = found.player()
         self.is_proved = path is not None
         command = [path] if path else found.second("play.py", "the player of events")
+        # In a process group of its own, so that Ctrl-C doesn't end it.
         self._player = subprocess.Popen([*command, "--live"], stdin=subprocess.PIPE, stdout=subprocess.PIPE, text=True,
-                                        bufsize=1)
+                                        bufsize=1, process_group=0)
+        try:
+            self._open(cores, built, memory or {})
+        except BaseException:
+            self.close()
+            raise
+
+    def _open(self, cores: int, built: Options, memory: Mapping[int, int]) -> None:
         words = " ".join(f"{name.replace('_', '-')} {getattr(built, name)}" for name in OF_MACHINE)
-        opening = " ".join(f"{address:#x} {value}" for address, value in (memory or {}).items())
+        opening = " ".join(f"{address:#x} {value}" for address, value in memory.items())
         opened = self.call(f"machine cores {cores} {words} private-write {'yes' if built.private_write else 'no'}"
                            + (f" with {opening}" if opening else ""))
         if opened != "opened":
-            self.close()
             raise NoMemory(opened) if "NoMemory" in opened else TardisError(opened)
 
     def call(self, line: str) -> str:
         """The answer to a line of docs/EVENTS.md."""
-        if "\n" in line or not line.strip():
-            raise ValueError("one call, in one line")
+        if "\n" in line or not line.isascii() or not line.strip():
+            raise ValueError("one call, in one line of ASCII")
         sent, answers = self._player.stdin, self._player.stdout
         assert sent and answers
-        sent.write(line + "\n")
-        answer = answers.readline()
+        if sent.closed:
+            raise TardisError("the machine is closed")
+        try:
+            sent.write(line + "\n")
+            answer = answers.readline()
+        except BrokenPipeError:
+            answer = ""
+        except BaseException:
+            self._player.kill()
+            self.close()
+            raise
         if not answer:
             raise TardisError("the player ended")
         if answer.startswith("unread: "):
@@ -113,7 +135,10 @@ class Machine:
     # Look-ups.
     def in_flight(self) -> list[int]:
         """The numbers of the messages in flight, in the order of sending."""
-        return [int(word[1:]) for word in self.call("flight").split() if word != "none"]
+        told = self.call("flight")
+        if told == "refused NoMemory":
+            raise NoMemory(told)
+        return [int(word[1:]) for word in told.split() if word != "none"]
 
     def message(self, number: int) -> Message | None:
         """The message in flight that has this number."""
@@ -153,9 +178,16 @@ class Machine:
 
     # The player.
     def close(self) -> None:
-        """Ends the player."""
-        if self._player.poll() is None:
-            self._player.communicate()
+        """Ends the player; a call is then a TardisError."""
+        for pipe in (self._player.stdin, self._player.stdout):
+            with contextlib.suppress(BrokenPipeError):
+                if pipe:
+                    pipe.close()
+        self._player.wait()
+
+    def __del__(self) -> None:
+        if hasattr(self, "_player"):
+            self.close()
 
     def __enter__(self) -> "Machine":
         return self

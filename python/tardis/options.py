@@ -1,5 +1,7 @@
 """The options of a run, with the ranges and defaults of the program (docs/SCHEDULES.md, docs/PROTOCOL.md)."""
+import operator
 from dataclasses import dataclass, fields
+from typing import Any
 
 from tardis.errors import BadConfiguration
 
@@ -8,6 +10,13 @@ RANGES = {"lease": (1, 2 ** 32), "time": (0, MOST), "banks": (1, 8), "sets": (1,
           "bank_sets": (1, 1024), "bank_ways": (1, 16), "messages": (1, 65536), "limit": (1, 2 ** 32 - 1),
           "runs": (1, 1_000_000), "seed": (0, MOST)}
 SCHEDULES = "round", "seed"
+
+
+def whole(name: str, value: Any) -> int:
+    """The value of an option that is a whole number."""
+    if isinstance(value, bool) or not hasattr(value, "__index__"):
+        raise TypeError(f"{name} is {value!r}: a whole number is wanted")
+    return operator.index(value)
 
 
 @dataclass(frozen=True, kw_only=True)
@@ -32,10 +41,13 @@ class Options:
 
     def __post_init__(self) -> None:
         for name, (least, most) in RANGES.items():
-            if not least <= getattr(self, name) <= most:
+            if not least <= whole(name, getattr(self, name)) <= most:
                 raise BadConfiguration(f"{name} is {getattr(self, name)}: it goes from {least} to {most}")
-        if self.line_words not in (1, 8):
+        if whole("line_words", self.line_words) not in (1, 8):
             raise BadConfiguration(f"line_words is {self.line_words}: it is 1 or 8")
+        for name in ("private_write", "fair"):
+            if not isinstance(getattr(self, name), bool):
+                raise TypeError(f"{name} is {getattr(self, name)!r}: True or False is wanted")
         if self.schedule not in SCHEDULES:
             raise BadConfiguration(f"schedule is {self.schedule!r}: it is round or seed")
         if self.fair and self.schedule != "round":

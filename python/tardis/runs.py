@@ -23,7 +23,7 @@ def by_second(words: list[str], *texts: bytes) -> str:
             with open(path, "wb") as file:
                 file.write(text)
         came = subprocess.run(command + words + paths, capture_output=True, text=True)
-    if came.returncode in (0, 1) and came.stdout:
+    if came.returncode in (0, 1) and (came.stdout or not came.stderr):  # of records there may be none
         return came.stdout
     told = came.stderr.strip()
     raise {1: NoMemory, 2: BadText, 3: BadConfiguration}.get(came.returncode, TardisError)(told)

@@ -13,7 +13,7 @@ done
 mkdir -p "$1" && prefix=$(CDPATH='' cd -- "$1" && pwd) || exit 1
 cd "$prefix" || exit 1
 mkdir -p bin include lib/pkgconfig lib/cmake/tardis share/man/man1 share/bash-completion/completions || exit 1
-cp "$tardis" bin/tardis && cp "$events" bin/tardis-play-events || exit 1
+install -m 755 "$tardis" bin/tardis && install -m 755 "$events" bin/tardis-play-events || exit 1
 cp "$top/crates/tardis_c/tardis.h" "$top/crates/tardis_c/tardis.hpp" include/ || exit 1
 
 rm -f lib/libtardis.a

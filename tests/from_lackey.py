@@ -46,6 +46,10 @@ def by_hand(tester, folder):
         path.write_text(f"0,R,8\n{line}\n")
         status, _, error = tester.run("--csv", str(path))
         tester.expect(status == 2 and wanted in error and error.count("\n") == 1, f"{line}: {status} {error}")
+    path.write_text(" L ffffffffffffffff,2\n")
+    status, out, error = tester.run(str(path))
+    wanted = "from_lackey.py: an access of 2 bytes at 0xffffffffffffffff: addresses have 64 bits\n"
+    tester.expect((status, out, error) == (2, "", wanted), f"an address past 64 bits: {status} {out} {error}")
     status, _, error = tester.run("none")
     tester.expect((status, error) == (2, "from_lackey.py: none: No such file or directory\n"), f"none: {error}")
 

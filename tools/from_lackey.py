@@ -32,8 +32,13 @@ def of_lackey(file, core, shared):
     """The accesses of a file: core, letter, address, bytes, value."""
     for line in file:
         found = ACCESS.fullmatch(line)
-        for letter in LETTERS[found[1]] if found else "":
-            yield core, letter, int(found[2], 16) + (0 if shared else core * APART), int(found[3]), None
+        if not found:
+            continue
+        address, size = int(found[2], 16) + (0 if shared else core * APART), int(found[3])
+        if address + size > 2 ** 64:
+            raise Bad(f"an access of {size} bytes at {address:#x}: addresses have 64 bits")
+        for letter in LETTERS[found[1]]:
+            yield core, letter, address, size, None
 
 
 def of_csv(file, path):

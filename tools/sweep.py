@@ -43,7 +43,7 @@ from reference.machine import COUNTED  # noqa: E402
 from tools import counts, program  # noqa: E402
 from tools.advance import new_trace  # noqa: E402
 from tools.plots import picture  # noqa: E402
-from tools.program import Refused  # noqa: E402
+from tools.program import Refused, number  # noqa: E402
 from tools.shown.played import player_of, say_second  # noqa: E402
 
 
@@ -95,7 +95,8 @@ def parser():
     words.add_argument("--short", metavar="SHORT", help="a table without columns that are equal in every row")
     words.add_argument("--part", type=program.number(0, MOST_ROWS), metavar="K", help="the part that is made, from 0")
     words.add_argument("--parts", type=program.number(1, MOST_ROWS), metavar="N", help="how many parts there are")
-    words.add_argument("--jobs", type=int, default=os.cpu_count(), metavar="N", help="how many runs are made at a time")
+    words.add_argument("--jobs", type=number(1, 4096), default=os.cpu_count(), metavar="N",
+                       help="how many runs are made at a time")
     words.add_argument("--named", metavar="FILE", help="names with options, one a line")
     words.player_option()
     return with_lists(words)
@@ -293,7 +294,7 @@ def sweep(options, made):
     elif options.parts:
         join(options, table, [table.key({"trace": trace} | chosen) for trace, chosen in keys])
     left = [(trace, chosen) for trace, chosen in keys if table.key({"trace": trace} | chosen) not in table.rows]
-    with ThreadPoolExecutor(max(1, options.jobs)) as pool:
+    with ThreadPoolExecutor(options.jobs) as pool:
         try:
             for number, row in enumerate(pool.map(lambda key: made.row(*key), left), 1):
                 table.add(row)

@@ -150,8 +150,8 @@ data Stays (m : Machine) (x : Message) : Type 0 where
   a_recall : (c : ℕ) (core : CoreState) → x.to ≡ node.Core c → slice_get m.cores c ≡ Some core →
       is_pinned (pinned_line core) x.line ≡ true → IsRecall x.body → Stays m x
 
-module _ (m : Machine) (able : CanSend m) (s : Invariant m) (rising : IsRising 0 m.mail.messages m.mail.next)
-    (sized : IsSized m.config (seen m)) (fair : Fair m.config) where
+module _ {more : Bool} (m : Machine) (able : CanSend more m) (s : Invariant m)
+    (rising : IsRising 0 m.mail.messages m.mail.next) where
   abbrev bag : List Message
   bag = bag_of m.mail.messages
 
@@ -170,7 +170,7 @@ module _ (m : Machine) (able : CanSend m) (s : Invariant m) (rising : IsRising 0
           (λ active. inl (core_moves m able n x number c core to at has active))
           (λ (held : IsRecall x.body × (is_pinned (pinned_line core) x.line ≡ true)).
           inr (a_recall c core to at held.1 held.0))
-          (core_active core x.line x.body (is_pinned (pinned_line core) x.line)
+          (core_active more core x.line x.body (is_pinned (pinned_line core) x.line)
           (and_right (core_table.is_this_core core.number x.to) _ has))
 
       at_bank : (b : ℕ) → x.to ≡ node.Bank b → (o : Option BankState) → slice_get m.banks b ≡ o →
@@ -180,14 +180,14 @@ module _ (m : Machine) (able : CanSend m) (s : Invariant m) (rising : IsRising 0
           (λ active. inl (bank_moves m able n x number b bank to at has active))
           (λ (is : IsRequest x.body). inr (a_request b bank to at has is))
           (bank_active bank x bank.lease bank.mts (core_of x.from) (has_room bank.table (bank_table.set_of bank x.line))
-          x.from x.body (entry_of bank x.line) (and_right (is_this_bank bank.number x.to) _ has))
+          more x.from x.body (entry_of bank x.line) (and_right (is_this_bank bank.number x.to) _ has))
 
       at_dram : (b : ℕ) → x.to ≡ node.Dram b → (o : Option (FinMap nat_cmp (List ℕ))) → slice_get m.drams b ≡ o →
           takes dram_has_case o x ≡ true → MovesOn m ⊎ Stays m x
       at_dram b to None at has = absurd (cc)
       at_dram b to (Some lines) at has =
           inl (dram_moves m able n x number b lines to at has
-          (dram_active lines x x.body (and_right (is_dram x.to) _ has)))
+          (dram_active more lines x x.body (and_right (is_dram x.to) _ has)))
 
       go : (to : Node) → x.to ≡ to → has_case_at m x to ≡ true → MovesOn m ⊎ Stays m x
       go (node.Core c) to has = at_core c to (slice_get m.cores c) refl has
@@ -239,9 +239,9 @@ module _ (m : Machine) (able : CanSend m) (s : Invariant m) (rising : IsRising 0
           let on : core_table.line_of core p ≡ h = eqb-true (core_table.line_of core p) h
           (sym (ap (λ (i : Option Op). is_pinned (option_map (core_table.line_of core) i) h) opens) ∙ pinned) in
           attempt_moves m able c core at p opens
-          (subst IsTrying (sym (serving_attempt core p held opens
+          (subst (IsTrying more) (sym (serving_attempt core p held opens
           (subst (λ (i : ℕ). copy_of core.cache i ≡ Some held) (sym on) is) (owner_serves core.pts held ex p)))
-          (served_tries core p held (on_copy.time_of core.private_write core.pts p held)))
+          (served_tries core p more held (on_copy.time_of core.private_write core.pts p held)))
 
   -- a line that is recalled
   recalled_moves : (h o : ℕ) → OwnerAnswers (line_in m h) (by_line.Recalling o) → MovesOn m
@@ -318,6 +318,8 @@ module _ (m : Machine) (able : CanSend m) (s : Invariant m) (rising : IsRising 0
           inl (recalled_moves h owner (subst (OwnerAnswers (line_in m h)) (seen_is (entry.Recalling owner) is)
           ((consistent m s).recalls h)))
 
+module _ (m : Machine) (able : CanSend true m) (s : Invariant m) (rising : IsRising 0 m.mail.messages m.mail.next)
+    (sized : IsSized m.config (seen m)) (fair : Fair m.config) where
   -- a request finds its bank
   module _ (n : ℕ) (x : Message) (number : at_number n m.mail.messages ≡ Some x) (b : ℕ) (bank : BankState)
       (to : x.to ≡ node.Bank b) (at : slice_get m.banks b ≡ Some bank) (has : bank_has_case bank x ≡ true)
@@ -337,7 +339,8 @@ module _ (m : Machine) (able : CanSend m) (s : Invariant m) (rising : IsRising 0
     room_moves : entry_of bank x.line ≡ None → has_room bank.table i ≡ false → MovesOn m
     room_moves gone full = ⊎_elim (λ (moves : MovesOn m). moves) leaves
         (all_pass is_settled (MovesOn m) (set_at bank.table.sets i) (fits.distinct i)
-        (λ h e found. settled b bank at h e (sym (ap (λ (k : ℕ). find (set_at bank.table.sets k) h)
+        (λ h e found. settled m able s rising b bank at h e
+        (sym (ap (λ (k : ℕ). find (set_at bank.table.sets k) h)
         (sym (fits.homes i h (ap is_some found)))) ∙ found)))
       where
         leaves : bank_table.all_settled (set_at bank.table.sets i) ≡ true → MovesOn m
@@ -366,19 +369,19 @@ module _ (m : Machine) (able : CanSend m) (s : Invariant m) (rising : IsRising 0
             by_entry (Some e) found = ⊎_elim (λ (moves : MovesOn m). moves)
                 (λ (calm : is_settled e ≡ true).
                 line_moves m able n x number b bank to at has v.0 is held makes
-                (subst (λ (o : Option Entry). IsActive (entry_evicted (bank_table.after_eviction bank v.0
+                (subst (λ (o : Option Entry). IsActive true (entry_evicted (bank_table.after_eviction bank v.0
                 (on_entry.evicted o)))) (sym found) (entry_active bank v.0 e calm)))
-                (settled b bank at v.0 e found)
+                (settled m able s rising b bank at v.0 e found)
 
     request_moves : MovesOn m
     request_moves = by_entry (entry_of bank x.line) refl
       where
         moves : (room : Bool) (e : Option Entry) → has_room bank.table i ≡ room → entry_of bank x.line ≡ e →
-            IsActive (Reacts room e) → MovesOn m
+            IsActive true (Reacts room e) → MovesOn m
         moves room e is_room is_entry active =
             bank_moves m able n x number b bank to at has
-            (subst (λ (o : Option Entry). IsActive (Reacts (has_room bank.table i) o)) (sym is_entry)
-            (subst (λ (r : Bool). IsActive (Reacts r e)) (sym is_room) active))
+            (subst (λ (o : Option Entry). IsActive true (Reacts (has_room bank.table i) o)) (sym is_entry)
+            (subst (λ (r : Bool). IsActive true (Reacts r e)) (sym is_room) active))
 
         by_room : (room : Bool) → has_room bank.table i ≡ room → entry_of bank x.line ≡ None → MovesOn m
         by_room true room gone =
@@ -391,7 +394,7 @@ module _ (m : Machine) (able : CanSend m) (s : Invariant m) (rising : IsRising 0
             (λ (calm : is_settled e ≡ true).
             moves (has_room bank.table i) (Some e) refl there
             (request_active bank x bank.lease bank.mts (core_of x.from) (has_room bank.table i) x.body is e calm))
-            (settled b bank at x.line e there)
+            (settled m able s rising b bank at x.line e there)
 
   -- a core has an operation open
   module _ (c : ℕ) (core : CoreState) (op : Op) (at : slice_get m.cores c ≡ Some core) (opens : core.open_op ≡ Some op)
@@ -407,15 +410,15 @@ module _ (m : Machine) (able : CanSend m) (s : Invariant m) (rising : IsRising 0
 
       -- its request is out, or the answer
       waiting_moves : core.is_out ≡ true → MovesOn m
-      waiting_moves out = ⊎_elim (λ (moves : MovesOn m). moves) stays (message_moves k.number k.message k.at)
+      waiting_moves out = ⊎_elim (λ (moves : MovesOn m). moves) stays (message_moves m able s rising k.number k.message k.at)
         where
           l : ℕ
-          l = by_line.line_of f (address op)
+          l = by_line.line_of (set_up m.config m.opening) (address op)
 
-          one : tally (about c) (messages_of bag l) ≡ 1
-          one = asks l c ∙ ap (λ (k : CoreState). by_line.waits f l k.is_out k.open_op) here
-              ∙ ap (λ (b : Bool). by_line.waits f l b core.open_op) out ∙ ap (by_line.waits f l true) opens
-              ∙ waits_here f op
+          one : tally (about c) (messages_of (bag_of m.mail.messages) l) ≡ 1
+          one = asks m able s rising l c ∙ ap (λ (k : CoreState). by_line.waits (set_up m.config m.opening) l k.is_out k.open_op) here
+              ∙ ap (λ (b : Bool). by_line.waits (set_up m.config m.opening) l b core.open_op) out ∙ ap (by_line.waits (set_up m.config m.opening) l true) opens
+              ∙ waits_here (set_up m.config m.opening) op
 
           k : Sent l (about c) 0 m.mail.messages
           k = sent l (about c) 0 m.mail.next m.mail.messages rising (omega (arith, one))
@@ -435,7 +438,7 @@ module _ (m : Machine) (able : CanSend m) (s : Invariant m) (rising : IsRising 0
 
         tries : (copy_of core.cache line ≡ None → place_for core.cache line ≡ true) → MovesOn m
         tries place = attempt_moves m able c core at op opens
-            (subst IsTrying (sym attempt_is) (quiet_tries core op quiet (copy_of core.cache line) place))
+            (subst (IsTrying true) (sym attempt_is) (quiet_tries core op quiet (copy_of core.cache line) place))
 
         -- there is no place for the line: a copy leaves
         victim_moves : copy_of core.cache line ≡ None → place_for core.cache line ≡ false → MovesOn m
@@ -509,10 +512,10 @@ module _ (config : Config) (good : is_good config ≡ true) (opening : FinMap na
       MovesOn after
   moves_after running room numbers core op opens = by_core (slice_get after.cores core) refl opens
     where
-      able : CanSend after
+      able : CanSend true after
       able = record {
         runs = running;
-        room = subst (λ (c : Config). length after.mail.messages < c.messages) (sym of_config) room;
+        room = λ is. subst (λ (c : Config). length after.mail.messages < c.messages) (sym of_config) room;
         numbers = numbers;
       }
 

@@ -143,8 +143,20 @@ or_right : (p q : Bool) → (p || q) ≡ false → q ≡ false
 or_right true q e = absurd (cc)
 or_right false q e = e
 
+-- a copy that owns its line
+pub owned_copy : (held : Option LineCopy) → by_line.owns (copy_or_none held) ≡ 1 →
+    (copy : LineCopy) × (held ≡ Some copy) × (is_exclusive copy.state ≡ true)
+owned_copy None e = absurd (omega arith)
+owned_copy (Some copy) e = go (is_exclusive copy.state) refl
+  where
+    go : (b : Bool) → is_exclusive copy.state ≡ b →
+        (k : LineCopy) × (Some copy ≡ Some k) × (is_exclusive k.state ≡ true)
+    go true is = (copy, refl, is)
+    go false is = absurd (let z : by_line.owns (copy_or_none (Some copy)) ≡ 0 =
+        cond-false (is_exclusive copy.state) 1 0 is in omega arith)
+
 -- a message that may stay as it is
-data Stays (m : Machine) (x : Message) : Type 0 where
+pub data Stays (m : Machine) (x : Message) : Type 0 where
   a_request : (b : ℕ) (bank : BankState) → x.to ≡ node.Bank b → slice_get m.banks b ≡ Some bank →
       bank_has_case bank x ≡ true → IsRequest x.body → Stays m x
   a_recall : (c : ℕ) (core : CoreState) → x.to ≡ node.Core c → slice_get m.cores c ≡ Some core →
@@ -159,7 +171,7 @@ module _ {more : Bool} (m : Machine) (able : CanSend more m) (s : Invariant m)
   home h = h % m.config.banks
 
   -- each message in flight changes the machine, or may stay
-  message_moves : (n : ℕ) (x : Message) → at_number n m.mail.messages ≡ Some x → MovesOn m ⊎ Stays m x
+  pub message_moves : (n : ℕ) (x : Message) → at_number n m.mail.messages ≡ Some x → MovesOn m ⊎ Stays m x
   message_moves n x number = go x.to refl
       (each_at_number (λ y. has_case m y.1 ≡ true) n m.mail.messages x number (messages_find_cases m s) (λ k p. p))
     where
@@ -195,8 +207,8 @@ module _ {more : Bool} (m : Machine) (able : CanSend more m) (s : Invariant m)
       go (node.Dram b) to has = at_dram b to (slice_get m.drams b) refl has
 
   -- so a message of a kind that is neither a request nor a recall changes it
-  light_moves : (w : by_line.Message → ℕ) → ((c pts : ℕ) (version : Option ℕ) → w (by_line.ShReq c pts version) ≡ 0) →
-      ((c : ℕ) (version : Option ℕ) → w (by_line.ExReq c version) ≡ 0) → ((c : ℕ) → w (by_line.FlushReq c) ≡ 0) →
+  pub light_moves : (w : by_line.Message → ℕ) →
+      ((c pts : ℕ) (version : Option ℕ) → w (by_line.ShReq c pts version) ≡ 0) → ((c : ℕ) (version : Option ℕ) → w (by_line.ExReq c version) ≡ 0) → ((c : ℕ) → w (by_line.FlushReq c) ≡ 0) →
       ((c until : ℕ) → w (by_line.WbReq c until) ≡ 0) → (h : ℕ) → 1 ≤ tally w (messages_of bag h) → MovesOn m
   light_moves w sh ex flush wb h some =
       ⊎_elim (λ (moves : MovesOn m). moves) stays (message_moves k.number k.message k.at)
@@ -221,13 +233,13 @@ module _ {more : Bool} (m : Machine) (able : CanSend more m) (s : Invariant m)
   stores h =
       ((reachable_ok f s.kept.shape.some_words (view m.config (seen m)) s.kept.reached.reachable).lines h).2.stores
 
-  asks : (h c : ℕ) → tally (about c) (messages_of bag h)
+  pub asks : (h c : ℕ) → tally (about c) (messages_of bag h)
       ≡ by_line.waits f h ((seen m).cores c).is_out ((seen m).cores c).open_op
   asks h =
       ((reachable_ok f s.kept.shape.some_words (view m.config (seen m)) s.kept.reached.reachable).lines h).2.asks
 
   -- the owner's operation on its own line is completed
-  owner_moves : (c : ℕ) (core : CoreState) → slice_get m.cores c ≡ Some core → (h : ℕ) (held : LineCopy) →
+  pub owner_moves : (c : ℕ) (core : CoreState) → slice_get m.cores c ≡ Some core → (h : ℕ) (held : LineCopy) →
       copy_of core.cache h ≡ Some held → is_exclusive held.state ≡ true → is_pinned (pinned_line core) h ≡ true →
       MovesOn m
   owner_moves c core at h held is ex pinned = by_op core.open_op refl
@@ -265,17 +277,6 @@ module _ {more : Bool} (m : Machine) (able : CanSend more m) (s : Invariant m)
       its_owner (body.WbReq until) from to some = if_one to some
       its_owner _ from to some = absurd (omega arith)
 
-      owned : (held : Option LineCopy) → by_line.owns (copy_or_none held) ≡ 1 →
-          (copy : LineCopy) × (held ≡ Some copy) × (is_exclusive copy.state ≡ true)
-      owned None e = absurd (omega arith)
-      owned (Some copy) e = go (is_exclusive copy.state) refl
-        where
-          go : (b : Bool) → is_exclusive copy.state ≡ b →
-              (k : LineCopy) × (Some copy ≡ Some k) × (is_exclusive k.state ≡ true)
-          go true is = (copy, refl, is)
-          go false is = absurd (let z : by_line.owns (copy_or_none (Some copy)) ≡ 0 =
-              cond-false (is_exclusive copy.state) 1 0 is in omega arith)
-
       stays : Stays m k.message → MovesOn m
       stays (a_request b bank to at has is) = absurd
           (let z = no_request (recall_to o) (λ c pts v. refl) (λ c v. refl) k.message is in
@@ -285,7 +286,7 @@ module _ {more : Bool} (m : Machine) (able : CanSend more m) (s : Invariant m)
           ∙ its_owner k.message.body (core_of k.message.from) (core_of k.message.to) k.weighs in
           let here : (seen m).cores o ≡ core = ap (λ (i : ℕ). (seen m).cores i) (sym same)
           ∙ get_or_from_slice_get m.cores c core (open_core m.config c) at in
-          let copy = owned (copy_of ((seen m).cores o).cache h) owns in
+          let copy = owned_copy (copy_of ((seen m).cores o).cache h) owns in
           owner_moves c core at h copy.0
           (sym (ap (λ (i : CoreState). copy_of i.cache h) here) ∙ copy.1) copy.2
           (subst (λ (i : ℕ). is_pinned (pinned_line core) i ≡ true) k.line pinned)

@@ -39,6 +39,7 @@ use Rattle.machine_table.specs.declared.event.Answer.TheVariants.{Held}
 use Rattle.machine_table.specs.Step.{Keeps, attempted, copy_evicted, entry_evicted, reacted}
 use Rattle.machine_theorem.specs.Rounds.{IsRequest}
 use Rattle.protocol.proofs.Lemmas.{Some_injective}
+use Rattle.machine_theorem.proofs.Deliveries.{and_right}
 use Rattle.machine_theorem.proofs.RoundEvents.{IsActive, IsTrying}
 
 -- a bank's recall of a line
@@ -47,64 +48,65 @@ IsRecall body.FlushReq = Unit {0}
 IsRecall (body.WbReq until) = Unit {0}
 IsRecall _ = ⊥
 
-module _ (core : CoreState) (line : ℕ) where
+module _ (more : Bool) (core : CoreState) (line : ℕ) where
   changes : (change : LineCopy → LineCopy) (o : Option LineCopy) → is_shared_copy o ≡ true →
-      IsActive (reacted (core_table.after_reaction core line (on_copy.with_copy change o)))
+      IsActive more (reacted (core_table.after_reaction core line (on_copy.with_copy change o)))
   changes change None is = absurd (cc)
   changes change (Some copy) is = tt
 
-  flushes : (o : Option LineCopy) → IsActive (reacted (core_table.after_reaction core line (on_copy.flushed o)))
+  flushes : (o : Option LineCopy) → IsActive more (reacted (core_table.after_reaction core line (on_copy.flushed o)))
   flushes None = tt
   flushes (Some copy) = go (is_exclusive copy.state)
     where
-      go : (b : Bool) → IsActive (reacted (core_table.after_reaction core line
+      go : (b : Bool) → IsActive more (reacted (core_table.after_reaction core line
           (cond b (Returns None (body.FlushRep (on_copy.words_of_copy copy))) Drops)))
       go true = tt
       go false = tt
 
   writes_back : (until : ℕ) (o : Option LineCopy) →
-      IsActive (reacted (core_table.after_reaction core line (on_copy.written_back core.lease until o)))
+      IsActive more (reacted (core_table.after_reaction core line (on_copy.written_back core.lease until o)))
   writes_back until None = tt
   writes_back until (Some copy) = go (is_exclusive copy.state) (returned_lease copy.wts copy.rts until core.lease)
     where
       go : (b : Bool) (rts : Option ℕ) →
-          IsActive (reacted (core_table.after_reaction core line (cond b (on_copy.returned copy rts) Drops)))
+          IsActive more (reacted (core_table.after_reaction core line (cond b (on_copy.returned copy rts) Drops)))
       go true None = tt
       go true (Some rts) = tt
       go false rts = tt
 
   -- a message to a core, unless it is a recall of the line of the open operation
   pub core_active : (b : Body) (pinned : Bool) → comes_to_core core line b ≡ true →
-      IsActive (reacted (core_table.after_reaction core line (at_core core.lease pinned (copy_of core.cache line) b)))
+      IsActive more (reacted (core_table.after_reaction core line (at_core core.lease pinned (copy_of core.cache line) b)))
       ⊎ (IsRecall b × (pinned ≡ true))
   core_active (body.ShRep y) pinned comes = inl tt
   core_active (body.ExRep y) pinned comes = inl tt
   core_active (body.RenewRep rts) pinned comes =
-      inl (changes (cache.renewed rts) (copy_of core.cache line) (and_parts (core_table.waits_for core line) _ comes).1)
+      inl (changes (cache.renewed rts) (copy_of core.cache line) (and_right (core_table.waits_for core line) _ comes))
   core_active (body.UpgradeRep rts) pinned comes =
-      inl (changes (cache.upgraded rts) (copy_of core.cache line) (and_parts (core_table.waits_for core line) _ comes).1)
+      inl (changes (cache.upgraded rts) (copy_of core.cache line) (and_right (core_table.waits_for core line) _ comes))
   core_active body.FlushReq true comes = inr (tt, refl)
   core_active body.FlushReq false comes = inl (flushes (copy_of core.cache line))
   core_active (body.WbReq until) true comes = inr (tt, refl)
   core_active (body.WbReq until) false comes = inl (writes_back until (copy_of core.cache line))
   core_active _ pinned comes = absurd (cc)
 
+module _ (core : CoreState) (line : ℕ) where
   -- a copy that is there and not of the open operation's line leaves
   pub copy_active : (pinned : Option ℕ) (o : Option LineCopy) → is_some o ≡ true → is_pinned pinned line ≡ false →
-      IsActive (copy_evicted (core_table.sent_back core line (cache.evicted core.cache line pinned o)))
+      IsActive true (copy_evicted (core_table.sent_back core line (cache.evicted core.cache line pinned o)))
   copy_active pinned None there off = absurd (cc)
   copy_active pinned (Some copy) there off =
-      subst (λ (b : Bool). IsActive (copy_evicted (core_table.sent_back core line
+      subst (λ (b : Bool). IsActive true (copy_evicted (core_table.sent_back core line
       (cond b (Err not_left.Pinned, core.cache) (Ok copy, cache.without_copy core.cache line))))) (sym off) tt
 
 module _ (core : CoreState) (op : Op) where
   -- a copy that serves the operation completes it, if its time fits
-  pub served_tries : (held : LineCopy) (ts : Option ℕ) →
-      IsTrying (attempted core op (core_table.completed_at core op held ts))
-  served_tries held None = tt
-  served_tries held (Some ts) = tt
+  pub served_tries : (more : Bool) (held : LineCopy) (ts : Option ℕ) →
+      IsTrying more (attempted core op (core_table.completed_at core op held ts))
+  served_tries more held None = tt
+  served_tries more held (Some ts) = tt
 
-  needs : (version : Option ℕ) (p : Op) → IsTrying (attempted core op (Some (core_table.need core.pts p version), core))
+  needs : (version : Option ℕ) (p : Op) → IsTrying true (attempted core op (Some (core_table.need core.pts p version), core))
   needs version (Load a) = tt
   needs version (Store a v) = tt
   needs version (Swap a v) = tt
@@ -112,50 +114,50 @@ module _ (core : CoreState) (op : Op) where
   -- a core whose request isn't out completes its operation or asks, where a copy finds a place
   pub quiet_tries : core.is_out ≡ false → (o : Option LineCopy) →
       (o ≡ None → place_for core.cache (core_table.line_of core op) ≡ true) →
-      IsTrying (attempted core op (core_table.attempt_on core op o))
+      IsTrying true (attempted core op (core_table.attempt_on core op o))
   quiet_tries quiet None place =
-      subst (λ (t : Attempt). IsTrying (attempted core op (Some t, core)))
+      subst (λ (t : Attempt). IsTrying true (attempted core op (Some t, core)))
       (sym (cond-false core.is_out attempt.Waiting _ quiet
       ∙ cond-true (place_for core.cache (core_table.line_of core op)) _ attempt.NoRoom (place refl)))
       (needs None op)
   quiet_tries quiet (Some held) place = go (on_copy.serves op core.pts held)
     where
-      go : (b : Bool) → IsTrying (attempted core op (cond b
+      go : (b : Bool) → IsTrying true (attempted core op (cond b
           (core_table.completed_at core op held (on_copy.time_of core.private_write core.pts op held))
           (Some (core_table.attempt_unserved core op held.wts), core)))
-      go true = served_tries held (on_copy.time_of core.private_write core.pts op held)
-      go false = subst (λ (t : Attempt). IsTrying (attempted core op (Some t, core)))
+      go true = served_tries true held (on_copy.time_of core.private_write core.pts op held)
+      go false = subst (λ (t : Attempt). IsTrying true (attempted core op (Some t, core)))
           (sym (cond-false core.is_out attempt.Waiting _ quiet)) (needs (Some held.wts) op)
 
 module _ (bank : BankState) (x : Message) (lease mts core : ℕ) (room : Bool) where
-  abbrev Reacts : Option Entry → Body → Type 0
-  Reacts e b = IsActive (reacted (bank_table.after_decision bank x (at_bank lease mts room core e b)))
+  abbrev Reacts : Bool → Option Entry → Body → Type 0
+  Reacts more e b = IsActive more (reacted (bank_table.after_decision bank x (at_bank lease mts room core e b)))
 
   -- a message to a bank that is no request
-  pub bank_active : (from : Node) (b : Body) (e : Option Entry) → comes_to_bank from b e ≡ true →
-      Reacts e b ⊎ IsRequest b
-  bank_active from (body.ShReq pts version) e comes = inr tt
-  bank_active from (body.ExReq version) e comes = inr tt
-  bank_active from (body.FlushRep line) (Some (entry.Exclusive o)) comes = inl tt
-  bank_active from (body.FlushRep line) (Some (entry.Recalling o)) comes = inl tt
-  bank_active from (body.WbRep line) (Some (entry.Exclusive o)) comes = inl tt
-  bank_active from (body.WbRep line) (Some (entry.Recalling o)) comes = inl tt
-  bank_active from (body.DramLdRep words) (Some entry.Loading) comes = inl tt
-  bank_active from body.DramStRep (Some entry.Storing) comes = inl tt
-  bank_active from _ _ comes = absurd (cc)
+  pub bank_active : (more : Bool) (from : Node) (b : Body) (e : Option Entry) → comes_to_bank from b e ≡ true →
+      Reacts more e b ⊎ IsRequest b
+  bank_active more from (body.ShReq pts version) e comes = inr tt
+  bank_active more from (body.ExReq version) e comes = inr tt
+  bank_active more from (body.FlushRep line) (Some (entry.Exclusive o)) comes = inl tt
+  bank_active more from (body.FlushRep line) (Some (entry.Recalling o)) comes = inl tt
+  bank_active more from (body.WbRep line) (Some (entry.Exclusive o)) comes = inl tt
+  bank_active more from (body.WbRep line) (Some (entry.Recalling o)) comes = inl tt
+  bank_active more from (body.DramLdRep words) (Some entry.Loading) comes = inl tt
+  bank_active more from body.DramStRep (Some entry.Storing) comes = inl tt
+  bank_active more from _ _ comes = absurd (cc)
 
   leases : (dirty : Bool) (line : TimedLine) (o : Option (ℕ × Bool)) →
-      IsActive (reacted (bank_table.after_decision bank x (on_entry.leased dirty line o)))
+      IsActive true (reacted (bank_table.after_decision bank x (on_entry.leased dirty line o)))
   leases dirty line None = tt
   leases dirty line (Some lease) = tt
 
   asks_back : (owner : ℕ) (until : Option ℕ) →
-      IsActive (reacted (bank_table.after_decision bank x (on_entry.asked_back owner until)))
+      IsActive true (reacted (bank_table.after_decision bank x (on_entry.asked_back owner until)))
   asks_back owner None = tt
   asks_back owner (Some until) = tt
 
   -- a request for a line that the bank has, if nothing is under way for it
-  pub request_active : (b : Body) → IsRequest b → (e : Entry) → is_settled e ≡ true → Reacts (Some e) b
+  pub request_active : (b : Body) → IsRequest b → (e : Entry) → is_settled e ≡ true → Reacts true (Some e) b
   request_active (body.ShReq pts version) is (entry.Shared dirty line) settled =
       leases dirty line (shared_lease line.wts line.rts pts version lease)
   request_active (body.ShReq pts version) is (entry.Exclusive owner) settled = asks_back owner (if_fits (pts + lease))
@@ -167,7 +169,7 @@ module _ (bank : BankState) (x : Message) (lease mts core : ℕ) (room : Bool) w
 
 -- a request for a line that the bank doesn't have: it is loaded, or held
 pub load_active : (bank : BankState) (x : Message) (lease mts core : ℕ) (b : Body) → IsRequest b →
-    IsActive (reacted (bank_table.after_decision bank x (at_bank lease mts true core None b)))
+    IsActive true (reacted (bank_table.after_decision bank x (at_bank lease mts true core None b)))
 load_active bank x lease mts core (body.ShReq pts version) is = tt
 load_active bank x lease mts core (body.ExReq version) is = tt
 load_active bank x lease mts core _ is = absurd is
@@ -180,17 +182,17 @@ held_without bank x lease mts core _ is = absurd is
 
 -- a line leaves, or is recalled, if nothing is under way for it
 pub entry_active : (bank : BankState) (line : ℕ) (e : Entry) → is_settled e ≡ true →
-    IsActive (entry_evicted (bank_table.after_eviction bank line (on_entry.evicted (Some e))))
+    IsActive true (entry_evicted (bank_table.after_eviction bank line (on_entry.evicted (Some e))))
 entry_active bank line (entry.Shared true y) settled = tt
 entry_active bank line (entry.Shared false y) settled = tt
 entry_active bank line (entry.Exclusive owner) settled = tt
 entry_active bank line _ settled = absurd (cc)
 
-pub dram_active : (lines : FinMap nat_cmp (List ℕ)) (x : Message) (b : Body) → comes_to_dram b ≡ true →
-    IsActive (reacted (dram_case lines x b))
-dram_active lines x body.DramLd comes = tt
-dram_active lines x (body.DramSt words) comes = tt
-dram_active lines x _ comes = absurd (cc)
+pub dram_active : (more : Bool) (lines : FinMap nat_cmp (List ℕ)) (x : Message) (b : Body) → comes_to_dram b ≡ true →
+    IsActive more (reacted (dram_case lines x b))
+dram_active more lines x body.DramLd comes = tt
+dram_active more lines x (body.DramSt words) comes = tt
+dram_active more lines x _ comes = absurd (cc)
 
 -- what is so of each line of a set that is found there is so of all of its entries, or something else is
 module _ {X : Type 0} (passes : X → Bool) (Else : Type 0) where

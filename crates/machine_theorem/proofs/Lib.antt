@@ -13,6 +13,7 @@ mod DramOpening
 mod DramWords
 mod EventMoves
 mod Events
+mod FewMessages
 mod Found
 mod FoundCases
 mod Histories

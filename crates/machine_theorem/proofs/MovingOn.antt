@@ -7,8 +7,7 @@ use Rattle.std.specs.Prelude.{option_map, is_some, not}
 use Rattle.std.specs.List.{slice_get}
 use Rattle.std.specs.Ordering.{nat_cmp}
 use Rattle.std.specs.FinMap.{FinMap}
-use Rattle.std.proofs.lemmas.Bool.{and_parts, or_parts, cases_Bool, cases_eq, cond-true, cond-false, eqb-true, eq-eqb}
-use Rattle.std.proofs.lemmas.Bool.{ne_eqb, ltb-false}
+use Rattle.std.proofs.lemmas.Bool.{cases_Bool, cases_eq, cond-true, cond-false, eqb-true, eq-eqb, ne_eqb, ltb-false}
 use Rattle.std.proofs.lemmas.Option.{get_or_from_slice_get}
 use Rattle.physiological_order.specs.declared.operation.Op.{Op}
 use Rattle.physiological_order.specs.Order.{address}
@@ -62,7 +61,7 @@ use Rattle.machine_theorem.proofs.ActiveParts.{IsRecall, core_active, copy_activ
 use Rattle.machine_theorem.proofs.ActiveParts.{bank_active, request_active, load_active, held_without, entry_active}
 use Rattle.machine_theorem.proofs.ActiveParts.{dram_active, all_pass, chosen_there}
 use Rattle.machine_theorem.proofs.Consistency.{consistent}
-use Rattle.machine_theorem.proofs.Deliveries.{serving_attempt, owner_serves}
+use Rattle.machine_theorem.proofs.Deliveries.{and_right, serving_attempt, owner_serves}
 use Rattle.machine_theorem.proofs.FoundCases.{messages_find_cases}
 use Rattle.machine_theorem.proofs.Lookups.{each_at_number}
 use Rattle.machine_theorem.proofs.Events.{invariant}
@@ -140,15 +139,31 @@ no_recall w flush wb x is = go x.body is
     go (body.WbReq until) is = wb (core_of x.to) until
     go _ is = absurd is
 
+or_right : (p q : Bool) → (p || q) ≡ false → q ≡ false
+or_right true q e = absurd (cc)
+or_right false q e = e
+
+-- a copy that owns its line
+pub owned_copy : (held : Option LineCopy) → by_line.owns (copy_or_none held) ≡ 1 →
+    (copy : LineCopy) × (held ≡ Some copy) × (is_exclusive copy.state ≡ true)
+owned_copy None e = absurd (omega arith)
+owned_copy (Some copy) e = go (is_exclusive copy.state) refl
+  where
+    go : (b : Bool) → is_exclusive copy.state ≡ b →
+        (k : LineCopy) × (Some copy ≡ Some k) × (is_exclusive k.state ≡ true)
+    go true is = (copy, refl, is)
+    go false is = absurd (let z : by_line.owns (copy_or_none (Some copy)) ≡ 0 =
+        cond-false (is_exclusive copy.state) 1 0 is in omega arith)
+
 -- a message that may stay as it is
-data Stays (m : Machine) (x : Message) : Type 0 where
+pub data Stays (m : Machine) (x : Message) : Type 0 where
   a_request : (b : ℕ) (bank : BankState) → x.to ≡ node.Bank b → slice_get m.banks b ≡ Some bank →
       bank_has_case bank x ≡ true → IsRequest x.body → Stays m x
   a_recall : (c : ℕ) (core : CoreState) → x.to ≡ node.Core c → slice_get m.cores c ≡ Some core →
       is_pinned (pinned_line core) x.line ≡ true → IsRecall x.body → Stays m x
 
-module _ (m : Machine) (able : CanSend m) (s : Invariant m) (rising : IsRising 0 m.mail.messages m.mail.next)
-    (sized : IsSized m.config (seen m)) (fair : Fair m.config) where
+module _ {more : Bool} (m : Machine) (able : CanSend more m) (s : Invariant m)
+    (rising : IsRising 0 m.mail.messages m.mail.next) where
   abbrev bag : List Message
   bag = bag_of m.mail.messages
 
@@ -156,7 +171,7 @@ module _ (m : Machine) (able : CanSend m) (s : Invariant m) (rising : IsRising 0
   home h = h % m.config.banks
 
   -- each message in flight changes the machine, or may stay
-  message_moves : (n : ℕ) (x : Message) → at_number n m.mail.messages ≡ Some x → MovesOn m ⊎ Stays m x
+  pub message_moves : (n : ℕ) (x : Message) → at_number n m.mail.messages ≡ Some x → MovesOn m ⊎ Stays m x
   message_moves n x number = go x.to refl
       (each_at_number (λ y. has_case m y.1 ≡ true) n m.mail.messages x number (messages_find_cases m s) (λ k p. p))
     where
@@ -167,8 +182,8 @@ module _ (m : Machine) (able : CanSend m) (s : Invariant m) (rising : IsRising 0
           (λ active. inl (core_moves m able n x number c core to at has active))
           (λ (held : IsRecall x.body × (is_pinned (pinned_line core) x.line ≡ true)).
           inr (a_recall c core to at held.1 held.0))
-          (core_active core x.line x.body (is_pinned (pinned_line core) x.line)
-          (and_parts (core_table.is_this_core core.number x.to) _ has).1)
+          (core_active more core x.line x.body (is_pinned (pinned_line core) x.line)
+          (and_right (core_table.is_this_core core.number x.to) _ has))
 
       at_bank : (b : ℕ) → x.to ≡ node.Bank b → (o : Option BankState) → slice_get m.banks b ≡ o →
           takes bank_has_case o x ≡ true → MovesOn m ⊎ Stays m x
@@ -177,14 +192,14 @@ module _ (m : Machine) (able : CanSend m) (s : Invariant m) (rising : IsRising 0
           (λ active. inl (bank_moves m able n x number b bank to at has active))
           (λ (is : IsRequest x.body). inr (a_request b bank to at has is))
           (bank_active bank x bank.lease bank.mts (core_of x.from) (has_room bank.table (bank_table.set_of bank x.line))
-          x.from x.body (entry_of bank x.line) (and_parts (is_this_bank bank.number x.to) _ has).1)
+          more x.from x.body (entry_of bank x.line) (and_right (is_this_bank bank.number x.to) _ has))
 
       at_dram : (b : ℕ) → x.to ≡ node.Dram b → (o : Option (FinMap nat_cmp (List ℕ))) → slice_get m.drams b ≡ o →
           takes dram_has_case o x ≡ true → MovesOn m ⊎ Stays m x
       at_dram b to None at has = absurd (cc)
       at_dram b to (Some lines) at has =
           inl (dram_moves m able n x number b lines to at has
-          (dram_active lines x x.body (and_parts (is_dram x.to) _ has).1))
+          (dram_active more lines x x.body (and_right (is_dram x.to) _ has)))
 
       go : (to : Node) → x.to ≡ to → has_case_at m x to ≡ true → MovesOn m ⊎ Stays m x
       go (node.Core c) to has = at_core c to (slice_get m.cores c) refl has
@@ -192,8 +207,8 @@ module _ (m : Machine) (able : CanSend m) (s : Invariant m) (rising : IsRising 0
       go (node.Dram b) to has = at_dram b to (slice_get m.drams b) refl has
 
   -- so a message of a kind that is neither a request nor a recall changes it
-  light_moves : (w : by_line.Message → ℕ) → ((c pts : ℕ) (version : Option ℕ) → w (by_line.ShReq c pts version) ≡ 0) →
-      ((c : ℕ) (version : Option ℕ) → w (by_line.ExReq c version) ≡ 0) → ((c : ℕ) → w (by_line.FlushReq c) ≡ 0) →
+  pub light_moves : (w : by_line.Message → ℕ) →
+      ((c pts : ℕ) (version : Option ℕ) → w (by_line.ShReq c pts version) ≡ 0) → ((c : ℕ) (version : Option ℕ) → w (by_line.ExReq c version) ≡ 0) → ((c : ℕ) → w (by_line.FlushReq c) ≡ 0) →
       ((c until : ℕ) → w (by_line.WbReq c until) ≡ 0) → (h : ℕ) → 1 ≤ tally w (messages_of bag h) → MovesOn m
   light_moves w sh ex flush wb h some =
       ⊎_elim (λ (moves : MovesOn m). moves) stays (message_moves k.number k.message k.at)
@@ -218,13 +233,13 @@ module _ (m : Machine) (able : CanSend m) (s : Invariant m) (rising : IsRising 0
   stores h =
       ((reachable_ok f s.kept.shape.some_words (view m.config (seen m)) s.kept.reached.reachable).lines h).2.stores
 
-  asks : (h c : ℕ) → tally (about c) (messages_of bag h)
+  pub asks : (h c : ℕ) → tally (about c) (messages_of bag h)
       ≡ by_line.waits f h ((seen m).cores c).is_out ((seen m).cores c).open_op
   asks h =
       ((reachable_ok f s.kept.shape.some_words (view m.config (seen m)) s.kept.reached.reachable).lines h).2.asks
 
   -- the owner's operation on its own line is completed
-  owner_moves : (c : ℕ) (core : CoreState) → slice_get m.cores c ≡ Some core → (h : ℕ) (held : LineCopy) →
+  pub owner_moves : (c : ℕ) (core : CoreState) → slice_get m.cores c ≡ Some core → (h : ℕ) (held : LineCopy) →
       copy_of core.cache h ≡ Some held → is_exclusive held.state ≡ true → is_pinned (pinned_line core) h ≡ true →
       MovesOn m
   owner_moves c core at h held is ex pinned = by_op core.open_op refl
@@ -236,9 +251,9 @@ module _ (m : Machine) (able : CanSend m) (s : Invariant m) (rising : IsRising 0
           let on : core_table.line_of core p ≡ h = eqb-true (core_table.line_of core p) h
           (sym (ap (λ (i : Option Op). is_pinned (option_map (core_table.line_of core) i) h) opens) ∙ pinned) in
           attempt_moves m able c core at p opens
-          (subst IsTrying (sym (serving_attempt core p held opens
+          (subst (IsTrying more) (sym (serving_attempt core p held opens
           (subst (λ (i : ℕ). copy_of core.cache i ≡ Some held) (sym on) is) (owner_serves core.pts held ex p)))
-          (served_tries core p held (on_copy.time_of core.private_write core.pts p held)))
+          (served_tries core p more held (on_copy.time_of core.private_write core.pts p held)))
 
   -- a line that is recalled
   recalled_moves : (h o : ℕ) → OwnerAnswers (line_in m h) (by_line.Recalling o) → MovesOn m
@@ -262,17 +277,6 @@ module _ (m : Machine) (able : CanSend m) (s : Invariant m) (rising : IsRising 0
       its_owner (body.WbReq until) from to some = if_one to some
       its_owner _ from to some = absurd (omega arith)
 
-      owned : (held : Option LineCopy) → by_line.owns (copy_or_none held) ≡ 1 →
-          (copy : LineCopy) × (held ≡ Some copy) × (is_exclusive copy.state ≡ true)
-      owned None e = absurd (omega arith)
-      owned (Some copy) e = go (is_exclusive copy.state) refl
-        where
-          go : (b : Bool) → is_exclusive copy.state ≡ b →
-              (k : LineCopy) × (Some copy ≡ Some k) × (is_exclusive k.state ≡ true)
-          go true is = (copy, refl, is)
-          go false is = absurd (let z : by_line.owns (copy_or_none (Some copy)) ≡ 0 =
-              cond-false (is_exclusive copy.state) 1 0 is in omega arith)
-
       stays : Stays m k.message → MovesOn m
       stays (a_request b bank to at has is) = absurd
           (let z = no_request (recall_to o) (λ c pts v. refl) (λ c v. refl) k.message is in
@@ -282,7 +286,7 @@ module _ (m : Machine) (able : CanSend m) (s : Invariant m) (rising : IsRising 0
           ∙ its_owner k.message.body (core_of k.message.from) (core_of k.message.to) k.weighs in
           let here : (seen m).cores o ≡ core = ap (λ (i : ℕ). (seen m).cores i) (sym same)
           ∙ get_or_from_slice_get m.cores c core (open_core m.config c) at in
-          let copy = owned (copy_of ((seen m).cores o).cache h) owns in
+          let copy = owned_copy (copy_of ((seen m).cores o).cache h) owns in
           owner_moves c core at h copy.0
           (sym (ap (λ (i : CoreState). copy_of i.cache h) here) ∙ copy.1) copy.2
           (subst (λ (i : ℕ). is_pinned (pinned_line core) i ≡ true) k.line pinned)
@@ -315,6 +319,8 @@ module _ (m : Machine) (able : CanSend m) (s : Invariant m) (rising : IsRising 0
           inl (recalled_moves h owner (subst (OwnerAnswers (line_in m h)) (seen_is (entry.Recalling owner) is)
           ((consistent m s).recalls h)))
 
+module _ (m : Machine) (able : CanSend true m) (s : Invariant m) (rising : IsRising 0 m.mail.messages m.mail.next)
+    (sized : IsSized m.config (seen m)) (fair : Fair m.config) where
   -- a request finds its bank
   module _ (n : ℕ) (x : Message) (number : at_number n m.mail.messages ≡ Some x) (b : ℕ) (bank : BankState)
       (to : x.to ≡ node.Bank b) (at : slice_get m.banks b ≡ Some bank) (has : bank_has_case bank x ≡ true)
@@ -334,7 +340,8 @@ module _ (m : Machine) (able : CanSend m) (s : Invariant m) (rising : IsRising 0
     room_moves : entry_of bank x.line ≡ None → has_room bank.table i ≡ false → MovesOn m
     room_moves gone full = ⊎_elim (λ (moves : MovesOn m). moves) leaves
         (all_pass is_settled (MovesOn m) (set_at bank.table.sets i) (fits.distinct i)
-        (λ h e found. settled b bank at h e (sym (ap (λ (k : ℕ). find (set_at bank.table.sets k) h)
+        (λ h e found. settled m able s rising b bank at h e
+        (sym (ap (λ (k : ℕ). find (set_at bank.table.sets k) h)
         (sym (fits.homes i h (ap is_some found)))) ∙ found)))
       where
         leaves : bank_table.all_settled (set_at bank.table.sets i) ≡ true → MovesOn m
@@ -363,19 +370,19 @@ module _ (m : Machine) (able : CanSend m) (s : Invariant m) (rising : IsRising 0
             by_entry (Some e) found = ⊎_elim (λ (moves : MovesOn m). moves)
                 (λ (calm : is_settled e ≡ true).
                 line_moves m able n x number b bank to at has v.0 is held makes
-                (subst (λ (o : Option Entry). IsActive (entry_evicted (bank_table.after_eviction bank v.0
+                (subst (λ (o : Option Entry). IsActive true (entry_evicted (bank_table.after_eviction bank v.0
                 (on_entry.evicted o)))) (sym found) (entry_active bank v.0 e calm)))
-                (settled b bank at v.0 e found)
+                (settled m able s rising b bank at v.0 e found)
 
     request_moves : MovesOn m
     request_moves = by_entry (entry_of bank x.line) refl
       where
         moves : (room : Bool) (e : Option Entry) → has_room bank.table i ≡ room → entry_of bank x.line ≡ e →
-            IsActive (Reacts room e) → MovesOn m
+            IsActive true (Reacts room e) → MovesOn m
         moves room e is_room is_entry active =
             bank_moves m able n x number b bank to at has
-            (subst (λ (o : Option Entry). IsActive (Reacts (has_room bank.table i) o)) (sym is_entry)
-            (subst (λ (r : Bool). IsActive (Reacts r e)) (sym is_room) active))
+            (subst (λ (o : Option Entry). IsActive true (Reacts (has_room bank.table i) o)) (sym is_entry)
+            (subst (λ (r : Bool). IsActive true (Reacts r e)) (sym is_room) active))
 
         by_room : (room : Bool) → has_room bank.table i ≡ room → entry_of bank x.line ≡ None → MovesOn m
         by_room true room gone =
@@ -388,7 +395,7 @@ module _ (m : Machine) (able : CanSend m) (s : Invariant m) (rising : IsRising 0
             (λ (calm : is_settled e ≡ true).
             moves (has_room bank.table i) (Some e) refl there
             (request_active bank x bank.lease bank.mts (core_of x.from) (has_room bank.table i) x.body is e calm))
-            (settled b bank at x.line e there)
+            (settled m able s rising b bank at x.line e there)
 
   -- a core has an operation open
   module _ (c : ℕ) (core : CoreState) (op : Op) (at : slice_get m.cores c ≡ Some core) (opens : core.open_op ≡ Some op)
@@ -404,15 +411,15 @@ module _ (m : Machine) (able : CanSend m) (s : Invariant m) (rising : IsRising 0
 
       -- its request is out, or the answer
       waiting_moves : core.is_out ≡ true → MovesOn m
-      waiting_moves out = ⊎_elim (λ (moves : MovesOn m). moves) stays (message_moves k.number k.message k.at)
+      waiting_moves out = ⊎_elim (λ (moves : MovesOn m). moves) stays (message_moves m able s rising k.number k.message k.at)
         where
           l : ℕ
-          l = by_line.line_of f (address op)
+          l = by_line.line_of (set_up m.config m.opening) (address op)
 
-          one : tally (about c) (messages_of bag l) ≡ 1
-          one = asks l c ∙ ap (λ (k : CoreState). by_line.waits f l k.is_out k.open_op) here
-              ∙ ap (λ (b : Bool). by_line.waits f l b core.open_op) out ∙ ap (by_line.waits f l true) opens
-              ∙ waits_here f op
+          one : tally (about c) (messages_of (bag_of m.mail.messages) l) ≡ 1
+          one = asks m able s rising l c ∙ ap (λ (k : CoreState). by_line.waits (set_up m.config m.opening) l k.is_out k.open_op) here
+              ∙ ap (λ (b : Bool). by_line.waits (set_up m.config m.opening) l b core.open_op) out ∙ ap (by_line.waits (set_up m.config m.opening) l true) opens
+              ∙ waits_here (set_up m.config m.opening) op
 
           k : Sent l (about c) 0 m.mail.messages
           k = sent l (about c) 0 m.mail.next m.mail.messages rising (omega (arith, one))
@@ -432,7 +439,7 @@ module _ (m : Machine) (able : CanSend m) (s : Invariant m) (rising : IsRising 0
 
         tries : (copy_of core.cache line ≡ None → place_for core.cache line ≡ true) → MovesOn m
         tries place = attempt_moves m able c core at op opens
-            (subst IsTrying (sym attempt_is) (quiet_tries core op quiet (copy_of core.cache line) place))
+            (subst (IsTrying true) (sym attempt_is) (quiet_tries core op quiet (copy_of core.cache line) place))
 
         -- there is no place for the line: a copy leaves
         victim_moves : copy_of core.cache line ≡ None → place_for core.cache line ≡ false → MovesOn m
@@ -452,7 +459,7 @@ module _ (m : Machine) (able : CanSend m) (s : Invariant m) (rising : IsRising 0
                 ∙ cond-false (place_for core.cache line) _ tried.NoRoom full)
 
             no_room : has_room core.cache j ≡ false
-            no_room = (or_parts (is_there (set_at core.cache.sets j) line) _ full).1
+            no_room = or_right (is_there (set_at core.cache.sets j) line) _ full
 
             by_set : (ps : List (ℕ × LineCopy)) → set_at core.cache.sets j ≡ ps → MovesOn m
             by_set [] is = absurd (let z = ap length is in
@@ -506,10 +513,10 @@ module _ (config : Config) (good : is_good config ≡ true) (opening : FinMap na
       MovesOn after
   moves_after running room numbers core op opens = by_core (slice_get after.cores core) refl opens
     where
-      able : CanSend after
+      able : CanSend true after
       able = record {
         runs = running;
-        room = subst (λ (c : Config). length after.mail.messages < c.messages) (sym of_config) room;
+        room = λ is. subst (λ (c : Config). length after.mail.messages < c.messages) (sym of_config) room;
         numbers = numbers;
       }
 

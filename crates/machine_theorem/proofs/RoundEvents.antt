@@ -1,4 +1,5 @@
--- Events of a round that change a machine, where one more message has room and a number: each is a step of its part.
+-- Events of a round that change a machine, where a message has a number, and room or the place of the one that is
+-- delivered: each is a step of its part.
 use Rattle.std.proofs.Common.{◌≡◌, ℕ, ◌-◌, ◌^◌, ◌<◌, ◌/◌, Bool, true, false, ◌&&◌, List, length, Option, Some, None}
 use Rattle.std.proofs.Common.{refl, sym, ap, ◌∙◌, subst}
 use Rattle.std.specs.List.{slice_get}
@@ -31,47 +32,60 @@ use Rattle.machine_table.proofs.Lemmas.{finds, delivers as is_delivered}
 use Rattle.machine_theorem.specs.Rounds.{IsMoving, IsRequest, IsInRound, attempts, copy_leaves, delivers, line_leaves}
 use Rattle.machine_theorem.specs.Rounds.{MovesOn}
 
--- a step that changes something, or whose sum of times doesn't fit
-abbrev pub IsActive : {S : Type 0} → Step S → Type 0
-IsActive Exhausts = Unit {0}
-IsActive (Keeps answer) = ⊥
-IsActive Drops = Unit {0}
-IsActive (Makes answer consumes sends part) = IsMoving answer
+-- a step that changes something, or whose sum of times doesn't fit, by whether one more message has room: if not, it
+-- consumes the delivered message
+abbrev pub IsActive : {S : Type 0} → Bool → Step S → Type 0
+IsActive more Exhausts = Unit {0}
+IsActive more (Keeps answer) = ⊥
+IsActive more Drops = Unit {0}
+IsActive more (Makes answer true sends part) = IsMoving answer
+IsActive true (Makes answer false sends part) = IsMoving answer
+IsActive false (Makes answer false sends part) = ⊥
 
-abbrev pub IsTrying : Tried → Type 0
-IsTrying (Completes op received ts after) = Unit {0}
-IsTrying (Does step) = IsActive step
+abbrev pub IsTrying : Bool → Tried → Type 0
+IsTrying more (Completes op received ts after) = Unit {0}
+IsTrying more (Does step) = IsActive more step
 
--- a machine that runs, with room for one more message and a number for it
-pub record CanSend (m : Machine) : Type 0 where
+-- a machine that runs, with a number for a message, and room for one more, if that is said
+pub record CanSend (more : Bool) (m : Machine) : Type 0 where
   pub runs : m.is_stopped ≡ false
-  pub room : length m.mail.messages < m.config.messages
+  pub room : more ≡ true → length m.mail.messages < m.config.messages
   pub numbers : m.mail.next < 2 ^ 64 - 1
 
-module _ (m : Machine) (able : CanSend m) where
+module _ {more : Bool} (m : Machine) (able : CanSend more m) where
   numbered : has_number m.mail ≡ true
   numbered = lt-ltb m.mail.next (2 ^ 64 - 1) able.numbers
 
-  free : has_capacity m.config.messages m.mail ≡ true
-  free = ap (λ (b : Bool). b && has_number m.mail) (lt-ltb (length m.mail.messages) m.config.messages able.room)
-      ∙ numbered
+  free : more ≡ true → has_capacity m.config.messages m.mail ≡ true
+  free is = ap (λ (b : Bool). b && has_number m.mail)
+      (lt-ltb (length m.mail.messages) m.config.messages (able.room is)) ∙ numbered
 
-  can : (consumes : Bool) (sends : Option Message) → can_post m.config.messages m.mail consumes sends ≡ true
-  can true None = refl
-  can false None = refl
-  can true (Some q) = numbered
-  can false (Some q) = free
+  can : (consumes : Bool) (sends : Option Message) → (consumes ≡ false → more ≡ true) →
+      can_post m.config.messages m.mail consumes sends ≡ true
+  can true None has = refl
+  can false None has = refl
+  can true (Some q) has = numbered
+  can false (Some q) has = free (has refl)
 
-  step_moves : {S : Type 0} (put : S → Machine) (n : Option ℕ) (step : Step S) → IsActive step →
+  step_moves : {S : Type 0} (put : S → Machine) (n : Option ℕ) (step : Step S) → IsActive more step →
       IsMoving (changed m put n step).0
   step_moves put n Exhausts active = tt
   step_moves put n (Keeps answer) active = absurd active
   step_moves put n Drops active = tt
-  step_moves put n (Makes answer consumes sends part) active =
-      subst (λ (o : Answer × Machine). IsMoving o.0)
-      (sym (cond-true (can_post m.config.messages m.mail consumes sends) _ _ (can consumes sends))) active
+  step_moves put n (Makes answer consumes sends part) active = go consumes more refl active
+    where
+      made : (takes : Bool) → (takes ≡ false → more ≡ true) → IsMoving answer →
+          IsMoving (changed m put n (Makes answer takes sends part)).0
+      made takes has moving = subst (λ (o : Answer × Machine). IsMoving o.0)
+          (sym (cond-true (can_post m.config.messages m.mail takes sends) _ _ (can takes sends has))) moving
 
-  try_moves : (c : ℕ) (core : CoreState) (t : Tried) → IsTrying t → IsMoving (tried m c core t).0
+      go : (takes b : Bool) → more ≡ b → IsActive b (Makes answer takes sends part) →
+          IsMoving (changed m put n (Makes answer takes sends part)).0
+      go true b is active = made true (λ e. absurd (let z : true ≡ false = e in cc)) active
+      go false true is active = made false (λ e. is) active
+      go false false is active = absurd active
+
+  try_moves : (c : ℕ) (core : CoreState) (t : Tried) → IsTrying more t → IsMoving (tried m c core t).0
   try_moves c core (Completes op received ts after) trying = tt
   try_moves c core (Does step) trying = step_moves (with_core m c) None step trying
 
@@ -90,7 +104,7 @@ module _ (m : Machine) (able : CanSend m) where
     tries : on_event m (event.Attempt c) ≡ tried m c core (attempt_open core core.open_op)
     tries = finds m (λ x. tried m c x (attempt_open x x.open_op)) at
 
-    pub attempt_moves : (op : Op) → core.open_op ≡ Some op → IsTrying (attempt_open core core.open_op) → MovesOn m
+    pub attempt_moves : (op : Op) → core.open_op ≡ Some op → IsTrying more (attempt_open core core.open_op) → MovesOn m
     attempt_moves op opens trying =
         by_event (event.Attempt c) (attempts c core op at opens) (tried m c core (attempt_open core core.open_op)) tries
         (try_moves c core (attempt_open core core.open_op) trying)
@@ -98,7 +112,7 @@ module _ (m : Machine) (able : CanSend m) where
     pub copy_moves : (op : Op) (line : ℕ) → core.open_op ≡ Some op →
         attempt_open core core.open_op ≡ Does (Keeps (Refused refusal.NoRoom)) →
         victim_for core.cache (address op / m.config.line_words) ≡ Some line →
-        IsActive (copy_evicted (core_table.evict core line)) → MovesOn m
+        IsActive more (copy_evicted (core_table.evict core line)) → MovesOn m
     copy_moves op line opens full victim active =
         by_event (event.EvictCache c line)
         (copy_leaves c line core op at opens
@@ -110,7 +124,7 @@ module _ (m : Machine) (able : CanSend m) where
   module _ (n : ℕ) (x : Message) (number : at_number n m.mail.messages ≡ Some x) where
     -- a message whose part is there and has a case for it
     pub core_moves : (c : ℕ) (core : CoreState) → x.to ≡ node.Core c → slice_get m.cores c ≡ Some core →
-        core_has_case core x ≡ true → IsActive (reacted (core_table.core_table core x)) → MovesOn m
+        core_has_case core x ≡ true → IsActive more (reacted (core_table.core_table core x)) → MovesOn m
     core_moves c core to at has active =
         by_event (event.Deliver n) (delivers n x number) _
         (is_delivered m n x (node.Core c) number to (with_core m c) (slice_get m.cores c) core at core_has_case
@@ -119,7 +133,7 @@ module _ (m : Machine) (able : CanSend m) where
 
     pub dram_moves : (b : ℕ) (lines : FinMap nat_cmp (List ℕ)) → x.to ≡ node.Dram b →
         slice_get m.drams b ≡ Some lines →
-        dram_has_case lines x ≡ true → IsActive (reacted (dram_table lines x)) → MovesOn m
+        dram_has_case lines x ≡ true → IsActive more (reacted (dram_table lines x)) → MovesOn m
     dram_moves b lines to at has active =
         by_event (event.Deliver n) (delivers n x number) _
         (is_delivered m n x (node.Dram b) number to (with_dram m b) (slice_get m.drams b) lines at dram_has_case
@@ -132,14 +146,14 @@ module _ (m : Machine) (able : CanSend m) where
       reacts = is_delivered m n x (node.Bank b) number to (with_bank m b) (slice_get m.banks b) bank at bank_has_case
           bank_table.bank_table has refl
 
-      pub bank_moves : IsActive (reacted (bank_table.bank_table bank x)) → MovesOn m
+      pub bank_moves : IsActive more (reacted (bank_table.bank_table bank x)) → MovesOn m
       bank_moves active =
           by_event (event.Deliver n) (delivers n x number) _ reacts
           (step_moves (with_bank m b) (Some n) (reacted (bank_table.bank_table bank x)) active)
 
       pub line_moves : (line : ℕ) → IsRequest x.body → reacted (bank_table.bank_table bank x) ≡ Keeps Held →
           bank_table.make_room bank x.line ≡ Some line →
-          IsActive (entry_evicted (bank_table.evict bank line)) → MovesOn m
+          IsActive more (entry_evicted (bank_table.evict bank line)) → MovesOn m
       line_moves line request held chosen active =
           by_event (event.EvictBank b line)
           (line_leaves n b line x bank number to request at

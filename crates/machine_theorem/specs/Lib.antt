@@ -5,6 +5,7 @@ pub mod Consistency
 pub mod Consistent
 pub mod Effects
 pub mod Events
+pub mod HeldRecalls
 pub mod Kept
 pub mod Moves
 pub mod Ownership

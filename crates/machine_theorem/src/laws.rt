@@ -1,6 +1,6 @@
 //! What every event and every list of events keeps.
 ghost use Rattle.std.specs.Prelude.{◌≡◌, ◌≢◌, ℕ, ◌+◌, ◌-◌, ◌^◌, ◌<◌, ◌≤◌, Bool, true, false, List, length, Some};
-ghost use Rattle.std.specs.Prelude.{slice_get};
+ghost use Rattle.std.specs.Prelude.{slice_get, ◌⊎◌};
 ghost use Rattle.physiological_order.specs.declared.operation.Op.{Op};
 ghost use Rattle.std.specs.Ordering.{nat_cmp};
 ghost use Rattle.std.specs.FinMap.{FinMap};
@@ -22,6 +22,7 @@ ghost use Rattle.machine_theorem.specs.Bags.{SameBag, bag_of};
 ghost use Rattle.machine_theorem.specs.PrivateWrites.{private_cores, private_writes, private_records};
 ghost use Rattle.machine_theorem.specs.StaleHit.{two_cores, stale_hit, stale_records};
 ghost use Rattle.machine_theorem.specs.Consistency.{IsConsistent};
+ghost use Rattle.machine_theorem.specs.HeldRecalls.{RecallsFindOwners};
 ghost use Rattle.machine_theorem.specs.Kept.{Invariant};
 ghost use Rattle.machine_theorem.specs.Rounds.{MovesOn};
 ghost use Rattle.machine_theorem.specs.Unstuck.{IsServed};
@@ -100,6 +101,18 @@ pub fn rounds_move_on()
         m.is_stopped ≡ false → length m.mail.messages < config.messages →
         m.mail.next < 2 ^ 64 - 1 → (core : ℕ) (op : Op) →
         operation_of (slice_get m.cores core) ≡ Some op → MovesOn m }
+{}
+
+/// A round changes the machine, room or not, unless there is at most one message in flight for each core. After any
+/// list of events, refused ones included, of a machine that opened with a good set-up and hasn't stopped, and has a
+/// number for a message: if each recall that a core holds for its open operation finds the core as the line's owner,
+/// now or after its grant, one of the events that a round makes of the machine as it is changes it, or no more messages
+/// are in flight than there are cores.
+pub fn rounds_move_many_messages()
+    ensures { (config : Config) (opening : FinMap nat_cmp ℕ) (events : List Event) → is_good config ≡ true →
+        let m = after_all (at_start config opening) events in
+        m.is_stopped ≡ false → m.mail.next < 2 ^ 64 - 1 → RecallsFindOwners m →
+        MovesOn m ⊎ (length m.mail.messages ≤ config.cores) }
 {}
 
 /// A run by the table, with any opening memory: a core reads a word, another writes it, and the first reads the

@@ -4,10 +4,9 @@
 use crate::calls::read_call;
 use crate::machines::Played;
 use event_text::{Cause, NO_MEMORY, Reply, Turn};
-use std::io;
 use std::io::Write;
 use std::rt::Env;
-use std::env;
+use std::{env, io};
 
 /// Plays a call, or tells why it can't be read.
 fn answer(played: &mut Played, call: &str, reply: &mut Reply) {

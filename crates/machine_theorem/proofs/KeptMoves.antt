@@ -28,7 +28,7 @@ use Rattle.machine_theorem.proofs.CoreDeliveries.{core_delivery}
 use Rattle.machine_theorem.proofs.BankMoves.{entry_goes, bank_delivery, dram_delivery}
 
 module _ (config : Config) (opening : FinMap nat_cmp ℕ) (a : State) (s : IsKept config opening a) where
-  core_goes : (c : ℕ) → c < config.cores → (act : Act) (rest : List Message) →
+  pub core_goes : (c : ℕ) → c < config.cores → (act : Act) (rest : List Message) →
       AreBeside a.bag (node.Core c) (core_has_case (a.cores c)) (message_of act) rest →
       Tries config opening a c rest (core_step (a.cores c) act)
   core_goes c below step.Attempting rest all =
@@ -43,12 +43,12 @@ module _ (config : Config) (opening : FinMap nat_cmp ℕ) (a : State) (s : IsKep
       rw all (advance_goes config opening a s c below (fits ((a.cores c).pts + 1)))
 
   -- a delivered message is one of the home of its line
-  home : (message : Message) (rest : List Message) → SameBag a.bag (message ∷ rest) → (to : Node) →
+  pub home : (message : Message) (rest : List Message) → SameBag a.bag (message ∷ rest) → (to : Node) →
       message.to ≡ to → IsHome (message.line % config.banks) to
   home message rest same to is =
       rw is at ((kept_reordered config opening a (message ∷ rest) same s).shape.each_message.0.1)
 
-  bank_goes : (i : ℕ) (act : Act) (rest : List Message) →
+  pub bank_goes : (i : ℕ) (act : Act) (rest : List Message) →
       AreBeside a.bag (node.Bank i) (bank_has_case (a.banks i)) (message_of act) rest →
       Goes config opening a (with_bank a i) rest (bank_step (a.banks i) act)
   bank_goes i step.Attempting rest all = tt
@@ -68,7 +68,7 @@ module _ (config : Config) (opening : FinMap nat_cmp ℕ) (a : State) (s : IsKep
       ]
   bank_goes i step.Advancing rest all = tt
 
-  dram_goes : (i : ℕ) (act : Act) (rest : List Message) →
+  pub dram_goes : (i : ℕ) (act : Act) (rest : List Message) →
       AreBeside a.bag (node.Dram i) (dram_has_case (a.drams i)) (message_of act) rest →
       Goes config opening a (with_dram a i) rest (dram_step (a.drams i) act)
   dram_goes i step.Attempting rest all = tt

@@ -11,6 +11,8 @@ pub use Rattle.protocol.proofs.BlockedRequests.{reachable_blocked}
 pub use Rattle.protocol.proofs.Cases.{messages_have_cases}
 -- While a line is being recalled, its owner's return or a recall that the owner answers is on the way.
 pub use Rattle.protocol.proofs.Recalls.{owners_answer}
+-- The entry names the owner of its line, and no core owns a line that its bank has.
+pub use Rattle.protocol.proofs.Recalls.{owner_named, unowned}
 -- What a line's invariant counts: its loads, its stores, and the messages about a core, which waits for one of them.
 pub use Rattle.protocol.proofs.Lines.{about, load, loading, one_if, store, storing}
 pub use Rattle.protocol.proofs.Headline.{waits_here, waits_there}

@@ -1,11 +1,12 @@
 use Rattle.std.proofs.Common.{◌%◌, ◌≡◌, ◌≢◌, ℕ, ◌+◌, ◌<◌, ◌≤◌, Bool, true, false, cond, eqb, List, [], ◌∷◌, Option}
-use Rattle.std.proofs.Common.{Some, None, inl, inr, refl, sym, ap, ◌∙◌, subst, arith, le_trans, le_refl, ⊎_elim}
+use Rattle.std.proofs.Common.{◌⊎◌, Some, None, inl, inr, refl, sym, ap, ◌∙◌, subst, arith, le_trans, le_refl, ⊎_elim}
 use Rattle.std.specs.List.Sorted.{IsPermutation}
 use Rattle.std.proofs.lemmas.Bool.{true_from_ne_false, cases_eq, cond-true, cond-false, eq-eqb, ne_eqb}
 use Rattle.physiological_order.specs.declared.operation.Op.{Op}
 use Rattle.physiological_order.specs.declared.operation.Record.{Record}
 use Rattle.physiological_order.specs.Order.{Memory, address}
-use Rattle.protocol.specs.Machine.{Config, Timed, Copy, Entry, Exclusive, Recalling, Message, ShRep, ExRep, RenewRep}
+use Rattle.protocol.specs.Machine.{Config, Timed, Copy, Entry, Shared, Exclusive, Recalling, Message, ShRep, ExRep}
+use Rattle.protocol.specs.Machine.{RenewRep}
 use Rattle.protocol.specs.Machine.{UpgradeRep, FlushReq, WbReq, FlushRep, WbRep, DramLd, DramLdRep, DramSt, DramStRep}
 use Rattle.protocol.specs.Machine.{Line, with_at, tally, owns, LineTransition, evict_shared, evict_exclusive, dropped}
 use Rattle.protocol.specs.Machine.{wb_dropped, flushed, written_back, upgraded, granted, wb_starts, flush_starts}
@@ -15,11 +16,12 @@ use Rattle.protocol.specs.Machine.{Machine, Transition, issue, advance, ask, ans
 use Rattle.protocol.specs.Machine.{at_first, goes_on, line_of, IsPinned}
 use Rattle.protocol.specs.Recalls.{recall_to, grant_to, return_of, OwnsOrWill, OwnerAnswers}
 use Rattle.protocol.proofs.Bags.{tally-taken}
-use Rattle.protocol.proofs.Lines.{one_at_most, Holder, flying, right, about, one_if, LineOk, with_at_same}
-use Rattle.protocol.proofs.Lines.{with_at_other, with_at_cases}
-use Rattle.protocol.proofs.LineChanges.{At_injective, at_most_one, ok_shuffled}
+use Rattle.protocol.proofs.Lines.{one_at_most, Holder, Bank, At, flying, right, about, one_if, EntryOk, LineOk}
+use Rattle.protocol.proofs.Lines.{with_at_same, with_at_other, with_at_cases}
+use Rattle.protocol.proofs.LineChanges.{Goes, At_injective, at_most_one, ok_shuffled}
 use Rattle.protocol.proofs.Cores.{Some_injective}
-use Rattle.protocol.proofs.Headline.{MachineOk, reachable_ok, waits_unpinned}
+use Rattle.protocol.proofs.Headline.{MachineOk, reachable_ok, waits_unpinned, busy}
+use Rattle.protocol.proofs.Completions.{values}
 
 -- a bag by what its members weigh at most
 pub tally_le : {X : Type 0} (u w : X → ℕ) → ((x : X) → u x ≤ w x) → (xs : List X) → tally u xs ≤ tally w xs
@@ -32,12 +34,26 @@ tally_both u v w le [] = omega arith
 tally_both u v w le (x ∷ xs) = let a = le x in let b = tally_both u v w le xs in omega arith
 
 -- grants and returns of one core have the right; a grant answers a request of its core
-rights : (c : ℕ) (m : Message) → grant_to c m + return_of c m ≤ right m
-rights c (ExRep d x) = let z = one_at_most (eqb d c) in omega arith
-rights c (UpgradeRep d r) = let z = one_at_most (eqb d c) in omega arith
-rights c (FlushRep d x) = let z = one_at_most (eqb d c) in omega arith
-rights c (WbRep d x) = let z = one_at_most (eqb d c) in omega arith
-rights c _ = omega arith
+rights : (c o : ℕ) (m : Message) → grant_to c m + return_of o m ≤ right m
+rights c o (ExRep d x) = let z = one_at_most (eqb d c) in omega arith
+rights c o (UpgradeRep d r) = let z = one_at_most (eqb d c) in omega arith
+rights c o (FlushRep d x) = let z = one_at_most (eqb d o) in omega arith
+rights c o (WbRep d x) = let z = one_at_most (eqb d o) in omega arith
+rights c o _ = omega arith
+
+-- a grant is one core's alone
+one_of : (c o d : ℕ) → o ≢ c → cond (eqb d c) 1 0 + cond (eqb d o) 1 0 ≤ 1
+one_of c o d ne = ⊎_elim
+    (λ (e : d ≡ c). let z : ◌≡◌ {A = ℕ} (cond (eqb d o) 1 0) 0 =
+    cond-false (eqb d o) 1 0 (ne_eqb d o (λ q. ne (sym q ∙ e))) in
+    let y = one_at_most (eqb d c) in omega (arith, z, y))
+    (λ (n : d ≡ c → ⊥). let z : ◌≡◌ {A = ℕ} (cond (eqb d c) 1 0) 0 = cond-false (eqb d c) 1 0 (ne_eqb d c n) in
+    let y = one_at_most (eqb d o) in omega (arith, z, y)) (cases_eq d c)
+
+apart : (c o : ℕ) → o ≢ c → (m : Message) → grant_to c m + grant_to o m ≤ right m
+apart c o ne (ExRep d x) = one_of c o d ne
+apart c o ne (UpgradeRep d r) = one_of c o d ne
+apart c o ne _ = omega arith
 
 one_if_cond : (b : Bool) → one_if b ≡ cond b 1 0
 one_if_cond true = refl
@@ -103,7 +119,7 @@ not_exclusive y copy is sh other e = ap (λ (k : Copy). k.exclusive) (Some_injec
 module _ (f : Config) (h : ℕ → Memory) (l : ℕ) (records : List Record) (busy : ℕ → ℕ) (t : ℕ) (x : Line) (s : Timed)
     (b : Holder) (ok : LineOk f h l records busy t x s b) where
   all_rights : (c : ℕ) → tally (grant_to c) x.messages + tally (return_of c) x.messages ≤ flying b
-  all_rights c = let z = tally_both (grant_to c) (return_of c) right (rights c) x.messages in
+  all_rights c = let z = tally_both (grant_to c) (return_of c) right (rights c c) x.messages in
       let e = ok.owner_count in omega arith
 
   -- the owner is the one that the entry names
@@ -266,7 +282,7 @@ module _ (f : Config) (h : ℕ → Memory) (l : ℕ) (records : List Record) (bu
 
         no_return : (o : ℕ) → 1 ≤ tally (return_of o) x.messages → ⊥
         no_return o i = let j = tally-taken (return_of o) x.messages (m ∷ rest) p in let k = none o in
-            let n = tally_both (grant_to o) (return_of o) right (rights o) rest in let a = alone in omega arith
+            let n = tally_both (grant_to o) (return_of o) right (rights o o) rest in let a = alone in omega arith
 
         is_named : (o : ℕ) → OwnsOrWill o x → o ≡ c
         is_named o (inl i) =
@@ -277,7 +293,7 @@ module _ (f : Config) (h : ℕ → Memory) (l : ℕ) (records : List Record) (bu
             ⊎_elim (λ (e : o ≡ c). e)
             (λ (n : o ≡ c → ⊥). absurd (let j = tally-taken (grant_to o) x.messages (m ∷ rest) p in
             let k = others o n in
-            let b = tally_both (grant_to o) (return_of o) right (rights o) rest in let a = alone in omega arith))
+            let b = tally_both (grant_to o) (return_of o) right (rights o o) rest in let a = alone in omega arith))
             (cases_eq o c)
 
         owns_now : (o : ℕ) → o ≡ c → OwnsOrWill o y
@@ -365,3 +381,79 @@ pub owners_answer : (f : Config) → 0 < f.line_words → f.loses_recalls ≡ fa
 owners_answer f good strict m (at_first pts mts drams at opens) = λ l. tt
 owners_answer f good strict m (goes_on {m = before} r change) =
     change_answers f strict before m (reachable_ok f good before r) (owners_answer f good strict before r) change
+
+-- in every reached machine the entry names the owner of its line, and no core owns a line that its bank has
+module _ (f : Config) (good : 0 < f.line_words) (strict : f.loses_recalls ≡ false) (m : Machine) (r : Reachable f m)
+    (l : ℕ) where
+  abbrev x : Line
+  x = m.lines l
+
+  -- it, and no return is on the way
+  abbrev pub IsNamed : ℕ → Type 0
+  IsNamed c = ((x.entry ≡ Exclusive c) ⊎ (x.entry ≡ Recalling c)) × (tally (return_of c) x.messages ≡ 0)
+
+  pub owner_named : (c : ℕ) → OwnsOrWill c x → IsNamed c
+  owner_named c has = by_entry x.entry refl k.2.entry (owners_answer f good strict m r l)
+    where
+      k : Goes f (values f m.records) l m.records (busy f m.cores l) (m.mts (l % f.banks)) x
+      k = (reachable_ok f good m r).lines l
+
+      no_bank : k.1 ≡ Bank → ⊥
+      no_bank e = go has
+        where
+          go : OwnsOrWill c x → ⊥
+          go (inl is) = let there = owns_some (x.copies c) is in
+              absurd (let z : At c ≡ Bank = sym ((k.2.copies c there.0 there.1).0 there.2).0 ∙ e in cc)
+          go (inr grant) = let z = all_rights f _ l m.records _ _ x _ _ k.2 c in let y = ap flying e in
+              absurd (omega (arith, z, y, grant))
+
+      no_return : (o : ℕ) → tally (return_of o) x.messages ≡ 0
+      no_return o = go has
+        where
+          go : OwnsOrWill c x → tally (return_of o) x.messages ≡ 0
+          go (inl is) = let there = owns_some (x.copies c) is in
+              none_returns f _ l m.records _ _ x _ _ k.2 c o there.0 there.1 there.2
+          go (inr grant) = let z = tally_both (grant_to c) (return_of o) right (rights c o) x.messages in
+              let y = k.2.owner_count in let w = at_most_one k.1 in omega (arith, z, y, w, grant)
+
+      same : (o : ℕ) → OwnsOrWill o x → o ≡ c
+      same o other = go has other
+        where
+          go : OwnsOrWill c x → OwnsOrWill o x → o ≡ c
+          go (inl is) other = let there = owns_some (x.copies c) is in
+              owner_at f _ l m.records _ _ x _ _ k.2 c o there.0 there.1 there.2 other
+          go (inr grant) (inl is) = let there = owns_some (x.copies o) is in
+              absurd (let z = all_rights f _ l m.records _ _ x _ _ k.2 c in
+              let y = ap flying ((k.2.copies o there.0 there.1).0 there.2).0 in omega (arith, z, y, grant))
+          go (inr grant) (inr too) = ⊎_elim (λ (e : o ≡ c). e)
+              (λ (ne : o ≡ c → ⊥). absurd (
+              let z = tally_both (grant_to c) (grant_to o) right (apart c o ne) x.messages in
+              let y = k.2.owner_count in let w = at_most_one k.1 in omega (arith, z, y, w, grant, too)))
+              (cases_eq o c)
+
+      by_entry : (e : Entry) → x.entry ≡ e → EntryOk k.0 k.1 (m.mts (l % f.banks)) x.dram e → OwnerAnswers x e →
+          IsNamed c
+      by_entry (Exclusive o) e ok (inl back) = absurd (let z = no_return o in omega (arith, z, back))
+      by_entry (Exclusive o) e ok (inr own) = (inl (e ∙ ap Exclusive (same o own)), no_return c)
+      by_entry (Recalling o) e ok (inl back) = absurd (let z = no_return o in omega (arith, z, back))
+      by_entry (Recalling o) e ok (inr own) = (inr (e ∙ ap Recalling (same o own.1)), no_return c)
+      by_entry _ e ok q = absurd (no_bank ok.0)
+
+  pub unowned : (dirty : Bool) (line : Timed) → x.entry ≡ Shared dirty line → (c : ℕ) →
+      (OwnsOrWill c x → ⊥) × (tally (return_of c) x.messages ≡ 0)
+  unowned dirty line is c = (never, let z = all in omega (arith, z))
+    where
+      k : Goes f (values f m.records) l m.records (busy f m.cores l) (m.mts (l % f.banks)) x
+      k = (reachable_ok f good m r).lines l
+
+      at : k.1 ≡ Bank
+      at = (subst (EntryOk k.0 k.1 (m.mts (l % f.banks)) x.dram) is k.2.entry).0
+
+      all : tally (grant_to c) x.messages + tally (return_of c) x.messages ≤ 0
+      all = let z = all_rights f _ l m.records _ _ x _ _ k.2 c in let e = ap flying at in omega (arith, z, e)
+
+      never : OwnsOrWill c x → ⊥
+      never (inl owns_it) =
+          let there = owns_some (x.copies c) owns_it in
+          absurd (let z : At c ≡ Bank = sym ((k.2.copies c there.0 there.1).0 there.2).0 ∙ at in cc)
+      never (inr grant) = let z = all in absurd (omega (arith, z, grant))

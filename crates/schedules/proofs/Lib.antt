@@ -15,3 +15,4 @@ mod RunLaws
 mod Served
 mod StillRounds
 mod Stalls
+mod FewMessages

@@ -239,10 +239,10 @@ module _ {P : Type 0} (acts : Acts P) (config : Config) (good : is_good config �
   first = initial_position acts start opening round
 
   -- the last round left all as it was, and a core had something left to do
-  record Stood (s : Standing P) : Type 0 where
-    goes_on : GoesOn s
-    still : AreStill s.machine (round_of acts round s)
-    work : are_over acts s.machine s.programs s.machine.config.cores ≡ false
+  pub record Stood (s : Standing P) : Type 0 where
+    pub goes_on : GoesOn s
+    pub still : AreStill s.machine (round_of acts round s)
+    pub work : are_over acts s.machine s.programs s.machine.config.cores ≡ false
 
   other_end : (m : Machine) (programs : List P) → end_here acts m programs ≢ Stalled
   other_end m programs = cond_both (are_over acts m programs m.config.cores) AllDone TurnsUsed (λ e. e ≢ Stalled)
@@ -299,33 +299,33 @@ module _ {P : Type 0} (acts : Acts P) (config : Config) (good : is_good config �
 
   module _ (running : start.is_stopped ≡ false) {keeps : Bool} {events : List Event} {m : Machine} {programs : List P}
       (ended : Ended keeps plan first events m programs Stalled) where
-    abbrev last : Standing P
+    abbrev pub last : Standing P
     last = ended.last
 
-    stands : Stood last
+    pub stands : Stood last
     stands =
         let h = not_cut ended (λ bad. absurd cc) in
         subst Stood h.standing_is (stood limit h.end_is)
 
-    abbrev all : List Event
+    abbrev pub all : List Event
     all = earlier ++ events
 
-    machine_is : last.machine ≡ after_all (at_start config memory) all
+    pub machine_is : last.machine ≡ after_all (at_start config memory) all
     machine_is = ended.machine_is ∙ run_makes plan first refl ended
         ∙ sym (all_both (at_start config memory) earlier events)
 
-    runs : last.machine.is_stopped ≡ false
+    pub runs : last.machine.is_stopped ≡ false
     runs = all_kept plan first (λ s events. Runs acts s) (λ in_time. running)
         (λ own s events made left so is. actions_run acts (begin s) made so) ended stands.goes_on.in_time
 
-    of_config : last.machine.config ≡ config
+    pub of_config : last.machine.config ≡ config
     of_config = ap (λ (n : Machine). n.config) machine_is ∙ (after_all_same (at_start config memory) all).config
 
     core_count : length last.machine.cores ≡ config.cores
     core_count = ap (λ (n : Machine). length n.cores) machine_is ∙ (after_all_same (at_start config memory) all).cores
         ∙ (at_start_invariant config memory (fair_set_up config good)).core_count
 
-    as_many : length last.machine.cores ≡ round.cores
+    pub as_many : length last.machine.cores ≡ round.cores
     as_many = core_count ∙ sym (ap (λ (c : Config). c.cores) (after_all_same (at_start config memory) earlier).config)
 
     abbrev Sends : Machine → Type 0

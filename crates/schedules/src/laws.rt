@@ -19,7 +19,7 @@ ghost use Rattle.schedules.specs.Batches.{policy_of_run};
 ghost use Rattle.schedules.specs.Policies.{EndedBy};
 ghost use Rattle.schedules.specs.Parts.{Standing, is_progress};
 ghost use Rattle.schedules.specs.Runs.{Ended, initial_position, opened, plan_of};
-ghost use Rattle.schedules.specs.Stalls.{StallsSince};
+ghost use Rattle.schedules.specs.Stalls.{StallsSince, StallsFromOpening};
 ghost use Rattle.schedules.specs.RoundSchedule.{no_round, rounds, AreRounds, ArePartOfRounds};
 
 use programs::End;
@@ -77,6 +77,17 @@ pub fn rounds_stall_on_a_full_network<P: Program>()
         (limit : ℕ) (events : List Event) → Ended keeps (plan_of P.acts (rounds P.acts) limit)
         (initial_position P.acts start opening (no_round fair start.config.cores)) events m programs
         End.Stalled → StallsSince P.acts m programs }
+{}
+
+/// A run by rounds, fair or not, from a machine as it opens with a good set-up stalls only where no more messages may
+/// be in flight than there are cores. If it ends as stalled, the set-up's `messages` is at most its `cores`, or the
+/// numbers of messages are used up. Or no operation is open, and a program has one more than its core may be issued.
+pub fn rounds_stall_on_few_messages<P: Program>()
+    ensures { (config : Config) (memory : FinMap nat_cmp ℕ) → is_good config ≡ true →
+        (fair keeps : Bool) (m : Machine) (opening programs : List P) (limit : ℕ) (events : List Event) →
+        Ended keeps (plan_of P.acts (rounds P.acts) limit)
+        (initial_position P.acts (at_start config memory) opening (no_round fair config.cores)) events m programs
+        End.Stalled → StallsFromOpening P.acts config m programs }
 {}
 
 /// Up to 2^64 runs of a batch by seeds have seeds that differ: run i has the first seed plus i, modulo 2^64.

@@ -5,3 +5,6 @@ mod CoreCounts
 mod InTrace
 mod FewRecords
 mod Pairs
+mod CompleteRecords
+mod LastStates
+mod HeldEnds

@@ -1,5 +1,6 @@
 -- Records of all operations that cores were issued.
 use Rattle.std.specs.Prelude.{◌≡◌, ◌≢◌, ℕ, ◌<◌, ◌==◌, List, length, count_by}
+use Rattle.std.specs.List.{Contains}
 use Rattle.physiological_order.specs.declared.operation.Op.{Op}
 use Rattle.physiological_order.specs.declared.operation.Record.{Record}
 
@@ -16,3 +17,8 @@ pub record IsFirstLack (cores : ℕ) (issued : ℕ → List Op) (records : List 
   pub among : core < cores
   pub lacks : count_of_core core records ≢ length (issued core)
   pub first : AreAll core issued records
+
+-- one of the records is that of the operation at a place of a core
+abbrev pub HasRecord : List Record → (core place : ℕ) → Op → Type 0
+HasRecord records core place op =
+    (r : Record) × Contains records r × (r.core ≡ core) × (r.place ≡ place) × (r.op ≡ op)

@@ -1,15 +1,19 @@
-//! What a verdict shows, where runs end, how many turns a run may have, and that what is written is accepted. The
-//! functions do nothing: their contracts are the laws.
+//! What a verdict and a list of ends show, where runs end, how many turns a run may have, that what is written is
+//! accepted, and what complete records are. The functions do nothing: their contracts are the laws.
 ghost use Rattle.std.specs.Prelude.{◌≡◌, ◌<◌, ◌≤◌, Bool, IfSome, List, [], Some, false, true, ℕ};
+ghost use Rattle.std.specs.Prelude.{codes, length, slice_get};
 ghost use Rattle.std.specs.FinMap.{empty};
 ghost use Rattle.std.specs.List.{AllByRecursion, Contains};
 ghost use Rattle.litmus_parser.specs.declared.syntax.Quantifier.TheVariants.{Exists};
 ghost use Rattle.litmus_reader.specs.Grammar.{IsTest};
 ghost use Rattle.litmus_reader.specs.Litmus.{Litmus};
 ghost use Rattle.litmus_reader.specs.Truth.{holds};
-ghost use Rattle.physiological_order.specs.Order.{flat};
+ghost use Rattle.physiological_order.specs.Order.{Legal as IsLegal, Memory, flat};
+ghost use Rattle.physiological_order.specs.declared.operation.Op.{Op};
+ghost use Rattle.physiological_order.specs.declared.operation.Record.{Record};
 ghost use Rattle.physiological_order.specs.declared.verdict.Verdict.TheVariants.{Legal};
 ghost use Rattle.programs.specs.declared.ends.End.TheVariants.{AllDone};
+ghost use Rattle.programs.specs.declared.steps.Step.{Step};
 ghost use Rattle.report_text.specs.Ends.{runs_ended, runs_held};
 ghost use Rattle.report_text.specs.Text.{is_yes};
 ghost use Rattle.report_text.specs.declared.run_end.RunEnd.{RunEnd};
@@ -19,12 +23,16 @@ ghost use Rattle.run_options.specs.declared.options.TraceOptions.{TraceOptions};
 ghost use Rattle.run_results.specs.declared.results.RunError.{RunError};
 ghost use Rattle.run_results.specs.declared.results.RunError.TheVariants.{NoMemory};
 ghost use Rattle.sequential_machine.specs.SequentialMachine.{SequentialState, Steps, sequential_opening, value_at};
+ghost use Rattle.sequential_machine.specs.SequentialMachine.{IsOutcome};
+ghost use Rattle.trace_reader.specs.Steps.{trace_ops};
 ghost use Rattle.trace_texts.specs.Verdicts.{check_text};
 ghost use Rattle.worker_driver.specs.Outcomes.{HasOutcome};
+ghost use Rattle.report.specs.Complete.{AreAll, HasRecord, IsFirstLack, count_of_core};
 ghost use Rattle.report.specs.Ends.{IsEndsReport};
+ghost use Rattle.report.specs.EveryText.{held_of, often};
 ghost use Rattle.report.specs.Litmus.{IsLitmusReport, turns};
 ghost use Rattle.report.specs.Reports.{IsTraceReport};
-ghost use Rattle.report.specs.Verdicts.{HasNoVerdict, IsCheckReport};
+ghost use Rattle.report.specs.Verdicts.{HasNoVerdict, IsCheckReport, IsVerdictLine};
 
 use litmus_reader::laws::one_text_is_one_test;
 use physiological_order::laws::one_verdict;
@@ -52,6 +60,27 @@ pub fn runs_end_as_listed()
     one_text_is_one_test();
 }
 
+/// If the last line of a list of ends says Never, no outcome of the sequential machine makes the condition's
+/// expression true. If it says Always, each does; if Sometimes, one does and one doesn't. Examples of lists show only
+/// how the line counts the ends that are listed, of their own tests.
+pub fn the_last_line_is_final()
+    ensures never { (options : EndsOptions) (bytes text : List ℕ) (done : Bool)
+        (list : IsEndsReport options bytes done text) →
+        often (held_of list.test list.every.values) (length list.every.values) ≡ codes "Never" →
+        (values : List ℕ) (end : IsOutcome list.test values) →
+        holds (value_at end.last) list.test.tree ≡ false }
+    ensures always { (options : EndsOptions) (bytes text : List ℕ) (done : Bool)
+        (list : IsEndsReport options bytes done text) →
+        often (held_of list.test list.every.values) (length list.every.values) ≡ codes "Always" →
+        (values : List ℕ) (end : IsOutcome list.test values) →
+        holds (value_at end.last) list.test.tree ≡ true }
+    ensures sometimes { (options : EndsOptions) (bytes text : List ℕ) (done : Bool)
+        (list : IsEndsReport options bytes done text) →
+        often (held_of list.test list.every.values) (length list.every.values) ≡ codes "Sometimes" →
+        (held : Bool) → (values : List ℕ) × (end : IsOutcome list.test values)
+        × (holds (value_at end.last) list.test.tree ≡ held) }
+{}
+
 /// A run has as many turns as its options allow, up to 4,294,967,295.
 pub fn turns_are_those_of_the_options()
     ensures few { (options : LitmusOptions) → options.run.limit ≤ 4294967295 → turns options ≡
@@ -76,3 +105,23 @@ pub fn written_records_are_legal()
     one_text_tells_one_list();
     one_verdict();
 }
+
+/// Of legal records that are complete, one is that of each operation, by its core, its place and what it does. So if
+/// the line on records that are to be complete says that all is done, each operation of the trace has its record. If
+/// the line names a core and a place instead, the core has an operation at that place, and its records are all of lower
+/// places. Examples of traces show this only of their own records.
+pub fn complete_records_are_all()
+    ensures all { (opening : Memory) (cores : ℕ) (issued : ℕ → List Op) (records : List Record) →
+        IsLegal opening issued records → AreAll cores issued records →
+        (core place : ℕ) (op : Op) → core < cores → slice_get (issued core) place ≡ Some op →
+        HasRecord records core place op }
+    ensures line { (opening : Memory) (lanes : List (List Step)) (records : List Record)
+        (text : List ℕ) → IsVerdictLine opening true lanes records true text →
+        (core place : ℕ) (op : Op) → slice_get (trace_ops lanes core) place ≡ Some op →
+        HasRecord records core place op }
+    ensures lack { (opening : Memory) (cores : ℕ) (issued : ℕ → List Op) (records : List Record)
+        (core : ℕ) → IsLegal opening issued records → IsFirstLack cores issued records core →
+        (op : Op) × (slice_get (issued core) (count_of_core core records) ≡ Some op)
+        × ((r : Record) → Contains records r → r.core ≡ core →
+        r.place < count_of_core core records) }
+{}

@@ -4,27 +4,16 @@ use Rattle.std.specs.List.{AllByRecursion, filter}
 use Rattle.std.proofs.lemmas.Bool.{ltb-true}
 use Rattle.std.proofs.lemmas.List.Sums.{length-filter}
 use Rattle.litmus_reader.specs.Litmus.{Litmus}
-use Rattle.litmus_reader.specs.Grammar.{whole_test, IsTest}
 use Rattle.litmus_reader.specs.Seen.{seen_in}
-use Rattle.litmus_reader.specs.Truth.{holds, value_of}
-use Rattle.litmus_reader.proofs.Lemmas.{truth-is}
+use Rattle.litmus_reader.specs.Truth.{holds}
 use Rattle.report_text.specs.Ends.{done_state, runs_held, holds_in, condition_holds}
 use Rattle.programs.specs.declared.ends.End.{End}
 use Rattle.programs.specs.declared.ends.End.TheVariants.{AllDone, Stalled, TurnsUsed, Exhausted, NoMemory}
 use Rattle.report_text.specs.declared.run_end.RunEnd.{RunEnd}
 use Rattle.sequential_machine.specs.SequentialMachine.{SequentialState, Steps, IsOutcome, sequential_opening, value_at}
 use Rattle.worker_driver.specs.Outcomes.{HasOutcome}
+use Rattle.report.proofs.LastStates.{seen_of_test, truth_at_last}
 use Rattle.report.proofs.laws.a_yes_shows_an_outcome.Goals as goal
-
--- the names that are seen are those of the tree: so says the last form of a test
-seen_of_test : (text : List ℕ) (test : Litmus) → IsTest text test → test.seen ≡ seen_in test.tree []
-unfolding whole_test
-seen_of_test text test h =
-    let behind_name = h.stands.4 in
-    let behind_block = behind_name.4 in
-    let behind_table = behind_block.4 in
-    let given = behind_table.4 in
-    subst (λ (t : Litmus). t.seen ≡ seen_in t.tree []) given.0 refl
 
 module _ (test : Litmus) (seen : test.seen ≡ seen_in test.tree []) where
   abbrev Shows : Type 0
@@ -34,13 +23,7 @@ module _ (test : Litmus) (seen : test.seen ≡ seen_in test.tree []) where
 
   of_values : (state : Option (List ℕ)) (end : End) → IfSome state (IsOutcome test) →
       holds_in test (done_state end state) ≡ true → Shows
-  of_values (Some values) AllDone is h = (
-    is.last,
-    is.steps,
-    is.finished,
-    sym (truth-is (value_at is.last) test.seen test.tree seen)
-        ∙ ap (λ vs. holds (value_of test.seen vs) test.tree) (sym is.values_are) ∙ h,
-  )
+  of_values (Some values) AllDone is h = (is.last, is.steps, is.finished, truth_at_last test seen values is ∙ h)
   of_values None AllDone is h = absurd cc
   of_values state Stalled is h = absurd cc
   of_values state TurnsUsed is h = absurd cc

@@ -16,9 +16,13 @@ work=$(mktemp -d) || exit 1
 trap 'rm -rf "$work"' EXIT
 trap 'exit 1' HUP INT TERM
 
-files='' options=''
+files='' compiled='' linked=''
 for word in "$@"; do
-    case $word in *.c | *.cpp | *.cc | *.cxx) files="$files $word" ;; *) options="$options $word" ;; esac
+    case $word in
+    *.c | *.cpp | *.cc | *.cxx) files="$files $word" ;;
+    -l* | -L*) linked="$linked $word" ;;
+    *) compiled="$compiled $word" ;;
+    esac
 done
 number=0
 # shellcheck disable=SC2086
@@ -31,9 +35,9 @@ for file in $files; do
         compile=$link
         ;;
     esac
-    $compile -O1 "-I$here" $options -fsanitize=thread -c "$file" -o "$work/$number.o" || exit
+    $compile -O1 "-I$here" $compiled -fsanitize=thread -c "$file" -o "$work/$number.o" || exit
 done
 "$cc" -std=gnu11 -O2 -Wall -Wextra -c "$here/recorder.c" -o "$work/recorder.o" &&
     # shellcheck disable=SC2086
-    "$link" "$work"/*.o $options -pthread -o "$work/program" || exit
+    "$link" "$work"/*.o $compiled $linked -pthread -o "$work/program" || exit
 TRACE=$trace "$work/program" >&2

@@ -160,7 +160,7 @@ def without_descriptors(tester, words, usual):
 def cut_short(words, usual):
     """Whether a run that ended with a failed allocation may have this report. For many loads of one word, which one
     number counts, that is any beginning; for a short run, what the second program says."""
-    if words[0] == "check":
+    if words[0] in ("check", "ends"):
         return lambda text: False
     many = re.search(r"^cores 1\nissued (\d+)$", usual, re.M)
     if not many:

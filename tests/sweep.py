@@ -239,11 +239,11 @@ def interrupted(tester):
 
 def cut_short(tester):
     """Runs that a limit cuts are crosses next to the line, and counted apart. The store takes six rounds."""
-    rows = tester.sweep("--csv", "short.csv", "--plot", "limit:completed", "--limit", "5..8", "--lease", "0,1",
-                        "alone.trace", status=1, made=8, rows=8, failed=4, cut=1, table="short.csv")
+    rows = tester.sweep("--csv", "limited.csv", "--plot", "limit:completed", "--limit", "5..8", "--lease", "0,1",
+                        "alone.trace", status=1, made=8, rows=8, failed=4, cut=1, table="limited.csv")
     ends = [row["end"] for row in rows]
     tester.expect(ends == ["", "limit", "", "all-done", "", "all-done", "", "all-done"], f"ends: {ends}")
-    root = xml.parse("short.svg").getroot()
+    root = xml.parse("limited.svg").getroot()
     points = [line.get("points") for line in root.iter(f"{SVG}polyline")]
     # The plot goes from 80 to 640 for the limits 0 to 8, and from 430 up to 30 for 0 to 1 operations.
     tester.expect(points == ["500.0,30.0 570.0,30.0 640.0,30.0"], f"whole runs: {points}")

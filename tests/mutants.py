@@ -184,7 +184,7 @@ def timed(room, kept):
 
 
 def works(room, wanted, kept, times):
-    """Tries mutants until none is wanted."""
+    """Tries mutants until none is left."""
     while True:
         try:
             file, index = wanted.get_nowait()

@@ -387,22 +387,26 @@ def quizzed(browser, path):
     compared = Compared(CASES["the past"])
     browser.open(path)
     what = lambda: browser.value("document.getElementById('what').textContent")  # noqa: E731
-    loads = [(0, "0x8"), (1, "0x0"), (1, "0x10"), (1, "0x0"), (1, "0x0")]
+    loads = [(0, "0x8", 0), (1, "0x0", 1), (1, "0x10", 3), (1, "0x0", 4), (1, "0x0", 5)]  # and how many are completed
+    to_last = """(slider => {
+      slider.value = slider.max;
+      slider.oninput({target: slider});
+    })(document.getElementById("slider"))"""
     browser.press("q")
-    for key in ("c", "ArrowRight", "ArrowDown"):
+    for key in ("c", "ArrowRight", "ArrowDown", "End", to_last):
+        press = browser.value if key == to_last else browser.press
         browser.press("Home")
-        asked, before = [], 0
+        asked = []
         while browser.value("at < run.steps.length && find('c', 1) !== null"):
-            browser.press(key)
+            press(key)
             if browser.value("isAsked"):
-                asked.append(what())
-                compared.same("no outcome yet", browser.value("counts[at]"), before)
-                browser.press(key)
+                asked.append([what(), browser.value("counts[at]")])
+                compared.same("the slider", *(browser.value(of) for of in ("Number(slider.value)", "at")))
+                press(key)
                 compared.same("the outcome", browser.value("[counts[at], run.steps[at - 1][1].split(' ')[0]].join()"),
-                              f"{before + 1},completed")
-            before = browser.value("counts[at]")
-        compared.same("what is asked", asked, [f"What does core {core}'s load of {word} return?"
-                                               for core, word in loads])
+                              f"{asked[-1][1] + 1},completed")
+        compared.same("what is asked", asked, [[f"What does core {core}'s load of {word} return?", before]
+                                               for core, word, before in loads])
     browser.press("q")
     browser.press("Home")
     browser.press("c")
@@ -423,10 +427,20 @@ def cut(browser):
         .map(one => one.textContent.trim()).join(", ")""")
 
 
-def long_trace(path):
-    """Operations of four cores on six words, many enough for some 4,000 events."""
-    steps = [f"{n * n % 4} {'R' if n * 7 % 5 < 3 else 'W'} {8 * (n * n * 3 % 7 % 6):#x}" for n in range(640)]
-    path.write_text("".join(step + (f" {n}\n" if " W " in step else "\n") for n, step in enumerate(steps)))
+def made_trace(cores, words, count):
+    """A trace of so many operations of cores on words."""
+    steps = [f"{n * n % cores} {'R' if n * 7 % 5 < 3 else 'W'} {8 * (n * n * 3 % 7 % words):#x}" for n in range(count)]
+    return "".join(step + (f" {n}\n" if " W " in step else "\n") for n, step in enumerate(steps))
+
+
+def ring(cores):
+    """A test whose threads each store to a word of their own and then load the next one's."""
+    words, of = "abcdefgh"[:cores], range(cores)
+    row = lambda cell: " | ".join(cell for _ in of) + " ;\n"  # noqa: E731
+    named = " ".join(f"{core}:x5=1; {core}:x6={words[core]}; {core}:x8={words[core - cores + 1]};" for core in of)
+    return "RISCV RING\n\"a ring\"\n{ %s }\n%s%s%sexists (%s)\n" % (
+        named, " | ".join(f"P{core}" for core in of) + " ;\n", row("sw x5,0(x6)"), row("lw x7,0(x8)"),
+        " /\\ ".join(f"{core}:x7=0" for core in of))
 
 
 # A test with the longest names: by rounds P1 loads the flag before it is stored, and swaps behind that.
@@ -446,6 +460,12 @@ QUESTIONS = {"SB": ([[None, "x7"], [None, "x7"]], "not the end asked for; verdic
              "LOCK": ([["x7"], ["x7"], ["x7"]], "the expression does not hold; verdict yes"),
              "SB+forall": ([[None, "x7"], [None, "x7"]], "the expression holds; verdict yes"),
              "S": ([[None, None], ["x7", None]], "not the end asked for; verdict no")}
+# How many pixels of the cores are below the window, at the worst event.
+BELOW = """Math.max(...[...Array(run.steps.length + 1).keys()].map(at => {
+  go(at);
+  const bottom = of => document.querySelector(of).getBoundingClientRect().bottom;
+  return Math.max(bottom(".row:last-child"), bottom(".bank:last-child")) - bottom("#parts");
+}))"""
 # A store that takes its lease's last time, so that a load there misses it (docs/CHANGING-A-RULE.md).
 RULE, CHANGED = "copy.rts if private else fit(copy.rts + 1)", "copy.rts"
 WRONG = ["--schedule", "seed", "--seed", "23", "--limit", "500", "--lease", "1", "--sets", "1", "--ways", "2",
@@ -472,7 +492,12 @@ def questions(player, folder):
             yield f"{name}: {found}, wanted {wanted}"
     written(player, ["examples/litmus/IRIW.litmus"], folder / "IRIW.html")
     (folder / "names.litmus").write_text(NAMES)
-    written(player, [str(folder / "names.litmus")], folder / "names.html")
+    (folder / "ring.litmus").write_text(ring(8))
+    (folder / "eight.trace").write_text("".join(f"{core} W {8 * core:#x} 1\n" for core in range(8)) +
+                                        made_trace(8, 4, 48))
+    for name, words in (("names", ["names.litmus"]), ("ring", ["--banks", "2", "ring.litmus"]),
+                        ("eight", ["eight.trace"])):
+        written(player, [*words[:-1], str(folder / words[-1])], folder / f"{name}.html")
     source = (TOP / "reference/machine.py").read_text()
     changed = folder / "changed.py"
     changed.write_text(f"#!{sys.executable}\nimport sys\nsys.path.insert(0, {str(TOP)!r})\n"
@@ -497,10 +522,12 @@ def asked(browser, folder):
         "JSON.stringify([...document.querySelectorAll('.registers')].map(one => one.textContent))"))
     browser.open(folder / "SB.html")
     compared.same("the condition", text("#condition"), "exists (0:x7=0 /\\ 1:x7=0)")
-    compared.same("no answer yet", [text("#answer"), rows()], ["", ["P0 x7", "P1 x7"]])
+    compared.same("no answer yet", [text("#answer"), rows()], ["", ["x7", "x7"]])
+    heads = [" ".join(browser.value(f"document.querySelector('#core-{core} h2').innerText").split()) for core in (0, 1)]
+    compared.same("whose thread", heads, ["core 0 runs P0 time 0", "core 1 runs P1 time 0"])
     browser.press("End")
     compared.same("the answer", text("#answer"), "0:x7=1 1:x7=1: not the end asked for; verdict no")
-    compared.same("the registers", rows(), ["P0 x7 = 1", "P1 x7 = 1"])
+    compared.same("the registers", rows(), ["x7 = 1", "x7 = 1"])
     compared.same("the address", browser.value("location.hash"), f"#{browser.value('at')}")
     browser.press("?")
     keys = text("#keys")
@@ -523,15 +550,15 @@ def asked(browser, folder):
 
 
 def narrow(browser, folder):
-    """What is cut or small in windows of six sizes; of four cores, what is below the window of a projector."""
-    browser.open(f"{folder / 'IRIW'}.html", 1280, 720)
-    for at in range(0, browser.value("run.steps.length") + 1, 5):
-        below = browser.value(f"go({at}), document.querySelector('.row:last-child').getBoundingClientRect().bottom - "
-                              "document.getElementById('parts').getBoundingClientRect().bottom")
+    """What is cut or small in windows of six sizes; of four and of eight cores, what is below the window of a
+    projector at some event."""
+    for name in ("IRIW", "ring", "eight"):
+        browser.open(f"{folder / name}.html", 1280, 720)
+        below = browser.value(BELOW)
         if below > 1:
-            yield f"IRIW at event {at}: {below} pixels are below"
-    for name in ("SB", "LOCK", "names", "wrong"):
-        for size in SIZES:
+            yield f"{name}: {below} pixels are below"
+    for name in ("SB", "LOCK", "names", "wrong", "ring", "eight"):
+        for size in SIZES[4 * (name in ("ring", "eight")):]:
             browser.open(f"{folder / name}.html", *size)
             for at in ("run.steps.length >> 1", "run.steps.length"):
                 browser.value(f"go({at})")
@@ -589,7 +616,8 @@ def main(given):
     with tempfile.TemporaryDirectory() as name:
         folder = Path(name)
         pages = {name: folder / f"{place}.html" for place, name in enumerate(CASES)}
-        long_trace(folder / "long.trace")
+        # Many enough for some 4,000 events.
+        (folder / "long.trace").write_text(made_trace(4, 6, 640))
         for path, words in [*((pages[name], CASES[name][0]) for name in CASES),
                             (folder / "long.html", [str(folder / "long.trace")])]:
             status, said = written(player, words, path)

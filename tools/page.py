@@ -7,11 +7,12 @@ reference/play.py, and standard error says so; nothing is built. --player names 
 
 The page stands alone: it loads nothing. Keys: right and left (on to the next event that changes something, and back),
 down and up (each event), space (play), c, s, r, l, e, w (the next completion, stale hit, renewal, recall, eviction,
-wrong record; with shift the one before), Home, End, q (a quiz: what a load returns is asked before it is shown), p (the
-rule's paragraph), d (dark or light), ? (the keys). The address follows the event: run.html#12 opens at event 12,
-run.html#stale at the first stale hit.
+wrong record; with shift the one before), Home, End, q (a quiz: what a load returns is asked before it is shown, however
+you go on), p (the rule's paragraph), d (dark or light), ? (the keys). The address follows the event: run.html#12 opens
+at event 12, run.html#stale at the first stale hit.
 
-Of a litmus test the page shows the question, the registers as they fill, and at the end the verdict.
+Of a litmus test the page shows the question, which core runs which thread, the registers as they fill, and at the end
+the verdict.
 
 FILE may also be a text of events, as tools/explore.py writes it: its first example is shown. A comment behind an event
 stands in its headline, and the machine is that of the text.

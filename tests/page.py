@@ -428,7 +428,7 @@ def cut(browser):
 
 
 def made_trace(cores, words, count):
-    """A trace of so many operations of cores on words."""
+    """A trace of `count` operations of cores on words."""
     steps = [f"{n * n % cores} {'R' if n * 7 % 5 < 3 else 'W'} {8 * (n * n * 3 % 7 % words):#x}" for n in range(count)]
     return "".join(step + (f" {n}\n" if " W " in step else "\n") for n, step in enumerate(steps))
 

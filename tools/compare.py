@@ -6,10 +6,10 @@ reference/directory.py, by MSI and by MESI, run the same trace by the same sched
 rules, and says what the rows count.
 
 Options have lists, as those of tools/sweep.py: there is a table for each trace and combination, --csv TABLE gets a row
-for each machine, and --plot X:Y draws column Y over column X to PICTURE (compare.svg), a line for each machine. If TABLE
-or PICTURE is -, standard output has that instead of tables. A message has --header bytes, --time-bytes for each of its
-times, and 8 bytes for each of its words, in whole flits of --flit bytes. The status is 0 if each run is all done, 1 if
-not, and 2 if nothing was run.
+for each machine, and --plot X:Y draws column Y over column X to PICTURE (compare.svg), a line for each machine. If
+TABLE or PICTURE is -, standard output has that instead of tables. A message has --header bytes, --time-bytes for each
+of its times, and 8 bytes for each of its words, in whole flits of --flit bytes. The status is 0 if each run is all
+done, 1 if not, and 2 if nothing was run.
 """
 import sys
 from pathlib import Path

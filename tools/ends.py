@@ -12,8 +12,8 @@ command that makes the run again. Of an end that no seed meets there is an order
 program finds: P0:2 is thread 0's second memory instruction. Runs that aren't all done have a dash. What can't be meant,
 such as a name in the condition that no instruction changes, follows the first line.
 
---grade LIST compares the ends that a student listed, one a line, as 0:x7=1 x=2; - is standard input. Blank lines, stars,
-orders, # and what follows, and what else `tardis ends` and this script print are passed over.
+--grade LIST compares the ends that a student listed, one a line, as 0:x7=1 x=2; - is standard input. Blank lines,
+stars, orders, # and what follows, and what else `tardis ends` and this script print are passed over.
 
 Exit status: 0 done, or the list is right; 1 an end of the list is missing or impossible; 2 bad words, a bad text, or
 more states than --states N allows.

@@ -468,6 +468,7 @@ BELOW = """Math.max(...[...Array(run.steps.length + 1).keys()].map(at => {
 }))"""
 # A store that takes its lease's last time, so that a load there misses it (docs/CHANGING-A-RULE.md).
 RULE, CHANGED = "copy.rts if private else fit(copy.rts + 1)", "copy.rts"
+WRONG_LOAD = "Core 1 loads 0x0 and receives 0, at time 1 (here: wrong value)"
 WRONG = ["--schedule", "seed", "--seed", "23", "--limit", "500", "--lease", "1", "--sets", "1", "--ways", "2",
          "--bank-sets", "1", "--bank-ways", "1"]
 SIZES = ((360, 740), (390, 844), (770, 1000), (1024, 768), (1280, 720), (1920, 1080))
@@ -506,6 +507,13 @@ def questions(player, folder):
                        "from reference import play\nsys.exit(play.main(sys.argv[1:]))\n")
     changed.chmod(0o755)
     (folder / "two.trace").write_text("0 W 0x0 1\n1 R 0x0\n")
+    text = re.search(r"(?s)\nexample (.*?)```", (TOP / "docs/CHANGING-A-RULE.md").read_text())
+    (folder / "wrong.events").write_text(text[0].strip("`\n") + "\n")
+    status, said = written(str(changed), [str(folder / "wrong.events")], folder / "events.html")
+    shown = data_of(folder / "events.html")
+    if status != 1 or "wrong: wrong value 1" not in said or shown["end"] != "The text ends here." or \
+            [step[2] for step in shown["steps"] if "w" in step[6]] != [WRONG_LOAD]:
+        yield f"a text of a wrong history: status {status}, {said!r}, {shown['end']}"
     status, said = written(str(changed), [*WRONG, str(folder / "two.trace")], folder / "wrong.html")
     found = data_of(folder / "wrong.html")
     marked = [step[1] for step in found["steps"] if "w" in step[6]]
@@ -543,8 +551,13 @@ def asked(browser, folder):
     compared.same("no panel", browser.value("document.querySelectorAll('.over:not([hidden])').length"), 0)
     browser.open(folder / "wrong.html")
     compared.same("the heading", text("#by-time"), "By timestampoperation 1 is wrong here")
+    compared.same("the end", text("#end"), "All operations are done. By timestamp the run is not legal: wrong value 1.")
     browser.press("w")
     compared.same("the wrong record", browser.value("run.steps[at - 1][1]"), "completed 1 0 R 0x0 0 1 1")
+    place = browser.value("at")
+    browser.press("Home")
+    browser.open(f"{folder / 'wrong.html'}#wrong")
+    compared.same("a link to it", browser.value("at"), place)
     compared.same("its mark", browser.value("document.querySelector('#ties > .wrong').dataset.number"), "1")
     return compared.faults
 
@@ -557,7 +570,7 @@ def narrow(browser, folder):
         below = browser.value(BELOW)
         if below > 1:
             yield f"{name}: {below} pixels are below"
-    for name in ("SB", "LOCK", "names", "wrong", "ring", "eight"):
+    for name in ("SB", "LOCK", "names", "wrong", "events", "ring", "eight"):
         for size in SIZES[4 * (name in ("ring", "eight")):]:
             browser.open(f"{folder / name}.html", *size)
             for at in ("run.steps.length >> 1", "run.steps.length"):
@@ -631,8 +644,7 @@ def main(given):
             if given[1:2] == ["--pictures"]:
                 browser.open(f"{pages['the past']}#stale")
                 (Path(given[2]) / "page.png").write_bytes(browser.picture())
-                browser.open(f"{folder / 'wrong.html'}", 1280, 520)
-                browser.press("w")
+                browser.open(f"{folder / 'events.html'}#wrong", 1280, 520)
                 (Path(given[2]) / "wrong.png").write_bytes(browser.picture())
             browser.close()
         else:

@@ -308,7 +308,8 @@ function showSaid() {
   byId("what").textContent = asks || (step ? step[2] : `${run.title}: before the first event`);
   byId("why").innerHTML = asks ? "The right arrow shows it." : step ?
     `${escaped(step[3])} <cite><a href="#rule" id="cite" title="p">docs/PROTOCOL.md, ${escaped(step[4])}</a></cite>` :
-    `The right arrow goes on to the next event${find("s", 1) === null ? "" : ", and s to the first stale hit"}.`;
+    `The right arrow goes on to the next event${["w", "s"].filter(key => find(key, 1) !== null).map(key =>
+      `, and ${key} to the ${key === "w" ? "wrong operation" : "first stale hit"}`)[0] || ""}.`;
   byId("said").className = past ? "past" : "";
   if (!byId("rule").hidden) showRule();
   if (run.question) byId("answer").textContent = at === run.steps.length ? run.question.answer || "" : "";
@@ -444,9 +445,8 @@ function begin() {
   document.body.className = run.cores.length > 4 ? "tight many" : run.cores.length > 3 ? "tight" : "";
   byId("title").textContent = run.title;
   byId("how").textContent = `${run.how}; played by ${run.made}`;
-  byId("end").textContent = !run.done ? run.end :
-    `The run: ${run.end[0].toLowerCase()}${run.end.slice(1)} By timestamp they are ${
-      run.wrong === null ? "legal" : `not legal: ${run.verdict}`}.`;
+  byId("end").textContent = run.end + (run.done ? ` By timestamp the run is ${
+    run.wrong === null ? "legal" : `not legal: ${run.verdict}`}.` : "");
   byId("end").className = run.done && run.wrong === null ? "" : "cut";
   if (run.wrong !== null) {
     byId("by-time").className = "wrong";
@@ -488,8 +488,8 @@ function begin() {
 }
 
 function fromHash() {
-  const wanted = location.hash.slice(1);
-  go(wanted === "stale" ? find("s", 1) || 0 : Number(wanted) || 0);
+  const wanted = location.hash.slice(1), key = {stale: "s", wrong: "w"}[wanted];
+  go(key ? run.steps.findIndex(step => step[6].includes(key)) + 1 : Number(wanted) || 0);
 }
 
 begin();

@@ -376,7 +376,7 @@ def accessible(browser, path):
     named = {role: [node["name"]["value"] for node in nodes if node.get("role", {}).get("value") == role]
              for role in ("button", "slider", "image", "region")}
     compared.same("what is named", {role: len(names) for role, names in named.items()},
-                  {"button": 11, "slider": 1, "image": 1, "region": 2})
+                  {"button": 10, "slider": 1, "image": 1, "region": 2})  # none to a stale hit in a quiz
     compared.same("what has no name", [role for role, names in named.items() if not all(names)], [])
     return compared.faults
 

@@ -34,8 +34,8 @@ from tools.program import Refused  # noqa: E402
 # By threads: enough turns for a run on a busy machine (docs/TEXTS.md, Reports by threads), and so many workers.
 THREADS = {"--limit": "10000000", "--workers": "4"}
 HEADS = ("model", "test", "threads", "states", "ends", "condition", "held", "observation")
-# Lines of this script without an end: a run's command, an order, a hint, runs that aren't all done, the first line.
-BESIDE = re.compile(r"    (order|.* litmus) |  but |- [a-z-]+: |\S+: \d+ ends in ")
+# Lines of this script without an end: the first one, hints, runs that aren't all done.
+BESIDE = re.compile(r"\S+: \d+ ends in |  but |- [a-z-]+: ")
 
 
 class Ends:
@@ -137,8 +137,12 @@ def told(ends, met):
 def student_ends(path, names):
     """The ends of a student's list, as the text has them."""
     text = sys.stdin.buffer.read() if path == "-" else contents(path)
+    is_own = False  # whether this script printed the line before: a command and an order may follow
     for number, whole in enumerate(text.decode("ascii", "replace").splitlines(), 1):
-        line = whole.partition("#")[0].partition(": ")[0].strip()
+        if is_own and whole.startswith("    "):
+            continue
+        line, colon, _ = whole.partition("#")[0].partition(": ")
+        line, is_own = line.strip(), bool(colon)
         if not line or BESIDE.match(whole) or "=" not in line and line.split()[0] in HEADS:
             continue
         atom = rf"({NAME})\s*=\s*(\d+)"

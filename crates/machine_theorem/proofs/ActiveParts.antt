@@ -6,7 +6,7 @@ use Rattle.std.specs.List as list
 use Rattle.std.specs.List.{list_all}
 use Rattle.std.specs.Ordering.{nat_cmp}
 use Rattle.std.specs.FinMap.{FinMap}
-use Rattle.std.proofs.lemmas.Bool.{and_parts, cond-true, cond-false, eq-eqb, ne_eqb}
+use Rattle.std.proofs.lemmas.Bool.{and_parts, cond-true, cond-false, eqb-true, eq-eqb, ne_eqb}
 use Rattle.physiological_order.specs.declared.operation.Op.{Op}
 use Rattle.physiological_order.specs.declared.operation.Op.TheVariants.{Load, Store, Swap}
 use Rattle.network.specs.declared.message.Body.{Body}
@@ -33,12 +33,15 @@ use Rattle.llc_bank.specs.OnEntry as on_entry
 use Rattle.llc_bank.specs.OnEntry.{at_bank}
 use Rattle.llc_bank.specs.Settled.{is_settled, is_shared}
 use Rattle.llc_bank.specs.BankTable as bank_table
-use Rattle.llc_bank.specs.BankTable.{BankState, comes_to_bank, is_owned}
+use Rattle.llc_bank.specs.BankTable.{BankState, comes_to_bank, is_owned, core_of}
 use Rattle.dram_mts.specs.Table.{dram_case, comes_to_dram}
 use Rattle.machine_table.specs.declared.event.Answer.TheVariants.{Held}
 use Rattle.machine_table.specs.Step.{Keeps, attempted, copy_evicted, entry_evicted, reacted}
 use Rattle.machine_theorem.specs.Rounds.{IsRequest}
+use Rattle.protocol.specs.Machine as by_line
+use Rattle.protocol.specs.Recalls.{recall_to}
 use Rattle.protocol.proofs.Lemmas.{Some_injective}
+use Rattle.machine_theorem.specs.View.{body_seen, message_seen}
 use Rattle.machine_theorem.proofs.Deliveries.{and_right}
 use Rattle.machine_theorem.proofs.RoundEvents.{IsActive, IsTrying}
 
@@ -47,6 +50,47 @@ abbrev pub IsRecall : Body → Type 0
 IsRecall body.FlushReq = Unit {0}
 IsRecall (body.WbReq until) = Unit {0}
 IsRecall _ = ⊥
+
+-- what requests, or recalls, don't weigh
+pub no_request : (w : by_line.Message → ℕ) → ((c pts : ℕ) (version : Option ℕ) → w (by_line.ShReq c pts version) ≡ 0) →
+    ((c : ℕ) (version : Option ℕ) → w (by_line.ExReq c version) ≡ 0) → (x : Message) → IsRequest x.body →
+    w (message_seen x) ≡ 0
+no_request w sh ex x is = go x.body is
+  where
+    go : (b : Body) → IsRequest b → w (body_seen (core_of x.from) (core_of x.to) b) ≡ 0
+    go (body.ShReq pts version) is = sh (core_of x.from) pts version
+    go (body.ExReq version) is = ex (core_of x.from) version
+    go _ is = absurd is
+
+pub no_recall : (w : by_line.Message → ℕ) → ((c : ℕ) → w (by_line.FlushReq c) ≡ 0) →
+    ((c until : ℕ) → w (by_line.WbReq c until) ≡ 0) → (x : Message) → IsRecall x.body → w (message_seen x) ≡ 0
+no_recall w flush wb x is = go x.body is
+  where
+    go : (b : Body) → IsRecall b → w (body_seen (core_of x.from) (core_of x.to) b) ≡ 0
+    go body.FlushReq is = flush (core_of x.to)
+    go (body.WbReq until) is = wb (core_of x.to) until
+    go _ is = absurd is
+
+pub recall_weighs : (b : Body) → IsRecall b → (from to d : ℕ) → recall_to d (body_seen from to b) ≡ cond (eqb to d) 1 0
+recall_weighs body.FlushReq is from to d = refl
+recall_weighs (body.WbReq until) is from to d = refl
+recall_weighs _ is from to d = absurd is
+
+-- a core holds what is pinned on the line of its open operation
+pub pinned_op : (core : CoreState) (line : ℕ) → is_pinned (core_table.pinned_line core) line ≡ true →
+    (op : Op) × (core.open_op ≡ Some op) × (core_table.line_of core op ≡ line)
+pinned_op core line pinned = go core.open_op refl
+  where
+    go : (o : Option Op) → core.open_op ≡ o →
+        (op : Op) × (core.open_op ≡ Some op) × (core_table.line_of core op ≡ line)
+    go None opens = absurd (let z : false ≡ true =
+        sym (ap (λ (i : Option Op). is_pinned (option_map (core_table.line_of core) i) line) opens) ∙ pinned in cc)
+    go (Some op) opens = (
+      op,
+      opens,
+      eqb-true (core_table.line_of core op) line
+          (sym (ap (λ (i : Option Op). is_pinned (option_map (core_table.line_of core) i) line) opens) ∙ pinned),
+    )
 
 module _ (more : Bool) (core : CoreState) (line : ℕ) where
   changes : (change : LineCopy → LineCopy) (o : Option LineCopy) → is_shared_copy o ≡ true →
@@ -106,7 +150,7 @@ module _ (core : CoreState) (op : Op) where
   served_tries more held None = tt
   served_tries more held (Some ts) = tt
 
-  needs : (version : Option ℕ) (p : Op) → IsTrying true (attempted core op (Some (core_table.need core.pts p version), core))
+  pub needs : (version : Option ℕ) (p : Op) → IsTrying true (attempted core op (Some (core_table.need core.pts p version), core))
   needs version (Load a) = tt
   needs version (Store a v) = tt
   needs version (Swap a v) = tt

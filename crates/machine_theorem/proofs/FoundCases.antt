@@ -1,7 +1,7 @@
 -- Every message in flight has a case in the table of the part that it goes to.
 use Rattle.std.proofs.Common.{◌≡◌, ℕ, ◌%◌, ◌/◌, ◌<◌, Bool, true, false, cond, eqb, List, [], ◌∷◌, Option, Some, None}
 use Rattle.std.proofs.Common.{refl, sym, ap, ◌∙◌, subst, arith}
-use Rattle.std.specs.List.{AllByRecursion as Each}
+use Rattle.std.specs.List.{slice_get, AllByRecursion as Each}
 use Rattle.std.specs.Option.{option_map}
 use Rattle.std.specs.Ordering.{nat_cmp}
 use Rattle.std.specs.FinMap.{FinMap, entries}
@@ -14,6 +14,7 @@ use Rattle.network.specs.declared.message.Node.TheVariants as node
 use Rattle.network.specs.declared.message.Body.{Body}
 use Rattle.network.specs.declared.message.Body.TheVariants as body
 use Rattle.network.specs.declared.message.Message.{Message}
+use Rattle.network.specs.NumberedMessages.{at_number}
 use Rattle.network.specs.Routes.{has_route, is_bank_to_dram, is_core_to_bank}
 use Rattle.private_cache.specs.declared.line_copy.LineCopy.{LineCopy}
 use Rattle.private_cache.specs.CopyTable.{copy_of, place_for}
@@ -38,7 +39,7 @@ use Rattle.machine_theorem.specs.View.{copy_or_none, copy_in, entry_seen, entry_
 use Rattle.machine_theorem.specs.View.{messages_of, set_up, line_seen, view}
 use Rattle.machine_theorem.specs.Shape.{IsHome, IsCore, GoesHome}
 use Rattle.machine_theorem.specs.Kept.{IsKept, Invariant}
-use Rattle.machine_theorem.proofs.Lookups.{messages_here}
+use Rattle.machine_theorem.proofs.Lookups.{each_at_number, messages_here}
 use Rattle.machine_theorem.specs.Cases.{takes, has_case_at, has_case}
 use Rattle.machine_theorem.proofs.Routes.{both, up_ends, back_ends}
 
@@ -211,3 +212,26 @@ messages_find_cases m s = each m.mail.messages (bag_finds m.config m.opening (se
         Each (λ x. has_case m x.1 ≡ true) ms
     each [] k = tt
     each (x ∷ xs) k = (case_at x.1 x.1.to k.0.found, each xs k.1)
+
+-- the part that a message goes to, which has a case for it
+pub data Gets (m : Machine) (x : Message) : Type 0 where
+  a_core : (c : ℕ) (core : CoreState) → x.to ≡ node.Core c → slice_get m.cores c ≡ Some core →
+      core_has_case core x ≡ true → Gets m x
+  a_bank : (b : ℕ) (bank : BankState) → x.to ≡ node.Bank b → slice_get m.banks b ≡ Some bank →
+      bank_has_case bank x ≡ true → Gets m x
+  a_dram : (b : ℕ) (lines : FinMap nat_cmp (List ℕ)) → x.to ≡ node.Dram b → slice_get m.drams b ≡ Some lines →
+      dram_has_case lines x ≡ true → Gets m x
+
+pub gets_it : (m : Machine) → Invariant m → (n : ℕ) (x : Message) → at_number n m.mail.messages ≡ Some x → Gets m x
+gets_it m s n x number = go x.to refl
+    (each_at_number (λ y. has_case m y.1 ≡ true) n m.mail.messages x number (messages_find_cases m s) (λ k p. p))
+  where
+    part : {S : Type 0} (has_case : S → Message → Bool) (o : Option S) → takes has_case o x ≡ true →
+        (y : S) × (o ≡ Some y) × (has_case y x ≡ true)
+    part has_case None has = absurd (cc)
+    part has_case (Some y) has = (y, refl, has)
+
+    go : (to : Node) → x.to ≡ to → has_case_at m x to ≡ true → Gets m x
+    go (node.Core c) to has = let k = part core_has_case (slice_get m.cores c) has in a_core c k.0 to k.1 k.2
+    go (node.Bank b) to has = let k = part bank_has_case (slice_get m.banks b) has in a_bank b k.0 to k.1 k.2
+    go (node.Dram b) to has = let k = part dram_has_case (slice_get m.drams b) has in a_dram b k.0 to k.1 k.2

@@ -59,7 +59,7 @@ use Rattle.machine_theorem.specs.View.{copy_or_none}
 use Rattle.machine_theorem.specs.Shape.{IsCore}
 use Rattle.machine_theorem.proofs.ActiveParts.{IsRecall, core_active, copy_active, served_tries, quiet_tries}
 use Rattle.machine_theorem.proofs.ActiveParts.{bank_active, request_active, load_active, held_without, entry_active}
-use Rattle.machine_theorem.proofs.ActiveParts.{dram_active, all_pass, chosen_there}
+use Rattle.machine_theorem.proofs.ActiveParts.{dram_active, all_pass, chosen_there, no_request, no_recall}
 use Rattle.machine_theorem.proofs.Consistency.{consistent}
 use Rattle.machine_theorem.proofs.Deliveries.{and_right, serving_attempt, owner_serves}
 use Rattle.machine_theorem.proofs.FoundCases.{messages_find_cases}
@@ -118,26 +118,6 @@ sent h w low high (y ∷ ys) rising some = go (eqb y.1.line h) refl (sent h w (y
         Sent h w low (y ∷ ys)
     go true on behind more = here on (w (message_seen y.1)) refl behind more
     go false off behind more = later (behind more)
-
--- what requests, or recalls, don't weigh
-no_request : (w : by_line.Message → ℕ) → ((c pts : ℕ) (version : Option ℕ) → w (by_line.ShReq c pts version) ≡ 0) →
-    ((c : ℕ) (version : Option ℕ) → w (by_line.ExReq c version) ≡ 0) → (x : Message) → IsRequest x.body →
-    w (message_seen x) ≡ 0
-no_request w sh ex x is = go x.body is
-  where
-    go : (b : Body) → IsRequest b → w (body_seen (core_of x.from) (core_of x.to) b) ≡ 0
-    go (body.ShReq pts version) is = sh (core_of x.from) pts version
-    go (body.ExReq version) is = ex (core_of x.from) version
-    go _ is = absurd is
-
-no_recall : (w : by_line.Message → ℕ) → ((c : ℕ) → w (by_line.FlushReq c) ≡ 0) →
-    ((c until : ℕ) → w (by_line.WbReq c until) ≡ 0) → (x : Message) → IsRecall x.body → w (message_seen x) ≡ 0
-no_recall w flush wb x is = go x.body is
-  where
-    go : (b : Body) → IsRecall b → w (body_seen (core_of x.from) (core_of x.to) b) ≡ 0
-    go body.FlushReq is = flush (core_of x.to)
-    go (body.WbReq until) is = wb (core_of x.to) until
-    go _ is = absurd is
 
 or_right : (p q : Bool) → (p || q) ≡ false → q ≡ false
 or_right true q e = absurd (cc)

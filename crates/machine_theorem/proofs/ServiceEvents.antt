@@ -67,35 +67,35 @@ module _ {X : Type 0} where
   rising_on low high x (y ∷ ys) rising = (rising.0, rising_on (y.0 + 1) high x ys rising.1)
 
 module _ (m : Machine) (rising : IsRising 0 m.mail.messages m.mail.next) where
-  -- so at each event, which gives at most one number
+  -- so at each event, which gives at most one number, and takes none back
   abbrev Rises : Mail → Type 0
-  Rises mail = IsRising 0 mail.messages mail.next × (mail.next ≤ m.mail.next + 1)
+  Rises mail = IsRising 0 mail.messages mail.next × (mail.next ≤ m.mail.next + 1) × (m.mail.next ≤ mail.next)
 
   left_rises : (n : Option ℕ) → IsRising 0 (left m.mail n).messages m.mail.next
   left_rises None = rising
   left_rises (Some k) = still_rising k 0 m.mail.next m.mail.messages rising
 
   posted_rises : (n : Option ℕ) (consumes : Bool) (sends : Option Message) → Rises (posted m.mail n consumes sends)
-  posted_rises n true None = (left_rises n, omega arith)
-  posted_rises n false None = (rising, omega arith)
-  posted_rises n true (Some q) = (rising_on 0 m.mail.next q (left m.mail n).messages (left_rises n), omega arith)
-  posted_rises n false (Some q) = (rising_on 0 m.mail.next q m.mail.messages rising, omega arith)
+  posted_rises n true None = (left_rises n, omega arith, omega arith)
+  posted_rises n false None = (rising, omega arith, omega arith)
+  posted_rises n true (Some q) = (rising_on 0 m.mail.next q (left m.mail n).messages (left_rises n), omega arith, omega arith)
+  posted_rises n false (Some q) = (rising_on 0 m.mail.next q m.mail.messages rising, omega arith, omega arith)
 
   changed_rises : {S : Type 0} (put : S → Machine) (n : Option ℕ) (done : Step S) → Rises (changed m put n done).1.mail
   changed_rises put n Drops = posted_rises n true None
   changed_rises put n (Makes answer consumes sends part) =
       cond_both (can_post m.config.messages m.mail consumes sends)
       (answer, record (put part) { mail = posted m.mail n consumes sends }) (refused m refusal.NetworkFull)
-      (λ o. Rises o.1.mail) (λ e. posted_rises n consumes sends) (λ e. (rising, omega arith))
-  changed_rises put n _ = (rising, omega arith)
+      (λ o. Rises o.1.mail) (λ e. posted_rises n consumes sends) (λ e. (rising, omega arith, omega arith))
+  changed_rises put n _ = (rising, omega arith, omega arith)
 
   outcome_rises : (e : Event) (o : Answer × Machine) → Outcome m e o → Rises o.1.mail
   outcome_rises e o (core_comes c core act n done at given is fits) = changed_rises (with_core m c) n done
   outcome_rises e o (bank_comes b bank act n done at given is fits) = changed_rises (with_bank m b) n done
   outcome_rises e o (dram_comes b lines act n done at given is fits) = changed_rises (with_dram m b) n done
-  outcome_rises e o _ = (rising, omega arith)
+  outcome_rises e o _ = (rising, omega arith, omega arith)
 
-  event_rises : (e : Event) → Rises (transition m e).1.mail
+  pub event_rises : (e : Event) → Rises (transition m e).1.mail
   event_rises e = outcome_rises e (transition m e) (transition_outcome m e)
 
 pub rising_after : (m : Machine) (events : List Event) → IsRising 0 m.mail.messages m.mail.next →

@@ -30,7 +30,7 @@ use Rattle.machine_theorem.specs.Bags.{weigh, SameBag}
 use Rattle.machine_theorem.specs.States.{State}
 use Rattle.machine_theorem.specs.Moves.{Move, completes, with_completion}
 use Rattle.machine_theorem.specs.Consistent.{FindsCase}
-use Rattle.machine_theorem.specs.View.{message_seen, messages_of}
+use Rattle.machine_theorem.specs.View.{copy_or_none, message_seen, messages_of}
 use Rattle.machine_theorem.specs.Shape.{IsHome}
 use Rattle.machine_theorem.specs.Kept.{IsKept}
 use Rattle.machine_theorem.proofs.Services.{IsService, IsLate, a_core}
@@ -234,6 +234,12 @@ pub owner_serves : (pts : ℕ) (held : LineCopy) → is_exclusive held.state ≡
 owner_serves pts held ex (Load a) = ap (λ (b : Bool). b || leb pts held.rts) ex
 owner_serves pts held ex (Store a v) = ex
 owner_serves pts held ex (Swap a v) = ex
+
+-- a copy that owns its line
+pub owned_copy : (held : Option LineCopy) → by_line.owns (copy_or_none held) ≡ 1 →
+    (copy : LineCopy) × (held ≡ Some copy) × (is_exclusive copy.state ≡ true)
+owned_copy None e = absurd (omega arith)
+owned_copy (Some copy) e = (copy, refl, (counts_if (is_exclusive copy.state) 1 (omega arith)).0)
 
 -- what is on its way as a reply
 abbrev pub IsReply : Body → Type 0

@@ -1,13 +1,12 @@
 -- A machine that no event of a round changes has at most one message in flight for each core, if the recalls that cores
 -- hold find the owners.
-use Rattle.std.proofs.Common.{◌≡◌, ◌≢◌, ℕ, zero, suc, ◌+◌, ◌-◌, ◌/◌, ◌^◌, ◌<◌, ◌≤◌, Bool, true, false, eqb, List, []}
+use Rattle.std.proofs.Common.{◌≡◌, ◌≢◌, ℕ, zero, suc, ◌+◌, ◌-◌, ◌^◌, ◌<◌, ◌≤◌, Bool, true, false, eqb, List, []}
 use Rattle.std.proofs.Common.{◌∷◌, length, Option, Some, None, inl, inr, ◌⊎◌, refl, sym, ap, ◌∙◌, subst, ⊎_elim, arith}
-use Rattle.std.specs.Prelude.{option_map, nat_lt}
+use Rattle.std.specs.Prelude.{nat_lt}
 use Rattle.std.specs.List.{slice_get, AllByRecursion as Each}
 use Rattle.std.specs.Ordering.{nat_cmp}
 use Rattle.std.specs.FinMap.{FinMap}
-use Rattle.std.proofs.lemmas.Bool.{and_parts, cases_eq, cond-true, cond-false, eqb-true, eq-eqb, ne_eqb, ltb-true}
-use Rattle.std.proofs.lemmas.Option.{get_or_from_slice_get}
+use Rattle.std.proofs.lemmas.Bool.{and_parts, cases_eq, cond-true, cond-false, eq-eqb, ne_eqb, ltb-true}
 use Rattle.physiological_order.specs.declared.operation.Op.{Op}
 use Rattle.physiological_order.specs.Order.{address}
 use Rattle.network.specs.declared.message.Body.{Body}
@@ -17,14 +16,13 @@ use Rattle.network.specs.declared.message.Node.{Node}
 use Rattle.network.specs.declared.message.Node.TheVariants as node
 use Rattle.network.specs.NumberedMessages.{IsRising, at_number}
 use Rattle.network.specs.Routes.{has_route, is_core_to_bank}
-use Rattle.private_cache.specs.CopyTable.{copy_of, is_pinned}
-use Rattle.core_pts.specs.CoreTable as core_table
-use Rattle.core_pts.specs.CoreTable.{CoreState, pinned_line}
+use Rattle.private_cache.specs.CopyTable.{is_pinned}
+use Rattle.core_pts.specs.CoreTable.{pinned_line}
 use Rattle.llc_bank.specs.BankTable.{core_of}
 use Rattle.machine_table.specs.declared.config.Config.{Config}
 use Rattle.machine_table.specs.declared.event.Event.{Event}
 use Rattle.machine_table.specs.Machine.{Machine}
-use Rattle.machine_table.specs.Opening.{at_start, open_core}
+use Rattle.machine_table.specs.Opening.{at_start}
 use Rattle.machine_table.specs.Runs.{after_all}
 use Rattle.machine_table.specs.SetUp.{is_good}
 use Rattle.protocol.specs.Machine as by_line
@@ -37,14 +35,13 @@ use Rattle.machine_theorem.specs.Kept.{Invariant}
 use Rattle.machine_theorem.specs.Rounds.{IsRequest, MovesOn}
 use Rattle.machine_theorem.specs.Shape.{GoesHome}
 use Rattle.machine_theorem.specs.States.{seen}
-use Rattle.machine_theorem.specs.View.{body_seen, message_seen, messages_of, line_in, set_up, view}
-use Rattle.machine_theorem.proofs.ActiveParts.{IsRecall}
+use Rattle.machine_theorem.specs.View.{body_seen, message_seen, messages_of, line_in, set_up}
+use Rattle.machine_theorem.proofs.ActiveParts.{IsRecall, pinned_here, recall_weighs}
 use Rattle.machine_theorem.proofs.Bags.{bag-taken}
 use Rattle.machine_theorem.proofs.Deliveries.{of_line, line_weighs}
 use Rattle.machine_theorem.proofs.Events.{invariant}
-use Rattle.machine_theorem.proofs.MovingOn.{Stays, a_request, a_recall, owned_copy, message_moves, light_moves, asks}
+use Rattle.machine_theorem.proofs.MovingOn.{Stays, a_request, a_recall, message_moves, light_moves, asks}
 use Rattle.machine_theorem.proofs.MovingOn.{owner_moves}
-use Rattle.machine_theorem.proofs.Parts.{core_shape}
 use Rattle.machine_theorem.proofs.RoundEvents.{CanSend}
 use Rattle.machine_theorem.proofs.ServiceEvents.{bag_length, rising_after}
 use Rattle.machine_theorem.proofs.SetUps.{after_all_same}
@@ -138,55 +135,35 @@ module _ {more : Bool} (m : Machine) (able : CanSend more m) (s : Invariant m)
   bag = bag_of m.mail.messages
 
   -- a recall that is held finds the owner, which completes its operation, or its grant
-  held_moves : (n : ℕ) (x : Message) → at_number n m.mail.messages ≡ Some x → (c : ℕ) (core : CoreState) →
-      x.to ≡ node.Core c → slice_get m.cores c ≡ Some core → is_pinned (pinned_line core) x.line ≡ true →
+  held_moves : (n : ℕ) (x : Message) → at_number n m.mail.messages ≡ Some x → (c : ℕ) → x.to ≡ node.Core c →
+      slice_get m.cores c ≡ Some ((seen m).cores c) → is_pinned (pinned_line ((seen m).cores c)) x.line ≡ true →
       IsRecall x.body → MovesOn m
-  held_moves n x number c core to at pinned is = by_owner (owned x.line c recalled (pins core.open_op refl))
+  held_moves n x number c to at pinned is =
+      by_owner (owned x.line c recalled (pinned_here m.config m.opening (seen m) s.kept c x.line pinned))
     where
-      here : (seen m).cores c ≡ core
-      here = get_or_from_slice_get m.cores c core (open_core m.config c) at
-
-      its : (b : Body) → IsRecall b → recall_to c (body_seen (core_of x.from) c b) ≡ 1
-      its body.FlushReq is = cond-true (eqb c c) 1 0 (eq-eqb c c refl)
-      its (body.WbReq until) is = cond-true (eqb c c) 1 0 (eq-eqb c c refl)
-      its _ is = absurd is
-
       recalled : 1 ≤ tally (recall_to c) (messages_of bag x.line)
       recalled =
           let e = line_weighs x.line (recall_to c) bag in
           let t = bag-taken n m.mail.messages x number (of_line x.line (recall_to c)) in
           let w : of_line x.line (recall_to c) x ≡ 1 = cond-true (eqb x.line x.line) _ 0 (eq-eqb x.line x.line refl)
-          ∙ ap (λ (i : Node). recall_to c (body_seen (core_of x.from) (core_of i) x.body)) to ∙ its x.body is in
+          ∙ recall_weighs x.body is (core_of x.from) (core_of x.to) c
+          ∙ cond-true (eqb (core_of x.to) c) 1 0 (eq-eqb (core_of x.to) c (ap core_of to)) in
           omega (arith, e, t, w)
-
-      pins : (o : Option Op) → core.open_op ≡ o → IsPinned f (view m.config (seen m)).cores x.line c
-      pins None opens = absurd (let z : false ≡ true =
-          sym (ap (λ (i : Option Op). is_pinned (option_map (core_table.line_of core) i) x.line) opens) ∙ pinned in cc)
-      pins (Some p) opens = (
-        p,
-        ap (λ (k : CoreState). k.open_op) here ∙ opens,
-        ap (λ (k : ℕ). address p / k) (sym (core_shape m s c core at).line_words)
-            ∙ eqb-true (core_table.line_of core p) x.line
-            (sym (ap (λ (i : Option Op). is_pinned (option_map (core_table.line_of core) i) x.line) opens) ∙ pinned),
-      )
 
       by_owner : OwnsOrWill c (line_in m x.line) → MovesOn m
       by_owner (inr grant) = light_moves m able s rising (grant_to c) (λ d pts v. refl) (λ d v. refl) (λ d. refl)
           (λ d u. refl) x.line grant
-      by_owner (inl owns) =
-          let copy = owned_copy (copy_of ((seen m).cores c).cache x.line) owns in
-          owner_moves m able s rising c core at x.line copy.0
-          (sym (ap (λ (i : CoreState). copy_of i.cache x.line) here) ∙ copy.1) copy.2 pinned
+      by_owner (inl owns) = owner_moves m able s rising c at x.line owns pinned
 
   all_requests : MovesOn m ⊎ Each (λ x. IsRequest x.body) bag
   all_requests = each_found (λ x. IsRequest x.body) (MovesOn m) 0 m.mail.next m.mail.messages rising
       (λ n x low number. ⊎_elim (λ (moves : MovesOn m). inl moves) (stays n x number)
       (message_moves m able s rising n x number))
     where
-      stays : (n : ℕ) (x : Message) → at_number n m.mail.messages ≡ Some x → Stays m x →
+      stays : (n : ℕ) (x : Message) → at_number n m.mail.messages ≡ Some x → Stays m n x →
           MovesOn m ⊎ IsRequest x.body
-      stays n x number (a_request b bank to at has is) = inr is
-      stays n x number (a_recall c core to at pinned is) = inl (held_moves n x number c core to at pinned is)
+      stays n x number (a_request b to at reacts is) = inr is
+      stays n x number (a_recall c to at pinned is) = inl (held_moves n x number c to at pinned is)
 
   -- a core has at most one request in flight
   one_each : (c : ℕ) → weight bag c ≤ 1

@@ -1,10 +1,12 @@
 -- The turns of cores in a round keep what rounds keep of recalls, line by line and core by core.
-use Rattle.std.proofs.Common.{◌≡◌, ◌≢◌, ℕ, ◌+◌, ◌≤◌, Bool, false, ◌∷◌, Option, Some, None, inl, inr, ◌⊎◌, refl, sym, ap, ◌∙◌}
+use Rattle.std.proofs.Common.{◌≡◌, ◌≢◌, ℕ, ◌+◌, ◌≤◌, Bool, false, ◌∷◌, Option, Some, None, inl, inr, ◌⊎◌, refl, sym, ap}
+use Rattle.std.proofs.Common.{◌∙◌}
 use Rattle.std.proofs.Common.{subst, ⊎_elim, arith, le_refl}
 use Rattle.std.proofs.lemmas.Bool.{cases_eq}
 use Rattle.physiological_order.specs.declared.operation.Op.{Op}
 use Rattle.physiological_order.specs.Order.{address}
-use Rattle.protocol.specs.Machine.{Config, Copy, Exclusive, Message, FlushRep, Line, Core, Machine, owns, tally, with_at, line_of}
+use Rattle.protocol.specs.Machine.{Config, Copy, Exclusive, Message, FlushRep, Line, Core, Machine, owns, tally}
+use Rattle.protocol.specs.Machine.{with_at, line_of}
 use Rattle.protocol.specs.Machine.{IsPinned, LineTransition, evict_shared, evict_exclusive, Asks, to_read, to_write}
 use Rattle.protocol.specs.Machine.{Transition, issue, advance, ask, complete, line_changes}
 use Rattle.protocol.specs.Recalls.{recall_to, grant_to, return_of, OwnsOrWill}
@@ -264,7 +266,8 @@ module _ (f : Config) where
   advances next _ is turns l e = absurd (cc)
 
   -- a copy leaves of a core that lacks one of its operation's line
-  leaves : (c k : ℕ) {m n : Machine} (turn : Transition f m n) → kind_of turn ≡ leaving c k → LacksCopy m.lines m.cores c →
+  leaves : (c k : ℕ) {m n : Machine} (turn : Transition f m n) → kind_of turn ≡ leaving c k →
+      LacksCopy m.lines m.cores c →
       Turns (c + 1) m → Turns (c + 1) n
   leaves c k {m} (line_changes d t y move) is lacks turns l e = go (cases_eq e c)
     where
@@ -302,12 +305,14 @@ module _ (f : Config) where
       own : (l ≡ d) ⊎ (l ≡ d → ⊥) → TurnPair (c + 1) (with_at m.lines d y) m.cores l c
       own (inl q) = rw q (here (turns d c))
       own (inr ne) = let same : with_at m.lines d y l ≡ m.lines l = with_at_other m.lines d y l ne in
-          kept (c + 1) m.lines _ m.cores _ l c (rw same (eased_beside l c _ _ (unchanged c (m.lines l)))) (ap (λ (z : Line). z.entry) same)
+          kept (c + 1) m.lines _ m.cores _ l c (rw same (eased_beside l c _ _ (unchanged c (m.lines l))))
+          (ap (λ (z : Line). z.entry) same)
           refl (λ q. (q.0, q.1, lacks_now _ None q.2 refl)) (turns l c)
 
       go : (e ≡ c) ⊎ (e ≡ c → ⊥) → TurnPair (c + 1) (with_at m.lines d y) m.cores l e
       go (inl q) = rw q (own (cases_eq l d))
-      go (inr ne) = beside (c + 1) m.lines _ m.cores _ e (one_line m d y e (left_beside c e ne move at)) refl l (turns l e)
+      go (inr ne) = beside (c + 1) m.lines _ m.cores _ e (one_line m d y e (left_beside c e ne move at)) refl l
+          (turns l e)
   leaves c k _ is lacks turns l e = absurd (cc)
 
   -- a core is given an operation
@@ -341,7 +346,8 @@ module _ (f : Config) where
 
       go : (e ≡ c) ⊎ (e ≡ c → ⊥) → TurnPair (c + 1) m.lines given l e
       go (inl q) = rw q own
-      go (inr ne) = beside (c + 1) m.lines _ m.cores _ e (λ j. unchanged e (m.lines j)) (other_op m d _ e (λ q. ne (q ∙ at))) l
+      go (inr ne) = beside (c + 1) m.lines _ m.cores _ e (λ j. unchanged e (m.lines j))
+          (other_op m d _ e (λ q. ne (q ∙ at))) l
           (later c m turns l e)
   issues c (line_changes l t y move) is turns k e = absurd (subst IsLines is (line_kind l (leaves_at move)))
   issues c _ is turns l e = absurd (cc)

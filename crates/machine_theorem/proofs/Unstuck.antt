@@ -57,11 +57,12 @@ use Rattle.machine_theorem.proofs.SetSizes.{Fits}
 use Rattle.machine_theorem.proofs.Sizes.{reached_sized, first_there}
 use Rattle.machine_theorem.proofs.Deliveries.{OfLine, found_of, counts_if, to_bank, to_core, IsReply, Suits}
 use Rattle.machine_theorem.proofs.Deliveries.{suits_replies, comes, completed, its_core, served}
-use Rattle.machine_theorem.proofs.Ways.{IsAsk, IsRequest, Setting, returned}
+use Rattle.machine_theorem.proofs.Ways.{AsksFor, Setting, returned}
 use Rattle.machine_theorem.proofs.Recalled.{is_back}
 use Rattle.machine_theorem.proofs.Replies.{reply_comes, Answered, Replied}
 use Rattle.machine_theorem.proofs.Taken.{taken}
 use Rattle.machine_theorem.proofs.Consistency.{line_counts}
+use Rattle.machine_theorem.specs.Rounds.{IsRequest}
 
 module _ (config : Config) (good : is_good config ≡ true) (opening : FinMap nat_cmp ℕ) (c : ℕ)
     (below : c < config.cores) (op : Op) where
@@ -120,7 +121,7 @@ module _ (config : Config) (good : is_good config ≡ true) (opening : FinMap na
   asked_by reads (body.ExReq version) = 1
   asked_by reads _ = 0
 
-  asked_by_asks : (reads : ℕ → Bool) (b : Body) → 1 ≤ asked_by reads b → IsAsk b
+  asked_by_asks : (reads : ℕ → Bool) (b : Body) → 1 ≤ asked_by reads b → IsRequest b
   asked_by_asks reads (body.ShReq pts version) some = tt
   asked_by_asks reads (body.ExReq version) some = tt
   asked_by_asks reads _ some = absurd (omega arith)
@@ -133,7 +134,7 @@ module _ (config : Config) (good : is_good config ≡ true) (opening : FinMap na
   abbrev weight : (ℕ → Bool) → Message → ℕ
   weight reads m = cond (eqb m.line l && is_from m.from) (asked_by reads m.body) 0
 
-  weight_asks : (reads : ℕ → Bool) (m : Message) → 1 ≤ weight reads m → IsRequest c l m
+  weight_asks : (reads : ℕ → Bool) (m : Message) → 1 ≤ weight reads m → AsksFor c l m
   weight_asks reads m some =
       let k = counts_if (eqb m.line l && is_from m.from) (asked_by reads m.body) some in
       let its = and_parts (eqb m.line l) (is_from m.from) k.0 in

@@ -7,6 +7,7 @@ use Rattle.std.specs.List.{slice_get, AllByRecursion as Each}
 use Rattle.std.specs.Ordering.{nat_cmp}
 use Rattle.std.specs.FinMap.{FinMap}
 use Rattle.std.proofs.lemmas.Bool.{and_parts, cases_eq, cond-true, cond-false, eq-eqb, ne_eqb, ltb-true}
+use Rattle.std.proofs.lemmas.Bool.Decides.{nat_tests}
 use Rattle.physiological_order.specs.declared.operation.Op.{Op}
 use Rattle.physiological_order.specs.Order.{address}
 use Rattle.network.specs.declared.message.Body.{Body}
@@ -44,6 +45,7 @@ use Rattle.machine_theorem.proofs.MovingOn.{Stays, a_request, a_recall, message_
 use Rattle.machine_theorem.proofs.MovingOn.{owner_moves}
 use Rattle.machine_theorem.proofs.RoundEvents.{CanSend}
 use Rattle.machine_theorem.proofs.ServiceEvents.{bag_length, rising_after}
+use Rattle.machine_theorem.proofs.Routes.{up_ends}
 use Rattle.machine_theorem.proofs.SetUps.{after_all_same}
 
 -- what is so of each message that is found is so of all, or something else is
@@ -73,8 +75,7 @@ total_grows (suc n) w v = let z = total_grows n w v in omega (arith, z)
 one_more : (n c : ℕ) (w v : ℕ → ℕ) → c < n → 1 ≤ w c → total n v + 1 ≤ total n (λ d. w d + v d)
 one_more zero c w v below some = absurd (omega (arith, below))
 one_more (suc n) c w v below some = ⊎_elim
-    (λ (e : c ≡ n). let z = total_grows n w v in
-    let y = subst (λ (d : ℕ). 1 ≤ w d) e some in omega (arith, z, y))
+    (λ (e : c ≡ n). let z = total_grows n w v in let y = rw e at some in omega (arith, z, y))
     (λ (ne : c ≡ n → ⊥). let z = one_more n c w v (omega (arith, below, ne)) some in omega (arith, z)) (cases_eq c n)
 
 -- a message about a core that there is
@@ -95,36 +96,25 @@ on_line : (w : by_line.Message → ℕ) (l : ℕ) (bag : List Message) →
     ((k : ℕ) → k ≢ l → weigh (of_line k w) bag ≡ 0) → weigh (λ x. w (message_seen x)) bag ≡ weigh (of_line l w) bag
 on_line w l [] none = refl
 on_line w l (x ∷ xs) none =
-    let rest = on_line w l xs (λ k ne. let z = none k ne in omega (arith, z)) in ⊎_elim
-    (λ (e : x.line ≡ l). let z : of_line l w x ≡ w (message_seen x) =
-    cond-true (eqb x.line l) _ 0 (eq-eqb x.line l e) in omega (arith, rest, z))
-    (λ (ne : x.line ≡ l → ⊥). let z : of_line l w x ≡ 0 = cond-false (eqb x.line l) _ 0 (ne_eqb x.line l ne) in
-    let y : of_line x.line w x ≡ w (message_seen x) = cond-true (eqb x.line x.line) _ 0 (eq-eqb x.line x.line refl) in
-    let q = none x.line ne in omega (arith, rest, z, y, q)) (cases_eq x.line l)
+    let rest = on_line w l xs (λ k ne. let z = none k ne in omega (arith, z)) in
+    let other = none x.line in grind (arith, nat_tests, rest, other)
 
 -- a request is about its core, which there is
 requests : (config : Config) (x : Message) → GoesHome config x → IsRequest x.body → IsAbout config.cores x
-requests config x home is = go x.from x.body is home.2
+requests config x home is =
+    let u = up_ends config.cores config.banks x.from x.to (route x.body is home.2) in
+    (rw u.from_core u.some_core, asks x.body is (core_of x.from) (core_of x.to))
   where
-    one : (c : ℕ) → 1 ≤ one_if (eqb c c)
-    one c = let z = ap one_if (eq-eqb c c refl) in omega (arith, z)
+    route : (b : Body) → IsRequest b → has_route config.cores config.banks x.from x.to b ≡ true →
+        is_core_to_bank config.cores config.banks x.from x.to ≡ true
+    route (body.ShReq pts version) is r = r
+    route (body.ExReq version) is r = r
+    route _ is r = absurd is
 
-    core_there : (c : ℕ) (to : Node) → is_core_to_bank config.cores config.banks (node.Core c) to ≡ true →
-        nat_lt c config.cores ≡ true
-    core_there c (node.Bank b) route = (and_parts (nat_lt c config.cores) _ route).0
-    core_there c _ route = absurd (let z : false ≡ true = route in cc)
-
-    go : (from : Node) (b : Body) → IsRequest b → has_route config.cores config.banks from x.to b ≡ true →
-        (core_of from < config.cores) × (1 ≤ about (core_of from) (body_seen (core_of from) (core_of x.to) b))
-    go (node.Core c) (body.ShReq pts version) is route =
-        (ltb-true c config.cores (core_there c x.to route), one c)
-    go (node.Core c) (body.ExReq version) is route =
-        (ltb-true c config.cores (core_there c x.to route), one c)
-    go (node.Bank b) (body.ShReq pts version) is route = absurd (let z : false ≡ true = route in cc)
-    go (node.Bank b) (body.ExReq version) is route = absurd (let z : false ≡ true = route in cc)
-    go (node.Dram b) (body.ShReq pts version) is route = absurd (let z : false ≡ true = route in cc)
-    go (node.Dram b) (body.ExReq version) is route = absurd (let z : false ≡ true = route in cc)
-    go from _ is route = absurd is
+    asks : (b : Body) → IsRequest b → (from to : ℕ) → 1 ≤ about from (body_seen from to b)
+    asks (body.ShReq pts version) is from to = let z = ap one_if (eq-eqb from from refl) in omega (arith, z)
+    asks (body.ExReq version) is from to = let z = ap one_if (eq-eqb from from refl) in omega (arith, z)
+    asks _ is from to = absurd is
 
 module _ {more : Bool} (m : Machine) (able : CanSend more m) (s : Invariant m)
     (rising : IsRising 0 m.mail.messages m.mail.next) (owned : RecallsFindOwners m) where

@@ -6,6 +6,7 @@ use Rattle.std.specs.Ordering.{nat_cmp}
 use Rattle.std.specs.FinMap.{FinMap}
 use Rattle.std.proofs.lemmas.Bool.{cases_Bool, cond_both, cond-true, cond-false, eqb-true, eq-eqb, ne_eqb, ltb-true}
 use Rattle.std.proofs.lemmas.Bool.{ltb-false}
+use Rattle.std.proofs.lemmas.Bool.Decides.{nat_tests}
 use Rattle.physiological_order.specs.declared.operation.Op.{Op}
 use Rattle.network.specs.declared.message.Message.{Message}
 use Rattle.network.specs.NumberedMessages.{IsRising, at_number, without_number}
@@ -46,21 +47,13 @@ module _ (k : ℕ) (y : Message) where
   IsThere ms = at_number k ms ≡ Some y
 
   -- a message stays where another is taken, and where one is sent
-  behind : (b : Bool) (x : Message) (xs ys : List (ℕ × Message)) → (IsThere xs → IsThere ys) →
-      cond b (Some x) (at_number k xs) ≡ Some y → cond b (Some x) (at_number k ys) ≡ Some y
-  behind true x xs ys rest at = at
-  behind false x xs ys rest at = rest at
-
   stays_without : (n : ℕ) → k ≢ n → (ms : List (ℕ × Message)) → IsThere ms → IsThere (without_number n ms)
   stays_without n ne [] at = at
-  stays_without n ne (x ∷ xs) at = cond_both (eqb x.0 n) xs (x ∷ without_number n xs) IsThere
-      (λ here. sym (cond-false (eqb x.0 k) (Some x.1) (at_number k xs)
-      (ne_eqb x.0 k (λ e. ne (sym e ∙ eqb-true x.0 n here)))) ∙ at)
-      (λ off. behind (eqb x.0 k) x.1 xs (without_number n xs) (stays_without n ne xs) at)
+  stays_without n ne (x ∷ xs) at = let rest = stays_without n ne xs in grind (arith, nat_tests, rest)
 
   stays_sent : (z : ℕ × Message) (ms : List (ℕ × Message)) → IsThere ms → IsThere (ms ++ z ∷ [])
   stays_sent z [] at = absurd (let w : None ≡ Some y = at in cc)
-  stays_sent z (x ∷ xs) at = behind (eqb x.0 k) x.1 xs (xs ++ z ∷ []) (stays_sent z xs) at
+  stays_sent z (x ∷ xs) at = let rest = stays_sent z xs in grind (arith, nat_tests, rest)
 
   module _ (m : Machine) (there : IsThere m.mail.messages) where
     abbrev Stays : Answer × Machine → Type 0

@@ -6,7 +6,8 @@ use Rattle.std.specs.List as list
 use Rattle.std.specs.List.{list_all}
 use Rattle.std.specs.Ordering.{nat_cmp}
 use Rattle.std.specs.FinMap.{FinMap}
-use Rattle.std.proofs.lemmas.Bool.{and_parts, cond-true, cond-false, eqb-true, eq-eqb, ne_eqb}
+use Rattle.std.proofs.lemmas.Bool.Decides.{nat_tests}
+use Rattle.std.proofs.lemmas.Bool.{and_parts, cond-true, cond-false, eqb-true, eq-eqb}
 use Rattle.physiological_order.specs.declared.operation.Op.{Op}
 use Rattle.physiological_order.specs.declared.operation.Op.TheVariants.{Load, Store, Swap}
 use Rattle.network.specs.declared.message.Body.{Body}
@@ -262,9 +263,7 @@ module _ {X : Type 0} (passes : X → Bool) (Else : Type 0) where
 
   behind : (p : ℕ × X) (ps : List (ℕ × X)) → is_there ps p.0 ≡ false → (h : ℕ) (x : X) → find ps h ≡ Some x →
       find (p ∷ ps) h ≡ Some x
-  behind p ps apart h x is =
-      cond-false (eqb p.0 h) (Some p.1) (find ps h)
-      (ne_eqb p.0 h (λ e. let z : false ≡ true = sym apart ∙ ap (is_there ps) e ∙ ap is_some is in cc)) ∙ is
+  behind p ps apart h x is = grind (arith, nat_tests)
 
   pub all_pass : (ps : List (ℕ × X)) → IsDistinct ps →
       ((h : ℕ) (x : X) → find ps h ≡ Some x → Else ⊎ (passes x ≡ true)) →

@@ -1,12 +1,11 @@
 -- Bags of messages: numbered, with one sent, and with one taken.
-use Rattle.std.proofs.Common.{◌≡◌, ℕ, ◌+◌, true, false, eqb, List, [], ◌∷◌, ◌++◌, length, Option, Some, None, refl, sym}
-use Rattle.std.proofs.Common.{ap, ◌∙◌, arith, ⊎_elim}
+use Rattle.std.proofs.Common.{◌≡◌, ℕ, ◌+◌, List, [], ◌∷◌, ◌++◌, length, Option, Some, None, refl, sym}
+use Rattle.std.proofs.Common.{ap, ◌∙◌, arith}
 use Rattle.std.proofs.lemmas.Bool.Decides.{nat_tests}
 use Rattle.network.specs.declared.message.Message.{Message}
 use Rattle.network.specs.NumberedMessages.{IsRising, at_number, without_number}
 use Rattle.machine_theorem.specs.Bags.{weigh, SameBag, bag_of}
 use Rattle.machine_theorem.specs.States.{numbered_from}
-use Rattle.protocol.proofs.Lemmas.{Some_injective}
 
 -- numbers don't change a bag
 pub bag-numbered : (n : ℕ) (xs : List Message) → bag_of (numbered_from n xs) ≡ xs

@@ -7,7 +7,7 @@ use Rattle.std.specs.Prelude.{option_map, is_some, not}
 use Rattle.std.specs.List.{slice_get}
 use Rattle.std.specs.Ordering.{nat_cmp}
 use Rattle.std.specs.FinMap.{FinMap}
-use Rattle.std.proofs.lemmas.Bool.{cases_eq, cond-true, cond-false, eq-eqb, ne_eqb, ltb-false}
+use Rattle.std.proofs.lemmas.Bool.{cases_eq, cond-true, cond-false, eq-eqb, ne_eqb, ltb-false, or_parts}
 use Rattle.std.proofs.lemmas.Option.{get_or_from_slice_get}
 use Rattle.physiological_order.specs.declared.operation.Op.{Op}
 use Rattle.physiological_order.specs.Order.{address}
@@ -84,10 +84,6 @@ sent m rising h w some =
     let k = found_of h w (bag_of m.mail.messages) some in
     let n = number_in m rising (bag_of m.mail.messages) (λ g. refl) k.message k.rest k.taken in
     record { number = n.number; message = k.message; at = n.at; line = k.line; weighs = k.weighs }
-
-or_right : (p q : Bool) → (p || q) ≡ false → q ≡ false
-or_right true q e = absurd (cc)
-or_right false q e = e
 
 -- a message that may stay as it is
 pub data Stays (m : Machine) (n : ℕ) (x : Message) : Type 0 where
@@ -359,7 +355,7 @@ module _ (m : Machine) (able : CanSend true m) (s : Invariant m) (rising : IsRis
               ∙ cond-false (place_for core.cache line) _ tried.NoRoom full)
 
           no_room : has_room core.cache j ≡ false
-          no_room = or_right (is_there (set_at core.cache.sets j) line) _ full
+          no_room = (or_parts (is_there (set_at core.cache.sets j) line) _ full).1
 
           by_set : (ps : List (ℕ × LineCopy)) → set_at core.cache.sets j ≡ ps → MovesOn m
           by_set [] is = absurd (let z = ap length is in

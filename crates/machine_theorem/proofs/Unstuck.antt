@@ -55,7 +55,7 @@ use Rattle.machine_theorem.proofs.ReachedStates.{reached_kept}
 use Rattle.machine_theorem.proofs.Openings.{fair}
 use Rattle.machine_theorem.proofs.SetSizes.{Fits}
 use Rattle.machine_theorem.proofs.Sizes.{reached_sized, first_there}
-use Rattle.machine_theorem.proofs.Deliveries.{OfLine, found_of, counts_if, to_bank, to_core, IsReply, Suits}
+use Rattle.machine_theorem.proofs.Deliveries.{attempt_as, OfLine, found_of, counts_if, to_bank, to_core, IsReply, Suits}
 use Rattle.machine_theorem.proofs.Deliveries.{suits_replies, comes, completed, its_core, served}
 use Rattle.machine_theorem.proofs.Ways.{AsksFor, Setting, returned}
 use Rattle.machine_theorem.proofs.Recalled.{is_back}
@@ -262,26 +262,18 @@ module _ (config : Config) (good : is_good config ≡ true) (opening : FinMap na
             (done ∙ ap (λ (p : Op). attempted core op (Some (core_table.need core.pts p version), core)) e)
             (omega arith)
 
-    -- an attempt, by the copy that there is
-    attempts : (o : Option LineCopy) → copy_of core.cache (core_table.line_of core op) ≡ o →
-        core_step core Attempting ≡ attempted core op (core_table.attempt_on core op o)
-    attempts o is =
-        ap (step.attempt_open core) opens
-        ∙ ap (λ (i : Option Op). attempted core op (core_table.attempt_open core i)) opens
-        ∙ ap (λ (i : Option LineCopy). attempted core op (core_table.attempt_on core op i)) is
-
     with_held : (held : LineCopy) → copy_of core.cache (core_table.line_of core op) ≡ Some held →
         Ends (suc (suc n)) 17 a
     with_held held is = ⊎_elim
         (λ (serves : on_copy.serves op core.pts held ≡ true). leads_within
         (by_copy (suc (suc n)) a r (omega arith) opens held (rw (its_line a r) at is) serves) (omega arith))
         (λ (serves : on_copy.serves op core.pts held ≡ false).
-        needs (Some held.wts) (rw (serves, quiet) at (attempts (Some held) is)))
+        needs (Some held.wts) (rw (serves, quiet) at (attempt_as core op opens (Some held) is)))
         (cases_Bool (on_copy.serves op core.pts held))
 
     with_place : copy_of core.cache (core_table.line_of core op) ≡ None →
         place_for core.cache (core_table.line_of core op) ≡ true → Ends (suc (suc n)) 17 a
-    with_place is place = needs None (rw (quiet, place) at (attempts None is))
+    with_place is place = needs None (rw (quiet, place) at (attempt_as core op opens None is))
 
   -- one whose copy needs a place first
   module _ (n : ℕ) (a : State) (r : Reached config opening a) (size : length a.bag ≤ n)

@@ -97,8 +97,7 @@ owner_first copies (suc n) = ap (owner_or (copies (suc n))) (owner_first copies 
         (owner_or (copies 0) None)) ≡ or_other (owner_or y (by_line.owner_words (λ k. copies (suc k)) n))
         (owner_or (copies 0) None)
     passed None = refl
-    passed (Some copy) = ⊎_elim (λ (e : copy.exclusive ≡ true). rw e) (λ (e : copy.exclusive ≡ false). rw e)
-        (cases_Bool copy.exclusive)
+    passed (Some copy) = grind (arith, nat_tests)
 
 none_owns : (cores : List CoreState) (line : ℕ) → exclusive_copies cores line ≡ 0 → owner_words cores line ≡ None
 none_owns [] line h = refl

@@ -5,7 +5,7 @@ with the other places that have one: maintain/header.py --check
 No proof sees how a caller declares what it hands over. Each structure must have the same fields in the same order, each
 as wide: a field that is narrower on one side may lose its high bits, and a proof takes it for any other number.
 
-TARDIS_VERSION is the version. The library's call and the Python package repeat it.
+TARDIS_VERSION is the version. The library's call, the program's `--version` and the Python package repeat it.
 """
 import re
 import sys
@@ -38,6 +38,7 @@ def versions(header):
     number = int(re.search(r"^#define TARDIS_VERSION (\d+)$", header, re.M)[1])
     text = f"{number // 10000}.{number // 100 % 100}.{number % 100}"
     for place, looks in (("crates/tardis_c/src/version.rt", f"ensures {{ result ≡ {number} }}"),
+                         ("crates/command_line/src/app.rt", f'.version("{text}")'),
                          ("python/tardis/version.py", f'VERSION = "{text}"')):
         if looks not in (TOP / place).read_text(encoding="utf-8"):
             yield f"header.py: {place} lacks {looks}"

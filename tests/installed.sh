@@ -38,7 +38,9 @@ legal() {
     [ "$said" = legal ] || fail "$name: $said"
 }
 legal tardis "$prefix/bin/tardis" check
-version=$(cd "$top/python" && python3 -c 'import tardis; print(tardis.__version__)')
+version=$("$prefix/bin/tardis" --version 2>&1)
+said=$(cd "$top/python" && python3 -c 'import tardis; print("tardis", tardis.__version__)')
+[ "$version" = "$said" ] || fail "$version, and in Python $said"
 "$top/tests/python_package.py" --library || exit 1
 ! has jupyter-nbconvert "the notebook" || "$top/tests/notebook.py" || exit 1
 
@@ -47,7 +49,7 @@ if has pkg-config "its file"; then
     gcc -o "$work/by_pkg_config" "$embed/check.c" $(pkg-config --cflags --libs tardis) || exit 1
     legal pkg-config "$work/by_pkg_config"
     said=$(pkg-config --modversion tardis)
-    [ "$version" = "$said" ] || fail "$version, and by pkg-config $said"
+    [ "$version" = "tardis $said" ] || fail "$version, and by pkg-config $said"
 fi
 if has cmake "its file"; then
     printf '%s\n' 'cmake_minimum_required(VERSION 3.13)' 'project(tried C)' 'find_package(tardis 0.1 REQUIRED)' \

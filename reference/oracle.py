@@ -72,7 +72,7 @@ def words():
             command.add_argument("--" + option, type=read, default=usual, metavar="N", help=f"{says} ({usual})")
         command.add_argument("--workers", type=number("workers", 1, 16), default=1, metavar="N",
                              help="with --schedule threads, 1 alone")
-        command.add_argument("--fair", action="store_true", help="with --schedule round")
+        command.add_argument("--fair", action="store_true", help="with --schedule round or threads")
         command.add_argument("--private-write", action="store_true")
         command.add_argument("--trace", action="store_true", dest="tell")
         command.add_argument("--events", action="store_true")
@@ -111,9 +111,9 @@ def read_trace(path):
 
 
 def refuse_fair(options):
-    """Only rounds can be fair."""
-    if options.command in ("litmus", "trace") and options.fair and options.schedule != "round":
-        raise Refused(3, f"error: '--fair' needs '--schedule round'{MORE}")
+    """Draws can't be fair."""
+    if options.command in ("litmus", "trace") and options.fair and options.schedule == "seed":
+        raise Refused(3, f"error: '--fair' needs '--schedule round' or '--schedule threads'{MORE}")
 
 
 def refuse_threads(options):

@@ -19,7 +19,7 @@ from reference.workers import by_one_worker
 
 
 USUAL = {"banks": 1, "sets": 64, "ways": 4, "bank_sets": 256, "bank_ways": 8, "line_words": 1, "lease": 10,
-         "messages": 4096, "time": 0, "private_write": False}
+         "messages": 4096, "time": 0, "private_write": False, "fair": False}
 LAST = 2 ** 64 - 1
 KINDS = {"R": "load", "S": "store", "X": "swap"}
 EVENTS = {"A": "Attempt", "D": "Deliver", "C": "EvictCache", "B": "EvictBank", "T": "Advance"}
@@ -129,6 +129,11 @@ WORKER_RUNS = [
     # lease's end, 10, and line 1 is asked of DRAM.
     ("a line leaves the bank before the turn", {"bank_sets": 1, "bank_ways": 1}, "0 R 0x0; 0 R 0x8", "all-done", 4,
      ["0 0 R 0x0 0 0 0", "0 1 R 0x8 0 10 1"], {}),
+    # In pass 2 line 0 comes back, core 1 has it, and after a turn without progress it leaves the bank, which raises the
+    # memory time to 11. In pass 3 it is stored, and line 1 is loaded. Turns that aren't fair would never end.
+    ("a line leaves the bank after a fair turn", {"bank_sets": 1, "bank_ways": 1, "fair": True},
+     "0 W 0x0 1; 1 R 0x0; 2 R 0x8", "all-done", 4, ["0 0 W 0x0 1 1 0", "1 0 R 0x0 1 1 1", "2 0 R 0x8 0 11 2"],
+     {"write-backs": 1}),
     ("a core's time ends in its attempt", {"time": LAST}, "0 W 0x0 1", "exhausted", 2, [], {}),
     # The bank's fourth turn: its lease passes the last time. Core 1's line would have been asked for in the fifth.
     ("a bank's time ends in its turn", {"time": LAST}, "0 R 0x0; 1 R 0x8", "exhausted", 1, [], {}),

@@ -35,11 +35,11 @@ class SharedMachine(Seats):
 
 
 class WorkerRun:
-    """A machine's seats and its programs. `passes` counts the passes, and `had` the turns of each seat. `tell` is given
-    each call of a seat, with the number of the seat's turn and its answer."""
+    """A machine's seats and its programs. If it is `fair`, banks have fair turns. `passes` counts the passes, and `had`
+    the turns of each seat. `tell` is given each call of a seat, with the number of the seat's turn and its answer."""
 
-    def __init__(self, machine, programs, tell=None):
-        self.machine, self.programs, self.tell = machine, programs, tell
+    def __init__(self, machine, programs, tell=None, fair=False):
+        self.machine, self.programs, self.tell, self.fair = machine, programs, tell, fair
         self.passes, self.had = 0, [0] * len(machine.seats)
 
     @property
@@ -88,10 +88,24 @@ class WorkerRun:
 
     def make_turn(self, number):
         """Whether the turn made progress: a step of the program was done, or messages were put or served."""
-        is_core = number < len(self.programs)
-        is_done = self.begin_core(number) if is_core else self.begin_bank(number)
+        if number >= len(self.programs):
+            return self.make_bank_turn(number)
+        is_done = self.begin_core(number)
+        return self.make_seat_turn(number) or is_done
+
+    def make_seat_turn(self, number):
+        """The turn that the seat makes by itself; whether messages were put or served."""
         put, _, served = self.call("turn", number).partition(" ")
-        return is_done or put not in ("0", "refused") or served in MOVED
+        return put not in ("0", "refused") or served in MOVED
+
+    def make_bank_turn(self, number):
+        """Room is made before the seat's turn; in a fair turn after it, and only if that made no progress."""
+        if not self.fair:
+            self.make_room(number)
+        moved = self.make_seat_turn(number)
+        if self.fair and not moved:
+            self.make_room(number)
+        return moved
 
     def begin_core(self, core):
         """The program's next step if no operation is open, and an attempt of the one that is open then; whether a step
@@ -115,15 +129,14 @@ class WorkerRun:
         self.programs[core].done(self.machine.records[-1].received)
         return True
 
-    def begin_bank(self, number):
-        """The line leaves that makes room for the oldest held request that waits for it. That is no step."""
+    def make_room(self, number):
+        """The line leaves that makes room for the oldest held request that waits for it, if there is one."""
         line = self.machine.make_room(number)
         if line is not None:
             self.call("evict", number, line)
-        return False
 
 
 def by_one_worker(options, programs, memory, tell=None):
     """A run by one worker, and its end."""
-    run = WorkerRun(SharedMachine(options, len(programs), memory), programs, tell)
+    run = WorkerRun(SharedMachine(options, len(programs), memory), programs, tell, options.fair)
     return run, run.drive(options.limit)

@@ -266,10 +266,10 @@ of_one_worker() {
     row "$work/wanted.$rows" "$command" --schedule threads "$@"
 }
 
-# The options of a trace, for a schedule that takes no seed and isn't fair. Where banks have few places, lines may come
-# and go until all turns are used: such a run has fewer.
+# The options of a trace, for a schedule that takes no seed. Where banks have few places, lines may come and go until
+# all turns are used: such a run has fewer.
 options_by_threads() {
-    given=$(options_of "$1" | sed -e 's/--schedule seed//' -e 's/--seed [0-9]*//' -e 's/--fair//')
+    given=$(options_of "$1" | sed -e 's/--schedule seed//' -e 's/--seed [0-9]*//')
     case $given in
         *--limit*) ;;
         *--bank-*) given="$given --limit 2000" ;;

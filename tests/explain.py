@@ -109,7 +109,7 @@ RUNS = [
 NO_RUNS = [("check none b", "none: No such file or directory"), ("trace none", "none: No such file or directory"),
            ("litmus tests", "tests: Is a directory"),
            ("trace --schedule threads examples/traces/PAST.trace", "a run by rounds or by a seed is wanted"),
-           ("trace --fair --schedule seed none", "'--fair' needs '--schedule round'"),
+           ("trace --fair --schedule seed none", "'--fair' needs '--schedule round' or '--schedule threads'"),
            ("trace --limit 0 examples/traces/PAST.trace", "'--limit <limit>': 0 is not in 1..=4294967295")]
 # Options out of range, each with its range; and texts of another kind.
 REFUSED = [("trace --lease 0 examples/traces/PAST.trace", ["bad configuration: --lease 0: 1 to 4294967296"]),

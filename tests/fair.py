@@ -1,13 +1,19 @@
 #!/usr/bin/env python3
-"""Runs random traces by fair rounds on random small machines: tests/fair.py [PROGRAM] [--machines N] [--seed N].
+"""Runs random traces by fair rounds, and by fair threads, on random small machines: tests/fair.py [PROGRAM]
+[--machines N] [--seed N].
 
 On the second program, each run must be all done, with no more than MOST_ROUNDS rounds between one step that is done (an
 operation completed, an advance) and the next. That is measured: no proof says so. Every other machine has places for
 one message more than it has cores, which is the least that a run needs; the others have 4,096, of which never more than
 three a core may be taken. Machines with fewer places must stall in their second round.
 
+By fair threads each run of one worker must be all done within MOST_TURNS turns of a seat for each step, and one more;
+that is measured, too. Of the same machines, some must starve where the turns aren't fair. So must nine cores that store
+to nine lines of one set of a bank: by fair threads they end, by 1 to 16 workers.
+
 PROGRAM is the built crate tardis: its report and its records of each run must be the second program's, byte for byte.
-Without it, or with thousands of machines, the script measures. The last lines are what was tried and the greatest gap.
+Without it, or with thousands of machines, the script measures. The last lines are what was tried, the greatest gap of
+rounds, and the most turns a step.
 """
 import argparse
 import random
@@ -22,11 +28,14 @@ from reference.machine import Machine  # noqa: E402
 from reference.reports import trace_lines  # noqa: E402
 from reference.schedules import ADVANCE, Run, by_rounds  # noqa: E402
 from reference.traces import Trace, record_line  # noqa: E402
+from reference.workers import SharedMachine, WorkerRun, by_one_worker  # noqa: E402
 from tests.texts import Tester  # noqa: E402
 
-MOST_ROUNDS = 16
-# How many machines of each kind the gate tries, by default.
-MACHINES, SMALL = 300, 40
+MOST_ROUNDS = MOST_TURNS = 16
+# How many machines of each kind the gate tries, by default, and after how many turns a run counts as one that starves.
+MACHINES, SMALL, STARVES = 300, 40, 500
+# Nine cores, which each store to the nine lines of one set of eight ways, in turn.
+NINE = [[("store", 256 * ((core + step) % 9), step + 1) for step in range(10)] for core in range(9)]
 
 
 class Measured(Run):
@@ -62,11 +71,16 @@ def step_of(draw, words):
 
 def options_of(draw):
     """A machine with few places for lines."""
-    named = {name.replace("-", "_"): usual for name, (usual, _) in NUMBERS.items()}
     few = {"banks": draw.choice([1, 1, 2, 3]), "sets": draw.choice([1, 1, 2]), "ways": draw.randint(1, 3),
            "bank_sets": draw.choice([1, 1, 2]), "bank_ways": draw.choice([1, 1, 2, 3]),
            "line_words": draw.choice([1, 8]), "lease": draw.choice([1, 2, 10])}
-    return SimpleNamespace(**named | few, private_write=draw.random() < 0.5)
+    return machine(few, draw.random() < 0.5)
+
+
+def machine(named, private_write=False):
+    """The default machine but for the options that are named, by fair rounds."""
+    usual = {name.replace("-", "_"): number for name, (number, _) in NUMBERS.items()}
+    return SimpleNamespace(**usual | named, private_write=private_write, schedule="round", fair=True)
 
 
 def text_of(programs):
@@ -76,18 +90,24 @@ def text_of(programs):
 
 def words_of(options):
     words = [word for name in NUMBERS for word in ("--" + name, str(getattr(options, name.replace("-", "_"))))]
-    return ["trace", "--fair", *words, *["--private-write"] * options.private_write, "/dev/stdin"]
+    flags = [*["--private-write"] * options.private_write, *["--fair"] * options.fair]
+    return ["trace", "--schedule", options.schedule, *words, *flags, "/dev/stdin"]
 
 
 class Fair(Tester):
     """Runs that are made twice: by the second program, and by the program, if there is one."""
 
-    gap = crowd = again = 0
+    gap = crowd = again = most = starved = 0
 
     def run_of(self, text, options):
         trace = Trace(text)
         run = Measured(Machine(options, trace.cores, {}), trace.programs())
         end = by_rounds(run, options.limit, fair=True)
+        self.made_alike(text, trace, options, run, end)
+        return run, end
+
+    def made_alike(self, text, trace, options, run, end):
+        """The program's report and records are those of the second program's run."""
         if self.program:
             status = int(end != "all-done")
             texts = (([], trace_lines(trace, run, end)), (["--records"], map(record_line, run.machine.records)))
@@ -95,7 +115,6 @@ class Fair(Tester):
                 wanted = status, "".join(f"{line}\n" for line in lines), ""
                 got = self.run(*words_of(options), *words, text=text)
                 self.expect(got == wanted, f"{words_of(options)} {words} of {text}: {got}, wanted {wanted}")
-        return run, end
 
     def ends(self, draw, cores, is_crowded):
         """A run that must be all done."""
@@ -107,6 +126,27 @@ class Fair(Tester):
         good = end == "all-done" and run.gap <= MOST_ROUNDS and (is_crowded or run.crowd <= 3 * cores)
         self.expect(good, f"{end}, a gap of {run.gap}, {run.crowd} messages: {options} {text_of(programs)}")
         self.gap, self.again = max(self.gap, run.gap), self.again + run.again
+
+    def by_threads(self, options, programs):
+        """A run by one worker that must be all done, by fair threads; and whether it starves otherwise."""
+        text = text_of(programs)
+        trace, steps = Trace(text), sum(map(len, programs)) + 1
+        options.schedule, options.limit = "threads", MOST_TURNS * steps
+        run, end = by_one_worker(options, trace.programs(), {})
+        self.expect(end == "all-done", f"{end} by one worker: {options} {text}")
+        self.most = max(self.most, run.turns / steps)
+        self.made_alike(text, trace, options, run, end)
+        other = WorkerRun(SharedMachine(options, trace.cores, {}), trace.programs())
+        self.starved += other.drive(STARVES) != "all-done"
+
+    def by_workers(self):
+        """Nine cores on nine lines: by fair threads all is done, by any number of workers."""
+        given = ["trace", "--schedule", "threads", "/dev/stdin"]
+        for workers in range(1, 17) if self.program else ():
+            status, out, error = self.run(*given, "--fair", "--limit", "10000000", "--workers", str(workers),
+                                          text=text_of(NINE))
+            good = (status, error) == (0, "") and "\ncompleted 90\nend all-done\n" in out
+            self.expect(good, f"nine cores by {workers} workers: {status} {error} {out}")
 
     def stalls(self, draw, cores):
         """A run with a request of each core, and no place for what a bank would send."""
@@ -127,11 +167,18 @@ def main():
     for number in range(options.machines):
         cores = draw.choice([2, 2, 3, 3, 4, 4, 5, 6, 8, 12, 16, 24, 32, 64])
         tester.ends(draw, cores, number % 2)
+        words = draw.choice([2, 3, 4, 6, 9])
+        tester.by_threads(options_of(draw), steps_of(draw, min(cores, 16), words))
+    starved = tester.starved
+    tester.by_threads(machine({}), NINE)
+    tester.expect(starved and tester.starved > starved, f"{tester.starved} starve where turns aren't fair")
+    tester.by_workers()
     for _ in range(SMALL):
         tester.stalls(draw, draw.choice([2, 3, 8, 64]))
     tester.expect(tester.again > 0, "no message was delivered twice in a round")
     print(f"{tester.tried} tried, {tester.wrong} wrong; at most {tester.gap} rounds from one step done to the next, "
-          f"{tester.again} second deliveries")
+          f"{tester.again} second deliveries; at most {tester.most:.1f} turns of a seat for each step and one more, "
+          f"{tester.starved} starve by turns that aren't fair")
     return int(tester.wrong > 0)
 
 

@@ -37,7 +37,7 @@ AskUnfairly words = (found : Text × List Row) × AreTaken words found × IsOrde
 
 -- what is said then
 abbrev pub unfair_text : Text
-unfair_text = codes "error: '--fair' needs '--schedule round'\n\nFor more information, try '--help'.\n"
+unfair_text = codes "error: '--fair' needs '--schedule round' or '--schedule threads'\n\nFor more information, try '--help'.\n"
 
 -- clap's rules find a fault of this kind in the words
 abbrev pub IsFaulty : List Text → ErrorKind → Type 0

@@ -11,7 +11,7 @@ use Rattle.run_options.specs.declared.options.LitmusOptions.{LitmusOptions}
 use Rattle.run_options.specs.declared.options.MachineOptions.{MachineOptions}
 use Rattle.run_options.specs.declared.options.RunOptions.{RunOptions}
 use Rattle.run_options.specs.declared.options.Schedule.{Schedule}
-use Rattle.run_options.specs.declared.options.Schedule.TheVariants.{Round, FairRound, Seed, Threads}
+use Rattle.run_options.specs.declared.options.Schedule.TheVariants.{Round, FairRound, Seed, Threads, FairThreads}
 use Rattle.run_options.specs.declared.options.TraceOptions.{TraceOptions}
 
 -- the text is this number in decimal, with a plus before it or without one
@@ -71,13 +71,14 @@ IsSchedule rows name schedule = (first_of name rows ≡ Some (codes "seed") → 
     × ((first_of name rows ≡ Some (codes "seed") → ⊥) → (first_of name rows ≡ Some (codes "threads") → ⊥)
     → schedule ≡ Round)
 
--- rounds can be fair, and no other schedule
+-- rounds and threads can be fair, and draws can't
 abbrev pub fairly : Bool → Schedule → Option Schedule
 fairly false schedule = Some schedule
 fairly true Round = Some FairRound
 fairly true FairRound = Some FairRound
 fairly true Seed = None
-fairly true Threads = None
+fairly true Threads = Some FairThreads
+fairly true FairThreads = Some FairThreads
 
 -- the order of events is that of the schedule that the words name, made fair if they ask for it; none if it can't be
 abbrev pub IsOrder : List Row → Option Schedule → Type 0

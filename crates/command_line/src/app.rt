@@ -35,7 +35,8 @@ const WORKERS: &str =
 
 const FAIR: &str =
     "By schedule round, delivers a message once more at once where a bank has made a place for it, \
-    so that no younger one takes the place";
+    so that no younger one takes the place; by schedule threads, lets a bank make a place only after a \
+    turn in which it moved no message";
 
 const PRIVATE_WRITE: &str = "Lets a core that wrote a line store to it again without a later time";
 

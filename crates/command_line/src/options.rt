@@ -60,7 +60,8 @@ fn fairly(fair: bool, schedule: Schedule) -> Option<Schedule>
     }
     match schedule {
         Schedule::Round | Schedule::FairRound => Some(Schedule::FairRound),
-        Schedule::Seed | Schedule::Threads => None,
+        Schedule::Threads | Schedule::FairThreads => Some(Schedule::FairThreads),
+        Schedule::Seed => None,
     }
 }
 

@@ -30,8 +30,8 @@ pub enum Job<'a> {
 /// Why words are no job.
 #[derive(Debug, Drop)]
 pub enum WordsError {
-    /// The command line doesn't take the words, or they ask for help, or for a fair schedule that isn't round. This is
-    /// the text to show, in whole lines.
+    /// The command line doesn't take the words, or they ask for help, or for a fair schedule that is seed. This is the
+    /// text to show, in whole lines.
     Refused(String),
     /// Allocation failed.
     NoMemory,
@@ -59,18 +59,19 @@ fn refused(alloc: Global, error: &Error) -> WordsError
     }
 }
 
-/// What is said of a fair run that isn't by rounds.
+/// What is said of a fair run by a seed.
 fn unfair(alloc: Global) -> WordsError
     ensures { (words : List Text) → AskUnfairly words → IsRefusedFor words result }
 {
-    let said = "error: '--fair' needs '--schedule round'\n\nFor more information, try '--help'.\n";
+    let said =
+        "error: '--fair' needs '--schedule round' or '--schedule threads'\n\nFor more information, try '--help'.\n";
     match format!(in alloc; "{said}") {
         Ok(text) => WordsError::Refused(text),
         Err(_) => WordsError::NoMemory,
     }
 }
 
-/// The job of a command that the program has; none if it asks for a fair run that isn't by rounds.
+/// The job of a command that the program has; none if it asks for a fair run by a seed.
 fn job_of<'a>(name: &str, matches: &ArgMatches<'a>) -> Option<Job<'a>>
     requires { (name.now ≡ codes "litmus") ⊎ (name.now ≡ codes "ends") ⊎ (name.now ≡ codes "trace")
         ⊎ (name.now ≡ codes "check") }

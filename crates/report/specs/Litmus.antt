@@ -10,7 +10,7 @@ use Rattle.litmus_reader.specs.Grammar.{IsTest}
 use Rattle.litmus_reader.specs.Litmus.{Litmus}
 use Rattle.litmus_reader.specs.ReadingTest.{test_at}
 use Rattle.machine_table.specs.SetUp.{is_good}
-use Rattle.worker_driver.specs.SetUp.{config_of, limit_of, policy_of}
+use Rattle.worker_driver.specs.SetUp.{config_of, driver_of, limit_of}
 use Rattle.report_text.specs.Ends.{ends_as}
 use Rattle.report_text.specs.Text.{litmus_text}
 use Rattle.programs.specs.declared.ends.End.TheVariants.{AllDone}
@@ -30,7 +30,7 @@ pub record AreRuns (options : LitmusOptions) (bytes : List ℕ) (test : Litmus) 
   pub is_test : IsTest bytes test
   pub good : is_good (config_of options.run.machine test.threads) ≡ true
   pub count : length runs ≡ options.runs
-  pub each : AreFrom test (config_of options.run.machine test.threads) (policy_of options.run) (turns options) 0 runs
+  pub each : AreFrom test (config_of options.run.machine test.threads) (driver_of options.run) (turns options) 0 runs
   pub outcomes : AllByRecursion (HasOutcome test) runs
 
 -- the text reports on such runs, and says whether all of them ended all done

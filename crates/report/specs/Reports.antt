@@ -3,7 +3,7 @@ use Rattle.std.specs.Prelude.{◌≡◌, ◌⊎◌, ◌≤◌, ℕ, Bool, true, 
 use Rattle.machine_table.specs.Machine.{Machine}
 use Rattle.machine_table.specs.SetUp.{is_good}
 use Rattle.physiological_order.specs.declared.operation.Record.{Record}
-use Rattle.worker_driver.specs.SetUp.{config_of, limit_of, policy_of}
+use Rattle.worker_driver.specs.SetUp.{config_of, driver_of, limit_of}
 use Rattle.programs.specs.declared.ends.End.{End}
 use Rattle.run_options.specs.declared.options.TraceOptions.{TraceOptions}
 use Rattle.run_results.specs.declared.results.RunError.{RunError}
@@ -40,7 +40,7 @@ pub record TellsTraceRun (options : TraceOptions) (lanes : List (List Step)) (al
   pub good : is_good (config_of options.run.machine (trace_cores lanes)) ≡ true
   pub end : End
   pub machine : Machine
-  pub run : IsTraceRun (policy_of options.run) (limit_of options.run)
+  pub run : IsTraceRun (driver_of options.run) (limit_of options.run)
       (config_of options.run.machine (trace_cores lanes)) lanes end machine
   pub told : TellsOf options.records lanes end machine all_done text
 

@@ -1,5 +1,5 @@
 -- What a run of a trace is, and the texts that report it.
-use Rattle.std.specs.Prelude.{◌≡◌, ℕ, zero, suc, ◌+◌, Bool, true, false, List, [], ◌∷◌, ◌++◌, length, map, Option}
+use Rattle.std.specs.Prelude.{◌≡◌, ℕ, zero, suc, ◌+◌, Bool, true, false, List, [], ◌∷◌, ◌++◌, length, map}
 use Rattle.std.specs.Prelude.{slice_index_or}
 use Rattle.std.specs.Ordering.{nat_cmp}
 use Rattle.std.specs.FinMap.{FinMap, empty, entries, insert}
@@ -20,7 +20,7 @@ use Rattle.trace_reader.specs.Steps.{lane, ops_of, trace_cores, trace_ops}
 use Rattle.trace_texts.specs.declared.reports.TraceEnd.{TraceEnd}
 use Rattle.trace_texts.specs.Reports.{trace_text}
 use Rattle.programs.specs.Acts.{Acts, first_step, behind_first}
-use Rattle.schedules.specs.declared.policy.Policy.{Policy}
+use Rattle.worker_driver.specs.declared.set_up.Driver.{Driver}
 
 -- the steps of a core are its program
 abbrev pub step_acts : Acts (List Step)
@@ -34,10 +34,10 @@ programs_below lanes (suc core) = programs_below lanes core ++ lane lanes core �
 -- A run of a trace over a memory of zeros, by a policy or by threads. Its records are a legal history of what the
 -- cores were issued, and so of the operations of the trace. They are in rising order of number, and a text of records
 -- can write them. The words have the values that the records leave, one after the other in the order of their times.
-pub record IsTraceRun (policy : Option Policy) (limit : ℕ) (config : Config) (lanes : List (List Step)) (end : End)
+pub record IsTraceRun (driver : Driver) (limit : ℕ) (config : Config) (lanes : List (List Step)) (end : End)
     (machine : Machine) : Type 0 where
   pub programs : List (List Step)
-  pub led : LeadsTo step_acts policy limit config empty (programs_below lanes (trace_cores lanes)) machine programs end
+  pub led : LeadsTo step_acts driver limit config empty (programs_below lanes (trace_cores lanes)) machine programs end
   pub legal : Legal (flat empty) (λ core. slice_index_or machine.issued core []) machine.records
   pub legal_in_trace : Legal (flat empty) (trace_ops lanes) machine.records
   pub rising : RisesByNumber machine.records

@@ -1,5 +1,5 @@
 //! Reports on texts in memory, for a caller that has no threads: the calling thread makes all runs.
-ghost use Rattle.std.specs.Prelude.{◌≡◌, ◌≢◌, IfErr, IfOk, List, None, Ok, Some, false, length, min, true};
+ghost use Rattle.std.specs.Prelude.{◌≡◌, IfErr, IfOk, List, Ok, Some, false, length, min, true};
 ghost use Rattle.std.specs.Prelude.{ℕ};
 ghost use Rattle.std.specs.FinMap.{empty};
 ghost use Rattle.std.specs.List.{AllByRecursion};
@@ -13,7 +13,7 @@ ghost use Rattle.report.specs.Reports.{HasNoRun, HasNoTraceReport, IsTraceReport
 ghost use Rattle.report.specs.Verdicts.{HasNoVerdict, IsCheckReport};
 ghost use Rattle.worker_driver.specs.Outcomes.{HasOutcome};
 ghost use Rattle.worker_driver.specs.Runs.{AreFrom};
-ghost use Rattle.worker_driver.specs.SetUp.{policy_of};
+ghost use Rattle.worker_driver.specs.SetUp.{FollowsPolicy, driver_of};
 
 use crate::checks::verdict_on;
 use crate::litmus::{are_all_done, test_in};
@@ -30,7 +30,7 @@ use run_results::RunError;
 use std::alloc::{AllocError, Global};
 use std::io::Read;
 use trace_reader::Trace;
-use worker_driver::{config_of, limit_of, policy_of, policy_runs};
+use worker_driver::{Driver, config_of, driver_of, limit_of, policy_runs};
 
 // Bytes in memory, as a source that never fails.
 #[derive(Drop)]
@@ -66,7 +66,7 @@ pub fn litmus_report(
     text: &[u8],
     options: &LitmusOptions,
 ) -> Result<Report, RunError>
-    requires { policy_of options.now.run ≢ None }
+    requires { FollowsPolicy options.now.run }
     ensures report { IfOk result (λ report.
         IsLitmusReport options.now text.now report.all_done report.text.items) }
     ensures refused { IfErr result (HasNoReportInMemory options.now text.now) }
@@ -97,26 +97,26 @@ fn runs_of(
     config: Config,
     options: &LitmusOptions,
 ) -> Result<Vec<RunEnd>, AllocError>
-    requires policy { policy_of options.now.run ≢ None }
+    requires policy { FollowsPolicy options.now.run }
     requires good { is_good config ≡ true }
     requires cores { config.cores ≡ (test_of test.now).threads }
     ensures count { IfOk result (λ runs. length runs.items ≡ options.now.runs) }
     ensures each { IfOk result (λ runs. AreFrom (test_of test.now) config
-        (policy_of options.now.run) (turns options.now) 0 runs.items) }
+        (driver_of options.now.run) (turns options.now) 0 runs.items) }
     ensures outcomes { IfOk result (λ runs. (text : List ℕ) → IsTest text (test_of test.now) →
         AllByRecursion (HasOutcome (test_of test.now)) runs.items) }
 {
-    let Some(policy) = policy_of(&options.run) else {
-        unreachable!()
-    };
     let limit = limit_of(&options.run);
-    policy_runs(alloc, test, config, policy, options.runs, limit)
+    match driver_of(&options.run) {
+        Driver::ByPolicy(policy) => policy_runs(alloc, test, config, policy, options.runs, limit),
+        Driver::ByThreads(_) => unreachable!(),
+    }
 }
 
 /// The report on a run of the trace that a text is, or its records, by a schedule without threads. Trace takes
 /// precedence over BadConfig.
 pub fn trace_report(alloc: Global, text: &[u8], options: &TraceOptions) -> Result<Report, RunError>
-    requires { policy_of options.now.run ≢ None }
+    requires { FollowsPolicy options.now.run }
     ensures report { IfOk result (λ report.
         IsTraceReport options.now (Some text.now) report.all_done report.text.items) }
     ensures refused { IfErr result (HasNoTraceReport options.now (Some text.now)) }
@@ -131,7 +131,7 @@ pub fn trace_report(alloc: Global, text: &[u8], options: &TraceOptions) -> Resul
 
 // The report on a trace, or its records.
 fn report_of(alloc: Global, trace: &Trace, options: &TraceOptions) -> Result<Report, RunError>
-    requires { policy_of options.now.run ≢ None }
+    requires { FollowsPolicy options.now.run }
     ensures report { IfOk result (λ report.
         TellsTraceRun options.now trace.now report.all_done report.text.items) }
     ensures refused { IfErr result (HasNoRun options.now trace.now) }
@@ -139,12 +139,12 @@ fn report_of(alloc: Global, trace: &Trace, options: &TraceOptions) -> Result<Rep
     let Some(config) = config_of(&options.run.machine, trace.cores()) else {
         return Err(RunError::BadConfig);
     };
-    let Some(policy) = policy_of(&options.run) else {
-        unreachable!()
-    };
-    match told_by_policy(alloc, trace, config, policy, options) {
-        Ok(report) => Ok(report),
-        Err(AllocError) => Err(RunError::NoMemory),
+    match driver_of(&options.run) {
+        Driver::ByPolicy(policy) => match told_by_policy(alloc, trace, config, policy, options) {
+            Ok(report) => Ok(report),
+            Err(AllocError) => Err(RunError::NoMemory),
+        },
+        Driver::ByThreads(_) => unreachable!(),
     }
 }
 

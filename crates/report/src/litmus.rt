@@ -6,7 +6,7 @@ ghost use Rattle.litmus_reader.specs.Grammar.{IsTest};
 ghost use Rattle.litmus_reader.specs.TestViews.{test_of};
 ghost use Rattle.machine_table.specs.SetUp.{is_good};
 ghost use Rattle.report.specs.Answers.{FailuresAreCounted, IsCutOff, IsReported};
-ghost use Rattle.worker_driver.specs.SetUp.{policy_of};
+ghost use Rattle.worker_driver.specs.SetUp.{driver_of};
 ghost use Rattle.report_text.specs.Ends.{ends_as};
 ghost use Rattle.report.specs.Bytes.{OfBytes};
 ghost use Rattle.report.specs.Litmus.{HasNoReport, HasNoReportInMemory, HasNoTestInMemory, IsLitmusReport};
@@ -27,7 +27,8 @@ use shared_jobs::Free;
 use std::alloc::{AllocError, Global};
 use std::thread::Threads;
 use worker_driver::{
-    Policy, config_of, limit_of, policy_of, policy_runs, seeded_runs, threaded_runs, workers_of,
+    Driver, Policy, config_of, driver_of, limit_of, policy_runs, seeded_runs, threaded_runs,
+    workers_of,
 };
 
 /// Reads a litmus test to the end of the source, runs it as the options say, and writes the report of the runs. Each
@@ -123,18 +124,20 @@ fn runs_of<R: Threads + Sync>(
     requires cores { config.cores ≡ (test_of test.now).threads }
     ensures count { IfOk result (λ runs. length runs.items ≡ options.now.runs) }
     ensures each { IfOk result (λ runs. AreFrom (test_of test.now) config
-        (policy_of options.now.run) (turns options.now) 0 runs.items) }
+        (driver_of options.now.run) (turns options.now) 0 runs.items) }
     ensures outcomes { IfOk result (λ runs. (text : List ℕ) → IsTest text (test_of test.now) →
         AllByRecursion (HasOutcome (test_of test.now)) runs.items) }
 {
     let run = &options.run;
     let (count, limit, workers) = (options.runs, limit_of(run), workers_of(run));
-    match policy_of(run) {
-        Some(Policy::Seed(first)) => {
+    match driver_of(run) {
+        Driver::ByPolicy(Policy::Seed(first)) => {
             seeded_runs(rt, alloc, test, config, first, count, limit, workers, &Free)
         }
-        Some(policy) => policy_runs(alloc, test, config, policy, count, limit),
-        None => threaded_runs(rt, alloc, test, config, count, limit, workers, &Free),
+        Driver::ByPolicy(policy) => policy_runs(alloc, test, config, policy, count, limit),
+        Driver::ByThreads(fair) => {
+            threaded_runs(rt, alloc, test, config, count, limit, workers, fair, &Free)
+        }
     }
 }
 

@@ -1,5 +1,5 @@
 //! One run of a trace, by a policy or by threads, and its text.
-ghost use Rattle.std.specs.Prelude.{◌≡◌, ◌<◌, ◌≤◌, true, IfOk, None, Some};
+ghost use Rattle.std.specs.Prelude.{◌≡◌, ◌<◌, ◌≤◌, true, IfOk};
 ghost use Rattle.std.specs.FinMap.{empty};
 ghost use Rattle.machine_table.specs.Machine.{Machine};
 ghost use Rattle.machine_table.specs.SetUp.{is_good};
@@ -8,6 +8,7 @@ ghost use Rattle.physiological_order.specs.Order.{flat, Legal};
 ghost use Rattle.physiological_order.specs.StaleHits.{RisesByNumber};
 ghost use Rattle.trace_texts.specs.Records.{AreComplete, records_text};
 ghost use Rattle.thread_driver.specs.ThreadRuns.{machine_of};
+ghost use Rattle.worker_driver.specs.declared.set_up.Driver.TheVariants.{ByPolicy, ByThreads};
 ghost use Rattle.report.specs.Reports.{TellsRecords};
 ghost use Rattle.trace_reader.specs.Steps.{trace_cores, trace_ops};
 ghost use Rattle.report.specs.Runs.{IsTraceRun, trace_end_of, run_text};
@@ -24,10 +25,9 @@ use shared_jobs::Free;
 use std::alloc::{AllocError, Global};
 use std::thread::Threads;
 use thread_driver::laws::closed_machines_are_consistent;
-use thread_driver::run_threads;
 use trace_reader::Trace;
 use trace_texts::{TraceEnd, legal_trace_text, records_text};
-use worker_driver::Finished;
+use worker_driver::{Finished, thread_run};
 
 /// The machine on which a trace was run, and how the run ended.
 #[derive(Drop)]
@@ -46,7 +46,7 @@ pub(crate) fn run_by_policy(
 ) -> Result<Ran<System>, AllocError>
     requires good { is_good config ≡ true }
     requires cores { config.cores ≡ trace_cores trace.now }
-    ensures { IfOk result (λ ran. IsTraceRun (Some policy) limit config trace.now ran.end
+    ensures { IfOk result (λ ran. IsTraceRun (ByPolicy policy) limit config trace.now ran.end
         ran.machine) }
 {
     every_history_is_legal();
@@ -65,7 +65,8 @@ pub(crate) fn run_by_policy(
     })
 }
 
-/// A run of the trace over a memory of zeros, by so many threads, with at most so many turns of each core and bank.
+/// A run of the trace over a memory of zeros, by so many threads, with at most so many turns of each core and bank,
+/// those of banks fair or not.
 pub(crate) fn run_by_threads<R: Threads + Sync>(
     rt: &R,
     alloc: Global,
@@ -73,19 +74,22 @@ pub(crate) fn run_by_threads<R: Threads + Sync>(
     config: Config,
     limit: u32,
     workers: u32,
+    fair: bool,
 ) -> Result<Ran<Run>, AllocError>
     requires good { is_good config ≡ true }
     requires cores { config.cores ≡ trace_cores trace.now }
     requires workers { (0 < workers) × (workers ≤ 16) }
     ensures { IfOk result (λ ran. (parts : Parts ran.machine) ×
-        IsTraceRun None limit config trace.now ran.end (machine_of ran.machine parts)) }
+        IsTraceRun (ByThreads fair) limit config trace.now ran.end (machine_of ran.machine parts)) }
 {
     closed_machines_are_consistent();
     // Its contract says how few cores there are.
     let _few = trace.cores();
     let memory = Memory::new(alloc);
     let programs = programs_of(alloc, trace)?;
-    let ran = run_threads(rt, alloc, config, memory, programs, workers, limit, &Free)?;
+    let ran = thread_run(
+        rt, alloc, config, memory, programs, workers, limit, fair, &Free,
+    )?;
     // Its contract says that they rise by number.
     let _rising = ran.run.records();
     Ok(Ran {

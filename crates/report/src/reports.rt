@@ -7,7 +7,8 @@ ghost use Rattle.machine_table.specs.SetUp.{is_good};
 ghost use Rattle.physiological_order.specs.Order.{flat, Legal};
 ghost use Rattle.trace_texts.specs.Records.{AreComplete};
 ghost use Rattle.report.specs.Answers.{FailuresAreCounted, IsCutOff, IsReported};
-ghost use Rattle.worker_driver.specs.SetUp.{config_of, policy_of};
+ghost use Rattle.worker_driver.specs.declared.set_up.Driver.TheVariants.{ByPolicy, ByThreads};
+ghost use Rattle.worker_driver.specs.SetUp.{config_of, driver_of};
 ghost use Rattle.report.specs.Refusals.{OnAccepted};
 ghost use Rattle.report.specs.Reports.{HasNoTraceReport, HasNoRun, IsTraceReport, TellsTraceRun, TellsOf};
 ghost use Rattle.trace_reader.specs.Steps.{trace_cores, trace_ops};
@@ -25,7 +26,7 @@ use schedules::Policy;
 use std::alloc::{AllocError, Global};
 use std::thread::Threads;
 use trace_reader::Trace;
-use worker_driver::{Finished, config_of, limit_of, policy_of, workers_of};
+use worker_driver::{Driver, Finished, config_of, driver_of, limit_of, workers_of};
 
 /// Reads a trace from the source, to its end if it is accepted, runs it over a memory of zeros as the options say, and
 /// writes the report of the run, or its records alone. What goes out is told of a legal history, whatever the end of
@@ -106,9 +107,9 @@ fn told<R: Threads + Sync>(
     ensures { IfOk result (λ report.
         TellsTraceRun options.now trace.now report.all_done report.text.items) }
 {
-    match policy_of(&options.run) {
-        Some(policy) => told_by_policy(alloc, trace, config, policy, options),
-        None => told_by_threads(rt, alloc, trace, config, options),
+    match driver_of(&options.run) {
+        Driver::ByPolicy(policy) => told_by_policy(alloc, trace, config, policy, options),
+        Driver::ByThreads(fair) => told_by_threads(rt, alloc, trace, config, fair, options),
     }
 }
 
@@ -122,7 +123,7 @@ pub(crate) fn told_by_policy(
 ) -> Result<Report, AllocError>
     requires good { is_good config ≡ true }
     requires config { config ≡ config_of options.now.run.machine (trace_cores trace.now) }
-    requires policy { policy_of options.now.run ≡ Some policy }
+    requires policy { driver_of options.now.run ≡ ByPolicy policy }
     ensures { IfOk result (λ report.
         TellsTraceRun options.now trace.now report.all_done report.text.items) }
 {
@@ -130,22 +131,23 @@ pub(crate) fn told_by_policy(
     report_on(alloc, trace, &ran, options.records)
 }
 
-// A run of the trace by threads, as it is told.
+// A run of the trace by threads, as it is told, with fair turns of banks or not.
 fn told_by_threads<R: Threads + Sync>(
     rt: &R,
     alloc: Global,
     trace: &Trace,
     config: Config,
+    fair: bool,
     options: &TraceOptions,
 ) -> Result<Report, AllocError>
     requires good { is_good config ≡ true }
     requires config { config ≡ config_of options.now.run.machine (trace_cores trace.now) }
-    requires policy { policy_of options.now.run ≡ None }
+    requires threads { driver_of options.now.run ≡ ByThreads fair }
     ensures { IfOk result (λ report.
         TellsTraceRun options.now trace.now report.all_done report.text.items) }
 {
     let (limit, workers) = (limit_of(&options.run), workers_of(&options.run));
-    let ran = run_by_threads(rt, alloc, trace, config, limit, workers)?;
+    let ran = run_by_threads(rt, alloc, trace, config, limit, workers, fair)?;
     report_on(alloc, trace, &ran, options.records)
 }
 

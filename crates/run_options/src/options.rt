@@ -12,6 +12,8 @@ pub enum Schedule {
     Seed,
     /// By threads, on a machine that they share: each worker gives each of its seats a turn, one after the other.
     Threads,
+    /// By threads with fair turns of banks: a bank makes room only after a turn of its own that made no progress.
+    FairThreads,
 }
 
 /// How the machine is built.

@@ -1,7 +1,6 @@
 //! Reports on texts in memory. Each line is worked out by hand: no two cores take the same word, so that each line of
 //! the cache is fetched once and stays; a store has the time 1, one past the time 0 up to which all is read.
-ghost use Rattle.std.specs.Prelude.{◌≢◌, None};
-ghost use Rattle.worker_driver.specs.SetUp.{policy_of};
+ghost use Rattle.worker_driver.specs.SetUp.{FollowsPolicy};
 
 use report::{
     LitmusOptions, MachineOptions, Report, RunError, RunOptions, Schedule, TraceOptions,
@@ -91,7 +90,7 @@ word 0x10 0
 ";
 
 fn by_rounds(limit: u64, lease: u64) -> RunOptions
-    ensures { policy_of result ≢ None }
+    ensures { FollowsPolicy result }
 {
     RunOptions {
         schedule: Schedule::Round,
@@ -106,13 +105,13 @@ fn by_rounds(limit: u64, lease: u64) -> RunOptions
 }
 
 fn litmus(alloc: Global, text: &[u8], runs: u64, run: RunOptions) -> Result<Report, RunError>
-    requires { policy_of run ≢ None }
+    requires { FollowsPolicy run }
 {
     litmus_report(alloc, text, &LitmusOptions { runs, run })
 }
 
 fn trace(alloc: Global, text: &[u8], records: bool, run: RunOptions) -> Result<Report, RunError>
-    requires { policy_of run ≢ None }
+    requires { FollowsPolicy run }
 {
     trace_report(alloc, text, &TraceOptions { records, run })
 }

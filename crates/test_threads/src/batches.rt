@@ -141,7 +141,7 @@ fn runs_by_threads<R: Threads + Sync, G: Gate + Sync>(
     let Some(config) = config_of(&options, test.threads() as u32) else {
         return Err("there is no such machine");
     };
-    match threaded_runs(rt, alloc, &test, config, count, limit, workers, gate) {
+    match threaded_runs(rt, alloc, &test, config, count, limit, workers, false, gate) {
         Ok(runs) => Ok(runs),
         Err(_) => Err("memory is refused"),
     }

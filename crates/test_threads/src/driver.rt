@@ -9,7 +9,8 @@ use physiological_order::Memory;
 use programs::{End, Program, Step};
 use std::alloc::{AllocError, Global};
 use std::thread::Threads;
-use thread_driver::{ThreadRun, run_threads};
+use thread_driver::ThreadRun;
+use worker_driver::thread_run;
 
 /// One core and one bank, with a lease of 10, from time 0 on, and lines of one word.
 pub(crate) const ONE: Config = Config {
@@ -26,13 +27,14 @@ pub(crate) const ONE: Config = Config {
     private_write: false,
 };
 
-/// A machine with a memory of zeros, programs of its first cores, by their words and their places, and how many turns
-/// each seat may have. The other cores have nothing to do.
+/// A machine with a memory of zeros, programs of its first cores, by their words and their places, how many turns each
+/// seat may have, and whether those of banks are fair. The other cores have nothing to do.
 #[derive(Clone, Copy)]
 pub(crate) struct Case {
     pub(crate) config: Config,
     pub(crate) programs: &'static [(u32, u32, u32)],
     pub(crate) turn_limit: u32,
+    pub(crate) fair: bool,
 }
 
 /// A script that learns of a step only while the gate has a turn of its core's seat under way: else it counts that as
@@ -100,8 +102,10 @@ pub(crate) fn end_of<R: Threads + Sync>(
         return None;
     }
     let memory = Memory::new(alloc);
-    let limit = case.turn_limit;
-    match run_threads(rt, alloc, config, memory, scripts, workers, limit, gate) {
+    let (limit, fair) = (case.turn_limit, case.fair);
+    match thread_run(
+        rt, alloc, config, memory, scripts, workers, limit, fair, gate,
+    ) {
         Ok(ThreadRun { end, .. }) => Some(end),
         Err(_) => None,
     }

@@ -17,6 +17,7 @@ const STORE: Case = Case {
     config: ONE,
     programs: &[(0, 0, 1)],
     turn_limit: 1_000,
+    fair: false,
 };
 
 /// Core 0 stores, and then uses the line that it owns, once a turn.
@@ -41,6 +42,7 @@ const NOTHING: Case = Case {
     config: Config { cores: 2, ..ONE },
     programs: &[],
     turn_limit: 1_000,
+    fair: false,
 };
 
 /// One time is left: the first store of each core takes it. Core 0 loads five times, and can't store once more.
@@ -52,6 +54,7 @@ const LAST_TIME: Case = Case {
     },
     programs: &[(0, 0, 7), (1, 0, 2)],
     turn_limit: 1_000,
+    fair: false,
 };
 
 /// A lease of 10 doesn't fit after the opening time, so the first bank stops when it would grant the load. The second
@@ -64,6 +67,7 @@ const NO_LEASE: Case = Case {
     },
     programs: &[(0, 1, 2)],
     turn_limit: 1_000,
+    fair: false,
 };
 
 /// A case, its workers, how many times first turns look for each other, how it ends, how many turns the first seats
@@ -116,6 +120,38 @@ fn turns_end_with_the_programs_or_a_seat_that_stops(rt: HostRuntime) -> Result<(
     Ok(())
 }
 
+/// The bank has a place for one line. Core 0 stores to a line, core 1 loads it, and core 2 loads another one.
+const ONE_PLACE: Case = Case {
+    config: Config {
+        cores: 3,
+        bank_sets: 1,
+        bank_ways: 1,
+        ..ONE
+    },
+    programs: &[(0, 0, 1), (0, 1, 2), (1, 1, 2)],
+    turn_limit: 1_000,
+    fair: false,
+};
+
+// If the bank makes room before its turn, a line goes before the load of it is served, until all turns are used. By fair
+// turns there are four passes: core 0 has 2, 4, 1 and 1 turns in them, core 1 has 2, 1, 3 and 1, core 2 has 2, 1, 1 and 3,
+// and the bank has 7, 4, 8 and 1.
+#[test]
+fn fair_turns_serve_before_a_line_goes(rt: HostRuntime) -> Result<(), Fail> {
+    for (fair, end, counts) in [
+        (false, End::TurnsUsed, [1_000; 4]),
+        (true, End::AllDone, [8, 7, 7, 20]),
+    ] {
+        let case = Case { fair, ..ONE_PLACE };
+        let gate = TurnCounts::new(rt.alloc(), 4, 0)?;
+        assert!(rt;
+            gives(&rt, rt.alloc(), &case, 1, &gate, end, &counts, 0),
+            "fair: {fair}"
+        );
+    }
+    Ok(())
+}
+
 /// Core 2 of five has five loads to do, which take more than five turns; the others have nothing to do. Two banks.
 const BUSY: Case = Case {
     config: Config {
@@ -125,6 +161,7 @@ const BUSY: Case = Case {
     },
     programs: &[(0, 0, 0), (0, 0, 0), (0, 1, 6)],
     turn_limit: MANY_TURNS,
+    fair: false,
 };
 
 #[test]
@@ -171,6 +208,7 @@ const MOST_SEATS: Case = Case {
     },
     programs: &[(0, 1, 6)],
     turn_limit: 2,
+    fair: false,
 };
 
 // The gate is told each seat, the banks after the cores, and each turn by their numbers.
@@ -296,6 +334,7 @@ const STOPS_ONE_OF_MANY: Case = Case {
     },
     programs: &[(0, 0, 7)],
     turn_limit: MANY_TURNS,
+    fair: false,
 };
 
 // Each worker finds the stop, however many there are. If one didn't, it would go on for as many turns as there may be.

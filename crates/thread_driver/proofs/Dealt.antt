@@ -47,13 +47,13 @@ same_number (suc x) (suc y) a b =
     (λ k lt. let c = b (suc k) (omega arith) in omega arith))
 
 -- each of a team gave its seats turns, so many each
-pub record AllGave {P : Type 0} (acts : Acts P) (m : Machine) (Many : ℕ → Type 0) (ws vs : List (Worker P)) : Type 0
-  where
-    pub long : length vs ≡ length ws
-    pub each : (i : ℕ) (w v : Worker P) → slice_get ws i ≡ Some w → slice_get vs i ≡ Some v → Gave acts m Many w v
+pub record AllGave {P : Type 0} (acts : Acts P) (m : Machine) (fair : Bool) (Many : ℕ → Type 0)
+    (ws vs : List (Worker P)) : Type 0 where
+  pub long : length vs ≡ length ws
+  pub each : (i : ℕ) (w v : Worker P) → slice_get ws i ≡ Some w → slice_get vs i ≡ Some v → Gave acts m fair Many w v
 
 pub all_gave : {P : Type 0} (acts : Acts P) (m : Machine) (signals : Signals) (rota : Rota) (ws vs : List (Worker P)) →
-    AllWork acts m signals rota ws vs → AllGave acts m (AtMost rota.turns) ws vs
+    AllWork acts m signals rota ws vs → AllGave acts m rota.fair (AtMost rota.turns) ws vs
 unfolding Works
 all_gave acts m signals rota ws vs work =
     record { long = work.long; each = λ i w v e f. (work.each i w v e f).1.given }
@@ -121,7 +121,7 @@ module _ {P : Type 0} (acts : Acts P) (m : Machine) (n : ℕ) where
   -- after they worked
   module _ (cores : List CoreSeat) (programs : List P) (banks : List BankSeat) (ws vs : List (Worker P))
       (dealt : AreDealt n cores programs banks (core_hands ws) (program_hands ws) (bank_hands ws))
-      (Many : ℕ → Type 0) (work : AllGave acts m Many ws vs) where
+      {fair : Bool} (Many : ℕ → Type 0) (work : AllGave acts m fair Many ws vs) where
     core_count : length ws ≡ n
     core_count =
         let count = dealt.cores_dealt.count in
@@ -194,17 +194,17 @@ module _ {P : Type 0} where
       }
 
   -- all that workers gave their seats, hand by hand, and what they told
-  module _ (acts : Acts P) (m : Machine) (Many : ℕ → Type 0) where
+  module _ (acts : Acts P) (m : Machine) (fair : Bool) (Many : ℕ → Type 0) where
     record Handed (ws vs : List (Worker P)) : Type 0 where
       pub core_tolds : List Told
       pub bank_tolds : List Told
       pub cores : HandsGiven (IsCoreTurn acts m) Many (pair_hands ws) core_tolds (pair_hands vs)
-      pub banks : HandsGiven (IsBankTurn m) Many (bank_hands ws) bank_tolds (bank_hands vs)
+      pub banks : HandsGiven (IsBankTurn fair m) Many (bank_hands ws) bank_tolds (bank_hands vs)
       pub told : (says : Told → Bool) → ((a b : Told) → says (told_by_both a b) ≡ (says a || says b)) →
           list_any (λ w. says w.told) vs ≡ (list_any says core_tolds || list_any says bank_tolds)
 
     handed : (ws vs : List (Worker P)) → length vs ≡ length ws →
-        ((i : ℕ) (w v : Worker P) → slice_get ws i ≡ Some w → slice_get vs i ≡ Some v → Gave acts m Many w v) →
+        ((i : ℕ) (w v : Worker P) → slice_get ws i ≡ Some w → slice_get vs i ≡ Some v → Gave acts m fair Many w v) →
         Handed ws vs
     handed [] [] long each =
         record {
@@ -234,14 +234,14 @@ module _ {P : Type 0} where
     -- the seats and programs of a shift, dealt before and gathered afterwards
     pub all_worked : (n : ℕ) (s t : Shift P) (ws vs : List (Worker P)) (told : Told) →
         AreDealt n s.cores.items s.programs.items s.banks.items (core_hands ws) (program_hands ws) (bank_hands ws) →
-        AllGave acts m Many ws vs → length t.cores.items ≡ length s.cores.items →
+        AllGave acts m fair Many ws vs → length t.cores.items ≡ length s.cores.items →
         length t.programs.items ≡ length s.programs.items → length t.banks.items ≡ length s.banks.items →
         length s.programs.items ≡ length s.cores.items →
         AreDealt n t.cores.items t.programs.items t.banks.items (core_hands vs) (program_hands vs) (bank_hands vs) →
         told.no_memory ≡ list_any (λ w. w.told.no_memory) vs →
         told.is_exhausted ≡ list_any (λ w. w.told.is_exhausted) vs →
         told.has_progressed ≡ list_any (λ w. w.told.has_progressed) vs →
-        SeatsGiven acts m Many s.cores.items s.banks.items s.programs.items told t.cores.items t.banks.items
+        SeatsGiven acts m fair Many s.cores.items s.banks.items s.programs.items told t.cores.items t.banks.items
         t.programs.items
     all_worked n s t ws vs told dealt work core_long program_long bank_long one_each after lacks stops moves =
         let all = handed ws vs work.long work.each in

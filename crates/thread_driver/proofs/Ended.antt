@@ -1,5 +1,5 @@
 -- How a run by threads ends, said of the machine that the closed one shows.
-use Rattle.std.proofs.Common.{◌≡◌, ◌⊎◌, inl, inr, ℕ, ◌<◌, true, false, ◌||◌, List, length, map, Option}
+use Rattle.std.proofs.Common.{◌≡◌, ◌⊎◌, inl, inr, ℕ, ◌<◌, Bool, true, false, ◌||◌, List, length, map, Option}
 use Rattle.std.proofs.Common.{sym, ap, ap₂, ◌∙◌, arith}
 use Rattle.std.specs.List.{list_any}
 use Rattle.std.proofs.lemmas.Bool.{false_from_ne_true}
@@ -45,9 +45,9 @@ module _ {P : Type 0} (acts : Acts P) (m : Machine) (run : Run) (parts : Parts r
         sym (ap (λ (o : Option P). next_of acts o) b_is) ∙ none.1,
       )
 
-  module _ (limit : ℕ) (cores : List CoreSeat) (banks banks' : List BankSeat) (before : List P) (e : End)
+  module _ (fair : Bool) (limit : ℕ) (cores : List CoreSeat) (banks banks' : List BankSeat) (before : List P) (e : End)
       (is : RefusedAtOnce cores banks before ended banks' after e
-      ⊎ Ran acts m limit cores banks before ended banks' after e) where
+      ⊎ Ran acts m fair limit cores banks before ended banks' after e) where
     pub done_is_over : e ≡ end.AllDone → IsOver acts (machine_of run parts) after
     done_is_over done = elim is [
       | inl refused ↦ not_done e refused.end_is done

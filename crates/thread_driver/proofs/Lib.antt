@@ -1,5 +1,6 @@
 mod KeptWork
 mod TurnLaws
+mod BankTurns
 mod Stops
 mod Reports
 pub mod Lemmas

@@ -1,5 +1,5 @@
 -- What comes of all seats: they are in order, all there, and each core was issued what its program gave.
-use Rattle.std.proofs.Common.{◌≡◌, ℕ, List, length, Some, sym, ◌∙◌, subst, arith}
+use Rattle.std.proofs.Common.{◌≡◌, ℕ, Bool, List, length, Some, sym, ◌∙◌, subst, arith}
 use Rattle.std.specs.Prelude.{slice_get}
 use Rattle.std.specs.List.{zip}
 use Rattle.std.proofs.lemmas.Option.{slice_get_within}
@@ -38,15 +38,15 @@ module _ (m : Machine) where
         };
       }
 
-  pub order_of_banks : (Many : ℕ → Type 0) (banks banks' : List BankSeat) (told : Told) → AreBanksInOrder m banks →
-      AllGiven (IsBankTurn m) Many banks told banks' → AreBanksInOrder m banks'
-  order_of_banks Many banks banks' told b given =
+  pub order_of_banks : (fair : Bool) (Many : ℕ → Type 0) (banks banks' : List BankSeat) (told : Told) →
+      AreBanksInOrder m banks → AllGiven (IsBankTurn fair m) Many banks told banks' → AreBanksInOrder m banks'
+  order_of_banks fair Many banks banks' told b given =
       record {
         long = given_long given ∙ b.long;
         each = λ i q at.
             let was = given_to given i q at in
             let before = b.each i was.0 was.1 in
-            let stays = bank_stays m before.0 was.2.2 in
+            let stays = bank_stays fair m before.0 was.2.2 in
             (stays.0, stays.1 ∙ before.1);
       }
 
@@ -104,15 +104,15 @@ pub record Comes {P : Type 0} (acts : Acts P) (m : Machine) (cores : List CoreSe
   pub whole : AreAll m cores' banks'
   pub are_served : AreServed acts cores programs cores' programs'
 
-pub comes_of : {P : Type 0} (acts : Acts P) (m : Machine) (Many : ℕ → Type 0) (cores cores' : List CoreSeat)
-    (banks banks' : List BankSeat) (programs programs' : List P) (told : Told) → IssuedLaw →
+pub comes_of : {P : Type 0} (acts : Acts P) (m : Machine) (fair : Bool) (Many : ℕ → Type 0)
+    (cores cores' : List CoreSeat) (banks banks' : List BankSeat) (programs programs' : List P) (told : Told) → IssuedLaw →
     AreCoresInOrder m cores → NoneOpen cores → AreBanksInOrder m banks → length programs ≡ length cores →
-    SeatsGiven acts m Many cores banks programs told cores' banks' programs' →
+    SeatsGiven acts m fair Many cores banks programs told cores' banks' programs' →
     Comes acts m cores programs cores' banks' programs'
-comes_of acts m Many cores cores' banks banks' programs programs' told law order none behind one_each given =
+comes_of acts m fair Many cores cores' banks banks' programs programs' told law order none behind one_each given =
     let in_order = order_of_cores m acts Many cores cores' programs programs' given.core_told order none given.of_cores
     given.cores_long one_each given.programs_long in
-    let banks_behind = order_of_banks m Many banks banks' given.bank_told behind given.of_banks in
+    let banks_behind = order_of_banks m fair Many banks banks' given.bank_told behind given.of_banks in
     record {
       in_order = in_order;
       behind = banks_behind;

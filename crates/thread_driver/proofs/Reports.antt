@@ -1,7 +1,7 @@
 -- What turns report is what their calls answered, and it decides the end.
 use Rattle.std.proofs.Common.{◌≡◌, ◌⊎◌, ◌↔◌, inl, inr, ⊎_elim, ℕ, Bool, true, false, ◌||◌, List, Option, Some, None}
 use Rattle.std.proofs.Common.{Result, Ok, Err, refl, sym, ap, subst, ◌∙◌}
-use Rattle.std.specs.Prelude.{if◌then◌else◌}
+use Rattle.std.specs.Prelude.{if◌then◌else◌, not}
 use Rattle.std.proofs.lemmas.Bool.{lt-ltb, ltb-true, true≢false}
 use Rattle.physiological_order.specs.declared.operation.Op.{Op}
 use Rattle.physiological_order.specs.declared.operation.Record.{Record}
@@ -13,20 +13,22 @@ use Rattle.mailboxes.specs.declared.machine.Machine.{Machine}
 use Rattle.mailboxes.specs.declared.core_seat.CoreSeat.{CoreSeat}
 use Rattle.mailboxes.specs.declared.bank_seat.BankSeat.{BankSeat}
 use Rattle.mailboxes.specs.declared.turning.Turn.{Turn}
+use Rattle.mailboxes.specs.BankTurns.{BankTurns}
 use Rattle.programs.specs.declared.ends.End.{End}
 use Rattle.programs.specs.declared.ends.End.TheVariants as end
 use Rattle.programs.specs.declared.steps.Step.{Step}
 use Rattle.programs.specs.declared.steps.Step.TheVariants as step
 use Rattle.programs.specs.Acts.{Acts}
 use Rattle.thread_driver.specs.declared.told.Told.{Told}
+use Rattle.thread_driver.specs.Calls.{RoomMade}
 use Rattle.thread_driver.specs.Given.{AllGiven, none, one_more}
 use Rattle.thread_driver.specs.Given.{TurnsGiven, rests, more, quiet, told_by_both}
 use Rattle.thread_driver.specs.Reports.{BankLacked, BankStopped, CoreLacked, CoreStopped, IsDecided, IsReport, Moved}
-use Rattle.thread_driver.specs.Reports.{OneOf, OneOfAll, SomeLacked, SomeStopped, Stopped, Went}
+use Rattle.thread_driver.specs.Reports.{OneOf, OneOfAll, SomeLacked, SomeStopped, Stopped, Went, moved_in}
 use Rattle.thread_driver.specs.Shifts.{Ran, end_told}
-use Rattle.thread_driver.specs.Turns.{AfterAdvance, AfterAttempt, AfterIssue, AfterRefusal, BankHadTurn, CoreHadTurn}
-use Rattle.thread_driver.specs.Turns.{NextDone, OpenTried, StepDone}
-use Rattle.thread_driver.specs.Turns.{has_moved, has_stopped, is_done, is_served, lacks_memory}
+use Rattle.thread_driver.specs.Turns.{AfterAdvance, AfterAttempt, AfterIssue, AfterRefusal, BankHad, BankHadFairTurn}
+use Rattle.thread_driver.specs.Turns.{CoreHadTurn, NextDone, OpenTried, RoomMadeIf, StepDone}
+use Rattle.thread_driver.specs.Turns.{has_moved, has_stopped, is_done, is_served, lacks_memory, told_of_turn}
 
 -- tests that hold exactly if something is so
 abbrev Tests : Bool → Type 0 → Type 0
@@ -65,15 +67,34 @@ move_tests (Err r) = (λ e. cc, λ x. absurd x)
 
 -- A turn
 
-pub bank_report : (m : Machine) (p q : BankSeat) (told : Told) (turn : BankHadTurn m p told q) →
-    IsReport told (turn.moved ≡ Err refusal.NoMemory) (Stopped p.is_stopped q.is_stopped) (Moved turn.moved)
-bank_report m p q told turn =
+seat_report : (p q : BankSeat) (told : Told) (moved : Result Turn Refusal) →
+    told ≡ told_of_turn p.is_stopped q.is_stopped moved →
+    IsReport told (moved ≡ Err refusal.NoMemory) (Stopped p.is_stopped q.is_stopped) (Moved moved)
+seat_report p q told moved is =
     record {
-      no_memory = tests_same (ap (λ (t : Told). t.no_memory) turn.told_is) (lacks_tests turn.moved);
-      is_exhausted = tests_same (ap (λ (t : Told). t.is_exhausted) turn.told_is)
-          (stop_tests p.is_stopped q.is_stopped);
-      has_progressed = tests_same (ap (λ (t : Told). t.has_progressed) turn.told_is) (move_tests turn.moved);
+      no_memory = tests_same (ap (λ (t : Told). t.no_memory) is) (lacks_tests moved);
+      is_exhausted = tests_same (ap (λ (t : Told). t.is_exhausted) is) (stop_tests p.is_stopped q.is_stopped);
+      has_progressed = tests_same (ap (λ (t : Told). t.has_progressed) is) (move_tests moved);
     }
+
+pub bank_report : (fair : Bool) (m : Machine) (p q : BankSeat) (told : Told) (turn : BankHad fair m p told q) →
+    let moved = moved_in fair m p told q turn in
+    IsReport told (moved ≡ Err refusal.NoMemory) (Stopped p.is_stopped q.is_stopped) (Moved moved)
+bank_report false m p q told turn = seat_report p q told turn.moved turn.told_is
+bank_report true m p q told turn = seat_report p q told turn.moved turn.told_is
+
+-- room is made exactly in a fair turn that made no progress
+made_if : (moved : Bool) {A : Type 0} (p q : BankSeat) → Tests moved A → RoomMadeIf (not moved) p q →
+    (A → q ≡ p) × ((A → ⊥) → RoomMade p q)
+made_if true p q tests made = (λ is. made, λ none. absurd (none (tests.0 refl)))
+made_if false p q tests made = (λ is. absurd (true≢false (sym (tests.1 is))), λ none. made)
+
+pub fair_calls : (m : Machine) (p q : BankSeat) (told : Told) (turn : BankHadFairTurn m p told q) →
+    BankTurns m p turn.moved turn.between × (Moved turn.moved → q ≡ turn.between)
+    × ((Moved turn.moved → ⊥) → RoomMade turn.between q)
+fair_calls m p q told turn =
+    let made = made_if (has_moved turn.moved) turn.between q (move_tests turn.moved) turn.room_made in
+    (turn.turned, made.0, made.1)
 
 module _ {P : Type 0} (acts : Acts P) (m : Machine) where
   pub core_report : (p q : CoreSeat) (before after : P) (told : Told)
@@ -178,11 +199,11 @@ pub by_end : (told : Told) (e : End) → e ≡ end_told told →
     IsDecided (told.no_memory ≡ true) (told.is_exhausted ≡ true) e
 by_end told e is = decided told.no_memory told.is_exhausted ((λ x. x), (λ x. x)) ((λ x. x), (λ x. x)) e is
 
-pub turns_decide : {P : Type 0} (acts : Acts P) (m : Machine) (limit : ℕ) (cores cores' : List CoreSeat)
+pub turns_decide : {P : Type 0} (acts : Acts P) (m : Machine) (fair : Bool) (limit : ℕ) (cores cores' : List CoreSeat)
     (banks banks' : List BankSeat) (programs programs' : List P) (e : End)
-    (ran : Ran acts m limit cores banks programs cores' banks' programs' e) → (e ≡ end.AllDone → ⊥) →
+    (ran : Ran acts m fair limit cores banks programs cores' banks' programs' e) → (e ≡ end.AllDone → ⊥) →
     IsDecided (SomeLacked acts m ran.given) (SomeStopped acts m ran.given) e
-turns_decide acts m limit cores cores' banks banks' programs programs' e ran left =
+turns_decide acts m fair limit cores cores' banks banks' programs programs' e ran left =
     let given = ran.given in
     let no_memory = λ (t : Told). t.no_memory in
     let stops = λ (t : Told). t.is_exhausted in
@@ -191,12 +212,14 @@ turns_decide acts m limit cores cores' banks banks' programs programs' e ran lef
     (tests_or given.core_told.no_memory given.bank_told.no_memory
     (one_of_all no_memory refl (λ a b. refl) (CoreLacked acts m)
     (λ x t y is. (core_report acts m x.0 y.0 x.1 y.1 t is.turn).no_memory) given.of_cores)
-    (one_of_all no_memory refl (λ a b. refl) (BankLacked m) (λ p t q is. (bank_report m p q t is.turn).no_memory)
+    (one_of_all no_memory refl (λ a b. refl) (BankLacked fair m)
+    (λ p t q is. (bank_report fair m p q t is.turn).no_memory)
     given.of_banks)))
     (tests_same (ap stops given.told_is)
     (tests_or given.core_told.is_exhausted given.bank_told.is_exhausted
     (one_of_all stops refl (λ a b. refl) (CoreStopped acts m)
     (λ x t y is. (core_report acts m x.0 y.0 x.1 y.1 t is.turn).is_exhausted) given.of_cores)
-    (one_of_all stops refl (λ a b. refl) (BankStopped m) (λ p t q is. (bank_report m p q t is.turn).is_exhausted)
+    (one_of_all stops refl (λ a b. refl) (BankStopped fair m)
+    (λ p t q is. (bank_report fair m p q t is.turn).is_exhausted)
     given.of_banks)))
     e (ran.otherwise left)

@@ -26,8 +26,8 @@ use Rattle.thread_driver.specs.Calls.{LineLeft, VictimLeft, victim_of_seat}
 use Rattle.thread_driver.specs.Given.{AllGiven, none, one_more, IsBankTurn, IsCoreTurn, SeatsGiven}
 use Rattle.thread_driver.specs.Given.{TurnsGiven, rests, more}
 use Rattle.thread_driver.specs.Shifts.{one_stopped}
-use Rattle.thread_driver.specs.Turns.{AfterAttempt, AfterIssue, AfterRefusal, NextDone, OpenTried, StepDone}
-use Rattle.thread_driver.specs.Turns.{has_stopped}
+use Rattle.thread_driver.specs.Turns.{AfterAttempt, AfterIssue, AfterRefusal, BankHad, NextDone, OpenTried}
+use Rattle.thread_driver.specs.Turns.{RoomMadeIf, StepDone, has_stopped}
 use Rattle.thread_driver.proofs.TurnLaws.{turns_keep}
 
 -- what is stopped, or true of what is stopped, stays so
@@ -133,14 +133,26 @@ module _ {P : Type 0} (acts : Acts P) (m : Machine) where
             (core_turns m t.moved t.between y.0 t.turned),
       )
 
-pub bank_reports : (m : Machine) (x : BankSeat) (told : Told) (y : BankSeat) → IsBankTurn m x told y →
+room_made_if : (due : Bool) (p q : BankSeat) → RoomMadeIf due p q → Stays p.is_stopped q.is_stopped
+room_made_if true p q c = line_left _ p q c
+room_made_if false p q e = line_left None p q e
+
+bank_had : (fair : Bool) (m : Machine) (x : BankSeat) (told : Told) (y : BankSeat) → BankHad fair m x told y →
     Reports (λ (z : BankSeat). z.is_stopped) x told y
-bank_reports m x told y is =
-    let t = is.turn in (
-      ap (λ (a : Told). a.is_exhausted) t.told_is,
-      stays_on x.is_stopped t.between.is_stopped y.is_stopped (line_left _ x t.between t.room_made)
-          (bank_turns m t.moved t.between y t.turned),
-    )
+bank_had false m x told y t = (
+  ap (λ (a : Told). a.is_exhausted) t.told_is,
+  stays_on x.is_stopped t.between.is_stopped y.is_stopped (line_left _ x t.between t.room_made)
+      (bank_turns m t.moved t.between y t.turned),
+)
+bank_had true m x told y t = (
+  ap (λ (a : Told). a.is_exhausted) t.told_is,
+  stays_on x.is_stopped t.between.is_stopped y.is_stopped (bank_turns m t.moved x t.between t.turned)
+      (room_made_if _ t.between y t.room_made),
+)
+
+pub bank_reports : (fair : Bool) (m : Machine) (x : BankSeat) (told : Told) (y : BankSeat) →
+    IsBankTurn fair m x told y → Reports (λ (z : BankSeat). z.is_stopped) x told y
+bank_reports fair m x told y is = bank_had fair m x told y is.turn
 
 -- what stops in one of two turns is what is stopped after both and wasn't before
 not_both : (a : Bool) → false ≡ has_stopped a a
@@ -179,17 +191,17 @@ module _ {P : Type 0} where
       ap (λ x. has_stopped p.is_stopped q.is_stopped || x) (of_pairs ps qs left left' (omega arith) (omega arith) (omega arith))
   of_pairs _ _ _ _ e f g = absurd (omega arith)
 
-  pub given_report : (acts : Acts P) (m : Machine) (Many : ℕ → Type 0) (cores cores' : List CoreSeat)
+  pub given_report : (acts : Acts P) (m : Machine) (fair : Bool) (Many : ℕ → Type 0) (cores cores' : List CoreSeat)
       (banks banks' : List BankSeat) (programs programs' : List P) (told : Told) → length programs ≡ length cores →
-      SeatsGiven acts m Many cores banks programs told cores' banks' programs' →
+      SeatsGiven acts m fair Many cores banks programs told cores' banks' programs' →
       told.is_exhausted ≡ (one_stopped (λ (p : CoreSeat). p.is_stopped) cores cores'
       || one_stopped (λ (p : BankSeat). p.is_stopped) banks banks')
-  given_report acts m Many cores cores' banks banks' programs programs' told many given =
+  given_report acts m fair Many cores cores' banks banks' programs programs' told many given =
       ap (λ (a : Told). a.is_exhausted) given.told_is
       ∙ ap₂ (λ a b. a || b)
       (all_report (IsCoreTurn acts m) (λ (z : CoreSeat × P). z.0.is_stopped) (core_reports acts m) given.of_cores
       ∙ of_pairs cores cores' programs programs' many given.cores_long given.programs_long)
-      (all_report (IsBankTurn m) (λ (p : BankSeat). p.is_stopped) (bank_reports m) given.of_banks)
+      (all_report (IsBankTurn fair m) (λ (p : BankSeat). p.is_stopped) (bank_reports fair m) given.of_banks)
 
 -- of seats none of which was stopped, one stopped exactly if one is stopped
 fresh : (p q : Bool) → p ≡ false → has_stopped p q ≡ q

@@ -206,7 +206,7 @@ module _ {P : Type 0} (acts : Acts P) where
           (λ e. e)
 
       used : (i : ℕ) (w v : Worker P) → slice_get ws i ≡ Some w → slice_get vs i ≡ Some v →
-          Gave acts m (Exactly rota.turns) w v ⊎ (rota.programs ≤ finished_by (signalers_of vs))
+          Gave acts m rota.fair (Exactly rota.turns) w v ⊎ (rota.programs ≤ finished_by (signalers_of vs))
       used i w v at_w at_v =
           let works = (each_worked i w v at_w at_v).1 in
           ⊎_elim
@@ -217,12 +217,12 @@ module _ {P : Type 0} (acts : Acts P) where
           omega arith))
           (cases_lt (last_look v.signaler).finished rota.programs)
 
-      pub all_used : AllGave acts m (Exactly rota.turns) ws vs ⊎ (rota.programs ≤ finished_by (signalers_of vs))
+      pub all_used : AllGave acts m rota.fair (Exactly rota.turns) ws vs ⊎ (rota.programs ≤ finished_by (signalers_of vs))
       all_used =
           ⊎_elim
           (λ each. inl (record { long = work.long; each = each }))
           inr
-          (all_or (Gave acts m (Exactly rota.turns)) ws vs used)
+          (all_or (Gave acts m rota.fair (Exactly rota.turns)) ws vs used)
 
 -- as many turns as there are by the end
 turns_by : (e : End) (limit : ℕ) (Given : (ℕ → Type 0) → Type 0) → Given (AtMost limit) →

@@ -1,6 +1,6 @@
 -- Turns of seats, one after the other: what stays so of a seat. And a worker after it told what is finished, and in and
 -- after a pass.
-use Rattle.std.proofs.Common.{◌≡◌, ℕ, zero, suc, ◌+◌, ◌<◌, ◌≤◌, false, List, length, Some, ⊎_elim, refl, sym}
+use Rattle.std.proofs.Common.{◌≡◌, ℕ, zero, suc, ◌+◌, ◌<◌, ◌≤◌, Bool, false, List, length, Some, ⊎_elim, refl, sym}
 use Rattle.std.proofs.Common.{ap, ap₂, subst, ◌∙◌}
 use Rattle.std.proofs.Common.{arith}
 use Rattle.std.specs.Prelude.{replicate, slice_get, slice_index_or, slice_set}
@@ -25,14 +25,14 @@ use Rattle.thread_driver.proofs.Shares.{CountedGiven, given_on, given_whole, giv
 use Rattle.thread_driver.proofs.Sums.{told_swap}
 
 -- a bank's seat
-module _ (m : Machine) where
+module _ (fair : Bool) (m : Machine) where
   pub bank_stays : {p : BankSeat} {n : ℕ} {q : BankSeat} {told : Told} → IsBankSeat m p →
-      TurnsGiven (IsBankTurn m) p n told q → IsBankSeat m q × (q.mail.number ≡ p.mail.number)
+      TurnsGiven (IsBankTurn fair m) p n told q → IsBankSeat m q × (q.mail.number ≡ p.mail.number)
   bank_stays is rests = (is, refl)
   bank_stays is (more given turn) = (turn.seat, turn.number ∙ (bank_stays is given).1)
 
   pub banks_passed : (banks banks' : List BankSeat) {limit k : ℕ} {ns ms : List ℕ} {told : Told} → AllBankSeats m banks →
-      PassGiven (IsBankTurn m) limit k ns banks told ms banks' → AllBankSeats m banks'
+      PassGiven (IsBankTurn fair m) limit k ns banks told ms banks' → AllBankSeats m banks'
   banks_passed banks banks' all passed i q at =
       let was = passed_at passed i q at in
       let before = all i was.0 was.1 in
@@ -80,9 +80,9 @@ module _ {P : Type 0} (acts : Acts P) (m : Machine) where
         }
 
   -- seats of which none had a turn
-  pub not_given : (Many : ℕ → Type 0) → Many zero → (cores : List CoreSeat) (banks : List BankSeat)
-      (programs : List P) → SeatsGiven acts m Many cores banks programs quiet cores banks programs
-  not_given Many is cores banks programs =
+  pub not_given : (fair : Bool) (Many : ℕ → Type 0) → Many zero → (cores : List CoreSeat) (banks : List BankSeat)
+      (programs : List P) → SeatsGiven acts m fair Many cores banks programs quiet cores banks programs
+  not_given fair Many is cores banks programs =
       record {
         cores_long = refl;
         programs_long = refl;
@@ -94,7 +94,7 @@ module _ {P : Type 0} (acts : Acts P) (m : Machine) where
       }
 
   -- Seats were given turns, by their numbers within these bounds, and what all of these reported together.
-  pub record SeatsCounted (least most : ℕ) (cores_have banks_have : List ℕ) (cores : List CoreSeat)
+  pub record SeatsCounted (fair : Bool) (least most : ℕ) (cores_have banks_have : List ℕ) (cores : List CoreSeat)
       (banks : List BankSeat) (programs : List P) (told : Told) (cores' : List CoreSeat) (banks' : List BankSeat)
       (programs' : List P) : Type 0 where
     pub cores_long : length cores' ≡ length cores
@@ -103,13 +103,13 @@ module _ {P : Type 0} (acts : Acts P) (m : Machine) where
     pub bank_told : Told
     pub of_cores : CountedGiven (IsCoreTurn acts m) least most cores_have (zip cores programs) core_told
         (zip cores' programs')
-    pub of_banks : CountedGiven (IsBankTurn m) least most banks_have banks bank_told banks'
+    pub of_banks : CountedGiven (IsBankTurn fair m) least most banks_have banks bank_told banks'
     pub told_is : told ≡ told_by_both core_told bank_told
 
-  pub not_counted : (most : ℕ) (cores : List CoreSeat) (banks : List BankSeat) (programs : List P) →
+  pub not_counted : (fair : Bool) (most : ℕ) (cores : List CoreSeat) (banks : List BankSeat) (programs : List P) →
       length cores ≤ 72 → length banks ≤ 72 →
-      SeatsCounted 0 most (replicate 72 0) (replicate 72 0) cores banks programs quiet cores banks programs
-  not_counted most cores banks programs few few' =
+      SeatsCounted fair 0 most (replicate 72 0) (replicate 72 0) cores banks programs quiet cores banks programs
+  not_counted fair most cores banks programs few few' =
       record {
         cores_long = refl;
         programs_long = refl;
@@ -131,11 +131,11 @@ module _ {P : Type 0} (acts : Acts P) (m : Machine) where
       (subst (λ c. PassGiven Turn l k ns xs told c ys) g passed))
 
   -- as many turns, said otherwise
-  module _ {least most : ℕ} {cores_have banks_have : List ℕ} {cores cores' : List CoreSeat}
+  module _ {fair : Bool} {least most : ℕ} {cores_have banks_have : List ℕ} {cores cores' : List CoreSeat}
       {banks banks' : List BankSeat} {programs programs' : List P} {all : Told}
-      (g : SeatsCounted least most cores_have banks_have cores banks programs all cores' banks' programs') where
+      (g : SeatsCounted fair least most cores_have banks_have cores banks programs all cores' banks' programs') where
     pub counted_within : {Many : ℕ → Type 0} → ((n : ℕ) → least ≤ n → n ≤ most → Many n) →
-        SeatsGiven acts m Many cores banks programs all cores' banks' programs'
+        SeatsGiven acts m fair Many cores banks programs all cores' banks' programs'
     counted_within within =
         record {
           cores_long = g.cores_long;
@@ -150,7 +150,7 @@ module _ {P : Type 0} (acts : Acts P) (m : Machine) where
     -- a pass more, and one that is whole
     module _ {cores'' : List CoreSeat} {banks'' : List BankSeat} {programs'' : List P} {told both : Told}
         {core_counts bank_counts : List ℕ}
-        (p : SeatsPassed acts m cores' banks' programs' told cores'' banks'' programs'')
+        (p : SeatsPassed acts m fair cores' banks' programs' told cores'' banks'' programs'')
         (counts : HasCounts acts most cores_have banks_have core_counts bank_counts p)
         (is : both ≡ told_by_both all told) where
       both_told : both ≡ told_by_both (told_by_both g.core_told p.core_told) (told_by_both g.bank_told p.bank_told)
@@ -161,10 +161,10 @@ module _ {P : Type 0} (acts : Acts P) (m : Machine) where
           core_counts (zip cores'' programs'')
       core_rows = pass_as counts.limit_is counts.cores_had_is counts.cores_have_is p.of_cores
 
-      bank_rows : PassGiven (IsBankTurn m) most p.bank_turns banks_have banks' p.bank_told bank_counts banks''
+      bank_rows : PassGiven (IsBankTurn fair m) most p.bank_turns banks_have banks' p.bank_told bank_counts banks''
       bank_rows = pass_as counts.limit_is counts.banks_had_is counts.banks_have_is p.of_banks
 
-      pub given_more : SeatsCounted least most core_counts bank_counts cores banks programs both cores'' banks''
+      pub given_more : SeatsCounted fair least most core_counts bank_counts cores banks programs both cores'' banks''
           programs''
       given_more =
           record {
@@ -178,7 +178,7 @@ module _ {P : Type 0} (acts : Acts P) (m : Machine) where
           }
 
       pub given_all : least < most → length programs' ≡ length cores' → ends_all told ≡ false →
-          SeatsCounted (least + 1) most core_counts bank_counts cores banks programs both cores'' banks'' programs''
+          SeatsCounted fair (least + 1) most core_counts bank_counts cores banks programs both cores'' banks'' programs''
       given_all lt one_each goes =
           let neither = neither_ends p.core_told p.bank_told (ap ends_all (sym p.told_is) ∙ goes) in
           record {
@@ -193,24 +193,24 @@ module _ {P : Type 0} (acts : Acts P) (m : Machine) where
           }
 
 -- the worker gave its seats turns, so many each, and keeps what these told
-abbrev pub Gave : {P : Type 0} → Acts P → Machine → (ℕ → Type 0) → Worker P → Worker P → Type 0
-Gave acts m Many w v =
-    SeatsGiven acts m Many w.cores.items w.banks.items w.programs.items v.told v.cores.items v.banks.items
+abbrev pub Gave : {P : Type 0} → Acts P → Machine → Bool → (ℕ → Type 0) → Worker P → Worker P → Type 0
+Gave acts m fair Many w v =
+    SeatsGiven acts m fair Many w.cores.items w.banks.items w.programs.items v.told v.cores.items v.banks.items
     v.programs.items
 
 -- the next seat in a pass
-module _ (m : Machine) (banks banks' : List BankSeat) (limit k : ℕ) (ns ms : List ℕ) (told : Told)
-    (all : AllBankSeats m banks) (passed : PassGiven (IsBankTurn m) limit k ns banks told ms banks')
+module _ (fair : Bool) (m : Machine) (banks banks' : List BankSeat) (limit k : ℕ) (ns ms : List ℕ) (told : Told)
+    (all : AllBankSeats m banks) (passed : PassGiven (IsBankTurn fair m) limit k ns banks told ms banks')
     (lt : k < length banks') (q : BankSeat) (at : q ≡ slice_index_or banks' k q) where
   pub next_bank : IsBankSeat m q
   next_bank = all k q (sym (not_passed passed) ∙ here banks' k q lt at)
 
   pub bank_had_row : ends_all told ≡ false → (n j : ℕ) → slice_get ms k ≡ Some n → (had : Told) (r : BankSeat) →
-      InARow (IsBankTurn m) (row_end limit n) n q j had r →
-      PassGiven (IsBankTurn m) limit (k + 1) ns banks (told_by_both told had) (slice_set ms k j) (slice_set banks' k r)
+      InARow (IsBankTurn fair m) (row_end limit n) n q j had r →
+      PassGiven (IsBankTurn fair m) limit (k + 1) ns banks (told_by_both told had) (slice_set ms k j) (slice_set banks' k r)
   bank_had_row goes n j count had r row =
       let next : suc k ≡ k + 1 = omega arith in
-      subst (λ i. PassGiven (IsBankTurn m) limit i ns banks (told_by_both told had) (slice_set ms k j)
+      subst (λ i. PassGiven (IsBankTurn fair m) limit i ns banks (told_by_both told had) (slice_set ms k j)
       (slice_set banks' k r)) next
       (passed_on had n j q r goes passed count (here banks' k q lt at) row)
 

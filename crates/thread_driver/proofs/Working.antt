@@ -37,21 +37,21 @@ idle_passes all told both idle passes turn is_due told_is rests was none =
 
 module _ {P : Type 0} (acts : Acts P) (m : Machine) (signals : Signals) where
   -- The worker w, now l, gave each of its seats so many turns, by their numbers: one a pass at least, of at most
-  -- `limit`. None ended all.
-  pub record Working (limit passes : ℕ) (cores_have banks_have : List ℕ) (w l : Worker P) : Type 0 where
+  -- `rota.turns`. None ended all.
+  pub record Working (rota : Rota) (passes : ℕ) (cores_have banks_have : List ℕ) (w l : Worker P) : Type 0 where
     pub at_work : IsAtWork m signals l
     pub ahead : AreAhead acts l.cores.items l.programs.items
     pub few : (length l.cores.items ≤ 72) × (length l.banks.items ≤ 72)
     pub number : number_of l.signaler ≡ number_of w.signaler
-    pub given : SeatsCounted acts m passes limit cores_have banks_have w.cores.items w.banks.items w.programs.items
+    pub given : SeatsCounted acts m rota.fair passes rota.turns cores_have banks_have w.cores.items w.banks.items w.programs.items
         l.told l.cores.items l.banks.items l.programs.items
     pub goes : ends_all l.told ≡ false
     pub silent : l.signaler.said.stops ≡ false
     pub finished : l.signaler.said.finished ≤ over_in acts (zip l.cores.items l.programs.items)
 
-  pub at_first : (limit : ℕ) (w : Worker P) → IsReady acts m signals w →
-      Working limit 0 (replicate 72 0) (replicate 72 0) w (record w { told = quiet })
-  at_first limit w ready =
+  pub at_first : (rota : Rota) (w : Worker P) → IsReady acts m signals w →
+      Working rota 0 (replicate 72 0) (replicate 72 0) w (record w { told = quiet })
+  at_first rota w ready =
       record {
         at_work = record {
           signaler = ready.0.signaler;
@@ -61,18 +61,18 @@ module _ {P : Type 0} (acts : Acts P) (m : Machine) (signals : Signals) where
         ahead = ready.1;
         few = (ready.3, ready.4);
         number = refl;
-        given = not_counted acts m limit w.cores.items w.banks.items w.programs.items ready.3 ready.4;
+        given = not_counted acts m rota.fair rota.turns w.cores.items w.banks.items w.programs.items ready.3 ready.4;
         goes = refl;
         silent = ap (λ (h : Said). h.stops) ready.2;
         finished = let none = ap (λ (h : Said). h.finished) ready.2 in omega arith;
       }
 
-  module _ {limit passes : ℕ} {cores_have banks_have : List ℕ} where
+  module _ {rota : Rota} {passes : ℕ} {cores_have banks_have : List ℕ} where
     -- it told what is finished, and may have looked
-    pub after_telling : (w l : Worker P) (s : Signaler) → Working limit passes cores_have banks_have w l →
+    pub after_telling : (w l : Worker P) (s : Signaler) → Working rota passes cores_have banks_have w l →
         IsSignalerOf signals s → number_of s ≡ number_of l.signaler → s.said.stops ≡ l.signaler.said.stops →
         s.said.finished ≡ over_in acts (zip l.cores.items l.programs.items) →
-        Working limit passes cores_have banks_have w (record l { signaler = s })
+        Working rota passes cores_have banks_have w (record l { signaler = s })
     after_telling w l s was signaler number stops told =
         record {
           at_work = record { signaler = signaler; cores = was.at_work.cores; banks = was.at_work.banks };
@@ -86,9 +86,9 @@ module _ {P : Type 0} (acts : Acts P) (m : Machine) (signals : Signals) where
         }
 
     -- its seats had all their turns
-    pub all_used : (rota : Rota) (w l : Worker P) → limit ≡ rota.turns → Working limit passes cores_have banks_have w l →
-        HasUsedAll rota l cores_have banks_have → Working limit limit cores_have banks_have w l
-    all_used rota w l is was used =
+    pub all_used : (w l : Worker P) → Working rota passes cores_have banks_have w l →
+        HasUsedAll rota l cores_have banks_have → Working rota rota.turns cores_have banks_have w l
+    all_used w l was used =
         let g = was.given in
         let short = pairs_few w.cores.items w.programs.items in
         let long = g.cores_long in
@@ -104,9 +104,9 @@ module _ {P : Type 0} (acts : Acts P) (m : Machine) (signals : Signals) where
             core_told = g.core_told;
             bank_told = g.bank_told;
             of_cores = counted_used g.of_cores
-                (λ i n lt at. (let e = used.0 i n (omega (arith, lt)) at in omega (arith, e, is)));
+                (λ i n lt at. (let e = used.0 i n (omega (arith, lt)) at in omega (arith, e)));
             of_banks = counted_used g.of_banks
-                (λ i n lt at. (let e = used.1 i n (omega (arith, lt)) at in omega (arith, e, is)));
+                (λ i n lt at. (let e = used.1 i n (omega (arith, lt)) at in omega (arith, e)));
             told_is = g.told_is;
           };
           goes = was.goes;
@@ -115,38 +115,36 @@ module _ {P : Type 0} (acts : Acts P) (m : Machine) (signals : Signals) where
         }
 
     -- it ends before a pass
-    pub ends_before : (rota : Rota) (w t : Worker P) → limit ≡ rota.turns →
-        Working limit passes cores_have banks_have w t →
+    pub ends_before : (w t : Worker P) → Working rota passes cores_have banks_have w t →
         t.signaler.said.finished ≡ over_in acts (zip t.cores.items t.programs.items) →
         ((last_look t.signaler).is_stopped ≡ false → (last_look t.signaler).finished < rota.programs →
-        passes ≡ limit) → HasWorked acts m rota w t
-    ends_before rota w t is was said whole =
+        passes ≡ rota.turns) → HasWorked acts m rota w t
+    ends_before w t was said whole =
         record {
           number = was.number;
-          given = counted_within acts m was.given (λ n low high. omega (arith, high, is));
+          given = counted_within acts m was.given (λ n low high. high);
           all_given = λ goes on left.
-              counted_within acts m was.given (λ n low high. (let e = whole on left in omega (arith, low, high, is, e)));
+              counted_within acts m was.given (λ n low high. (let e = whole on left in omega (arith, low, high, e)));
           stops = was.silent ∙ sym was.goes;
           finished = was.finished;
           all_finished = λ goes. said;
         }
 
-    module _ (w u v : Worker P) (told both : Told) (was : Working limit passes cores_have banks_have w u)
-        (passed : SeatsPassed acts m u.cores.items u.banks.items u.programs.items told v.cores.items v.banks.items
+    module _ (w u v : Worker P) (told both : Told) (was : Working rota passes cores_have banks_have w u)
+        (passed : SeatsPassed acts m rota.fair u.cores.items u.banks.items u.programs.items told v.cores.items v.banks.items
         v.programs.items) {core_counts bank_counts : List ℕ}
-        (counts : HasCounts acts limit cores_have banks_have core_counts bank_counts passed)
+        (counts : HasCounts acts rota.turns cores_have banks_have core_counts bank_counts passed)
         (is : both ≡ told_by_both u.told told) where
       -- it ends after a pass, in which a turn ended all
-      pub ends_after : (rota : Rota) (s : Signaler) → limit ≡ rota.turns → ends_all told ≡ true →
+      pub ends_after : (s : Signaler) → ends_all told ≡ true →
           number_of s ≡ number_of u.signaler → s.said.stops ≡ true →
           s.said.finished ≡ u.signaler.said.finished →
           HasWorked acts m rota w (record v { told = both; signaler = s })
-      ends_after rota s most ended number stops finished =
+      ends_after s ended number stops finished =
           let all : ends_all both ≡ true = ap ends_all is ∙ second_ends u.told told ended in
           record {
             number = number ∙ was.number;
-            given = counted_within acts m (given_more acts m was.given passed counts is)
-                (λ n low high. omega (arith, high, most));
+            given = counted_within acts m (given_more acts m was.given passed counts is) (λ n low high. high);
             all_given = λ goes. absurd (true≢false (sym all ∙ goes));
             stops = stops ∙ sym all;
             finished =
@@ -157,9 +155,9 @@ module _ {P : Type 0} (acts : Acts P) (m : Machine) (signals : Signals) where
           }
 
       -- it goes on
-      pub goes_on_after : passes < limit → AllCoreSeats m v.cores.items → AllBankSeats m v.banks.items →
+      pub goes_on_after : passes < rota.turns → AllCoreSeats m v.cores.items → AllBankSeats m v.banks.items →
           AreAhead acts v.cores.items v.programs.items → v.signaler ≡ u.signaler → ends_all told ≡ false →
-          Working limit (passes + 1) core_counts bank_counts w (record v { told = both })
+          Working rota (passes + 1) core_counts bank_counts w (record v { told = both })
       goes_on_after lt cores banks ahead same on =
           let given = given_all acts m was.given passed counts is lt was.ahead.long on in
           record {

@@ -1,5 +1,5 @@
 -- Turns that seats were given, one after the other, and what they reported together.
-use Rattle.std.specs.Prelude.{◌≡◌, ◌||◌, ℕ, zero, suc, ◌≤◌, false, List, [], ◌∷◌, length}
+use Rattle.std.specs.Prelude.{◌≡◌, ◌||◌, ℕ, zero, suc, ◌≤◌, Bool, false, List, [], ◌∷◌, length}
 use Rattle.std.specs.List.{zip}
 use Rattle.mailboxes.specs.declared.machine.Machine.{Machine}
 use Rattle.mailboxes.specs.declared.core_seat.CoreSeat.{CoreSeat}
@@ -8,7 +8,7 @@ use Rattle.mailboxes.specs.Seats.{IsCoreSeat, IsBankSeat}
 use Rattle.programs.specs.Acts.{Acts}
 use Rattle.thread_driver.specs.declared.told.Told.{Told}
 use Rattle.thread_driver.specs.Playing.{Plays}
-use Rattle.thread_driver.specs.Turns.{BankHadTurn, CoreHadTurn}
+use Rattle.thread_driver.specs.Turns.{BankHad, CoreHadTurn}
 
 -- nothing to report
 abbrev pub quiet : Told
@@ -44,11 +44,11 @@ pub data AllGiven {X : Type 0} (Turn : X → Told → X → Type 0) (Many : ℕ 
     one_more : {n : ℕ} {told all : Told} {x y : X} {xs ys : List X} → Many n → TurnsGiven Turn x n told y →
         AllGiven Turn Many xs all ys → AllGiven Turn Many (x ∷ xs) (told_by_both told all) (y ∷ ys)
 
--- what `bank_turn` promises of a bank's seat, before and after
-pub record IsBankTurn (m : Machine) (before : BankSeat) (told : Told) (after : BankSeat) : Type 0 where
+-- what `bank_turn` promises of a bank's seat, before and after; and `fair_bank_turn`, if turns are fair
+pub record IsBankTurn (fair : Bool) (m : Machine) (before : BankSeat) (told : Told) (after : BankSeat) : Type 0 where
   pub seat : IsBankSeat m after
   pub number : after.mail.number ≡ before.mail.number
-  pub turn : BankHadTurn m before told after
+  pub turn : BankHad fair m before told after
 
 module _ {P : Type 0} (acts : Acts P) (m : Machine) where
   -- what `core_turn` promises of a core's seat with its program, before and after
@@ -58,13 +58,14 @@ module _ {P : Type 0} (acts : Acts P) (m : Machine) where
     pub turn : CoreHadTurn acts m before.0 before.1 told after.0 after.1
 
   -- Seats of cores with their programs, by index, and seats of banks were given turns, so many each, and what all of
-  -- these reported together.
-  pub record SeatsGiven (Many : ℕ → Type 0) (cores : List CoreSeat) (banks : List BankSeat) (programs : List P)
-      (told : Told) (cores' : List CoreSeat) (banks' : List BankSeat) (programs' : List P) : Type 0 where
-    pub cores_long : length cores' ≡ length cores
-    pub programs_long : length programs' ≡ length programs
-    pub core_told : Told
-    pub bank_told : Told
-    pub of_cores : AllGiven IsCoreTurn Many (zip cores programs) core_told (zip cores' programs')
-    pub of_banks : AllGiven (IsBankTurn m) Many banks bank_told banks'
-    pub told_is : told ≡ told_by_both core_told bank_told
+  -- these reported together. The banks' turns are fair, or not.
+  pub record SeatsGiven (fair : Bool) (Many : ℕ → Type 0) (cores : List CoreSeat) (banks : List BankSeat)
+      (programs : List P) (told : Told) (cores' : List CoreSeat) (banks' : List BankSeat) (programs' : List P) : Type 0
+    where
+      pub cores_long : length cores' ≡ length cores
+      pub programs_long : length programs' ≡ length programs
+      pub core_told : Told
+      pub bank_told : Told
+      pub of_cores : AllGiven IsCoreTurn Many (zip cores programs) core_told (zip cores' programs')
+      pub of_banks : AllGiven (IsBankTurn fair m) Many banks bank_told banks'
+      pub told_is : told ≡ told_by_both core_told bank_told

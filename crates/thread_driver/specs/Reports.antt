@@ -14,6 +14,7 @@ use Rattle.programs.specs.Acts.{Acts}
 use Rattle.thread_driver.specs.declared.told.Told.{Told}
 use Rattle.thread_driver.specs.Given.{AllGiven, none, one_more, IsBankTurn, IsCoreTurn, SeatsGiven}
 use Rattle.thread_driver.specs.Given.{TurnsGiven, rests, more}
+use Rattle.thread_driver.specs.Turns.{BankHad}
 
 -- A turn reports that memory was refused, that its seat stopped, and progress, each exactly if this is so.
 pub record IsReport (told : Told) (Lacked Stopped Progressed : Type 0) : Type 0 where
@@ -46,12 +47,19 @@ module _ {X : Type 0} {Turn : X → Told → X → Type 0} (Is : (x : X) (told :
   OneOfAll none = ⊥
   OneOfAll (one_more many given rest) = OneOf given ⊎ OneOfAll rest
 
--- a call of a bank's turn was refused memory; and its seat stopped
-abbrev pub BankLacked : (m : Machine) (p : BankSeat) (told : Told) (q : BankSeat) → IsBankTurn m p told q → Type 0
-BankLacked m p told q is = is.turn.moved ≡ Err NoMemory
+-- what the seat's own turn answered in a bank's turn, fair or not
+abbrev pub moved_in : (fair : Bool) (m : Machine) (p : BankSeat) (told : Told) (q : BankSeat) → BankHad fair m p told q →
+    Result Turn Refusal
+moved_in false m p told q turn = turn.moved
+moved_in true m p told q turn = turn.moved
 
-abbrev pub BankStopped : (m : Machine) (p : BankSeat) (told : Told) (q : BankSeat) → IsBankTurn m p told q → Type 0
-BankStopped m p told q is = Stopped p.is_stopped q.is_stopped
+module _ (fair : Bool) (m : Machine) where
+  -- a call of a bank's turn was refused memory; and its seat stopped
+  abbrev pub BankLacked : (p : BankSeat) (told : Told) (q : BankSeat) → IsBankTurn fair m p told q → Type 0
+  BankLacked p told q is = moved_in fair m p told q is.turn ≡ Err NoMemory
+
+  abbrev pub BankStopped : (p : BankSeat) (told : Told) (q : BankSeat) → IsBankTurn fair m p told q → Type 0
+  BankStopped p told q is = Stopped p.is_stopped q.is_stopped
 
 module _ {P : Type 0} (acts : Acts P) (m : Machine) where
   -- the same of a core's turn
@@ -61,15 +69,15 @@ module _ {P : Type 0} (acts : Acts P) (m : Machine) where
   abbrev pub CoreStopped : (x : CoreSeat × P) (told : Told) (y : CoreSeat × P) → IsCoreTurn acts m x told y → Type 0
   CoreStopped x told y is = Stopped x.0.is_stopped y.0.is_stopped
 
-  module _ {Many : ℕ → Type 0} {cores cores' : List CoreSeat} {banks banks' : List BankSeat}
+  module _ {fair : Bool} {Many : ℕ → Type 0} {cores cores' : List CoreSeat} {banks banks' : List BankSeat}
       {programs programs' : List P} {told : Told}
-      (given : SeatsGiven acts m Many cores banks programs told cores' banks' programs') where
+      (given : SeatsGiven acts m fair Many cores banks programs told cores' banks' programs') where
     -- a call of some seat's turn was refused memory; and some seat stopped in a turn
     abbrev pub SomeLacked : Type 0
-    SomeLacked = OneOfAll CoreLacked given.of_cores ⊎ OneOfAll (BankLacked m) given.of_banks
+    SomeLacked = OneOfAll CoreLacked given.of_cores ⊎ OneOfAll (BankLacked fair m) given.of_banks
 
     abbrev pub SomeStopped : Type 0
-    SomeStopped = OneOfAll CoreStopped given.of_cores ⊎ OneOfAll (BankStopped m) given.of_banks
+    SomeStopped = OneOfAll CoreStopped given.of_cores ⊎ OneOfAll (BankStopped fair m) given.of_banks
 
 -- How it ends if something is left to do: NoMemory exactly if memory was refused, else Exhausted exactly if a seat
 -- stopped, else TurnsUsed.

@@ -71,16 +71,17 @@ module _ {P : Type 0} (acts : Acts P) where
 
   -- Seats of the machine were given at most `limit` turns each, and where the turns are used, exactly so many. All is
   -- done exactly if nothing is left to do. Otherwise what the turns reported decides how it ends. They reported a stop
-  -- exactly if a seat is stopped now that wasn't before.
-  pub record Ran (m : Machine) (limit : ℕ) (cores : List CoreSeat) (banks : List BankSeat) (programs : List P)
-      (cores' : List CoreSeat) (banks' : List BankSeat) (programs' : List P) (e : End) : Type 0 where
-    pub told : Told
-    pub given : SeatsGiven acts m (TurnsBy e limit) cores banks programs told cores' banks' programs'
-    pub done : e ≡ end.AllDone → AreOver cores' programs'
-    pub all_done : AreOver cores' programs' → e ≡ end.AllDone
-    pub otherwise : e ≢ end.AllDone → e ≡ end_told told
-    pub stopped : told.is_exhausted ≡ (one_stopped (λ p. p.is_stopped) cores cores'
-        || one_stopped (λ p. p.is_stopped) banks banks')
+  -- exactly if a seat is stopped now that wasn't before. The banks' turns are fair, or not.
+  pub record Ran (m : Machine) (fair : Bool) (limit : ℕ) (cores : List CoreSeat) (banks : List BankSeat)
+      (programs : List P) (cores' : List CoreSeat) (banks' : List BankSeat) (programs' : List P) (e : End) : Type 0
+    where
+      pub told : Told
+      pub given : SeatsGiven acts m fair (TurnsBy e limit) cores banks programs told cores' banks' programs'
+      pub done : e ≡ end.AllDone → AreOver cores' programs'
+      pub all_done : AreOver cores' programs' → e ≡ end.AllDone
+      pub otherwise : e ≢ end.AllDone → e ≡ end_told told
+      pub stopped : told.is_exhausted ≡ (one_stopped (λ p. p.is_stopped) cores cores'
+          || one_stopped (λ p. p.is_stopped) banks banks')
 
 -- Memory was refused before a turn was made: all are as they were given.
 pub record RefusedAtOnce {P : Type 0} (cores : List CoreSeat) (banks : List BankSeat) (programs : List P)

@@ -82,32 +82,33 @@ module _ {P : Type 0} (acts : Acts P) where
 
   -- A pass of seats of cores with their programs, by index, and of seats of banks, and what its turns reported
   -- together. Each seat had its turns, unless one ended all; there was none after that. The lists of numbers say how
-  -- many turns each seat had before, and has had, of at most `limit`.
-  pub record SeatsPassed (m : Machine) (cores : List CoreSeat) (banks : List BankSeat) (programs : List P) (told : Told)
-      (cores' : List CoreSeat) (banks' : List BankSeat) (programs' : List P) : Type 0 where
-    pub cores_long : length cores' ≡ length cores
-    pub programs_long : length programs' ≡ length programs
-    pub limit : ℕ
-    pub cores_had : List ℕ
-    pub banks_had : List ℕ
-    pub cores_have : List ℕ
-    pub banks_have : List ℕ
-    pub core_turns : ℕ
-    pub bank_turns : ℕ
-    pub core_told : Told
-    pub bank_told : Told
-    pub of_cores : PassGiven (IsCoreTurn acts m) limit core_turns cores_had (zip cores programs) core_told cores_have
-        (zip cores' programs')
-    pub of_banks : PassGiven (IsBankTurn m) limit bank_turns banks_had banks bank_told banks_have banks'
-    pub all_cores : IsWhole core_turns cores core_told
-    pub no_banks : ends_all core_told ≡ true → bank_turns ≡ 0
-    pub all_banks : ends_all core_told ≡ false → IsWhole bank_turns banks bank_told
-    pub told_is : told ≡ told_by_both core_told bank_told
+  -- many turns each seat had before, and has had, of at most `limit`. The banks' turns are fair, or not.
+  pub record SeatsPassed (m : Machine) (fair : Bool) (cores : List CoreSeat) (banks : List BankSeat)
+      (programs : List P) (told : Told) (cores' : List CoreSeat) (banks' : List BankSeat) (programs' : List P) : Type 0
+    where
+      pub cores_long : length cores' ≡ length cores
+      pub programs_long : length programs' ≡ length programs
+      pub limit : ℕ
+      pub cores_had : List ℕ
+      pub banks_had : List ℕ
+      pub cores_have : List ℕ
+      pub banks_have : List ℕ
+      pub core_turns : ℕ
+      pub bank_turns : ℕ
+      pub core_told : Told
+      pub bank_told : Told
+      pub of_cores : PassGiven (IsCoreTurn acts m) limit core_turns cores_had (zip cores programs) core_told cores_have
+          (zip cores' programs')
+      pub of_banks : PassGiven (IsBankTurn fair m) limit bank_turns banks_had banks bank_told banks_have banks'
+      pub all_cores : IsWhole core_turns cores core_told
+      pub no_banks : ends_all core_told ≡ true → bank_turns ≡ 0
+      pub all_banks : ends_all core_told ≡ false → IsWhole bank_turns banks bank_told
+      pub told_is : told ≡ told_by_both core_told bank_told
 
   -- how many turns each seat had, and has had, of how many
-  pub record HasCounts {m : Machine} {cores cores' : List CoreSeat} {banks banks' : List BankSeat} {told : Told}
-      {programs programs' : List P} (limit : ℕ) (cores_had banks_had cores_have banks_have : List ℕ)
-      (pass : SeatsPassed m cores banks programs told cores' banks' programs') : Type 0 where
+  pub record HasCounts {m : Machine} {fair : Bool} {cores cores' : List CoreSeat} {banks banks' : List BankSeat}
+      {told : Told} {programs programs' : List P} (limit : ℕ) (cores_had banks_had cores_have banks_have : List ℕ)
+      (pass : SeatsPassed m fair cores banks programs told cores' banks' programs') : Type 0 where
     pub limit_is : pass.limit ≡ limit
     pub cores_had_is : pass.cores_had ≡ cores_had
     pub banks_had_is : pass.banks_had ≡ banks_had
@@ -138,12 +139,12 @@ module _ {P : Type 0} where
   -- never signals more.
   pub record HasWorked (acts : Acts P) (m : Machine) (rota : Rota) (w v : Worker P) : Type 0 where
     pub number : number_of v.signaler ≡ number_of w.signaler
-    pub given : SeatsGiven acts m (AtMost rota.turns) w.cores.items w.banks.items w.programs.items v.told v.cores.items
-        v.banks.items v.programs.items
+    pub given : SeatsGiven acts m rota.fair (AtMost rota.turns) w.cores.items w.banks.items w.programs.items v.told
+        v.cores.items v.banks.items v.programs.items
     pub all_given : ends_all v.told ≡ false → (last_look v.signaler).is_stopped ≡ false →
         (last_look v.signaler).finished < rota.programs →
-        SeatsGiven acts m (Exactly rota.turns) w.cores.items w.banks.items w.programs.items v.told v.cores.items
-        v.banks.items v.programs.items
+        SeatsGiven acts m rota.fair (Exactly rota.turns) w.cores.items w.banks.items w.programs.items v.told
+        v.cores.items v.banks.items v.programs.items
     pub stops : v.signaler.said.stops ≡ ends_all v.told
     pub finished : v.signaler.said.finished ≤ over_in acts (zip v.cores.items v.programs.items)
     pub all_finished : ends_all v.told ≡ false →

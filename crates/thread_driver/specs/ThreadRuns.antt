@@ -43,8 +43,8 @@ module _ {P : Type 0} (acts : Acts P) where
   -- used), or memory for the workers was refused; that decides how it ended. What the seats stored then is what the
   -- run has: the parts of one reached state. The cores were issued what the programs gave. If all is done, nothing is
   -- left to do. If nothing is left to do, all is done, or else memory was refused and all is as it opened. It ends
-  -- exhausted only if a seat is stopped, and with its turns used only if none is.
-  pub record IsRunFrom (limit : ℕ) (before : List P) (run : Run) (after : List P) (e : End) : Type 0 where
+  -- exhausted only if a seat is stopped, and with its turns used only if none is. The banks' turns are fair, or not.
+  pub record IsRunFrom (fair : Bool) (limit : ℕ) (before : List P) (run : Run) (after : List P) (e : End) : Type 0 where
     pub parts : Parts run
     pub reached : Reached run.set_up.config run.set_up.memory (state_of_run run parts)
     pub served : AreServed acts (at_start run.set_up.config run.set_up.memory) (machine_of run parts) before after
@@ -60,7 +60,7 @@ module _ {P : Type 0} (acts : Acts P) where
     pub of_cores : run.cores.items ≡ map core_part cores
     pub of_banks : run.banks.items ≡ map bank_part banks
     pub ended : RefusedAtOnce opened_cores opened_banks before cores banks after e
-        ⊎ Ran acts machine limit opened_cores opened_banks before cores banks after e
+        ⊎ Ran acts machine fair limit opened_cores opened_banks before cores banks after e
     pub done : e ≡ end.AllDone → IsOver (machine_of run parts) after
     pub over : IsOver (machine_of run parts) after →
         (e ≡ end.AllDone) ⊎ RefusedAtOnce opened_cores opened_banks before cores banks after e
@@ -68,7 +68,7 @@ module _ {P : Type 0} (acts : Acts P) where
     pub turns_used : e ≡ end.TurnsUsed → is_one_stopped run ≡ false
 
   -- the same of the machine that the closed one shows
-  pub record IsThreadRun (limit : ℕ) (before : List P) (m : Machine) (after : List P) (e : End) : Type 0 where
+  pub record IsThreadRun (fair : Bool) (limit : ℕ) (before : List P) (m : Machine) (after : List P) (e : End) : Type 0 where
     pub run : Run
-    pub is_run : IsRunFrom limit before run after e
+    pub is_run : IsRunFrom fair limit before run after e
     pub shows : machine_of run is_run.parts ≡ m

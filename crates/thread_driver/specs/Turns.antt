@@ -141,3 +141,21 @@ pub record BankHadTurn (m : Machine) (p : BankSeat) (told : Told) (q : BankSeat)
   pub room_made : RoomMade p between
   pub turned : BankTurns m between moved q
   pub told_is : told ≡ told_of_turn p.is_stopped q.is_stopped moved
+
+-- room was made if that was due, and otherwise the seat is as before
+abbrev pub RoomMadeIf : Bool → BankSeat → BankSeat → Type 0
+RoomMadeIf true p q = RoomMade p q
+RoomMadeIf false p q = q ≡ p
+
+-- a bank's seat had a fair turn: first the seat had its own turn, and then room was made if that made no progress
+pub record BankHadFairTurn (m : Machine) (p : BankSeat) (told : Told) (q : BankSeat) : Type 0 where
+  pub between : BankSeat
+  pub moved : Result Turn Refusal
+  pub turned : BankTurns m p moved between
+  pub room_made : RoomMadeIf (not (has_moved moved)) between q
+  pub told_is : told ≡ told_of_turn p.is_stopped q.is_stopped moved
+
+-- a turn of a bank's seat, fair or not
+abbrev pub BankHad : Bool → Machine → BankSeat → Told → BankSeat → Type 0
+BankHad false = BankHadTurn
+BankHad true = BankHadFairTurn

@@ -64,7 +64,70 @@ pub fn drive_threads<R: Threads + Sync, P: Program + Send + Drop, G: Gate + Sync
         result.programs.items }
     ensures ended { RefusedAtOnce cores.items banks.items programs.items
         result.cores.items result.banks.items result.programs.items result.end
-        ⊎ Ran P.acts machine.now turn_limit cores.items banks.items programs.items
+        ⊎ Ran P.acts machine.now false turn_limit cores.items banks.items programs.items
+        result.cores.items result.banks.items result.programs.items result.end }
+{
+    drive_seats(
+        rt, alloc, machine, cores, banks, programs, workers, turn_limit, false, gate,
+    )
+}
+
+/// Gives the seats turns as `drive_threads` does, but each turn of a bank is a fair one (`fair_bank_turn`).
+pub fn drive_fair_threads<R: Threads + Sync, P: Program + Send + Drop, G: Gate + Sync>(
+    rt: &R,
+    alloc: Global,
+    machine: &Machine,
+    cores: Vec<CoreSeat>,
+    banks: Vec<BankSeat>,
+    programs: Vec<P>,
+    workers: u32,
+    turn_limit: u32,
+    gate: &G,
+) -> Shift<P>
+    requires cores { AreCoresInOrder machine.now cores.items × NoneOpen cores.items }
+    requires banks { AreBanksInOrder machine.now banks.items }
+    requires programs { length programs.items ≡ length cores.items }
+    requires workers { (0 < workers) × (workers ≤ 16) }
+    ensures cores { AreCoresInOrder machine.now result.cores.items }
+    ensures banks { AreBanksInOrder machine.now result.banks.items }
+    ensures whole { AreAll machine.now result.cores.items result.banks.items }
+    ensures served { AreServed P.acts cores.items programs.items result.cores.items
+        result.programs.items }
+    ensures ended { RefusedAtOnce cores.items banks.items programs.items
+        result.cores.items result.banks.items result.programs.items result.end
+        ⊎ Ran P.acts machine.now true turn_limit cores.items banks.items programs.items
+        result.cores.items result.banks.items result.programs.items result.end }
+{
+    drive_seats(
+        rt, alloc, machine, cores, banks, programs, workers, turn_limit, true, gate,
+    )
+}
+
+/// Gives the seats turns, fair or not.
+pub(crate) fn drive_seats<R: Threads + Sync, P: Program + Send + Drop, G: Gate + Sync>(
+    rt: &R,
+    alloc: Global,
+    machine: &Machine,
+    cores: Vec<CoreSeat>,
+    banks: Vec<BankSeat>,
+    programs: Vec<P>,
+    workers: u32,
+    limit: u32,
+    fair: bool,
+    gate: &G,
+) -> Shift<P>
+    requires cores { AreCoresInOrder machine.now cores.items × NoneOpen cores.items }
+    requires banks { AreBanksInOrder machine.now banks.items }
+    requires programs { length programs.items ≡ length cores.items }
+    requires workers { (0 < workers) × (workers ≤ 16) }
+    ensures cores { AreCoresInOrder machine.now result.cores.items }
+    ensures banks { AreBanksInOrder machine.now result.banks.items }
+    ensures whole { AreAll machine.now result.cores.items result.banks.items }
+    ensures served { AreServed P.acts cores.items programs.items result.cores.items
+        result.programs.items }
+    ensures ended { RefusedAtOnce cores.items banks.items programs.items
+        result.cores.items result.banks.items result.programs.items result.end
+        ⊎ Ran P.acts machine.now fair limit cores.items banks.items programs.items
         result.cores.items result.banks.items result.programs.items result.end }
 {
     records_of_seats_are_counted();
@@ -75,7 +138,7 @@ pub fn drive_threads<R: Threads + Sync, P: Program + Send + Drop, G: Gate + Sync
         banks,
         programs,
     };
-    match drive_shift(rt, alloc, machine, &mut shift, workers, turn_limit, gate) {
+    match drive_shift(rt, alloc, machine, &mut shift, workers, limit, fair, gate) {
         Err(AllocError) => {
             shift.end = End::NoMemory;
             shift
@@ -96,6 +159,7 @@ fn drive_shift<R: Threads + Sync, P: Program + Send + Drop, G: Gate + Sync>(
     shift: &mut Shift<P>,
     workers: u32,
     turn_limit: u32,
+    fair: bool,
     gate: &G,
 ) -> Result<Told, AllocError>
     requires cores { AllCoreSeats machine.now shift.old.cores.items }
@@ -103,11 +167,11 @@ fn drive_shift<R: Threads + Sync, P: Program + Send + Drop, G: Gate + Sync>(
     requires ahead { AreAhead P.acts shift.old.cores.items shift.old.programs.items }
     requires few { (length shift.old.cores.items ≤ 72) × (length shift.old.banks.items ≤ 72) }
     requires workers { (0 < workers) × (workers ≤ 16) }
-    ensures worked { IfOk result (λ told. SeatsGiven P.acts machine.now (AtMost turn_limit)
+    ensures worked { IfOk result (λ told. SeatsGiven P.acts machine.now fair (AtMost turn_limit)
         shift.old.cores.items shift.old.banks.items shift.old.programs.items told
         shift.new.cores.items shift.new.banks.items shift.new.programs.items) }
     ensures used { IfOk result (λ told. ends_all told ≡ false →
-        SeatsGiven P.acts machine.now (Exactly turn_limit)
+        SeatsGiven P.acts machine.now fair (Exactly turn_limit)
         shift.old.cores.items shift.old.banks.items shift.old.programs.items told
         shift.new.cores.items shift.new.banks.items shift.new.programs.items
         ⊎ AreOver P.acts shift.new.cores.items shift.new.programs.items) }
@@ -123,6 +187,7 @@ fn drive_shift<R: Threads + Sync, P: Program + Send + Drop, G: Gate + Sync>(
     let rota = Rota {
         programs: cores as u64,
         turns: turn_limit,
+        fair,
     };
     drive_team(rt, machine, &signals, gate, rota, workers, &mut team);
     let told = told_by_team(team.as_slice());

@@ -21,10 +21,11 @@ ghost use Rattle.thread_driver.specs.declared.told.Told.{Told};
 ghost use Rattle.thread_driver.specs.Calls.{RoomMade, VictimLeft, victim_of_seat};
 ghost use Rattle.thread_driver.specs.Given.{IsBankTurn, IsCoreTurn, TurnsGiven};
 ghost use Rattle.thread_driver.specs.Reports.{IsDecided, IsReport, Moved, SomeLacked, SomeStopped, Stopped, Went};
+ghost use Rattle.thread_driver.specs.Reports.{moved_in};
 ghost use Rattle.thread_driver.specs.Shifts.{AreBanksInOrder, AreCoresInOrder, AreOver, NoneOpen, Ran};
 ghost use Rattle.thread_driver.specs.Teams.{InARow, SeatsPassed, is_followed, rested, row_end};
 ghost use Rattle.thread_driver.specs.ThreadRuns.{machine_of};
-ghost use Rattle.thread_driver.specs.Turns.{AfterRefusal, BankHadTurn, CoreHadTurn};
+ghost use Rattle.thread_driver.specs.Turns.{AfterRefusal, BankHad, BankHadFairTurn, BankHadTurn, CoreHadTurn};
 
 use machine_theorem::laws::machines_with_the_invariant_are_consistent;
 use machine_theorem::move_laws::reached_states_have_the_invariant;
@@ -43,8 +44,8 @@ pub fn stopped_seats_stay_stopped<P: Program>()
     ensures cores { (m : Machine) (p q : CoreSeat) (before after : P) (n : ℕ) (told : Told) →
         TurnsGiven (IsCoreTurn P.acts m) (p, before) n told (q, after) → p.is_stopped ≡ true →
         q.is_stopped ≡ true }
-    ensures banks { (m : Machine) (p q : BankSeat) (n : ℕ) (told : Told) →
-        TurnsGiven (IsBankTurn m) p n told q → p.is_stopped ≡ true → q.is_stopped ≡ true }
+    ensures banks { (fair : Bool) (m : Machine) (p q : BankSeat) (n : ℕ) (told : Told) →
+        TurnsGiven (IsBankTurn fair m) p n told q → p.is_stopped ≡ true → q.is_stopped ≡ true }
 {}
 
 /// A turn reports what its calls answered: no memory exactly if one of them was refused it, and a stop exactly if the
@@ -57,17 +58,18 @@ pub fn turns_report_what_calls_answered<P: Program>()
         (Stopped p.is_stopped q.is_stopped) (Moved turn.moved ⊎ (turn.done ≡ Ok true)) }
     ensures steps { (m : Machine) (p q : CoreSeat) (before after : P) (told : Told)
         (turn : CoreHadTurn P.acts m p before told q after) → Went P.acts turn.done before after }
-    ensures banks { (m : Machine) (p q : BankSeat) (told : Told) (turn : BankHadTurn m p told q) →
-        IsReport told (turn.moved ≡ Err NoMemory) (Stopped p.is_stopped q.is_stopped)
-        (Moved turn.moved) }
+    ensures banks { (fair : Bool) (m : Machine) (p q : BankSeat) (told : Told)
+        (turn : BankHad fair m p told q) → let moved = moved_in fair m p told q turn in
+        IsReport told (moved ≡ Err NoMemory) (Stopped p.is_stopped q.is_stopped) (Moved moved) }
     ensures moved { (turn : Turn) → Moved (Ok turn) ↔ ((0 < turn.put)
         ⊎ ((turn.served ≢ served.Held) × (turn.served ≢ served.Nothing))) }
 {}
 
 /// Which evictions the calls of a turn make, and when. An attempt that is refused for another reason than NoRoom is
 /// followed by no eviction, and the step comes to that refusal. One refused by NoRoom is followed by the eviction of
-/// the victim of the open operation's line, if there is one, and else by nothing. A bank's turn first evicts the line
-/// that makes room, if there is one. Then each seat has its own turn.
+/// the victim of the open operation's line, if there is one, and else by nothing. Then the seat has its own turn. A
+/// bank's turn first evicts the line that makes room, if there is one, and then the seat has its own turn. In a fair
+/// turn that comes first. Only if it made no progress, the line that makes room then is evicted, if there is one.
 pub fn turns_make_these_calls<P: Program>()
     ensures refused { (r : Refusal) (p q : CoreSeat) (done : Result Bool Refusal) → r ≢ NoRoom →
         AfterRefusal r p done q → (done ≡ Err r) × (q ≡ p) }
@@ -78,13 +80,17 @@ pub fn turns_make_these_calls<P: Program>()
         CoreTurns m turn.between turn.moved q }
     ensures room { (m : Machine) (p q : BankSeat) (told : Told) (turn : BankHadTurn m p told q) →
         RoomMade p turn.between × BankTurns m turn.between turn.moved q }
+    ensures fair { (m : Machine) (p q : BankSeat) (told : Told) (turn : BankHadFairTurn m p told q) →
+        BankTurns m p turn.moved turn.between ×
+        (Moved turn.moved → q ≡ turn.between) ×
+        ((Moved turn.moved → ⊥) → RoomMade turn.between q) }
 {}
 
 /// After a core's turn that was refused memory, or in which its seat stopped, the worker's banks have no turn.
 pub fn no_bank_has_a_turn_after_one_that_ends_all<P: Program>()
-    ensures { (m : Machine) (cores cores' : List CoreSeat) (banks banks' : List BankSeat)
-        (programs programs' : List P) (told : Told)
-        (pass : SeatsPassed P.acts m cores banks programs told cores' banks' programs') →
+    ensures { (m : Machine) (fair : Bool) (cores cores' : List CoreSeat)
+        (banks banks' : List BankSeat) (programs programs' : List P) (told : Told)
+        (pass : SeatsPassed P.acts m fair cores banks programs told cores' banks' programs') →
         (pass.core_told.no_memory ≡ true) ⊎ (pass.core_told.is_exhausted ≡ true) →
         banks' ≡ banks }
 {}
@@ -100,8 +106,8 @@ pub fn seats_have_turns_in_a_row<P: Program>()
     ensures cores { (m : Machine) (most n k : ℕ) (told : Told) (p q : CoreSeat) (before after : P) →
         InARow (IsCoreTurn P.acts m) most n (p, before) k told (q, after) →
         n < most → (n < k) × (k ≤ most) }
-    ensures banks { (m : Machine) (most n k : ℕ) (told : Told) (p q : BankSeat) →
-        InARow (IsBankTurn m) most n p k told q → n < most → (n < k) × (k ≤ most) }
+    ensures banks { (fair : Bool) (m : Machine) (most n k : ℕ) (told : Told) (p q : BankSeat) →
+        InARow (IsBankTurn fair m) most n p k told q → n < most → (n < k) × (k ≤ most) }
 {}
 
 /// When a worker lets another thread run: after each fourth pass in a row in which no turn of its seats made progress.
@@ -115,13 +121,13 @@ pub fn waiting_workers_let_others_run()
 /// exactly if a call of some turn was refused memory, else Exhausted exactly if some seat stopped in a turn, else
 /// TurnsUsed.
 pub fn turns_decide_the_end<P: Program>()
-    ensures over { (m : Machine) (limit : ℕ) (cores cores' : List CoreSeat)
+    ensures over { (m : Machine) (fair : Bool) (limit : ℕ) (cores cores' : List CoreSeat)
         (banks banks' : List BankSeat) (programs programs' : List P) (e : End)
-        (ran : Ran P.acts m limit cores banks programs cores' banks' programs' e) →
+        (ran : Ran P.acts m fair limit cores banks programs cores' banks' programs' e) →
         (e ≡ end.AllDone) ↔ AreOver P.acts cores' programs' }
-    ensures decided { (m : Machine) (limit : ℕ) (cores cores' : List CoreSeat)
+    ensures decided { (m : Machine) (fair : Bool) (limit : ℕ) (cores cores' : List CoreSeat)
         (banks banks' : List BankSeat) (programs programs' : List P) (e : End)
-        (ran : Ran P.acts m limit cores banks programs cores' banks' programs' e) →
+        (ran : Ran P.acts m fair limit cores banks programs cores' banks' programs' e) →
         e ≢ end.AllDone →
         IsDecided (SomeLacked P.acts m ran.given) (SomeStopped P.acts m ran.given) e }
 {}

@@ -6,7 +6,7 @@ ghost use Rattle.thread_driver.specs.Given.{IsBankTurn, IsCoreTurn};
 ghost use Rattle.thread_driver.specs.Teams.{InARow, IsWhole, PassGiven, ends_all, is_followed, row_end};
 ghost use Rattle.thread_driver.specs.Playing.{AreAhead, IsAhead};
 
-use crate::bank_turns::bank_turn;
+use crate::bank_turns::any_bank_turn;
 use crate::core_turns::core_turn;
 use crate::told::{QUIET, Told, both};
 use mailboxes::{BankSeat, CoreSeat, Machine};
@@ -108,16 +108,17 @@ pub(crate) fn core_pass<P: Program, G: Gate>(
     all
 }
 
-// The turns of a bank's seat in a row, likewise.
+// The turns of a bank's seat in a row, likewise, fair or not.
 fn bank_row<G: Gate>(
     machine: &Machine,
     gate: &G,
     seat: &mut BankSeat,
     had: u32,
     limit: u32,
+    fair: bool,
 ) -> (Told, u32)
     requires { IsBankSeat machine.now seat.old }
-    ensures { InARow (IsBankTurn machine.now) (row_end limit had)
+    ensures { InARow (IsBankTurn fair machine.now) (row_end limit had)
         had seat.old result.1 result.0 seat.new }
 {
     let most = row_end(had, limit);
@@ -126,7 +127,7 @@ fn bank_row<G: Gate>(
     for turn in had..most {
         let number = u64::from(seat.number());
         let begun = begin(gate, number, u64::from(turn));
-        let told = bank_turn(machine, &begun, seat);
+        let told = any_bank_turn(machine, &begun, seat, fair);
         end(gate, begun);
         all = both(all, told);
         has = turn + 1;
@@ -137,19 +138,20 @@ fn bank_row<G: Gate>(
     (all, has)
 }
 
-/// The turns of banks' seats, likewise.
+/// The turns of banks' seats, likewise, fair or not.
 pub(crate) fn bank_pass<G: Gate>(
     machine: &Machine,
     gate: &G,
     banks: &mut Vec<BankSeat>,
     had: &mut [u32],
     limit: u32,
+    fair: bool,
 ) -> Told
     requires seats { AllBankSeats machine.now banks.old.items }
     requires counts { length banks.old.items ≤ length had.old }
     ensures seats { AllBankSeats machine.now banks.new.items }
     ensures turns { (turns : ℕ) × IsWhole turns banks.old.items result ×
-        PassGiven (IsBankTurn machine.now) limit turns had.old banks.old.items result had.new
+        PassGiven (IsBankTurn fair machine.now) limit turns had.old banks.old.items result had.new
         banks.new.items }
 {
     let mut all = QUIET;
@@ -158,7 +160,7 @@ pub(crate) fn bank_pass<G: Gate>(
             break;
         }
         let before = had[i];
-        let (told, has) = bank_row(machine, gate, &mut banks[i], before, limit);
+        let (told, has) = bank_row(machine, gate, &mut banks[i], before, limit, fair);
         had[i] = has;
         all = both(all, told);
     }

@@ -51,8 +51,8 @@ pub(crate) fn told_of_turn(
     }
 }
 
-// Whether messages were put, or one was served.
-fn has_moved(moved: Result<Turn, Refusal>) -> bool
+/// Whether messages were put, or one was served.
+pub(crate) fn has_moved(moved: Result<Turn, Refusal>) -> bool
     ensures { result ≡ has_moved moved }
 {
     match moved {

@@ -116,7 +116,7 @@ fn pass<P: Program + Drop, G: Gate>(
         ⊎ HasUsedAll rota worker.old cores_had.old banks_had.old) ×
         (worker.new ≡ record worker.old { signaler = worker.new.signaler }) }
     ensures goes { IfSome result (λ told. FoundNoEnd rota (last_look worker.new.signaler)) }
-    ensures passed { IfSome result (λ told. (passed : SeatsPassed P.acts machine.now
+    ensures passed { IfSome result (λ told. (passed : SeatsPassed P.acts machine.now rota.fair
         worker.old.cores.items worker.old.banks.items worker.old.programs.items told
         worker.new.cores.items worker.new.banks.items worker.new.programs.items) ×
         HasCounts P.acts rota.turns cores_had.old banks_had.old cores_had.new banks_had.new
@@ -141,7 +141,14 @@ fn pass<P: Program + Drop, G: Gate>(
     if ends_all(&told) {
         return Some(told);
     }
-    let banks = bank_pass(machine, gate, &mut worker.banks, banks_had, rota.turns);
+    let banks = bank_pass(
+        machine,
+        gate,
+        &mut worker.banks,
+        banks_had,
+        rota.turns,
+        rota.fair,
+    );
     Some(both(told, banks))
 }
 

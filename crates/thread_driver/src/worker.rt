@@ -17,11 +17,12 @@ pub struct Worker<P: Drop> {
     pub room: [u64; 16],
 }
 
-/// How far workers go: the number of all programs, and the most turns of each seat.
+/// How far workers go: the number of all programs, and the most turns of each seat. And whether banks have fair turns.
 #[derive(Clone, Copy)]
 pub struct Rota {
     pub programs: u64,
     pub turns: u32,
+    pub fair: bool,
 }
 
 /// What is dealt to workers, or was, by worker: the seats of cores, their programs, and the seats of banks.

@@ -13,6 +13,7 @@ use Rattle.report_text.specs.declared.run_end.RunEnd.{RunEnd}
 use Rattle.schedules.specs.Batches.{policy_of_run}
 use Rattle.schedules.specs.Policies.{EndedBy}
 use Rattle.schedules.specs.declared.policy.Policy.{Policy}
+use Rattle.worker_driver.specs.declared.set_up.Driver.TheVariants.{ByPolicy}
 use Rattle.worker_driver.specs.Batches.{AreMade}
 use Rattle.worker_driver.specs.Runs.{AreFrom, IsRun, state_at}
 use Rattle.sequential_machine.specs.Performed.{thread_acts}
@@ -26,8 +27,8 @@ OneRun = (policy : Policy) (limit : ℕ) (start : Machine) (opening : List Threa
     (events ≡ more) × (m ≡ n) × (programs ≡ others) × (end ≡ last)
 
 module _ (one : OneRun) (test : Litmus) (config : Config) where
-  pub same_run : (policy : Policy) (limit : ℕ) (run other : RunEnd) → IsRun test config (Some policy) limit run →
-      IsRun test config (Some policy) limit other → run.end ≢ NoMemory → other.end ≢ NoMemory → run ≡ other
+  pub same_run : (policy : Policy) (limit : ℕ) (run other : RunEnd) → IsRun test config (ByPolicy policy) limit run →
+      IsRun test config (ByPolicy policy) limit other → run.end ≢ NoMemory → other.end ≢ NoMemory → run ≡ other
   same_run policy limit run other a b had too =
       let same = one policy limit _ _ a.led.0 b.led.0 a.machine b.machine a.threads b.threads run.end other.end
       a.led.1 b.led.1 had too in
@@ -47,7 +48,7 @@ module _ (one : OneRun) (test : Litmus) (config : Config) where
       ∙ ap (λ k. record other { counts = k }) counts
 
   pub same_at : (first : Policy) (limit i : ℕ) (runs others : List RunEnd) (place : ℕ) (run other : RunEnd) →
-      AreFrom test config (Some first) limit i runs → AreFrom test config (Some first) limit i others →
+      AreFrom test config (ByPolicy first) limit i runs → AreFrom test config (ByPolicy first) limit i others →
       slice_get runs place ≡ Some run → slice_get others place ≡ Some other → run.end ≢ NoMemory →
       other.end ≢ NoMemory → run ≡ other
   same_at first limit i [] others place run other a b here there had too = absurd cc
@@ -56,13 +57,13 @@ module _ (one : OneRun) (test : Litmus) (config : Config) where
       let p : r ≡ run = cc in
       let q : s ≡ other = cc in
       same_run (policy_of_run first i) limit run other
-      (subst (λ (x : RunEnd). IsRun test config (Some (policy_of_run first i)) limit x) p a.0)
-      (subst (λ (x : RunEnd). IsRun test config (Some (policy_of_run first i)) limit x) q b.0) had too
+      (subst (λ (x : RunEnd). IsRun test config (ByPolicy (policy_of_run first i)) limit x) p a.0)
+      (subst (λ (x : RunEnd). IsRun test config (ByPolicy (policy_of_run first i)) limit x) q b.0) had too
   same_at first limit i (r ∷ rs) (s ∷ ss) (suc place) run other a b here there had too =
       same_at first limit (i + 1) rs ss place run other a.1 b.1 here there had too
 
   pub same_lists : (first : Policy) (limit i : ℕ) (runs others : List RunEnd) →
-      AreFrom test config (Some first) limit i runs → AreFrom test config (Some first) limit i others →
+      AreFrom test config (ByPolicy first) limit i runs → AreFrom test config (ByPolicy first) limit i others →
       length runs ≡ length others → AreMade runs → AreMade others → runs ≡ others
   same_lists first limit i [] [] a b long had too = refl
   same_lists first limit i [] (s ∷ ss) a b long had too = absurd (omega (arith, long))

@@ -1,20 +1,17 @@
 -- One more run behind others.
-use Rattle.std.proofs.Common.{ℕ, suc, ◌+◌, ◌≡◌, List, [], ◌∷◌, ◌++◌, length, Option, subst, arith}
-use Rattle.std.specs.Prelude.{option_map}
+use Rattle.std.proofs.Common.{ℕ, suc, ◌+◌, ◌≡◌, List, [], ◌∷◌, ◌++◌, length, subst, arith}
 use Rattle.std.specs.List.{AllByRecursion}
 use Rattle.litmus_reader.specs.Litmus.{Litmus}
 use Rattle.machine_table.specs.declared.config.Config.{Config}
 use Rattle.report_text.specs.declared.run_end.RunEnd.{RunEnd}
-use Rattle.schedules.specs.Batches.{policy_of_run}
-use Rattle.schedules.specs.declared.policy.Policy.{Policy}
-use Rattle.worker_driver.specs.Runs.{AreFrom, IsRun}
+use Rattle.worker_driver.specs.declared.set_up.Driver.{Driver}
+use Rattle.worker_driver.specs.Runs.{AreFrom, IsRun, driver_of_run}
 
 -- how the run of this number goes, if the first goes this way
-abbrev IsNumbered : Litmus → Config → Option Policy → ℕ → RunEnd → ℕ → Type 0
-IsNumbered test config way limit run n =
-    IsRun test config (option_map (λ policy. policy_of_run policy n) way) limit run
+abbrev IsNumbered : Litmus → Config → Driver → ℕ → RunEnd → ℕ → Type 0
+IsNumbered test config way limit run n = IsRun test config (driver_of_run way n) limit run
 
-pub one_more_run : (test : Litmus) (config : Config) (way : Option Policy) (limit i : ℕ) (runs : List RunEnd)
+pub one_more_run : (test : Litmus) (config : Config) (way : Driver) (limit i : ℕ) (runs : List RunEnd)
     (run : RunEnd) → AreFrom test config way limit i runs →
     IsNumbered test config way limit run (i + length runs) → AreFrom test config way limit i (runs ++ run ∷ [])
 one_more_run test config way limit i [] run before is =

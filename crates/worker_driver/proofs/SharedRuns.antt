@@ -1,11 +1,12 @@
 -- Runs by the numbers of their jobs are the runs of a batch, one after the other.
-use Rattle.std.proofs.Common.{◌≡◌, ℕ, suc, ◌+◌, ◌<◌, List, [], ◌∷◌, Some, length, subst, arith}
+use Rattle.std.proofs.Common.{◌≡◌, ℕ, suc, ◌+◌, ◌<◌, List, [], ◌∷◌, length, subst, arith}
 use Rattle.std.specs.List.{AllByRecursion, slice_index_or}
 use Rattle.litmus_reader.specs.Grammar.{IsTest}
 use Rattle.litmus_reader.specs.Litmus.{Litmus}
 use Rattle.machine_table.specs.declared.config.Config.{Config}
 use Rattle.report_text.specs.declared.run_end.RunEnd.{RunEnd}
 use Rattle.schedules.specs.declared.policy.Policy.{Policy}
+use Rattle.worker_driver.specs.declared.set_up.Driver.TheVariants.{ByPolicy}
 use Rattle.worker_driver.specs.Batches.{IsJobOf}
 use Rattle.worker_driver.specs.Outcomes.{HasOutcome}
 use Rattle.worker_driver.specs.Runs.{AreFrom}
@@ -28,7 +29,7 @@ module _ (test : Litmus) (config : Config) (first : Policy) (limit : ℕ) where
       subst (λ (n : ℕ). IsJobOf test config first limit n (slice_index_or runs k x)) same
       (given (suc k) x (omega (arith, below)))
 
-  pub are_from : (i : ℕ) (runs : List RunEnd) → AreJobsFrom i runs → AreFrom test config (Some first) limit i runs
+  pub are_from : (i : ℕ) (runs : List RunEnd) → AreJobsFrom i runs → AreFrom test config (ByPolicy first) limit i runs
   are_from i [] given = tt
   are_from i (run ∷ runs) given =
       ((first_job i run runs given).0, are_from (i + 1) runs (later_jobs i run runs given))

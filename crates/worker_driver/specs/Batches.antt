@@ -1,5 +1,5 @@
 -- Runs of a litmus test as jobs by number.
-use Rattle.std.specs.Prelude.{◌≢◌, ℕ, List, Some}
+use Rattle.std.specs.Prelude.{◌≢◌, ℕ, List}
 use Rattle.std.specs.List.{AllByRecursion}
 use Rattle.litmus_reader.specs.Grammar.{IsTest}
 use Rattle.litmus_reader.specs.Litmus.{Litmus}
@@ -8,6 +8,7 @@ use Rattle.programs.specs.declared.ends.End.TheVariants.{NoMemory}
 use Rattle.report_text.specs.declared.run_end.RunEnd.{RunEnd}
 use Rattle.schedules.specs.Batches.{policy_of_run}
 use Rattle.schedules.specs.declared.policy.Policy.{Policy}
+use Rattle.worker_driver.specs.declared.set_up.Driver.TheVariants.{ByPolicy}
 use Rattle.worker_driver.specs.Outcomes.{HasOutcome}
 use Rattle.worker_driver.specs.Runs.{IsRun}
 
@@ -15,7 +16,7 @@ use Rattle.worker_driver.specs.Runs.{IsRun}
 -- outcome of the sequential machine
 abbrev pub IsJobOf : Litmus → Config → Policy → ℕ → ℕ → RunEnd → Type 0
 IsJobOf test config first limit number run =
-    IsRun test config (Some (policy_of_run first number)) limit run
+    IsRun test config (ByPolicy (policy_of_run first number)) limit run
     × ((text : List ℕ) → IsTest text test → HasOutcome test run)
 
 -- no run ended with a failed allocation

@@ -1,6 +1,5 @@
 -- What a run of a litmus test is.
 use Rattle.std.specs.Prelude.{◌≡◌, ℕ, zero, suc, ◌+◌, List, [], ◌∷◌, length, map, replicate, Option, Some, None}
-use Rattle.std.specs.Prelude.{option_map}
 use Rattle.std.specs.FinMap.{empty}
 use Rattle.physiological_order.specs.StaleHits.{stale_count}
 use Rattle.litmus_reader.specs.Litmus.{Litmus}
@@ -15,8 +14,9 @@ use Rattle.programs.specs.declared.ends.End.{End}
 use Rattle.programs.specs.declared.ends.End.TheVariants.{AllDone}
 use Rattle.report_text.specs.declared.run_end.RunEnd.{RunEnd}
 use Rattle.sequential_machine.specs.Performed.{thread_acts}
-use Rattle.schedules.specs.declared.policy.Policy.{Policy}
 use Rattle.schedules.specs.Batches.{policy_of_run}
+use Rattle.worker_driver.specs.declared.set_up.Driver.{Driver}
+use Rattle.worker_driver.specs.declared.set_up.Driver.TheVariants.{ByPolicy, ByThreads}
 
 -- a thread as the test opens it, and n of them from this number on
 abbrev pub started : Litmus → ℕ → Thread
@@ -45,16 +45,21 @@ pub record Tells (test : Litmus) (m : Machine) (threads : List Thread) (run : Ru
 
 -- a policy's schedule, or threads, lead from the machine and the threads that the test opens to those that the run
 -- reports, and to its end
-pub record IsRun (test : Litmus) (config : Config) (policy : Option Policy) (limit : ℕ) (run : RunEnd) : Type 0 where
+pub record IsRun (test : Litmus) (config : Config) (driver : Driver) (limit : ℕ) (run : RunEnd) : Type 0 where
   pub machine : Machine
   pub threads : List Thread
-  pub led : LeadsTo thread_acts policy limit config (words_opened test.items empty) (threads_from test 0 test.threads)
+  pub led : LeadsTo thread_acts driver limit config (words_opened test.items empty) (threads_from test 0 test.threads)
       machine threads run.end
   pub told : Tells test machine threads run
 
--- runs of a batch from its run i on, if its first run follows this policy; each is by threads if there is none
-abbrev pub AreFrom : Litmus → Config → Option Policy → ℕ → ℕ → List RunEnd → Type 0
+-- what drives run i of a batch, if this drives the first
+abbrev pub driver_of_run : Driver → ℕ → Driver
+driver_of_run (ByPolicy first) i = ByPolicy (policy_of_run first i)
+driver_of_run (ByThreads fair) i = ByThreads fair
+
+-- runs of a batch from its run i on, if this drives its first run
+abbrev pub AreFrom : Litmus → Config → Driver → ℕ → ℕ → List RunEnd → Type 0
 AreFrom test config first limit i [] = Unit {0}
 AreFrom test config first limit i (run ∷ runs) =
-    IsRun test config (option_map (λ policy. policy_of_run policy i) first) limit run
+    IsRun test config (driver_of_run first i) limit run
     × AreFrom test config first limit (i + 1) runs

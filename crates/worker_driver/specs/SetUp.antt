@@ -1,13 +1,14 @@
--- The machine that options ask for, which policy a run of it follows, and how far it goes.
-use Rattle.std.specs.Prelude.{ℕ, max, min, nat_le, Bool, ◌&&◌, Option, Some, None}
+-- The machine that options ask for, what drives a run of it, and how far it goes.
+use Rattle.std.specs.Prelude.{◌≢◌, ℕ, max, min, nat_le, Bool, false, true, ◌&&◌}
 use Rattle.run_options.specs.declared.options.MachineOptions.{MachineOptions}
 use Rattle.run_options.specs.declared.options.RunOptions.{RunOptions}
 use Rattle.run_options.specs.declared.options.Schedule.{Schedule}
 use Rattle.run_options.specs.declared.options.Schedule.TheVariants.{Round, FairRound}
-use Rattle.run_options.specs.declared.options.Schedule.TheVariants.{Seed as ScheduledBySeed, Threads}
-use Rattle.schedules.specs.declared.policy.Policy.{Policy}
+use Rattle.run_options.specs.declared.options.Schedule.TheVariants.{Seed as ScheduledBySeed, Threads, FairThreads}
 use Rattle.schedules.specs.declared.policy.Policy.TheVariants.{Rounds, FairRounds, Seed}
 use Rattle.machine_table.specs.declared.config.Config.{Config}
+use Rattle.worker_driver.specs.declared.set_up.Driver.{Driver}
+use Rattle.worker_driver.specs.declared.set_up.Driver.TheVariants.{ByPolicy, ByThreads}
 
 -- this many cores
 abbrev pub config_of : MachineOptions → ℕ → Config
@@ -36,15 +37,20 @@ has_small_parts options =
 abbrev pub limit_of : RunOptions → ℕ
 limit_of options = min options.limit 4294967295
 
--- which policy the first run follows; threads follow none
-abbrev pub policy_by : Schedule → ℕ → Option Policy
-policy_by Round seed = Some Rounds
-policy_by FairRound seed = Some FairRounds
-policy_by ScheduledBySeed seed = Some (Seed seed)
-policy_by Threads seed = None
+-- what drives the first run
+abbrev pub driver_by : Schedule → ℕ → Driver
+driver_by Round seed = ByPolicy Rounds
+driver_by FairRound seed = ByPolicy FairRounds
+driver_by ScheduledBySeed seed = ByPolicy (Seed seed)
+driver_by Threads seed = ByThreads false
+driver_by FairThreads seed = ByThreads true
 
-abbrev pub policy_of : RunOptions → Option Policy
-policy_of options = policy_by options.schedule options.seed
+abbrev pub driver_of : RunOptions → Driver
+driver_of options = driver_by options.schedule options.seed
+
+-- no threads drive the first run
+abbrev pub FollowsPolicy : RunOptions → Type 0
+FollowsPolicy options = (fair : Bool) → driver_of options ≢ ByThreads fair
 
 -- how many threads make the runs: one by rounds, fair or not, and otherwise as many as the options say, from 1 to 16
 abbrev pub workers_by : Schedule → ℕ → ℕ
@@ -52,3 +58,4 @@ workers_by Round workers = 1
 workers_by FairRound workers = 1
 workers_by ScheduledBySeed workers = max (min workers 16) 1
 workers_by Threads workers = max (min workers 16) 1
+workers_by FairThreads workers = max (min workers 16) 1

@@ -1,10 +1,11 @@
 //! Runs of a litmus test by seeds, shared by workers; and runs of it by a policy, made by the calling thread alone.
-ghost use Rattle.std.specs.Prelude.{◌≡◌, ◌<◌, ◌≤◌, IfOk, List, Some, length, true, ℕ};
+ghost use Rattle.std.specs.Prelude.{◌≡◌, ◌<◌, ◌≤◌, IfOk, List, length, true, ℕ};
 ghost use Rattle.std.specs.List.{AllByRecursion};
 ghost use Rattle.litmus_reader.specs.Grammar.{IsTest};
 ghost use Rattle.litmus_reader.specs.TestViews.{test_of};
 ghost use Rattle.machine_table.specs.SetUp.{is_good};
 ghost use Rattle.schedules.specs.declared.policy.Policy.TheVariants.{Seed};
+ghost use Rattle.worker_driver.specs.declared.set_up.Driver.TheVariants.{ByPolicy};
 ghost use Rattle.worker_driver.specs.Outcomes.{HasOutcome};
 ghost use Rattle.worker_driver.specs.Runs.{AreFrom};
 
@@ -40,7 +41,7 @@ pub fn batch<R: Threads + Sync, G: Gate + Sync>(
     requires workers { (0 < workers) × (workers ≤ 16) }
     ensures count { IfOk result (λ runs. length runs.items ≡ count) }
     ensures each { IfOk result (λ runs.
-        AreFrom (test_of test.now) config (Some (Seed first)) limit 0 runs.items) }
+        AreFrom (test_of test.now) config (ByPolicy (Seed first)) limit 0 runs.items) }
     ensures outcomes { IfOk result (λ runs. (text : List ℕ) → IsTest text (test_of test.now) →
         AllByRecursion (HasOutcome (test_of test.now)) runs.items) }
 {
@@ -74,7 +75,7 @@ pub fn seeded_runs<R: Threads + Sync, G: Gate + Sync>(
     requires workers { (0 < workers) × (workers ≤ 16) }
     ensures count { IfOk result (λ runs. length runs.items ≡ count) }
     ensures each { IfOk result (λ runs.
-        AreFrom (test_of test.now) config (Some (Seed first)) limit 0 runs.items) }
+        AreFrom (test_of test.now) config (ByPolicy (Seed first)) limit 0 runs.items) }
     ensures outcomes { IfOk result (λ runs. (text : List ℕ) → IsTest text (test_of test.now) →
         AllByRecursion (HasOutcome (test_of test.now)) runs.items) }
 {
@@ -104,7 +105,7 @@ pub fn policy_runs(
     requires cores { config.cores ≡ (test_of test.now).threads }
     ensures count { IfOk result (λ runs. length runs.items ≡ count) }
     ensures each { IfOk result (λ runs.
-        AreFrom (test_of test.now) config (Some first) limit 0 runs.items) }
+        AreFrom (test_of test.now) config (ByPolicy first) limit 0 runs.items) }
     ensures outcomes { IfOk result (λ runs. (text : List ℕ) → IsTest text (test_of test.now) →
         AllByRecursion (HasOutcome (test_of test.now)) runs.items) }
 {

@@ -1,11 +1,13 @@
 //! That machines are as options ask, and that workers don't show in runs. The functions do nothing: their contracts are
 //! the laws.
-ghost use Rattle.std.specs.Prelude.{◌≡◌, ◌≢◌, List, length, slice_get, Option, Some, None, ℕ};
+ghost use Rattle.std.specs.Prelude.{◌≡◌, ◌≢◌, List, length, slice_get, Some, None, ℕ};
 ghost use Rattle.litmus_reader.specs.Litmus.{Litmus};
 ghost use Rattle.machine_table.specs.declared.config.Config.{Config};
 ghost use Rattle.programs.specs.declared.ends.End.TheVariants.{NoMemory};
 ghost use Rattle.report_text.specs.declared.run_end.RunEnd.{RunEnd};
 ghost use Rattle.schedules.specs.declared.policy.Policy.{Policy};
+ghost use Rattle.worker_driver.specs.declared.set_up.Driver.{Driver};
+ghost use Rattle.worker_driver.specs.declared.set_up.Driver.TheVariants.{ByPolicy};
 ghost use Rattle.worker_driver.specs.Batches.{AreMade};
 ghost use Rattle.run_options.specs.declared.options.MachineOptions.{MachineOptions};
 ghost use Rattle.worker_driver.specs.Runs.{AreFrom, IsRun};
@@ -31,17 +33,17 @@ pub fn machines_are_as_asked()
 pub fn workers_show_in_no_run()
     ensures runs { (test : Litmus) (config : Config) (first : Policy) (limit : ℕ)
         (runs others : List RunEnd) (place : ℕ) (run other : RunEnd) →
-        AreFrom test config (Some first) limit 0 runs →
-        AreFrom test config (Some first) limit 0 others →
+        AreFrom test config (ByPolicy first) limit 0 runs →
+        AreFrom test config (ByPolicy first) limit 0 others →
         slice_get runs place ≡ Some run → slice_get others place ≡ Some other →
         run.end ≢ NoMemory → other.end ≢ NoMemory → run ≡ other }
     ensures lists { (test : Litmus) (config : Config) (first : Policy) (limit : ℕ)
         (runs others : List RunEnd) →
-        AreFrom test config (Some first) limit 0 runs →
-        AreFrom test config (Some first) limit 0 others →
+        AreFrom test config (ByPolicy first) limit 0 runs →
+        AreFrom test config (ByPolicy first) limit 0 others →
         length runs ≡ length others → AreMade runs → AreMade others → runs ≡ others }
-    ensures refused { (test : Litmus) (config : Config) (policy : Option Policy) (limit : ℕ)
-        (run : RunEnd) → IsRun test config policy limit run →
+    ensures refused { (test : Litmus) (config : Config) (driver : Driver) (limit : ℕ)
+        (run : RunEnd) → IsRun test config driver limit run →
         run.end ≡ NoMemory → run.state ≡ None }
 {
     one_seed_gives_one_list::<ThreadState<'_>>();

@@ -16,7 +16,9 @@ pub use finished::Finished;
 pub use programs::{End, OpProgram, Program, Step, StepProgram};
 pub use report_text::RunEnd;
 pub use schedules::{Driven, Policy, drive_fair_round, drive_round, drive_seed, run_to_end};
-pub use set_up::{config_of, limit_of, policy_of, workers_of};
+pub use set_up::{Driver, config_of, driver_of, limit_of, workers_of};
 pub use shared_jobs::{Free, Gate};
-pub use thread_driver::{Shift, ThreadRun, drive_threads, run_threads};
-pub use threads::threaded_runs;
+pub use thread_driver::{
+    Shift, ThreadRun, drive_fair_threads, drive_threads, run_fair_threads, run_threads,
+};
+pub use threads::{thread_run, threaded_runs};

@@ -1,11 +1,12 @@
 //! One run of a litmus test by a policy, and the machine for it.
-ghost use Rattle.std.specs.Prelude.{◌≡◌, ℕ, true, IfOk, IfSome, List, OnOk, Some};
+ghost use Rattle.std.specs.Prelude.{◌≡◌, ℕ, true, IfOk, IfSome, List, OnOk};
 ghost use Rattle.std.specs.FinMap.{empty};
 ghost use Rattle.litmus_reader.specs.Grammar.{IsTest};
 ghost use Rattle.litmus_reader.specs.OpeningMemory.{words_opened};
 ghost use Rattle.litmus_reader.specs.TestViews.{test_of};
 ghost use Rattle.machine_table.specs.Opening.{at_start};
 ghost use Rattle.machine_table.specs.SetUp.{is_good};
+ghost use Rattle.worker_driver.specs.declared.set_up.Driver.TheVariants.{ByPolicy};
 ghost use Rattle.worker_driver.specs.Outcomes.{HasOutcome};
 ghost use Rattle.worker_driver.specs.Runs.{IsRun};
 
@@ -63,7 +64,7 @@ pub(crate) fn run_on(
     requires cores { system.old.config.cores ≡ (test_of test.now).threads }
     requires opened { system.old ≡ at_start system.old.config
         (words_opened (test_of test.now).items empty) }
-    ensures run { IfOk result (IsRun (test_of test.now) system.old.config (Some policy)
+    ensures run { IfOk result (IsRun (test_of test.now) system.old.config (ByPolicy policy)
         limit) }
     ensures outcome { IfOk result (λ run.
         (text : List ℕ) → IsTest text (test_of test.now) → HasOutcome (test_of test.now) run) }

@@ -1,8 +1,8 @@
-//! The machine that options ask for, and how far a run of it goes.
+//! The machine that options ask for, what drives a run of it, and how far it goes.
 ghost use Rattle.std.specs.Prelude.{◌≡◌, ◌≢◌, ◌<◌, ◌≤◌, ◌^◌, false, true, IfSome, None};
 ghost use Rattle.machine_table.specs.SetUp.{is_good};
 ghost use Rattle.run_options.specs.declared.options.Schedule.TheVariants.{FairRound, Round};
-ghost use Rattle.worker_driver.specs.SetUp.{config_of, has_small_parts, limit_of, policy_of, workers_by};
+ghost use Rattle.worker_driver.specs.SetUp.{config_of, driver_of, has_small_parts, limit_of, workers_by};
 
 use machine_table::Config;
 use run_options::{MachineOptions, RunOptions, Schedule};
@@ -55,16 +55,25 @@ pub fn limit_of(options: &RunOptions) -> u32
     options.limit.min(u64::from(u32::MAX)) as u32
 }
 
-/// Which policy the first run follows: rounds, fair rounds, or the seed of the options. None by threads, which follow no
-/// policy.
-pub fn policy_of(options: &RunOptions) -> Option<Policy>
-    ensures { result ≡ policy_of options.now }
+/// What drives a run.
+#[derive(Clone, Copy)]
+pub enum Driver {
+    /// This policy.
+    ByPolicy(Policy),
+    /// Threads; and whether banks have fair turns.
+    ByThreads(bool),
+}
+
+/// What drives the first run: rounds, fair rounds, the seed of the options, or threads, with fair turns or not.
+pub fn driver_of(options: &RunOptions) -> Driver
+    ensures { result ≡ driver_of options.now }
 {
     match options.schedule {
-        Schedule::Round => Some(Policy::Rounds),
-        Schedule::FairRound => Some(Policy::FairRounds),
-        Schedule::Seed => Some(Policy::Seed(options.seed)),
-        Schedule::Threads => None,
+        Schedule::Round => Driver::ByPolicy(Policy::Rounds),
+        Schedule::FairRound => Driver::ByPolicy(Policy::FairRounds),
+        Schedule::Seed => Driver::ByPolicy(Policy::Seed(options.seed)),
+        Schedule::Threads => Driver::ByThreads(false),
+        Schedule::FairThreads => Driver::ByThreads(true),
     }
 }
 
@@ -86,5 +95,6 @@ pub fn workers_of(options: &RunOptions) -> u32
         Schedule::FairRound => 1,
         Schedule::Seed => options.workers.min(16).max(1) as u32,
         Schedule::Threads => options.workers.min(16).max(1) as u32,
+        Schedule::FairThreads => options.workers.min(16).max(1) as u32,
     }
 }

@@ -1,26 +1,30 @@
 //! Runs of a litmus test by threads that share the machine.
-ghost use Rattle.std.specs.Prelude.{◌≡◌, ◌<◌, ◌≤◌, ℕ, true, IfOk, List, None, length};
+ghost use Rattle.std.specs.Prelude.{◌≡◌, ◌<◌, ◌≤◌, ℕ, true, IfOk, List, length};
 ghost use Rattle.std.specs.List.{AllByRecursion};
 ghost use Rattle.litmus_reader.specs.Grammar.{IsTest};
 ghost use Rattle.litmus_reader.specs.TestViews.{test_of};
 ghost use Rattle.machine_table.specs.SetUp.{is_good};
+ghost use Rattle.thread_driver.specs.ThreadRuns.{IsRunFrom};
+ghost use Rattle.worker_driver.specs.declared.set_up.Driver.TheVariants.{ByThreads};
 ghost use Rattle.worker_driver.specs.Outcomes.{HasOutcome};
 ghost use Rattle.worker_driver.specs.Runs.{AreFrom, IsRun, threads_from};
 
 use crate::told::told;
 use interleaving_core::Config;
 use litmus_reader::{Test, ThreadState};
+use physiological_order::Memory;
+use programs::program::Program;
 use report_text::RunEnd;
 use sequential_machine::laws::performed_histories_are_sequential;
 use shared_jobs::Gate;
 use std::alloc::{AllocError, Global};
 use std::thread::Threads;
 use thread_driver::laws::closed_machines_are_consistent;
-use thread_driver::run_threads;
+use thread_driver::{ThreadRun, run_fair_threads, run_threads};
 
 /// `count` runs of the test, one after the other, each on a new machine with a core for each thread. 1 to 16 workers,
-/// each a thread, drive the machine of a run, and give each of its cores and banks at most `limit` turns. They pass
-/// the gate before and after each turn. The end state of a run that is all done is an outcome of the sequential
+/// each a thread, drive the machine of a run, and give each of its cores and banks at most `limit` turns. Those of banks
+/// are fair, or not. They pass the gate before and after each turn. The end state of a run that is all done is an outcome of the sequential
 /// machine. AllocError if memory for the list, for a machine or for the result of a run can't be allocated.
 pub fn threaded_runs<R: Threads + Sync, G: Gate + Sync>(
     rt: &R,
@@ -30,22 +34,50 @@ pub fn threaded_runs<R: Threads + Sync, G: Gate + Sync>(
     count: u64,
     limit: u32,
     workers: u32,
+    fair: bool,
     gate: &G,
 ) -> Result<Vec<RunEnd>, AllocError>
     requires good { is_good config ≡ true }
     requires cores { config.cores ≡ (test_of test.now).threads }
     requires workers { (0 < workers) × (workers ≤ 16) }
     ensures count { IfOk result (λ runs. length runs.items ≡ count) }
-    ensures each { IfOk result (λ runs. AreFrom (test_of test.now) config None limit 0 runs.items) }
+    ensures each { IfOk result (λ runs. AreFrom (test_of test.now) config (ByThreads fair) limit 0 runs.items) }
     ensures outcomes { IfOk result (λ runs. (text : List ℕ) → IsTest text (test_of test.now) →
         AllByRecursion (HasOutcome (test_of test.now)) runs.items) }
 {
     let mut runs = Vec::new(alloc);
     for _ in 0..count {
-        let run = threaded_run(rt, alloc, test, config, limit, workers, gate)?;
+        let run = threaded_run(rt, alloc, test, config, limit, workers, fair, gate)?;
         runs.push(run)?;
     }
     Ok(runs)
+}
+
+/// A run by threads of a machine that opens with this memory, and of these programs: `run_fair_threads` if banks have
+/// fair turns, and else `run_threads`. AllocError as in these.
+pub fn thread_run<R: Threads + Sync, P: Program + Send + Drop, G: Gate + Sync>(
+    rt: &R,
+    alloc: Global,
+    config: Config,
+    memory: Memory,
+    programs: Vec<P>,
+    workers: u32,
+    limit: u32,
+    fair: bool,
+    gate: &G,
+) -> Result<ThreadRun<P>, AllocError>
+    requires good { is_good config ≡ true }
+    requires programs { length programs.items ≡ config.cores }
+    requires workers { (0 < workers) × (workers ≤ 16) }
+    ensures set_up { IfOk result (λ r. (r.run.set_up.config ≡ config) ×
+        (r.run.set_up.memory ≡ memory)) }
+    ensures run { IfOk result (λ r.
+        IsRunFrom P.acts fair limit programs.items r.run r.programs.items r.end) }
+{
+    if fair {
+        return run_fair_threads(rt, alloc, config, memory, programs, workers, limit, gate);
+    }
+    run_threads(rt, alloc, config, memory, programs, workers, limit, gate)
 }
 
 // A run of the test by threads.
@@ -56,12 +88,13 @@ fn threaded_run<R: Threads + Sync, G: Gate + Sync>(
     config: Config,
     limit: u32,
     workers: u32,
+    fair: bool,
     gate: &G,
 ) -> Result<RunEnd, AllocError>
     requires good { is_good config ≡ true }
     requires cores { config.cores ≡ (test_of test.now).threads }
     requires workers { (0 < workers) × (workers ≤ 16) }
-    ensures run { IfOk result (IsRun (test_of test.now) config None limit) }
+    ensures run { IfOk result (IsRun (test_of test.now) config (ByThreads fair) limit) }
     ensures outcome { IfOk result (λ run.
         (text : List ℕ) → IsTest text (test_of test.now) → HasOutcome (test_of test.now) run) }
 {
@@ -69,7 +102,9 @@ fn threaded_run<R: Threads + Sync, G: Gate + Sync>(
     performed_histories_are_sequential();
     let memory = test.opening()?;
     let threads = start_threads(alloc, test)?;
-    let ran = run_threads(rt, alloc, config, memory, threads, workers, limit, gate)?;
+    let ran = thread_run(
+        rt, alloc, config, memory, threads, workers, limit, fair, gate,
+    )?;
     told(alloc, test, ran.end, &ran.programs, &ran.run)
 }
 

@@ -1,4 +1,4 @@
-use Rattle.std.proofs.Common.{◌≡◌, List, Some, ap, sym, subst, length, ◌∙◌, arith}
+use Rattle.std.proofs.Common.{◌≡◌, List, ap, sym, subst, length, ◌∙◌, arith}
 use Rattle.std.specs.FinMap.{empty}
 use Rattle.physiological_order.specs.StaleHits.{RisesByNumber}
 use Rattle.machine_table.specs.Machine.{Machine}
@@ -9,6 +9,7 @@ use Rattle.programs.specs.declared.steps.Step.{Step}
 use Rattle.schedules.specs.Policies.{EndedBy}
 use Rattle.machine_theorem.specs.Service.{AreServed}
 use Rattle.trace_reader.specs.Steps.{trace_cores}
+use Rattle.worker_driver.specs.declared.set_up.Driver.TheVariants.{ByPolicy}
 use Rattle.report.specs.Runs.{step_acts}
 use Rattle.report.proofs.CoreCounts.{programs_count}
 use Rattle.report.proofs.InTrace.{is_run}
@@ -46,4 +47,4 @@ returns c =
     is_run c.args.trace.now config m last c.requires.cores served consistent opened
     (subst RisesByNumber c.records-rising.ensures.records c.records-rising.ensures.rising)
     (let few = c.cores-few.ensures.few in let same = c.cores-few.ensures.cores in let cores = c.requires.cores in
-    omega (arith, few, same, cores)) (Some c.args.policy) c.args.limit end (events, ended)
+    omega (arith, few, same, cores)) (ByPolicy c.args.policy) c.args.limit end (events, ended)

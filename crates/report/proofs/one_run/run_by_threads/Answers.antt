@@ -1,4 +1,4 @@
-use Rattle.std.proofs.Common.{◌≡◌, List, None, ap, refl, sym, subst, length, ◌∙◌, arith}
+use Rattle.std.proofs.Common.{◌≡◌, List, ap, refl, sym, subst, length, ◌∙◌, arith}
 use Rattle.std.specs.FinMap.{empty}
 use Rattle.physiological_order.specs.StaleHits.{RisesByNumber}
 use Rattle.machine_table.specs.Machine.{Machine}
@@ -7,13 +7,14 @@ use Rattle.thread_driver.specs.ThreadRuns.{IsThreadRun, machine_of}
 use Rattle.programs.specs.declared.steps.Step.{Step}
 use Rattle.machine_theorem.specs.Service.{AreServed}
 use Rattle.trace_reader.specs.Steps.{trace_cores}
+use Rattle.worker_driver.specs.declared.set_up.Driver.TheVariants.{ByThreads}
 use Rattle.report.specs.Runs.{programs_below, step_acts}
 use Rattle.report.proofs.CoreCounts.{programs_count}
 use Rattle.report.proofs.InTrace.{is_run}
 use Rattle.report.proofs.one_run.run_by_threads.Goals as goal
 
-pub run_threads-requires-clause-programs : goal.run_threads-requires-clause-programs
-run_threads-requires-clause-programs g c κs bounds =
+pub thread_run-requires-clause-programs : goal.thread_run-requires-clause-programs
+thread_run-requires-clause-programs g c κs bounds =
     ap length c.in_ok-programs.ensures ∙ programs_count c.args.trace.now (trace_cores c.args.trace.now)
     ∙ sym c.requires.cores
 
@@ -26,7 +27,7 @@ returns g c =
     let m : Machine = machine_of ran.run is.parts in
     let config_is : m.config ≡ config = c.in_ok-ran.ensures.set_up.0 in
     let opened : m.opening ≡ empty = c.in_ok-ran.ensures.set_up.1 ∙ c.new-memory.ensures in
-    let run = subst (λ (ts : List (List Step)). IsThreadRun step_acts c.args.limit ts m ran.programs.items ran.end)
+    let run = subst (λ (ts : List (List Step)). IsThreadRun step_acts c.args.fair c.args.limit ts m ran.programs.items ran.end)
     c.in_ok-programs.ensures (record { run = ran.run; is_run = is; shows = refl }) in
     let served = subst (λ ws. AreServed step_acts (at_start config ws) m (programs_below lanes (trace_cores lanes))
     ran.programs.items) opened
@@ -39,5 +40,5 @@ returns g c =
           (c.closed_machines_are_consistent.ensures ran.run is.parts) opened
           (subst RisesByNumber c.records-rising.ensures.records (c.records-rising.ensures.rising is.parts))
           (let few = c.cores-few.ensures.few in let same = c.cores-few.ensures.cores in let cores = c.requires.cores in
-          omega (arith, few, same, cores)) None c.args.limit ran.end (config_is, opened, run),
+          omega (arith, few, same, cores)) (ByThreads c.args.fair) c.args.limit ran.end (config_is, opened, run),
     )

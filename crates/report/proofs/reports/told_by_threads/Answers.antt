@@ -1,10 +1,11 @@
-use Rattle.std.proofs.Common.{◌≡◌, Option, None, true, refl, sym, subst}
+use Rattle.std.proofs.Common.{◌≡◌, true, refl, sym, subst}
 use Rattle.std.proofs.lemmas.Result.{IfOk-weaker}
 use Rattle.machine_table.specs.declared.config.Config.{Config}
 use Rattle.machine_table.specs.SetUp.{is_good}
 use Rattle.worker_driver.specs.SetUp.{config_of, limit_of}
 use Rattle.thread_driver.specs.ThreadRuns.{machine_of}
-use Rattle.schedules.specs.declared.policy.Policy.{Policy}
+use Rattle.worker_driver.specs.declared.set_up.Driver.{Driver}
+use Rattle.worker_driver.specs.declared.set_up.Driver.TheVariants.{ByThreads}
 use Rattle.trace_reader.specs.Steps.{trace_cores}
 use Rattle.report.specs.Runs.{IsTraceRun}
 use Rattle.report.proofs.reports.told_by_threads.Goals as goal
@@ -21,13 +22,13 @@ returns g c =
     let ran = c.in_ok-ran.ran in
     let parts = c.in_ok-ran.ensures.0 in
     let m = machine_of ran.machine parts in
-    let run = subst (λ (k : Config). IsTraceRun None (limit_of options.run) k lanes ran.end m) c.requires.config
-    (subst (λ n. IsTraceRun None n c.args.config lanes ran.end m) c.limit_of-limit.ensures.limit c.in_ok-ran.ensures.1) in
+    let run = subst (λ (k : Config). IsTraceRun (ByThreads c.args.fair) (limit_of options.run) k lanes ran.end m) c.requires.config
+    (subst (λ n. IsTraceRun (ByThreads c.args.fair) n c.args.config lanes ran.end m) c.limit_of-limit.ensures.limit c.in_ok-ran.ensures.1) in
     IfOk-weaker c.report_on.result _ _ (λ report told. record {
       good = subst (λ (config : Config). is_good config ≡ true) c.requires.config c.requires.good;
       end = ran.end;
       machine = m;
-      run = subst (λ (policy : Option Policy). IsTraceRun policy (limit_of options.run)
-          (config_of options.run.machine (trace_cores lanes)) lanes ran.end m) (sym c.requires.policy) run;
+      run = subst (λ (driver : Driver). IsTraceRun driver (limit_of options.run)
+          (config_of options.run.machine (trace_cores lanes)) lanes ran.end m) (sym c.requires.threads) run;
       told = told m (parts, refl);
     }) c.report_on.ensures

@@ -1,7 +1,7 @@
-use Rattle.std.proofs.Common.{◌≢◌, None, subst, sym}
+use Rattle.std.proofs.Common.{subst, sym}
 use Rattle.report.specs.Litmus.{HasNoReportInMemory, IsLitmusReport}
 use Rattle.run_options.specs.declared.options.LitmusOptions.{LitmusOptions}
-use Rattle.worker_driver.specs.SetUp.{policy_of}
+use Rattle.worker_driver.specs.SetUp.{FollowsPolicy}
 use Rattle.tardis_c.specs.Answers.{IsTold}
 use Rattle.tardis_c.specs.Options.{is_set}
 use Rattle.tardis_c.proofs.Told.{follows_a_policy, told}
@@ -9,7 +9,7 @@ use Rattle.tardis_c.proofs.texts.tardis_c_litmus.Goals as goal
 
 pub litmus_report-came-requires : goal.litmus_report-came-requires
 litmus_report-came-requires c =
-    subst (λ (options : LitmusOptions). policy_of options.run ≢ None) (sym c.litmus_options.ensures)
+    subst (λ (options : LitmusOptions). FollowsPolicy options.run) (sym c.litmus_options.ensures)
     (follows_a_policy (is_set c.args.options.now.by_seed) (is_set c.args.options.now.fair) c.args.options.now.seed)
 
 pub returns : goal.returns

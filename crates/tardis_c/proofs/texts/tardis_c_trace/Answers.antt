@@ -1,7 +1,7 @@
-use Rattle.std.proofs.Common.{◌≢◌, None, Some, subst, sym}
+use Rattle.std.proofs.Common.{Some, subst, sym}
 use Rattle.report.specs.Reports.{HasNoTraceReport, IsTraceReport}
 use Rattle.run_options.specs.declared.options.TraceOptions.{TraceOptions}
-use Rattle.worker_driver.specs.SetUp.{policy_of}
+use Rattle.worker_driver.specs.SetUp.{FollowsPolicy}
 use Rattle.tardis_c.specs.Answers.{IsTold}
 use Rattle.tardis_c.specs.Options.{is_set}
 use Rattle.tardis_c.proofs.Told.{follows_a_policy, told}
@@ -9,7 +9,7 @@ use Rattle.tardis_c.proofs.texts.tardis_c_trace.Goals as goal
 
 pub trace_report-came-requires : goal.trace_report-came-requires
 trace_report-came-requires c =
-    subst (λ (options : TraceOptions). policy_of options.run ≢ None) (sym c.trace_options.ensures)
+    subst (λ (options : TraceOptions). FollowsPolicy options.run) (sym c.trace_options.ensures)
     (follows_a_policy (is_set c.args.options.now.by_seed) (is_set c.args.options.now.fair) c.args.options.now.seed)
 
 pub returns : goal.returns

@@ -77,7 +77,7 @@ close-requires g c =
     let vs = c.drive_team.new.team.items in
     let signals = c.in_ok-signals.signals in
     let made = c.in_ok-signals.ensures in
-    let rota : Rota = record { programs = c.len-cores.result; turns = c.args.turn_limit } in
+    let rota : Rota = record { programs = c.len-cores.result; turns = c.args.turn_limit; fair = c.args.fair } in
     let as_many = length-map {B = Signaler} ws (λ (x : Worker g.row.P.Denot). x.signaler) in
     let same = ap length c.form.ensures.signalers in
     subst (AreAllSignalers signals) (sym c.disband.ensures.signalers)
@@ -104,7 +104,7 @@ gather_all-requires-clause-lengths g c =
     let a = g.P.Program.acts in
     let m = c.args.machine.now in
     let most = AtMost c.args.turn_limit in
-    let rota : Rota = record { programs = c.len-cores.result; turns = c.args.turn_limit } in
+    let rota : Rota = record { programs = c.len-cores.result; turns = c.args.turn_limit; fair = c.args.fair } in
     let gave = all_gave a m c.in_ok-signals.signals rota ws vs c.drive_team.ensures.work in
     let long = vs_count a m n s.cores.items s.programs.items s.banks.items ws vs dealt most gave in
     lengths_back n vs h long c.disband.ensures.back (length s.cores.items) (length s.programs.items)
@@ -126,7 +126,7 @@ returns-clause-worked g c =
     let a = g.P.Program.acts in
     let m = c.args.machine.now in
     let most = AtMost c.args.turn_limit in
-    let rota : Rota = record { programs = c.len-cores.result; turns = c.args.turn_limit } in
+    let rota : Rota = record { programs = c.len-cores.result; turns = c.args.turn_limit; fair = c.args.fair } in
     let gave = all_gave a m c.in_ok-signals.signals rota ws vs c.drive_team.ensures.work in
     let long = vs_count a m n s.cores.items s.programs.items s.banks.items ws vs dealt most gave in
     let counts = c.gather_all.ensures.long in
@@ -134,7 +134,7 @@ returns-clause-worked g c =
     c.gather_all.ensures.dealt in
     let told = c.told_by_team-told.ensures in
     let team = c.as_slice.ensures.value in
-    all_worked a m most n s t ws vs
+    all_worked a m c.args.fair most n s t ws vs
     c.told_by_team-told.result dealt gave (counts.0 ∙ c.len-cores.ensures ∙ s.cores.ok.0)
     (counts.1 ∙ c.len-programs.ensures ∙ s.programs.ok.0) (counts.2 ∙ c.len-banks.ensures ∙ s.banks.ok.0)
     c.requires.ahead.long back
@@ -156,7 +156,7 @@ returns-clause-used g c goes =
     let m = c.args.machine.now in
     let signals = c.in_ok-signals.signals in
     let work = c.drive_team.ensures.work in
-    let rota : Rota = record { programs = c.len-cores.result; turns = c.args.turn_limit } in
+    let rota : Rota = record { programs = c.len-cores.result; turns = c.args.turn_limit; fair = c.args.fair } in
     let gave = all_gave a m signals rota ws vs work in
     let most = AtMost c.args.turn_limit in
     let long = vs_count a m n s.cores.items s.programs.items s.banks.items ws vs dealt most gave in
@@ -178,7 +178,7 @@ returns-clause-used g c goes =
     let count = c.len-cores.ensures ∙ s.cores.ok.0 in
     ⊎_elim
     (λ all.
-    inl (all_worked a m (Exactly c.args.turn_limit) n s t ws vs c.told_by_team-told.result dealt all
+    inl (all_worked a m c.args.fair (Exactly c.args.turn_limit) n s t ws vs c.told_by_team-told.result dealt all
     (counts.0 ∙ count) (counts.1 ∙ c.len-programs.ensures ∙ s.programs.ok.0)
     (counts.2 ∙ c.len-banks.ensures ∙ s.banks.ok.0) c.requires.ahead.long back lacks stops moves))
     (λ over.

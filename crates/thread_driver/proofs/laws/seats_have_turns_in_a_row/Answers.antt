@@ -41,4 +41,4 @@ pub returns-clause-cores : goal.returns-clause-cores
 returns-clause-cores g c m most n k told p q before after row left = some row left
 
 pub returns-clause-banks : goal.returns-clause-banks
-returns-clause-banks g c m most n k told p q row left = some row left
+returns-clause-banks g c fair m most n k told p q row left = some row left

@@ -10,5 +10,5 @@ returns-clause-cores g c m p q before after n told given =
     (turns_report (IsCoreTurn acts m) (λ (z : CoreSeat × g.row.P.Denot). z.0.is_stopped) (core_reports acts m) given).1
 
 pub returns-clause-banks : goal.returns-clause-banks
-returns-clause-banks g c m p q n told given =
-    (turns_report (IsBankTurn m) (λ (z : BankSeat). z.is_stopped) (bank_reports m) given).1
+returns-clause-banks g c fair m p q n told given =
+    (turns_report (IsBankTurn fair m) (λ (z : BankSeat). z.is_stopped) (bank_reports fair m) given).1

@@ -10,7 +10,7 @@ returns-clause-steps g c m p q before after told turn =
     step_went g.P.Program.acts m before after turn.done p.part.core.open_op p turn.between turn.step_done
 
 pub returns-clause-banks : goal.returns-clause-banks
-returns-clause-banks g c m p q told turn = bank_report m p q told turn
+returns-clause-banks g c fair m p q told turn = bank_report fair m p q told turn
 
 pub returns-clause-moved : goal.returns-clause-moved
 returns-clause-moved g c turn = (λ x. x, λ x. x)

@@ -8,4 +8,4 @@ use Rattle.thread_driver.proofs.pass.bank_row.Given as goal
 abbrev pub invariant-loop-turn : goal.invariant-loop-turn
 invariant-loop-turn g l =
     IsBankSeat l.machine l.seat × (l.has ≡ l.turn)
-    × RowSoFar (IsBankTurn l.machine) (row_end l.limit l.fn.had) l.fn.had l.fn.seat l.all l.turn l.seat
+    × RowSoFar (IsBankTurn l.fair l.machine) (row_end l.limit l.fn.had) l.fn.had l.fn.seat l.all l.turn l.seat

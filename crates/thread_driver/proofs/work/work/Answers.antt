@@ -9,7 +9,7 @@ use Rattle.thread_driver.proofs.work.work.Goals as goal
 
 pub loop-init : goal.loop-init
 loop-init g c = (
-  at_first g.P.Program.acts c.args.machine.now c.args.signals.now c.args.rota.turns c.args.worker.now c.requires,
+  at_first g.P.Program.acts c.args.machine.now c.args.signals.now c.args.rota c.args.worker.now c.requires,
   λ none. refl,
 )
 
@@ -29,13 +29,13 @@ returns-in_default-clause-works g c =
     subst (λ v. Works a m c.args.rota w v) (sym ended.1)
     (⊎_elim
     (λ found.
-    ends_before a m signals c.args.rota w t refl told pass.told
+    ends_before a m signals w t told pass.told
     (λ on left.
     ⊎_elim (λ e. absurd (true≢false (sym e ∙ on)))
     (λ e. let all : c.args.rota.programs ≤ _ = e in absurd (omega (arith, left)))
     found))
     (λ used.
-    ends_before a m signals c.args.rota w t refl (all_used a m signals c.args.rota w t refl told used) pass.told
+    ends_before a m signals w t (all_used a m signals w t told used) pass.told
     (λ on left. refl))
     ended.0)
 
@@ -55,8 +55,8 @@ returns-then-ends_all-clause-works g c =
     pass.told in
     ends_after a m signals w u v c.in-Some.told c.after_pass-passes.result.0 told c.in-Some.ensures.passed.0
     c.in-Some.ensures.passed.1
-    (c.after_pass-passes.ensures.told ∙ ap (λ z. told_by_both z c.in-Some.told) pass.kept.2) c.args.rota c.stop.new.self
-    refl (sym c.if-ends_all.ensures) stop.kept.0
+    (c.after_pass-passes.ensures.told ∙ ap (λ z. told_by_both z c.in-Some.told) pass.kept.2) c.stop.new.self
+    (sym c.if-ends_all.ensures) stop.kept.0
     (ap (λ (h : Said). h.stops) stop.told)
     (ap (λ (h : Said). h.finished) stop.told)
 
@@ -92,4 +92,4 @@ returns-clause-works g c =
     let tell = c.tell.ensures in
     let said = rw (c.deref.ensures.value, c.deref-2.ensures.value) at tell.told in
     let told = after_telling a m signals w l s c.loop.invariant.0 tell.signaler tell.kept.0 tell.kept.2 said in
-    ends_before a m signals c.args.rota w (record l { signaler = s }) refl told said (λ on left. omega arith)
+    ends_before a m signals w (record l { signaler = s }) told said (λ on left. omega arith)

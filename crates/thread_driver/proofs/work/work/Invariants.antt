@@ -4,5 +4,5 @@ use Rattle.thread_driver.proofs.work.work.Given as goal
 
 abbrev pub invariant-loop : goal.invariant-loop
 invariant-loop g l =
-    Working g.P.Program.acts l.machine l.signals l.rota.turns l.counter l.cores_had l.banks_had l.fn.worker l.worker
+    Working g.P.Program.acts l.machine l.signals l.rota l.counter l.cores_had l.banks_had l.fn.worker l.worker
     × (l.worker.told.has_progressed ≡ false → l.idle ≡ l.counter % 4)

@@ -1,7 +1,8 @@
-use Rattle.std.proofs.Common.{◌≡◌, ℕ, IfSome, List, Some, length}
+use Rattle.std.proofs.Common.{◌≡◌, ℕ, IfSome, List, length}
 use Rattle.std.specs.List.{AllByRecursion}
 use Rattle.litmus_reader.specs.Grammar.{IsTest}
 use Rattle.litmus_reader.specs.TestViews.{test_of}
+use Rattle.worker_driver.specs.declared.set_up.Driver.TheVariants.{ByPolicy}
 use Rattle.worker_driver.specs.Outcomes.{HasOutcome}
 use Rattle.worker_driver.specs.Runs.{AreFrom}
 use Rattle.worker_driver.proofs.batches.policy_runs.Given as goal
@@ -9,7 +10,7 @@ use Rattle.worker_driver.proofs.batches.policy_runs.Given as goal
 abbrev pub invariant-loop-number : goal.invariant-loop-number
 invariant-loop-number l =
     (length l.runs.items ≡ l.number)
-    × AreFrom (test_of l.fn.test) l.fn.config (Some l.fn.first) l.fn.limit 0 l.runs.items
+    × AreFrom (test_of l.fn.test) l.fn.config (ByPolicy l.fn.first) l.fn.limit 0 l.runs.items
     × ((text : List ℕ) → IsTest text (test_of l.fn.test) →
     AllByRecursion (HasOutcome (test_of l.fn.test)) l.runs.items)
     × IfSome l.kept (λ system. system.config ≡ l.fn.config)

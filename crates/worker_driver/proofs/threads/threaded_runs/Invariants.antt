@@ -1,7 +1,8 @@
-use Rattle.std.proofs.Common.{◌≡◌, ℕ, List, None, length}
+use Rattle.std.proofs.Common.{◌≡◌, ℕ, List, length}
 use Rattle.std.specs.List.{AllByRecursion}
 use Rattle.litmus_reader.specs.Grammar.{IsTest}
 use Rattle.litmus_reader.specs.TestViews.{test_of}
+use Rattle.worker_driver.specs.declared.set_up.Driver.TheVariants.{ByThreads}
 use Rattle.worker_driver.specs.Outcomes.{HasOutcome}
 use Rattle.worker_driver.specs.Runs.{AreFrom}
 use Rattle.worker_driver.proofs.threads.threaded_runs.Given as goal
@@ -9,6 +10,6 @@ use Rattle.worker_driver.proofs.threads.threaded_runs.Given as goal
 abbrev pub invariant-loop : goal.invariant-loop
 invariant-loop g l =
     (length l.runs.items ≡ l.counter)
-    × AreFrom (test_of l.fn.test) l.fn.config None l.fn.limit 0 l.runs.items
+    × AreFrom (test_of l.fn.test) l.fn.config (ByThreads l.fn.fair) l.fn.limit 0 l.runs.items
     × ((text : List ℕ) → IsTest text (test_of l.fn.test) →
     AllByRecursion (HasOutcome (test_of l.fn.test)) l.runs.items)

@@ -7,7 +7,7 @@ use Rattle.thread_driver.proofs.Ordered.{Comes, ahead_at_first, comes_of}
 use Rattle.thread_driver.proofs.Stops.{given_report}
 use Rattle.thread_driver.proofs.Used.{given_by}
 use Rattle.thread_driver.proofs.Worked.{not_given}
-use Rattle.thread_driver.proofs.drive.drive_threads.Goals as goal
+use Rattle.thread_driver.proofs.drive.drive_seats.Goals as goal
 
 pub drive_shift-requires-clause-cores : goal.drive_shift-requires-clause-cores
 drive_shift-requires-clause-cores g c κs bounds i p e = (c.requires.cores.0.each i p e).0
@@ -37,9 +37,9 @@ returns-in-Err g c =
     let programs = c.args.programs.items in
     let comes = subst (λ (s : Shift g.row.P.Denot). Comes acts m cores programs s.cores.items s.banks.items
     s.programs.items) (sym c.in-Err.ensures.refused)
-    (comes_of acts m (AtMost c.args.turn_limit) cores cores banks banks programs programs quiet
+    (comes_of acts m c.args.fair (AtMost c.args.limit) cores cores banks banks programs programs quiet
     c.records_of_seats_are_counted.ensures.issued c.requires.cores.0 c.requires.cores.1 c.requires.banks
-    c.requires.programs (not_given acts m (AtMost c.args.turn_limit) (omega arith) cores banks programs)) in
+    c.requires.programs (not_given acts m c.args.fair (AtMost c.args.limit) (omega arith) cores banks programs)) in
     record {
       cores = comes.in_order;
       banks = comes.behind;
@@ -54,14 +54,14 @@ pub returns-in-Ok : goal.returns-in-Ok
 returns-in-Ok g c =
     let acts = g.P.Program.acts in
     let m = c.args.machine.now in
-    let limit = c.args.turn_limit in
+    let limit = c.args.limit in
     let cores = c.args.cores.items in
     let banks = c.args.banks.items in
     let programs = c.args.programs.items in
     let s = c.drive_shift.new.shift in
     let e = c.end_of-shift.ensures in
     let given = c.in-Ok.ensures.worked in
-    let comes = comes_of acts m (AtMost limit) cores s.cores.items banks s.banks.items programs s.programs.items
+    let comes = comes_of acts m c.args.fair (AtMost limit) cores s.cores.items banks s.banks.items programs s.programs.items
     c.in-Ok.told c.records_of_seats_are_counted.ensures.issued c.requires.cores.0 c.requires.cores.1 c.requires.banks
     c.requires.programs given in
     record {
@@ -72,13 +72,13 @@ returns-in-Ok g c =
       ended = inr (record {
         told = c.in-Ok.told;
         given = given_by c.end_of-shift.result c.in-Ok.told limit
-            (λ Many. SeatsGiven acts m Many cores banks programs c.in-Ok.told s.cores.items s.banks.items
+            (λ Many. SeatsGiven acts m c.args.fair Many cores banks programs c.in-Ok.told s.cores.items s.banks.items
             s.programs.items)
             (AreOver acts s.cores.items s.programs.items) e.otherwise e.all_done given c.in-Ok.ensures.used;
         done = e.done;
         all_done = e.all_done;
         otherwise = e.otherwise;
-        stopped = given_report acts m (AtMost limit) cores s.cores.items banks s.banks.items programs
+        stopped = given_report acts m c.args.fair (AtMost limit) cores s.cores.items banks s.banks.items programs
             s.programs.items c.in-Ok.told c.requires.programs given;
       });
     }

@@ -4,9 +4,10 @@
     reference/sequential.py [--states N] [--orders] [--model sc|tso] TEST ..
 
 It prints for each test what `tardis ends` prints, as docs/TEXTS.md has it. With --orders each end has an order of the
-threads' memory instructions behind it that leads there: P0:2 is the second of thread 0.
+threads' memory instructions behind it that leads there: P0:2 is the second of thread 0. Of several orders it is the
+first by its threads' numbers.
 
-The search goes depth first and keeps each state that it has seen: what each thread has received, and the memory. The
+The search goes depth first, by rising threads, and keeps each state that it has seen: what each thread has received, and the memory. The
 program keeps a layer and the next, a layer being the states after one number of steps, and gives up if these are more
 than N (--states N, by default 4194304). So this search counts the states of each layer as it finds them, and gives up
 for the same tests. It keeps all layers, so it needs more memory than the program.
@@ -136,8 +137,8 @@ def count(sizes, layer, most):
 
 
 def explored(model, most=MOST_STATES):
-    """For each end, as the values of the condition's names, an order of steps that leads there; and how many states
-    each layer has."""
+    """For each end, as the values of the condition's names, the first order of steps that leads there; and how many
+    states each layer has."""
     ends, seen, sizes, left = {}, set(), [], [(model.opening(), ())]
     while left:
         state, order = left.pop()
@@ -148,7 +149,7 @@ def explored(model, most=MOST_STATES):
         following = list(model.steps(state))
         if not following:
             ends.setdefault(model.end_values(state), order)
-        left += [(after, (*order, step)) for step, after in following]
+        left += [(after, (*order, step)) for step, after in reversed(following)]
     return ends, sizes
 
 
@@ -169,6 +170,11 @@ def text_of(end):
     return " ".join(f"{name}={value}" for name, value in end)
 
 
+def order_text(order):
+    """An order as it stands behind its end."""
+    return "   " + " ".join(order) if order else ""
+
+
 def report(test, most=MOST_STATES, has_orders=False, kind=Flat):
     """The text of all ends of a test."""
     ends, sizes = explored(kind(test), most)
@@ -176,7 +182,7 @@ def report(test, most=MOST_STATES, has_orders=False, kind=Flat):
     word = "Never" if held == 0 else "Always" if held == len(ends) else "Sometimes"
     lines = [f"model {kind.name}"] * (kind.name is not None)
     lines += [f"test {test.name}", f"threads {len(test.threads)}", f"states {sum(sizes)}", f"ends {len(ends)}"]
-    lines += [f"{'*' if test.holds(end) else ' '} {text_of(end)}" + f"   {' '.join(order)}" * has_orders
+    lines += [f"{'*' if test.holds(end) else ' '} {text_of(end)}" + order_text(order) * has_orders
               for end, order in sorted(ends.items())]
     lines += [f"condition {test.kind}", f"held {held}", f"observation {test.name} {word} {held} {len(ends) - held}"]
     return "\n".join(lines) + "\n"

@@ -2,11 +2,12 @@
 """Tries the lists of all ends, and tools/ends.py: tests/ends.py [PROGRAM]
 
 Some texts were worked out by hand, and so was the least --states that they need. Each order of an end is made step by
-step: it must lead there and leave no thread an instruction. `PROGRAM ends` must print what reference/sequential.py
-prints of the catalogue, of examples/outcomes, of all critical cycles of at most 8 edges and of 1,000 random tests, and
-refuse the same bounds. Under total store order a critical cycle is allowed exactly if it has a store before a load
-(PodWR). tools/ends.py must say of each end which runs meet it, as the second program makes them one by one. Without
-PROGRAM nothing is compared, and the second program makes the tool's runs. The last line is `N tried, M wrong`.
+step: it must lead there and leave no thread an instruction. Of a test with few orders it must be the first of those
+that lead there. `PROGRAM ends` must print what reference/sequential.py prints of the catalogue, of examples/outcomes,
+of all critical cycles of at most 8 edges and of 1,000 random tests, and refuse the same bounds. Under total store order
+a critical cycle is allowed exactly if it has a store before a load (PodWR).
+tools/ends.py must say of each end which runs meet it, as the second program makes them one by one. Without PROGRAM
+nothing is compared, and the second program makes the tool's runs. The last line is `N tried, M wrong`.
 """
 import os
 import random
@@ -25,7 +26,7 @@ from tests.texts import TOP, Tester  # noqa: E402
 from tests.witness import ends_by_hand  # noqa: E402
 from tools import cycles  # noqa: E402
 
-EDGES, RANDOM = 8, 1000
+EDGES, RANDOM, ORDERS_TRIED = 8, 1000, 300
 SB = "examples/litmus/SB.litmus"
 # Texts of ends, by hand. Store buffering has 1, 2, 3, 4 and 3 states by how many instructions are done.
 TEXTS = {"SB": """test SB
@@ -59,8 +60,17 @@ condition forall
 held 3
 observation SB+forall Always 3 0
 """}
-ORDERS = """  0:x7=0 1:x7=1   P0:1 P0:2 P1:1 P1:2
+# The first two ends have one order each; four lead to the last, both stores before both loads.
+ORDERS = """test SB
+threads 2
+states 13
+ends 3
+  0:x7=0 1:x7=1   P0:1 P0:2 P1:1 P1:2
   0:x7=1 1:x7=0   P1:1 P1:2 P0:1 P0:2
+  0:x7=1 1:x7=1   P0:1 P1:1 P0:2 P1:2
+condition exists
+held 0
+observation SB Never 0 3
 """
 # Two stores: each is the last once, and 9 comes before 10. Its three layers have 1, 2 and 2 states.
 NUMBERS = """RISCV NUMBERS
@@ -182,6 +192,22 @@ def end_of(test, order):
     return None if any(thread.next() for thread in threads) else test.end_values(threads, memory)
 
 
+def first_orders(test):
+    """By end the first of all orders that lead there, without merging states; None if the test has many orders."""
+    model, ends, orders = sequential.Flat(test), {}, 0
+    left = [(model.opening(), ())]
+    while left:
+        state, order = left.pop()
+        following = list(model.steps(state))
+        left += [(after, (*order, step)) for step, after in reversed(following)]
+        if not following:
+            orders += 1
+            ends.setdefault(model.end_values(state), order)
+        if orders > ORDERS_TRIED:
+            return None
+    return ends
+
+
 def least_bound(sizes):
     return max(size + after for size, after in zip(sizes, [*sizes[1:], 0]))
 
@@ -238,6 +264,7 @@ def compared(case):
     ends, sizes = sequential.explored(sequential.Flat(test))
     for end, order in ends.items():
         tester.expect(end_of(test, order) == end, f"{name}: {order} doesn't lead to {end}")
+    tester.expect(first_orders(test) in (None, ends), f"{name}: not the first orders: {ends}")
     if program:
         bound, given = least_bound(sizes), text.encode()
         got = tester.run("ends", "--states", str(bound), "/dev/stdin", text=given)
@@ -261,8 +288,10 @@ def by_hand(tester):
         listed = [line for line in lines if line[0] in " *"]
         tester.expect(lines[2] == f"states {states}" and lines[-1] == last, f"{lines} of {text}")
         tester.expect(ends in (listed, len(listed)), f"{lines} of {text}")
-    status, out, error = tester.run("--orders", str(TOP / SB))
-    tester.expect((status, error) == (0, "") and ORDERS in out, f"orders: {status} {out} {error}")
+    got = tester.run("--orders", str(TOP / SB))
+    tester.expect(got == (0, ORDERS, ""), f"orders: {got}")
+    got = tester.run("--orders", "/dev/stdin", text=NOTHING.encode())
+    tester.expect("\n  x=0 y=3\n" in got[1], f"no turn: {got}")
     for states in REFUSED:
         status, out, error = tester.run("--states", states, str(TOP / SB))
         good = (status, out) == (2, "") and "--states: 1 to 4294967295" in error

@@ -27,6 +27,7 @@ use Rattle.machine_table.specs.declared.config.Config.{Config}
 use Rattle.protocol.specs.Machine as by_line
 use Rattle.protocol.specs.Machine.{tally}
 use Rattle.machine_theorem.specs.Bags.{weigh, SameBag}
+pub use Rattle.machine_theorem.specs.Replies.{IsReply}
 use Rattle.machine_theorem.specs.States.{State}
 use Rattle.machine_theorem.specs.Moves.{Move, completes, with_completion}
 use Rattle.machine_theorem.specs.Consistent.{FindsCase}
@@ -234,14 +235,6 @@ pub owner_serves : (pts : ℕ) (held : LineCopy) → is_exclusive held.state ≡
 owner_serves pts held ex (Load a) = ap (λ (b : Bool). b || leb pts held.rts) ex
 owner_serves pts held ex (Store a v) = ex
 owner_serves pts held ex (Swap a v) = ex
-
--- what is on its way as a reply
-abbrev pub IsReply : Body → Type 0
-IsReply (body.ShRep line) = Unit {0}
-IsReply (body.ExRep line) = Unit {0}
-IsReply (body.RenewRep rts) = Unit {0}
-IsReply (body.UpgradeRep rts) = Unit {0}
-IsReply _ = ⊥
 
 -- it lets an operation be served at this time
 abbrev pub Suits : Op → ℕ → Body → Type 0

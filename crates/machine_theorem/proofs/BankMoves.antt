@@ -127,7 +127,8 @@ module _ (config : Config) (opening : FinMap nat_cmp ℕ) (a : State) (s : IsKep
       ((k : ℕ) → k ≢ l → messages_of a.bag k ≡ messages_of bag k) → Each (GoesHome config) bag →
       turns.Moves config opening a None l time
       (record (line_seen config a l) { entry = entry_seen o; messages = message_seen q ∷ messages_of bag l }) →
-      Turned config opening turns.delivering a (with_answer (with_bank a b (record bank { mts = time; table = table })) bag (Some q))
+      Turned config opening turns.delivering a (with_answer (with_bank a b
+      (record bank { mts = time; table = table })) bag (Some q))
   step_sent time table o bag q line goes now owned others each =
       step time table o (message_seen q ∷ messages_of bag l) (q ∷ bag) (counted a.counts q.body) now owned
       (rw (← line) (sym (messages_here q bag)))
@@ -135,7 +136,8 @@ module _ (config : Config) (opening : FinMap nat_cmp ℕ) (a : State) (s : IsKep
 
   -- an entry leaves, or is recalled for that
   pub entry_goes : (o : Option Entry) → entry_of bank l ≡ o →
-      Goes config opening turns.delivering a (with_bank a b) a.bag (entry_evicted (after_eviction bank l (on_entry.evicted o)))
+      Goes config opening turns.delivering a (with_bank a b) a.bag
+      (entry_evicted (after_eviction bank l (on_entry.evicted o)))
   entry_goes None e = tt
   entry_goes (Some (entry.Shared false line)) e =
       step (max bank.mts line.rts) (without_entry bank l).table None (messages_of a.bag l) a.bag a.counts

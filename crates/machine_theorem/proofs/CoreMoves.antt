@@ -217,7 +217,8 @@ module _ (config : Config) (opening : FinMap nat_cmp ℕ) (a : State) (s : IsKep
     l = core_table.line_of core op
 
     abbrev Attempts : Option Attempt × CoreState → Type 0
-    Attempts tries = Tries config opening (Turned config opening (attempting c) a) a c a.bag (step.attempted core op tries)
+    Attempts tries = Tries config opening (Turned config opening (attempting c) a) a c a.bag
+        (step.attempted core op tries)
 
     on : line_of f (address op) ≡ l
     on = ap (λ (k : ℕ). address op / k) (sym is.line_words)

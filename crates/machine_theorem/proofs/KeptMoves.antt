@@ -43,7 +43,8 @@ module _ (config : Config) (opening : FinMap nat_cmp ℕ) (a : State) (s : IsKep
       Goes config opening delivering (record a { bag = message ∷ rest }) (λ x. record (put x) { bag = message ∷ rest })
       rest done → Comes config opening Kept a put rest done
   delivered put message rest done same goes = found_anywhere config opening a put message rest same done
-      (goes_kept config opening delivering (record a { bag = message ∷ rest }) (λ x. record (put x) { bag = message ∷ rest }) rest
+      (goes_kept config opening delivering (record a { bag = message ∷ rest })
+      (λ x. record (put x) { bag = message ∷ rest }) rest
       done (came message rest same) goes)
 
   core_goes : (c : ℕ) → c < config.cores → (act : Act) (rest : List Message) →
@@ -53,7 +54,8 @@ module _ (config : Config) (opening : FinMap nat_cmp ℕ) (a : State) (s : IsKep
       (attempt_goes config opening a s c below (a.cores c).open_op refl))
   core_goes c below (step.Getting message) rest given = delivered (with_core a c) message rest _ given.0
       (core_delivery config opening a message rest (came message rest given.0) c below given.1 given.2)
-  core_goes c below (step.Evicting line) rest all = rw all (goes_kept config opening (leaving c line) a (with_core a c) a.bag _ s
+  core_goes c below (step.Evicting line) rest all = rw all (goes_kept config opening (leaving c line) a
+      (with_core a c) a.bag _ s
       (eviction_goes config opening a s c below line (copy_of (a.cores c).cache line) refl))
   core_goes c below step.Advancing rest all = rw all (goes_kept config opening advancing a (with_core a c) a.bag _ s
       (advance_goes config opening a s c below (fits ((a.cores c).pts + 1))))

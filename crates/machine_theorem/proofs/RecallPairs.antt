@@ -1,5 +1,5 @@
 -- What rounds keep of the recalls and returns of a line that go to and come from one core.
-use Rattle.std.proofs.Common.{◌≡◌, ◌≢◌, ℕ, zero, suc, ◌+◌, ◌≤◌, Option, Some, inl, inr, ◌⊎◌, refl, sym, ap, ◌∙◌, ⊎_elim}
+use Rattle.std.proofs.Common.{◌≡◌, ◌≢◌, ℕ, ◌+◌, ◌≤◌, Option, Some, inl, inr, ◌⊎◌, sym, ap, ◌∙◌, ⊎_elim}
 use Rattle.std.proofs.Common.{arith}
 use Rattle.physiological_order.specs.declared.operation.Op.{Op}
 use Rattle.physiological_order.specs.Order.{address}
@@ -59,18 +59,18 @@ module _ (f : Config) (l c : ℕ) where
     pub returned : returns c y ≤ returns c x
     pub owned : OwnsOrWill c x → OwnsOrWill c y
 
+  still_exclusive : (x y : Line) → Eased x y → y.entry ≡ Exclusive c → x.entry ≡ Exclusive c
+  still_exclusive x y e is = ⊎_elim (λ (q : y.entry ≡ x.entry). sym q ∙ is)
+      (λ (q : IsOther y.entry). absurd (q.0 is)) e.entry
+
   pub eased : (x y : Line) (o : Option Op) → Eased x y → Sound x o → Sound y o
   eased x y o e s = record {
     held = λ some here. e.owned (s.held (let z = e.recalled in omega (arith, some, z)) here);
-    unasked = λ is. ⊎_elim
-        (λ (q : y.entry ≡ x.entry). let z = s.unasked (sym q ∙ is) in let r = e.recalled in omega (arith, z, r))
-        (λ (q : IsOther y.entry). absurd (q.0 is)) e.entry;
-    asked = λ is. ⊎_elim
-        (λ (q : y.entry ≡ x.entry). let z = s.asked (sym q ∙ is) in let r = e.recalled in omega (arith, z, r))
+    unasked = λ is. let z = s.unasked (still_exclusive x y e is) in let r = e.recalled in omega (arith, z, r);
+    asked = λ is. let r = e.recalled in ⊎_elim
+        (λ (q : y.entry ≡ x.entry). let z = s.asked (sym q ∙ is) in omega (arith, z, r))
         (λ (q : IsOther y.entry). absurd (q.1 is)) e.entry;
-    returning = λ some is. ⊎_elim
-        (λ (q : y.entry ≡ x.entry). s.returning (let r = e.returned in omega (arith, some, r)) (sym q ∙ is))
-        (λ (q : IsOther y.entry). absurd (q.0 is)) e.entry;
+    returning = λ some is. s.returning (let r = e.returned in omega (arith, some, r)) (still_exclusive x y e is);
   }
 
   pub eased_list : (x y : Line) (o : Option Op) (qr qb pr pb : ℕ) → Eased x y →
@@ -80,8 +80,7 @@ module _ (f : Config) (l c : ℕ) where
     recalls_listed = ⊎_elim (λ (z : recalls c x ≤ qr). inl (r z))
         (λ (z : OwnsOrWill c x ⊎ IsElsewhere f l o). inr (⊎_elim (λ (w : OwnsOrWill c x). inl (e.owned w))
         (λ (w : IsElsewhere f l o). inr w) z)) s.recalls_listed;
-    returns_listed = λ is. ⊎_elim (λ (q : y.entry ≡ x.entry). b (s.returns_listed (sym q ∙ is)))
-        (λ (q : IsOther y.entry). absurd (q.0 is)) e.entry;
+    returns_listed = λ is. b (s.returns_listed (still_exclusive x y e is));
   }
 
   -- nothing is left to be delivered
@@ -149,5 +148,4 @@ module _ (f : Config) (l c : ℕ) where
   )
     where
       none_or_some : (n : ℕ) → (n ≡ 0) ⊎ (1 ≤ n)
-      none_or_some zero = inl refl
-      none_or_some (suc n) = inr (omega arith)
+      none_or_some n = grind arith

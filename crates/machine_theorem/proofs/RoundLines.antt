@@ -229,7 +229,8 @@ module _ (f : Config) (good : 0 < f.line_words) (strict : f.loses_recalls ≡ fa
     moved (flushed d rest copy p un is ex) none after = gives_back d _ _ copy p refl refl refl is ex after
     moved (written_back d until rest copy p un is ex) none after = gives_back d _ _ copy p refl refl refl is ex after
     moved (load_starts absent) none after = leaves _ _ (other Loading tt) (by_sending DramLd refl refl)
-    moved (renewed d pts dirty line rest is p) none after = leaves _ _ (other (Shared _ _) tt) (by_swapping _ p refl refl refl)
+    moved (renewed d pts dirty line rest is p) none after = leaves _ _ (other (Shared _ _) tt)
+        (by_swapping _ p refl refl refl)
     moved (leased d pts version dirty line rest is p) none after =
         leaves _ _ (other (Shared _ _) tt) (by_swapping _ p refl refl refl)
     moved (upgraded d dirty line rest is p) none after = grants d _ dirty line is p refl refl refl

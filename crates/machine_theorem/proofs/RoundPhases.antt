@@ -1,18 +1,17 @@
 -- What a machine makes of the events of a round, with the messages that are still to be delivered.
-use Rattle.std.proofs.Common.{◌≡◌, ◌≢◌, ℕ, ◌+◌, ◌-◌, ◌^◌, ◌<◌, ◌≤◌, Bool, true, false, cond, eqb, nat_lt, List, [], ◌∷◌}
+use Rattle.std.proofs.Common.{◌≡◌, ◌≢◌, ℕ, ◌+◌, ◌-◌, ◌^◌, ◌<◌, ◌≤◌, Bool, true, false, eqb, nat_lt, List, [], ◌∷◌}
 use Rattle.std.proofs.Common.{◌++◌, Option, Some, None, inl, inr, ◌⊎◌, refl, sym, ap, ◌∙◌, subst, ⊎_elim, arith}
 use Rattle.std.specs.List.{slice_get, AllByRecursion as Each}
 use Rattle.std.specs.Ordering.{nat_cmp}
 use Rattle.std.specs.FinMap.{FinMap}
-use Rattle.std.proofs.lemmas.Bool.{cases_Bool, cond_both, cond-true, cond-false, eqb-true, eq-eqb, ne_eqb, ltb-true, ltb-false}
+use Rattle.std.proofs.lemmas.Bool.{cases_Bool, cond_both, cond-true, cond-false, eq-eqb, ne_eqb, ltb-true}
+use Rattle.std.proofs.lemmas.Bool.{ltb-false}
+use Rattle.std.proofs.lemmas.Bool.Decides.{nat_tests}
 use Rattle.physiological_order.specs.declared.operation.Op.{Op}
 use Rattle.network.specs.declared.message.Message.{Message}
-use Rattle.network.specs.declared.message.Node.TheVariants as node
 use Rattle.network.specs.NumberedMessages.{IsRising, at_number, without_number}
-use Rattle.core_pts.specs.CoreTable as core_table
 use Rattle.llc_bank.specs.BankTable as bank_table
 use Rattle.llc_bank.specs.BankTable.{BankState}
-use Rattle.dram_mts.specs.Table.{dram_has_case, dram_table}
 use Rattle.machine_table.specs.declared.config.Config.{Config}
 use Rattle.machine_table.specs.declared.event.Answer.{Answer}
 use Rattle.machine_table.specs.declared.event.Answer.TheVariants.{Refused}
@@ -27,7 +26,6 @@ use Rattle.machine_table.specs.SetUp.{SetUpAs, is_good}
 use Rattle.machine_table.specs.Step as step
 use Rattle.machine_table.specs.Step.{Step, entry_evicted, reacted}
 use Rattle.machine_table.specs.Transition.{changed, deliver_to, if_there, on_event, refused, transition}
-use Rattle.machine_table.proofs.Lemmas.{delivers as is_delivered}
 use Rattle.machine_theorem.specs.Bags.{bag_of, weigh}
 use Rattle.machine_theorem.specs.HeldRecalls.{RecallsFindOwners}
 use Rattle.machine_theorem.specs.Kept.{Invariant}
@@ -49,21 +47,13 @@ module _ (k : ℕ) (y : Message) where
   IsThere ms = at_number k ms ≡ Some y
 
   -- a message stays where another is taken, and where one is sent
-  behind : (b : Bool) (x : Message) (xs ys : List (ℕ × Message)) → (IsThere xs → IsThere ys) →
-      cond b (Some x) (at_number k xs) ≡ Some y → cond b (Some x) (at_number k ys) ≡ Some y
-  behind true x xs ys rest at = at
-  behind false x xs ys rest at = rest at
-
   stays_without : (n : ℕ) → k ≢ n → (ms : List (ℕ × Message)) → IsThere ms → IsThere (without_number n ms)
   stays_without n ne [] at = at
-  stays_without n ne (x ∷ xs) at = cond_both (eqb x.0 n) xs (x ∷ without_number n xs) IsThere
-      (λ here. sym (cond-false (eqb x.0 k) (Some x.1) (at_number k xs)
-      (ne_eqb x.0 k (λ e. ne (sym e ∙ eqb-true x.0 n here)))) ∙ at)
-      (λ off. behind (eqb x.0 k) x.1 xs (without_number n xs) (stays_without n ne xs) at)
+  stays_without n ne (x ∷ xs) at = let rest = stays_without n ne xs in grind (arith, nat_tests, rest)
 
   stays_sent : (z : ℕ × Message) (ms : List (ℕ × Message)) → IsThere ms → IsThere (ms ++ z ∷ [])
   stays_sent z [] at = absurd (let w : None ≡ Some y = at in cc)
-  stays_sent z (x ∷ xs) at = behind (eqb x.0 k) x.1 xs (xs ++ z ∷ []) (stays_sent z xs) at
+  stays_sent z (x ∷ xs) at = let rest = stays_sent z xs in grind (arith, nat_tests, rest)
 
   module _ (m : Machine) (there : IsThere m.mail.messages) where
     abbrev Stays : Answer × Machine → Type 0
@@ -86,20 +76,16 @@ module _ (k : ℕ) (y : Message) where
     changed_stays put n left_there _ = there
 
     -- so it is of another's delivery, and of an eviction
-    delivery_stays : (n : ℕ) (x : Message) → at_number n m.mail.messages ≡ Some x → k ≢ n → Gets m x →
-        Stays (on_event m (Deliver n))
-    delivery_stays n x number ne (a_core c core to at has) =
-        subst Stays (sym (is_delivered m n x (node.Core c) number to (with_core m c) (slice_get m.cores c) core at
-        core_table.core_has_case core_table.core_table has refl))
-        (changed_stays (with_core m c) (Some n) (stays_without n ne m.mail.messages there) _)
-    delivery_stays n x number ne (a_bank j bank to at has) =
-        subst Stays (sym (is_delivered m n x (node.Bank j) number to (with_bank m j) (slice_get m.banks j) bank at
-        bank_table.bank_has_case bank_table.bank_table has refl))
-        (changed_stays (with_bank m j) (Some n) (stays_without n ne m.mail.messages there) _)
-    delivery_stays n x number ne (a_dram j stored to at has) =
-        subst Stays (sym (is_delivered m n x (node.Dram j) number to (with_dram m j) (slice_get m.drams j) stored at
-        dram_has_case dram_table has refl))
-        (changed_stays (with_dram m j) (Some n) (stays_without n ne m.mail.messages there) _)
+    delivery_stays : (n : ℕ) (x : Message) → k ≢ n → Gets m n x → Stays (on_event m (Deliver n))
+    delivery_stays n x ne gets = go gets
+      where
+        left_there : IsThere (left m.mail (Some n)).messages
+        left_there = stays_without n ne m.mail.messages there
+
+        go : Gets m n x → Stays (on_event m (Deliver n))
+        go (a_core c to at has is) = subst Stays (sym is) (changed_stays (with_core m c) (Some n) left_there _)
+        go (a_bank j to at has is) = subst Stays (sym is) (changed_stays (with_bank m j) (Some n) left_there _)
+        go (a_dram j to at has is) = subst Stays (sym is) (changed_stays (with_dram m j) (Some n) left_there _)
 
     eviction_stays : (i line : ℕ) → Stays (on_event m (EvictBank i line))
     eviction_stays i line = go (slice_get m.banks i)
@@ -168,7 +154,8 @@ lasts K L e m leads so = (
         (λ (stopped : (on_event m e).1.is_stopped ≡ true).
         inl (ap (λ (o : Answer × Machine). o.1.is_stopped) same ∙ stopped))
         (λ (l : L m.config m.opening (on_event m e).1).
-        inr (inr (now (transition m e).1 (transition_same m e) (subst (λ (o : Answer × Machine). L m.config m.opening o.1) (sym same) l))))
+        inr (inr (now (transition m e).1 (transition_same m e)
+        (subst (λ (o : Answer × Machine). L m.config m.opening o.1) (sym same) l))))
         (leads runs (ltb-true m.mail.next (2 ^ 64 - 1) is) so.0 k)
 
 -- while cores have their turns
@@ -238,7 +225,7 @@ delivered : (n : ℕ) (x : Message) (ys : List (ℕ × Message)) → AreOthers n
 delivered n x ys others m numbers k at there good = pending ys m.config m.opening (on_event m (Deliver n)).1
     (both (λ y. at_number y.0 m.mail.messages ≡ Some y.1) (λ y. y.0 ≢ n)
     (λ y. at_number y.0 (on_event m (Deliver n)).1.mail.messages ≡ Some y.1)
-    (λ y is ne. delivery_stays y.0 y.1 m is n x at ne (gets_it m k.invariant n x at)) ys there others)
+    (λ y is ne. delivery_stays y.0 y.1 m is n x ne (gets_it m k.invariant n x at)) ys there others)
     (delivery_keeps m k.invariant numbers (λ h. weigh h (bag_of ys)) n x at good)
 
 pub delivery_lasts : (n : ℕ) (x : Message) (ys : List (ℕ × Message)) → AreOthers n ys → (m : Machine) →

@@ -1,10 +1,11 @@
 -- What a machine makes of the events of a round keeps what rounds keep of recalls.
 use Rattle.std.proofs.Common.{◌≡◌, ◌≢◌, ℕ, ◌+◌, ◌-◌, ◌/◌, ◌%◌, ◌^◌, ◌<◌, ◌≤◌, Bool, true, false, cond, eqb, List, ◌∷◌}
-use Rattle.std.proofs.Common.{zero, suc, length, Option, Some, None, Ok, Err, inl, inr, ◌⊎◌, refl, sym, ap, ◌∙◌, subst, ⊎_elim}
+use Rattle.std.proofs.Common.{zero, suc, length, Option, Some, None, Ok, Err, inl, inr, ◌⊎◌, refl, sym, ap, ◌∙◌, subst}
+use Rattle.std.proofs.Common.{⊎_elim}
 use Rattle.std.proofs.Common.{arith, Result}
 use Rattle.std.specs.List.{slice_get}
 use Rattle.std.specs.Ordering.{nat_cmp}
-use Rattle.std.specs.FinMap.{FinMap, entries}
+use Rattle.std.specs.FinMap.{FinMap}
 use Rattle.std.proofs.lemmas.Bool.{cond_both, cond-true, eqb-true, lt-ltb}
 use Rattle.std.proofs.lemmas.Option.{get_or_from_slice_get, slice_get_within}
 use Rattle.physiological_order.specs.declared.operation.Op.{Op}
@@ -33,20 +34,20 @@ use Rattle.llc_bank.specs.declared.decision.Decision.{Decision}
 use Rattle.llc_bank.specs.declared.decision.Decision.TheVariants.{Grants}
 use Rattle.llc_bank.specs.BankTable as bank_table
 use Rattle.llc_bank.specs.BankTable.{BankState, bank_has_case, core_of, entry_of, is_this_bank}
-use Rattle.dram_mts.specs.Table.{dram_case, dram_has_case, dram_table, is_dram}
+use Rattle.dram_mts.specs.Table.{dram_case, is_dram}
 use Rattle.machine_table.specs.declared.config.Config.{Config}
 use Rattle.machine_table.specs.declared.event.Answer.{Answer}
 use Rattle.machine_table.specs.declared.event.Answer.TheVariants as answer
 use Rattle.machine_table.specs.declared.event.Event.TheVariants as event
 use Rattle.machine_table.specs.declared.event.Refusal.TheVariants as refusal
 use Rattle.machine_table.specs.Machine.{Machine, with_core, with_bank, with_dram}
-use Rattle.machine_table.specs.Opening.{dram_of, open_bank, open_core}
+use Rattle.machine_table.specs.Opening.{open_bank, open_core}
 use Rattle.machine_table.specs.Posted.{can_post, left, posted}
 use Rattle.machine_table.specs.Step as step
 use Rattle.machine_table.specs.Step.{Step, Tried, Completes, Does, Getting, Evicting, attempt_open, attempted, reacted}
 use Rattle.machine_table.specs.Step.{entry_evicted, copy_evicted, bank_step}
 use Rattle.machine_table.specs.Transition.{changed, if_there, issued, on_event, refused, tried}
-use Rattle.machine_table.proofs.Lemmas.{finds, delivers as is_delivered}
+use Rattle.machine_table.proofs.Lemmas.{finds}
 use Rattle.protocol.specs.Machine as by_line
 use Rattle.protocol.specs.Machine.{tally}
 use Rattle.protocol.specs.Recalls.{recall_to, return_of}
@@ -57,9 +58,11 @@ use Rattle.machine_theorem.specs.Moves as moves
 use Rattle.machine_theorem.specs.Moves.{with_answer, with_completion}
 use Rattle.machine_theorem.specs.Rounds.{IsMoving, IsRequest}
 use Rattle.machine_theorem.specs.States.{State, Same, seen}
-use Rattle.machine_theorem.specs.View.{body_seen, copy_in, copy_or_none, entry_in, line_seen, message_seen, set_up, view}
+use Rattle.machine_theorem.specs.View.{body_seen, copy_in, copy_or_none, entry_in, line_seen, message_seen, set_up}
+use Rattle.machine_theorem.specs.View.{view}
 use Rattle.machine_theorem.proofs.ActiveParts.{IsRecall, core_active, bank_active, dram_active, no_request, no_recall}
-use Rattle.machine_theorem.proofs.ActiveParts.{recall_weighs, pinned_op, served_tries, needs}
+use Rattle.machine_theorem.proofs.ActiveParts.{served_tries, needs, recalled_core}
+use Rattle.machine_theorem.proofs.ActiveParts.{pinned_here}
 use Rattle.machine_theorem.proofs.Bags.{bag-taken}
 use Rattle.machine_theorem.proofs.Routes.{up_ends}
 use Rattle.machine_theorem.proofs.CoreDeliveries.{core_delivery}
@@ -76,7 +79,8 @@ use Rattle.machine_theorem.proofs.RoundEvents.{IsActive, IsTrying}
 use Rattle.machine_theorem.proofs.RoundLines as lines
 use Rattle.machine_theorem.proofs.RoundLines.{Alike, good_alike, Settles}
 use Rattle.machine_theorem.proofs.RoundTurns as turns
-use Rattle.machine_theorem.proofs.RoundTurns.{LacksCopy, attempt_keeps, advance_keeps, leaving_keeps, issue_keeps, later}
+use Rattle.machine_theorem.proofs.RoundTurns.{LacksCopy, attempt_keeps, advance_keeps, leaving_keeps, issue_keeps}
+use Rattle.machine_theorem.proofs.RoundTurns.{later}
 use Rattle.machine_theorem.proofs.Turns.{Kind, delivering, attempting, advancing, leaving}
 
 -- what a message weighs that may not be there
@@ -281,7 +285,8 @@ module _ (m : Machine) (s : Invariant m) where
             (λ part. refl) numbers (λ done. Unit {0}) (bank_step (a.banks i) (Evicting line)) tt
             (line_leaves m.config m.opening a s.kept i line) (inr good)
             (λ t. sent_alone a _ s.kept good t None (λ h. omega arith))
-            (λ why sends part ok t. sent_alone a _ s.kept good t sends (sends_bag (moves.with_bank a i part) a.bag sends))
+            (λ why sends part ok t. sent_alone a _ s.kept good t sends
+            (sends_bag (moves.with_bank a i part) a.bag sends))
             (λ so sends part t. sent_alone a _ s.kept good t sends (sends_bag (moves.with_bank a i part) a.bag sends)))
 
     -- a delivery
@@ -335,10 +340,10 @@ module _ (m : Machine) (s : Invariant m) where
           (λ l d. inr refl) good_b)
           (λ why sends part from_it t. made m.config m.opening b _ b_kept t (Some x) sends
           (λ h. let z = sends_bag (puts part) others sends h in omega (arith, z)) p
-          (one recall_to (λ q e route d. one_recall m.config.cores m.config.banks d x q endpoints route e) sends why part
-          from_it t)
-          (one return_of (λ q e route d. one_return m.config.cores m.config.banks d x q endpoints route e) sends why part
-          from_it t) good_b)
+          (one recall_to (λ q e route d. one_recall m.config.cores m.config.banks d x q endpoints route e)
+          sends why part from_it t)
+          (one return_of (λ q e route d. one_return m.config.cores m.config.banks d x q endpoints route e)
+          sends why part from_it t) good_b)
           (λ so sends part t. sent_alone b _ b_kept so t sends (sends_bag (puts part) (x ∷ others) sends))
         where
           endpoints : has_endpoints m.config.cores m.config.banks x ≡ true
@@ -370,15 +375,8 @@ module _ (m : Machine) (s : Invariant m) where
           here : 1 ≤ of_line l (recall_to d) x → IsHere (set_up m.config m.opening) l ((a.cores d).open_op)
           here some =
               let on = counts_if (eqb x.line l) (recall_to d (message_seen x)) some in
-              let to_d = counts_if (eqb (core_of x.to) d) 1 (subst (λ (i : ℕ). 1 ≤ i)
-              (recall_weighs x.body is (core_of x.from) (core_of x.to) d) on.1) in
-              let e : c ≡ d = sym (ap core_of to) ∙ eqb-true (core_of x.to) d to_d.0 in
-              let op = pinned_op (a.cores c) x.line pinned in (
-                op.0,
-                ap (λ (i : ℕ). (a.cores i).open_op) (sym e) ∙ op.1,
-                ap (λ (i : ℕ). address op.0 / i) (sym (s.kept.shape.each_core c).line_words) ∙ op.2
-                    ∙ eqb-true x.line l on.0,
-              )
+              rw (← recalled_core x is d on.1, to, ← eqb-true x.line l on.0)
+              (pinned_here m.config m.opening a s.kept c x.line pinned)
 
           go : (i : ℕ) → of_line l (recall_to d) x ≡ i → Pair p l d
           go zero e = (
@@ -395,70 +393,46 @@ module _ (m : Machine) (s : Invariant m) where
             },
           )
 
-      at_core : (c : ℕ) (core : CoreState) → x.to ≡ node.Core c → slice_get m.cores c ≡ Some core →
-          core_has_case core x ≡ true →
-          Keeps (changed m (with_core m c) (Some n) (reacted (core_table.core_table core x)))
-      at_core c core to at has =
-          let here : a.cores c ≡ core = get_or_from_slice_get m.cores c core (open_core m.config c) at in
-          let within = slice_get_within m.cores c core at in
-          let below : c < m.config.cores = (let z = s.core_count in omega (arith, within, z)) in
-          let case : core_has_case (a.cores c) x ≡ true = ap (λ (z : CoreState). core_has_case z x) here ∙ has in
-          subst (λ (z : CoreState). Keeps (changed m (with_core m c) (Some n) (reacted (core_table.core_table z x)))) here
-          (by_part (with_core m c) (moves.with_core b c) (λ part. core_put b m b_back c part within) (λ part. refl)
-          (reacted (core_table.core_table (a.cores c) x))
-          (subst (λ (i : Node). SendsFrom i (reacted (core_table.core_table (a.cores c) x)))
-          (ap node.Core (s.kept.shape.each_core c).numbered ∙ sym to)
-          (core_from (a.cores c) x.line (core_table.decided (a.cores c) x.line x.body)))
-          (core_delivery m.config m.opening a x others b_kept c below to case)
-          (⊎_elim (λ active. inl active) (λ (k : IsRecall x.body × (is_pinned (pinned_line (a.cores c)) x.line ≡ true)).
-          inr (held c to k.0 k.1))
-          (core_active false (a.cores c) x.line x.body (is_pinned (pinned_line (a.cores c)) x.line)
-          (and_right (is_this_core (a.cores c).number x.to) _ case))))
-
-      at_bank : (j : ℕ) (bank : BankState) → x.to ≡ node.Bank j → slice_get m.banks j ≡ Some bank →
-          bank_has_case bank x ≡ true →
-          Keeps (changed m (with_bank m j) (Some n) (reacted (bank_table.bank_table bank x)))
-      at_bank j bank to at has =
-          let here : a.banks j ≡ bank = get_or_from_slice_get m.banks j bank (open_bank m.config j) at in
-          let within = slice_get_within m.banks j bank at in
-          let case : bank_has_case (a.banks j) x ≡ true = ap (λ (z : BankState). bank_has_case z x) here ∙ has in
-          subst (λ (z : BankState). Keeps (changed m (with_bank m j) (Some n) (reacted (bank_table.bank_table z x)))) here
-          (by_part (with_bank m j) (moves.with_bank b j) (λ part. bank_put b m b_back j part within) (λ part. refl)
-          (reacted (bank_table.bank_table (a.banks j) x))
-          (subst (λ (i : Node). SendsFrom i (reacted (bank_table.bank_table (a.banks j) x)))
-          (ap node.Bank (s.kept.shape.each_bank j).numbered ∙ sym to)
-          (bank_from (a.banks j) x (bank_table.decided (a.banks j) x)))
-          (bank_delivered m.config m.opening a s.kept j x others taken to case)
-          (⊎_elim (λ active. inl active) (λ (is : IsRequest x.body). inr (waits
-          (λ l d. weighs_none (recall_to d) x l (no_request (recall_to d) (λ e p v. refl) (λ e v. refl) x is))
-          (λ l d. weighs_none (return_of d) x l (no_request (return_of d) (λ e p v. refl) (λ e v. refl) x is))))
-          (bank_active (a.banks j) x (a.banks j).lease (a.banks j).mts (core_of x.from)
-          (has_room (a.banks j).table (bank_table.set_of (a.banks j) x.line)) false x.from x.body
-          (entry_of (a.banks j) x.line) (and_right (is_this_bank (a.banks j).number x.to) _ case))))
-
-      at_dram : (j : ℕ) (stored : FinMap nat_cmp (List ℕ)) → x.to ≡ node.Dram j → slice_get m.drams j ≡ Some stored →
-          dram_has_case stored x ≡ true →
-          Keeps (changed m (with_dram m j) (Some n) (reacted (dram_table stored x)))
-      at_dram j stored to at has =
-          let here : a.drams j ≡ stored =
-          get_or_from_slice_get m.drams j stored (dram_of m.config j (entries m.opening)) at in
-          let within = slice_get_within m.drams j stored at in
-          subst (λ (z : FinMap nat_cmp (List ℕ)). Keeps (changed m (with_dram m j) (Some n) (reacted (dram_table z x))))
-          here (by_part (with_dram m j) (moves.with_dram b j) (λ part. dram_put b m b_back j part within) (λ part. refl)
-          (reacted (dram_table (a.drams j) x)) (dram_from (a.drams j) x x.body)
-          (dram_delivered m.config m.opening a s.kept j x others taken to has)
-          (inl (dram_active false (a.drams j) x x.body (and_right (is_dram x.to) _ has))))
-
       pub delivery_keeps : Keeps (on_event m (event.Deliver n))
       delivery_keeps = go (gets_it m s n x number)
         where
-          go : Gets m x → Keeps (on_event m (event.Deliver n))
-          go (a_core c core to at has) = subst Keeps (sym (is_delivered m n x (node.Core c) number to (with_core m c)
-              (slice_get m.cores c) core at core_has_case core_table.core_table has refl)) (at_core c core to at has)
-          go (a_bank j bank to at has) = subst Keeps (sym (is_delivered m n x (node.Bank j) number to (with_bank m j)
-              (slice_get m.banks j) bank at bank_has_case bank_table.bank_table has refl)) (at_bank j bank to at has)
-          go (a_dram j stored to at has) = subst Keeps (sym (is_delivered m n x (node.Dram j) number to (with_dram m j)
-              (slice_get m.drams j) stored at dram_has_case dram_table has refl)) (at_dram j stored to at has)
+          go : Gets m n x → Keeps (on_event m (event.Deliver n))
+          go (a_core c to at has is) =
+              let within = slice_get_within m.cores c (a.cores c) at in
+              let below : c < m.config.cores = (let z = s.core_count in omega (arith, within, z)) in
+              subst Keeps (sym is)
+              (by_part (with_core m c) (moves.with_core b c) (λ part. core_put b m b_back c part within)
+              (λ part. refl) _
+              (subst (λ (i : Node). SendsFrom i (reacted (core_table.core_table (a.cores c) x)))
+              (ap node.Core (s.kept.shape.each_core c).numbered ∙ sym to)
+              (core_from (a.cores c) x.line (core_table.decided (a.cores c) x.line x.body)))
+              (core_delivery m.config m.opening a x others b_kept c below to has)
+              (⊎_elim (λ active. inl active)
+              (λ (k : IsRecall x.body × (is_pinned (pinned_line (a.cores c)) x.line ≡ true)). inr (held c to k.0 k.1))
+              (core_active false (a.cores c) x.line x.body (is_pinned (pinned_line (a.cores c)) x.line)
+              (and_right (is_this_core (a.cores c).number x.to) _ has))))
+          go (a_bank j to at has is) =
+              let within = slice_get_within m.banks j (a.banks j) at in
+              subst Keeps (sym is)
+              (by_part (with_bank m j) (moves.with_bank b j) (λ part. bank_put b m b_back j part within)
+              (λ part. refl) _
+              (subst (λ (i : Node). SendsFrom i (reacted (bank_table.bank_table (a.banks j) x)))
+              (ap node.Bank (s.kept.shape.each_bank j).numbered ∙ sym to)
+              (bank_from (a.banks j) x (bank_table.decided (a.banks j) x)))
+              (bank_delivered m.config m.opening a s.kept j x others taken to has)
+              (⊎_elim (λ active. inl active) (λ (is : IsRequest x.body). inr (waits
+              (λ l d. weighs_none (recall_to d) x l (no_request (recall_to d) (λ e p v. refl) (λ e v. refl) x is))
+              (λ l d. weighs_none (return_of d) x l (no_request (return_of d) (λ e p v. refl) (λ e v. refl) x is))))
+              (bank_active (a.banks j) x (a.banks j).lease (a.banks j).mts (core_of x.from)
+              (has_room (a.banks j).table (bank_table.set_of (a.banks j) x.line)) false x.from x.body
+              (entry_of (a.banks j) x.line) (and_right (is_this_bank (a.banks j).number x.to) _ has))))
+          go (a_dram j to at has is) =
+              let within = slice_get_within m.drams j (a.drams j) at in
+              subst Keeps (sym is)
+              (by_part (with_dram m j) (moves.with_dram b j) (λ part. dram_put b m b_back j part within)
+              (λ part. refl) _
+              (dram_from (a.drams j) x x.body) (dram_delivered m.config m.opening a s.kept j x others taken to has)
+              (inl (dram_active false (a.drams j) x x.body (and_right (is_dram x.to) _ has))))
 
   -- a core's turn
   module _ (numbers : m.mail.next < 2 ^ 64 - 1) where
@@ -544,7 +518,8 @@ module _ (m : Machine) (s : Invariant m) where
           (λ t. (tried m c (a.cores c) (attempted (a.cores c) op (Some t, (a.cores c)))).0
           ≢ answer.Refused refusal.NoRoom) (λ out z. absurd (cc))
           (λ out. refuses (attempted (a.cores c) op
-          (Some (core_table.need (a.cores c).pts op (Some held.wts)), a.cores c)) (needs (a.cores c) op (Some held.wts) op))) is)
+          (Some (core_table.need (a.cores c).pts op (Some held.wts)), a.cores c))
+          (needs (a.cores c) op (Some held.wts) op))) is)
         where
           time : LineCopy → Option ℕ
           time copy = on_copy.time_of (a.cores c).private_write (a.cores c).pts op copy

@@ -1,10 +1,12 @@
 -- The turns of cores in a round keep what rounds keep of recalls, line by line and core by core.
-use Rattle.std.proofs.Common.{◌≡◌, ◌≢◌, ℕ, ◌+◌, ◌≤◌, Bool, false, ◌∷◌, Option, Some, None, inl, inr, ◌⊎◌, refl, sym, ap, ◌∙◌}
+use Rattle.std.proofs.Common.{◌≡◌, ◌≢◌, ℕ, ◌+◌, ◌≤◌, Bool, false, ◌∷◌, Option, Some, None, inl, inr, ◌⊎◌, refl, sym, ap}
+use Rattle.std.proofs.Common.{◌∙◌}
 use Rattle.std.proofs.Common.{subst, ⊎_elim, arith, le_refl}
 use Rattle.std.proofs.lemmas.Bool.{cases_eq}
 use Rattle.physiological_order.specs.declared.operation.Op.{Op}
 use Rattle.physiological_order.specs.Order.{address}
-use Rattle.protocol.specs.Machine.{Config, Copy, Exclusive, Message, FlushRep, Line, Core, Machine, owns, tally, with_at, line_of}
+use Rattle.protocol.specs.Machine.{Config, Copy, Exclusive, Message, FlushRep, Line, Core, Machine, owns, tally}
+use Rattle.protocol.specs.Machine.{with_at, line_of}
 use Rattle.protocol.specs.Machine.{IsPinned, LineTransition, evict_shared, evict_exclusive, Asks, to_read, to_write}
 use Rattle.protocol.specs.Machine.{Transition, issue, advance, ask, complete, line_changes}
 use Rattle.protocol.specs.Recalls.{recall_to, grant_to, return_of, OwnsOrWill}
@@ -69,14 +71,13 @@ module _ (f : Config) where
     returned : returns c y ≤ returns c x
     granted : tally (grant_to c) x.messages ≤ tally (grant_to c) y.messages
 
+  beside_by : {c : ℕ} {x y : Line} → y.entry ≡ x.entry → y.copies c ≡ x.copies c → recalls c y ≤ recalls c x →
+      returns c y ≤ returns c x → tally (grant_to c) x.messages ≤ tally (grant_to c) y.messages → Beside c x y
+  beside_by entry copies recalled returned granted =
+      record { entry = entry; copies = copies; recalled = recalled; returned = returned; granted = granted }
+
   unchanged : (c : ℕ) (x : Line) → Beside c x x
-  unchanged c x = record {
-    entry = refl;
-    copies = refl;
-    recalled = le_refl _;
-    returned = le_refl _;
-    granted = le_refl _;
-  }
+  unchanged c x = beside_by refl refl (le_refl _) (le_refl _) (le_refl _)
 
   eased_beside : (l c : ℕ) (x y : Line) → Beside c x y → Eased f l c x y
   eased_beside l c x y b = record {
@@ -94,13 +95,10 @@ module _ (f : Config) where
       (λ k. (k.0, opens ∙ k.1, (b (line_of f (address k.0))).copies ∙ k.2))
 
   pub turns_alike : (next : ℕ) (m n : Machine) → Alike f m n → Turns next m → Turns next n
-  turns_alike next m n k turns l c = beside next m.lines n.lines m.cores n.cores c (λ j. record {
-    entry = k.entry j;
-    copies = k.copies j c;
-    recalled = let z = k.weighs j (recall_to c) in omega (arith, z);
-    returned = let z = k.weighs j (return_of c) in omega (arith, z);
-    granted = let z = k.weighs j (grant_to c) in omega (arith, z);
-  }) (k.opens c) l (turns l c)
+  turns_alike next m n k turns l c = beside next m.lines n.lines m.cores n.cores c
+      (λ j. beside_by (k.entry j) (k.copies j c) (let z = k.weighs j (recall_to c) in omega (arith, z))
+      (let z = k.weighs j (return_of c) in omega (arith, z)) (let z = k.weighs j (grant_to c) in omega (arith, z)))
+      (k.opens c) l (turns l c)
 
   -- a core other than the one whose turn it is, and its own lines, where one line changes
   one_line : (m : Machine) (k : ℕ) (y : Line) (c : ℕ) → Beside c (m.lines k) y → (l : ℕ) →
@@ -118,39 +116,18 @@ module _ (f : Config) where
   other_op m d core c ne = ap (λ (z : Core). z.open_op) (with_at_other m.cores d core c ne)
 
   asked : (d pts : ℕ) (op : Op) (x y : Line) → Asks d pts op x y → (c : ℕ) → Beside c x y
-  asked d pts op x y (to_read a cannot) c = record {
-    entry = refl;
-    copies = refl;
-    recalled = omega arith;
-    returned = omega arith;
-    granted = omega arith;
-  }
-  asked d pts op x y (to_write cannot) c = record {
-    entry = refl;
-    copies = refl;
-    recalled = omega arith;
-    returned = omega arith;
-    granted = omega arith;
-  }
+  asked d pts op x y (to_read a cannot) c = beside_by refl refl (omega arith) (omega arith) (omega arith)
+  asked d pts op x y (to_write cannot) c = beside_by refl refl (omega arith) (omega arith) (omega arith)
 
   -- a copy leaves, as another core sees it
   left_beside : (d c : ℕ) → c ≢ d → {lease t u : ℕ} {loses : Bool} {pinned : ℕ → Type 0} {x y : Line}
       (move : LineTransition lease loses pinned t x u y) → leaves_at move ≡ Some d → Beside c x y
-  left_beside d c ne {x = x} (evict_shared e copy un is sh) at = record {
-    entry = refl;
-    copies = with_at_other x.copies e None c (λ q. ne (q ∙ Some_injective e d at));
-    recalled = le_refl _;
-    returned = le_refl _;
-    granted = le_refl _;
-  }
+  left_beside d c ne {x = x} (evict_shared e copy un is sh) at = beside_by refl
+      (with_at_other x.copies e None c (λ q. ne (q ∙ Some_injective e d at))) (le_refl _) (le_refl _) (le_refl _)
   left_beside d c ne {x = x} (evict_exclusive e copy un is ex) at =
-      let apart : c ≢ e = λ q. ne (q ∙ Some_injective e d at) in record {
-        entry = refl;
-        copies = with_at_other x.copies e None c apart;
-        recalled = omega arith;
-        returned = let z = none_at c e apart in omega (arith, z);
-        granted = omega arith;
-      }
+      let apart : c ≢ e = λ q. ne (q ∙ Some_injective e d at) in
+      beside_by refl (with_at_other x.copies e None c apart) (omega arith)
+      (let z = none_at c e apart in omega (arith, z)) (omega arith)
   left_beside d c ne _ at = absurd (let z : ◌≡◌ {A = Option ℕ} None (Some d) = at in cc)
 
   -- as the core itself sees it
@@ -207,24 +184,24 @@ module _ (f : Config) where
       y : Line
       y = record (m.lines k) { copies = with_at ((m.lines k).copies) d (Some new) }
 
-      entry : (with_at m.lines k y l).entry ≡ (m.lines l).entry
-      entry = with_at_cases (λ j (z : Line). z.entry ≡ (m.lines j).entry) m.lines k y refl (λ j ne. refl) l
+      has : LacksCopy m.lines m.cores d → ⊥
+      has lacks = no_copy (subst (λ (p : Op). (m.lines (line_of f (address p))).copies d ≡ Some copy)
+          (Some_injective op lacks.0 (sym opens ∙ lacks.1)) there) lacks.2
 
-      same : (w : ℕ) → recalls w (with_at m.lines k y l) ≡ recalls w (m.lines l)
-      same w = with_at_cases (λ j (z : Line). recalls w z ≡ recalls w (m.lines j)) m.lines k y refl (λ j ne. refl) l
+      same : ((with_at m.lines k y l).entry ≡ (m.lines l).entry)
+          × ((with_at m.lines k y l).messages ≡ (m.lines l).messages)
+      same = with_at_cases (λ j (z : Line). (z.entry ≡ (m.lines j).entry) × (z.messages ≡ (m.lines j).messages))
+          m.lines k y (refl, refl) (λ j ne. (refl, refl)) l
 
-      back : (w : ℕ) → returns w (with_at m.lines k y l) ≡ returns w (m.lines l)
-      back w = with_at_cases (λ j (z : Line). returns w z ≡ returns w (m.lines j)) m.lines k y refl (λ j ne. refl) l
+      back : 1 ≤ returns d (with_at m.lines k y l) → (with_at m.lines k y l).entry ≡ Exclusive d → ⊥
+      back some at = has ((turns l d).lacks
+          (let w = ap (tally (return_of d)) same.1 in omega (arith, w, some)) (sym same.0 ∙ at))
 
       core : Core
       core = record { pts = ts; open_op = None; out = false }
 
       closed : (with_at m.cores d core d).open_op ≡ None
       closed = ap (λ (z : Core). z.open_op) (with_at_same m.cores d core)
-
-      has : LacksCopy m.lines m.cores d → ⊥
-      has lacks = no_copy (subst (λ (p : Op). (m.lines (line_of f (address p))).copies d ≡ Some copy)
-          (Some_injective op lacks.0 (sym opens ∙ lacks.1)) there) lacks.2
 
       attempts_at : (i j : ℕ) → attempting i ≡ attempting j → i ≡ j
       attempts_at i j e = cc
@@ -233,23 +210,20 @@ module _ (f : Config) where
       own = let q = turns l d in record {
         sound = record {
           held = λ some here. absurd (let z : None ≡ Some here.0 = sym closed ∙ here.1 in cc);
-          unasked = λ at. same d ∙ q.sound.unasked (sym entry ∙ at);
-          asked = λ at. let z = q.sound.asked (sym entry ∙ at) in let w = same d in omega (arith, z, w);
-          returning = λ some at. absurd (has (q.lacks (let w = back d in omega (arith, w, some)) (sym entry ∙ at)));
+          unasked = λ at. ap (tally (recall_to d)) same.1 ∙ q.sound.unasked (sym same.0 ∙ at);
+          asked = λ at. let z = q.sound.asked (sym same.0 ∙ at) in let w = ap (tally (recall_to d)) same.1 in
+              omega (arith, z, w);
+          returning = λ some at. absurd (back some at);
         };
-        lacks = λ some at. absurd (has (q.lacks (let w = back d in omega (arith, w, some)) (sym entry ∙ at)));
+        lacks = λ some at. absurd (back some at);
         listed = λ le. absurd (let w = attempts_at d c is in omega (arith, w, le));
       }
 
       go : (e ≡ d) ⊎ (e ≡ d → ⊥) → TurnPair (c + 1) (with_at m.lines k y) (with_at m.cores d core) l e
       go (inl at) = rw at own
-      go (inr ne) = beside (c + 1) m.lines _ m.cores _ e (one_line m k y e (record {
-        entry = refl;
-        copies = with_at_other ((m.lines k).copies) d (Some new) e ne;
-        recalled = le_refl _;
-        returned = le_refl _;
-        granted = le_refl _;
-      })) (other_op m d _ e ne) l (turns l e)
+      go (inr ne) = beside (c + 1) m.lines _ m.cores _ e (one_line m k y e (beside_by refl
+          (with_at_other ((m.lines k).copies) d (Some new) e ne) (le_refl _) (le_refl _) (le_refl _)))
+          (other_op m d _ e ne) l (turns l e)
   attempts c (line_changes l t y move) is turns k e =
       absurd (subst IsLines is (line_kind l (leaves_at move)))
   attempts c _ is turns l e = absurd (cc)
@@ -264,7 +238,8 @@ module _ (f : Config) where
   advances next _ is turns l e = absurd (cc)
 
   -- a copy leaves of a core that lacks one of its operation's line
-  leaves : (c k : ℕ) {m n : Machine} (turn : Transition f m n) → kind_of turn ≡ leaving c k → LacksCopy m.lines m.cores c →
+  leaves : (c k : ℕ) {m n : Machine} (turn : Transition f m n) → kind_of turn ≡ leaving c k →
+      LacksCopy m.lines m.cores c →
       Turns (c + 1) m → Turns (c + 1) n
   leaves c k {m} (line_changes d t y move) is lacks turns l e = go (cases_eq e c)
     where
@@ -302,12 +277,14 @@ module _ (f : Config) where
       own : (l ≡ d) ⊎ (l ≡ d → ⊥) → TurnPair (c + 1) (with_at m.lines d y) m.cores l c
       own (inl q) = rw q (here (turns d c))
       own (inr ne) = let same : with_at m.lines d y l ≡ m.lines l = with_at_other m.lines d y l ne in
-          kept (c + 1) m.lines _ m.cores _ l c (rw same (eased_beside l c _ _ (unchanged c (m.lines l)))) (ap (λ (z : Line). z.entry) same)
+          kept (c + 1) m.lines _ m.cores _ l c (rw same (eased_beside l c _ _ (unchanged c (m.lines l))))
+          (ap (λ (z : Line). z.entry) same)
           refl (λ q. (q.0, q.1, lacks_now _ None q.2 refl)) (turns l c)
 
       go : (e ≡ c) ⊎ (e ≡ c → ⊥) → TurnPair (c + 1) (with_at m.lines d y) m.cores l e
       go (inl q) = rw q (own (cases_eq l d))
-      go (inr ne) = beside (c + 1) m.lines _ m.cores _ e (one_line m d y e (left_beside c e ne move at)) refl l (turns l e)
+      go (inr ne) = beside (c + 1) m.lines _ m.cores _ e (one_line m d y e (left_beside c e ne move at)) refl l
+          (turns l e)
   leaves c k _ is lacks turns l e = absurd (cc)
 
   -- a core is given an operation
@@ -341,7 +318,8 @@ module _ (f : Config) where
 
       go : (e ≡ c) ⊎ (e ≡ c → ⊥) → TurnPair (c + 1) m.lines given l e
       go (inl q) = rw q own
-      go (inr ne) = beside (c + 1) m.lines _ m.cores _ e (λ j. unchanged e (m.lines j)) (other_op m d _ e (λ q. ne (q ∙ at))) l
+      go (inr ne) = beside (c + 1) m.lines _ m.cores _ e (λ j. unchanged e (m.lines j))
+          (other_op m d _ e (λ q. ne (q ∙ at))) l
           (later c m turns l e)
   issues c (line_changes l t y move) is turns k e = absurd (subst IsLines is (line_kind l (leaves_at move)))
   issues c _ is turns l e = absurd (cc)

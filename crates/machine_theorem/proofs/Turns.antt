@@ -1,5 +1,6 @@
 -- What one core, one bank or one DRAM does to one line is a turn of the protocol by lines.
-use Rattle.std.proofs.Common.{◌≡◌, ◌≢◌, ℕ, ◌%◌, Bool, true, false, eqb, List, Option, Some, None, refl, sym, ap, ◌∙◌, subst}
+use Rattle.std.proofs.Common.{◌≡◌, ◌≢◌, ℕ, ◌%◌, Bool, true, false, eqb, List, Option, Some, None, refl, sym, ap, ◌∙◌}
+use Rattle.std.proofs.Common.{subst}
 use Rattle.std.proofs.Common.{⊎_elim}
 use Rattle.std.proofs.lemmas.Bool.{cases_Bool}
 use Rattle.std.specs.Ordering.{nat_cmp}
@@ -103,7 +104,8 @@ module _ (config : Config) (opening : FinMap nat_cmp ℕ) (a : State) where
       (line_seen config a l) t y
 
   -- a core's turn: its line, its core, the messages and the records
-  pub core_turn : {kind : Kind} (c : ℕ) (new : CoreState) (l : ℕ) (y : Line) (k : Core) (bag : List Message) (rs : List Record) →
+  pub core_turn : {kind : Kind} (c : ℕ) (new : CoreState) (l : ℕ) (y : Line) (k : Core) (bag : List Message)
+      (rs : List Record) →
       y ≡ record (line_seen config a l) {
         copies = with_at (line_seen config a l).copies c (copy_in new l);
         messages = messages_of bag l;
@@ -136,7 +138,8 @@ module _ (config : Config) (opening : FinMap nat_cmp ℕ) (a : State) where
       ((j : ℕ) → j ≢ l → line_seen config a j ≡ line_seen config b j) →
       ((d : ℕ) → core_seen (a.cores d) ≡ core_seen (b.cores d)) →
       ((i : ℕ) → with_at v.mts (l % config.banks) t i ≡ (b.banks i).mts) →
-      ((d : ℕ) → a.issued d ≡ b.issued d) → a.records ≡ b.records → Moves who l t y → Reaches (kind_at l who) (view config b)
+      ((d : ℕ) → a.issued d ≡ b.issued d) → a.records ≡ b.records → Moves who l t y → Reaches (kind_at l who)
+      (view config b)
   line_turn who b l t y here there cores mts issued records move =
       subst (Reaches (kind_at l who)) (machine_same _ (view config b)
       (with_at_cases (λ j x. x ≡ line_seen config b j) v.lines l y here there) cores mts issued records)

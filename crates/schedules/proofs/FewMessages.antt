@@ -103,7 +103,8 @@ module _ {P : Type 0} (acts : Acts P) where
       go (Some x) next = passes c s so
 
   attempt_leads : (c : ℕ) → Leads (InTurn (c + 1)) (InTurn (c + 1)) (one (Does (event.Attempt c)))
-  attempt_leads c s so = event_leads (InTurn (c + 1)) (InTurn (c + 1)) (event.Attempt c) (programs_told acts s.programs) s
+  attempt_leads c s so = event_leads (InTurn (c + 1)) (InTurn (c + 1)) (event.Attempt c)
+      (programs_told acts s.programs) s
       (attempt_lasts c s.machine) so
 
   place_leads : (c : ℕ) (t : Standing P) → finds_no_place t.machine c ≡ true → Holds (InTurn (c + 1)) t →

@@ -27,6 +27,7 @@ use Rattle.machine_table.specs.declared.config.Config.{Config}
 use Rattle.protocol.specs.Machine as by_line
 use Rattle.protocol.specs.Machine.{tally}
 use Rattle.machine_theorem.specs.Bags.{weigh, SameBag}
+pub use Rattle.machine_theorem.specs.Replies.{IsReply}
 use Rattle.machine_theorem.specs.States.{State}
 use Rattle.machine_theorem.specs.Moves.{Move, completes, with_completion}
 use Rattle.machine_theorem.specs.Consistent.{FindsCase}
@@ -243,14 +244,6 @@ pub owned_copy : (held : Option LineCopy) → by_line.owns (copy_or_none held) �
     (copy : LineCopy) × (held ≡ Some copy) × (is_exclusive copy.state ≡ true)
 owned_copy None e = absurd (omega arith)
 owned_copy (Some copy) e = (copy, refl, (counts_if (is_exclusive copy.state) 1 (omega arith)).0)
-
--- what is on its way as a reply
-abbrev pub IsReply : Body → Type 0
-IsReply (body.ShRep line) = Unit {0}
-IsReply (body.ExRep line) = Unit {0}
-IsReply (body.RenewRep rts) = Unit {0}
-IsReply (body.UpgradeRep rts) = Unit {0}
-IsReply _ = ⊥
 
 -- it lets an operation be served at this time
 abbrev pub Suits : Op → ℕ → Body → Type 0

@@ -35,6 +35,7 @@ mod PastWords
 mod PrivateRun
 mod ReachedParts
 mod ReachedStates
+mod ReadyCores
 mod RecallPairs
 mod Renumberings
 mod Recalled
@@ -47,6 +48,7 @@ mod RoundLines
 mod RoundPhases
 mod RoundSteps
 mod RoundTurns
+mod SentMessages
 mod SetSizes
 mod SetUps
 mod Services
@@ -55,6 +57,7 @@ mod Ways
 mod Sizes
 mod StaleRun
 mod StayingParts
+mod SuitedReplies
 mod Taken
 mod Turns
 mod Unstuck

@@ -11,6 +11,7 @@ pub mod Moves
 pub mod Ownership
 pub mod PastWords
 pub mod PrivateWrites
+pub mod Replies
 pub mod Rounds
 pub mod Service
 pub mod Shape

@@ -11,9 +11,10 @@ ghost use Rattle.machine_table.specs.SetUp.{SetUpAs, is_good};
 ghost use Rattle.machine_table.specs.Opening.{at_start};
 ghost use Rattle.machine_table.specs.declared.event.Event.{Event};
 ghost use Rattle.network.specs.declared.message.Message.{Message};
+ghost use Rattle.network.specs.declared.message.Node.TheVariants.{Core};
 ghost use Rattle.network.specs.NumberedMessages.{at_number};
 ghost use Rattle.machine_table.specs.declared.event.Event.TheVariants.{Deliver};
-ghost use Rattle.machine_table.specs.declared.event.Answer.TheVariants.{Refused};
+ghost use Rattle.machine_table.specs.declared.event.Answer.TheVariants.{Delivered, Refused};
 ghost use Rattle.machine_table.specs.declared.event.Refusal.TheVariants.{NoSuch};
 ghost use Rattle.machine_table.specs.Machine.{Machine, operation_of};
 ghost use Rattle.machine_table.specs.Transition.{transition};
@@ -24,6 +25,7 @@ ghost use Rattle.machine_theorem.specs.StaleHit.{two_cores, stale_hit, stale_rec
 ghost use Rattle.machine_theorem.specs.Consistency.{IsConsistent};
 ghost use Rattle.machine_theorem.specs.HeldRecalls.{RecallsFindOwners};
 ghost use Rattle.machine_theorem.specs.Kept.{Invariant};
+ghost use Rattle.machine_theorem.specs.Replies.{AdvancesBetween, IsAnswered, IsReply};
 ghost use Rattle.machine_theorem.specs.Rounds.{MovesOn};
 ghost use Rattle.machine_theorem.specs.Unstuck.{IsServed};
 
@@ -113,6 +115,21 @@ pub fn rounds_move_many_messages()
         let m = after_all (at_start config opening) events in
         m.is_stopped ≡ false → m.mail.next < 2 ^ 64 - 1 → RecallsFindOwners m →
         MovesOn m ⊎ (length m.mail.messages ≤ config.cores) }
+{}
+
+/// A reply completes its core's operation. Take any list of events, refused ones included, of a machine that opened with
+/// a good set-up and hasn't stopped, where cores advanced only between operations. If a reply to a core is in flight,
+/// the core has an operation open, and a delivery of the reply is answered Delivered. After it, the core's next attempt
+/// completes that operation, or stops the machine, since its time doesn't fit. Any events may come between them, as other
+/// deliveries, recalls and evictions, but attempts and advances of the core.
+pub fn replies_complete()
+    ensures { (config : Config) (opening : FinMap nat_cmp ℕ) (events : List Event) → is_good config ≡ true →
+        AdvancesBetween (at_start config opening) events →
+        let m = after_all (at_start config opening) events in
+        m.is_stopped ≡ false → (number core : ℕ) (reply : Message) →
+        at_number number m.mail.messages ≡ Some reply → reply.to ≡ Core core → IsReply reply.body →
+        (op : Op) × (operation_of (slice_get m.cores core) ≡ Some op)
+        × ((transition m (Deliver number)).0 ≡ Delivered) × IsAnswered core op (transition m (Deliver number)).1 }
 {}
 
 /// A run by the table, with any opening memory: a core reads a word, another writes it, and the first reads the

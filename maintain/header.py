@@ -1,9 +1,11 @@
 #!/usr/bin/env python3
-"""Compares the structures of tardis.h with those of the static library and of examples/embed/history.rs:
-maintain/header.py --check
+"""Compares the structures of tardis.h with those of the static library and of examples/embed/history.rs, and its version
+with the other places that have one: maintain/header.py --check
 
 No proof sees how a caller declares what it hands over. Each structure must have the same fields in the same order, each
 as wide: a field that is narrower on one side may lose its high bits, and a proof takes it for any other number.
+
+TARDIS_VERSION is the version. The library's call, the program's `--version` and the Python package repeat it.
 """
 import re
 import sys
@@ -31,8 +33,20 @@ def of_rust(text):
             for name, body in found}
 
 
+def versions(header):
+    """Where a version is another one than that of the header: what is looked for there."""
+    number = int(re.search(r"^#define TARDIS_VERSION (\d+)$", header, re.M)[1])
+    text = f"{number // 10000}.{number // 100 % 100}.{number % 100}"
+    for place, looks in (("crates/tardis_c/src/version.rt", f"ensures {{ result ≡ {number} }}"),
+                         ("crates/command_line/src/app.rt", f'.version("{text}")'),
+                         ("python/tardis/version.py", f'VERSION = "{text}"')):
+        if looks not in (TOP / place).read_text(encoding="utf-8"):
+            yield f"header.py: {place} lacks {looks}"
+
+
 def main():
-    wanted = of_c((TOP / "crates/tardis_c/tardis.h").read_text(encoding="utf-8"))
+    header = (TOP / "crates/tardis_c/tardis.h").read_text(encoding="utf-8")
+    wanted = of_c(header)
     library = "".join(file.read_text(encoding="utf-8") for file in sorted((TOP / "crates/tardis_c/src").glob("*.rt")))
     example = (TOP / "examples/embed/history.rs").read_text(encoding="utf-8")
     faults = [f"header.py: {side} has another tardis_{name} than tardis.h: {has.get(name)}"
@@ -40,7 +54,7 @@ def main():
               for name in NAMES if not wanted.get(name) or has.get(name) != wanted[name]]
     if sorted(wanted) != sorted(NAMES):
         faults.append(f"header.py: tardis.h declares {sorted(wanted)}")
-    sys.exit("\n".join(faults) or None)
+    sys.exit("\n".join([*faults, *versions(header)]) or None)
 
 
 if sys.argv[1:2] in (["-h"], ["--help"]):

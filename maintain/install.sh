@@ -2,7 +2,8 @@
 # Installs what is built for others to find: maintain/install.sh PREFIX
 # The program and the player of events (`tardis-play-events`), the library for C and C++ (static, and shared, which the
 # Python package loads, too), its headers, files for pkg-config and CMake, a page for man, and bash's completions.
-# `./tardis`, `./play` and `tests/embed.sh --build` build what is wanted; this builds nothing, and needs rt, gcc and ar.
+# `./tardis`, `./play` and `tests/embed.sh --build` build what is needed; this builds nothing, and needs rt, gcc and ar.
+# No file names PREFIX, so the folder can be moved. maintain/deb.sh makes a Debian package of it.
 case ${1-} in '' | -*) exec sed -n '2,/^[^#]/s/^# \{0,1\}//p' "$0" ;; esac
 top=$(CDPATH='' cd -- "$(dirname -- "$0")/.." && pwd) || exit 1
 tardis=${tardis:-$top/crates/tardis/out/tardis} events=${events:-$top/crates/play_events/out/play_events}
@@ -10,23 +11,28 @@ library=$top/crates/tardis_c/out/libtardis_c.a memory=$(dirname -- "$(rt doc)")/
 for built in "$tardis" "$events" "$library" "$memory"; do
     [ -e "$built" ] || { echo "install.sh: $built isn't built" >&2; exit 1; }
 done
-mkdir -p "$1" && prefix=$(CDPATH='' cd -- "$1" && pwd) || exit 1
-cd "$prefix" || exit 1
+mkdir -p "$1" && cd "$1" || exit 1
 mkdir -p bin include lib/pkgconfig lib/cmake/tardis share/man/man1 share/bash-completion/completions || exit 1
 install -m 755 "$tardis" bin/tardis && install -m 755 "$events" bin/tardis-play-events || exit 1
 cp "$top/crates/tardis_c/tardis.h" "$top/crates/tardis_c/tardis.hpp" include/ || exit 1
 
+number=$(sed -n 's/^#define TARDIS_VERSION //p' include/tardis.h)
+minor=$((number / 10000)).$((number / 100 % 100))
+version=$minor.$((number % 100))
+
 rm -f lib/libtardis.a
 printf 'create lib/libtardis.a\naddlib %s\naddlib %s\nsave\nend\n' "$library" "$memory" | ar -M || exit 1
-# With its name in it, by which Python's ctypes finds it.
-gcc -shared -o lib/libtardis.so -Wl,-soname,libtardis.so -Wl,--whole-archive "$library" \
-    -Wl,--no-whole-archive "$memory" || exit 1
+# Its name has the version, since each minor version may have other structures. Only the header's exports are seen.
+echo '{ global: tardis_c_*; local: *; };' >lib/exports
+gcc -shared -o "lib/libtardis.so.$minor" -Wl,-soname,"libtardis.so.$minor" -Wl,--no-undefined \
+    -Wl,--version-script=lib/exports -Wl,--whole-archive "$library" -Wl,--no-whole-archive "$memory" || exit 1
+rm lib/exports && chmod 644 lib/*.so.* && ln -sf "libtardis.so.$minor" lib/libtardis.so || exit 1
 
 cat >lib/pkgconfig/tardis.pc <<END
-prefix=$prefix
+prefix=\${pcfiledir}/../..
 Name: tardis
 Description: The proved simulator of the Tardis coherence protocol and its checker of histories
-Version: 0.1
+Version: $version
 Cflags: -I\${prefix}/include
 Libs: -L\${prefix}/lib -ltardis
 END
@@ -35,6 +41,12 @@ get_filename_component(tardis_prefix "${CMAKE_CURRENT_LIST_DIR}/../../.." ABSOLU
 add_library(tardis::tardis STATIC IMPORTED)
 set_target_properties(tardis::tardis PROPERTIES IMPORTED_LOCATION "${tardis_prefix}/lib/libtardis.a"
     INTERFACE_INCLUDE_DIRECTORIES "${tardis_prefix}/include")
+END
+cat >lib/cmake/tardis/tardis-config-version.cmake <<END
+set(PACKAGE_VERSION $version)
+if(NOT PACKAGE_VERSION VERSION_LESS PACKAGE_FIND_VERSION)
+    set(PACKAGE_VERSION_COMPATIBLE TRUE)
+endif()
 END
 
 # help COMMAND: what the program says of it.

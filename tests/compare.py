@@ -266,6 +266,9 @@ def tables(tester):
     tester.expect(points == ["150.0,230.0 640.0,30.0"] + ["150.0,330.0 640.0,130.0"] * 2, f"points: {points}")
     said = [text.text for text in root.iter(f"{SVG}text")][-3:]
     tester.expect(said == ["tardis", "msi", "mesi"], f"labels: {said}")
+    for words, name in ((("--csv", "-"), "t.csv"), (("--plot", "line-words:flits", "--svg", "-"), "compare.svg")):
+        got = tester.run("--line-words", "1,8", *words, "one.trace")
+        tester.expect(got == (0, Path(name).read_text(), "") and not Path("-").exists(), f"{words}: {got}")
     status, out, error = tester.run("--limit", "3", "one.trace")
     tester.expect((status, error, out.count("limit")) == (1, "", 3), f"cut short: {status} {out} {error}")
     for wanted, *words in (("bad configuration", "--line-words", "3"), ("no column x", "--plot", "x:flits"),

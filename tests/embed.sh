@@ -3,7 +3,7 @@
 # tests/embed.sh [--build | --kept]. Each number that a call answers is met once, by hand; the examples are run, and
 # records checked, through the library, with the reports that the program must give, and at a cost that hardly grows
 # with the cores. It needs gcc, g++, valgrind and the Rattle kit, whose C file for memory is linked; without rustc it
-# says so and leaves out the caller in Rust.
+# says so and leaves out the caller in Rust. At its end tests/installed.sh tries what is installed.
 #
 # With --build the library is proved and built first, with all below it. That takes two minutes where ./tardis is built,
 # and half an hour on a new machine. With --kept it is built over what rt ci kept of the crates below, in a minute or
@@ -40,17 +40,20 @@ memory='-Wl,--wrap=malloc,--wrap=realloc'
 strict="-O1 -Wall -Wextra -Werror -I$crate"
 # shellcheck disable=SC2086
 {
-    gcc -std=c11 -pedantic $strict $memory -o "$work/numbers_c" "$embed/numbers.c" $library &&
+    gcc -std=c11 -pedantic $strict $memory -DFEW -o "$work/numbers_c" "$embed/numbers.c" $library &&
     g++ -x c++ -std=c++11 -pedantic $strict $memory -o "$work/numbers_cpp" "$embed/numbers.c" -x none $library &&
     gcc -std=c11 -pedantic $strict -o "$work/check" "$embed/check.c" $library &&
     gcc -std=c11 -pedantic $strict -o "$work/directory" "$embed/directory.c" $library &&
     g++ -std=c++17 -pedantic $strict -o "$work/tardis" "$embed/tardis.cpp" $library &&
-    g++ -std=c++17 -pedantic $strict -o "$work/latency" "$embed/latency.cpp" $library &&
-    g++ -std=c++17 -pedantic $strict -o "$work/machines" "$top/tests/machines.cpp" $library
+    g++ -std=c++17 -pedantic $strict -Wl,--wrap=tardis_c_trace -o "$work/reports" "$top/tests/reports.cpp" $library
 } || exit 1
 
-timeout 120 "$work/numbers_c" || exit 1
 timeout 120 "$work/numbers_cpp" || exit 1
+# Without a word of valgrind: nothing is read or written that isn't the caller's, and nothing is left.
+for each in numbers_c reports; do
+    timeout 300 valgrind -q --leak-check=full --show-leak-kinds=all "$work/$each" >"$work/said" 2>&1 &&
+        [ ! -s "$work/said" ] || { echo "embed.sh: $each:"; cat "$work/said"; exit 1; }
+done
 
 # checks TRACE RECORDS STATUS LINE: what the check of two files prints, on either stream, and its status.
 checks() {
@@ -98,8 +101,6 @@ PARTS='litmus settings seeds traces seeded_traces verdicts complete opening trac
     "$work/tardis" >"$work/said" || { cat "$work/said"; exit 1; }
 EMBED_ARRAYS=1 PARTS=verdicts "$top/tests/check.sh" "$work/tardis" >"$work/said" || { cat "$work/said"; exit 1; }
 
-# Not yet a part of the gate: with EMBED_MORE=1, the machine in C, and what is installed.
-[ -n "${EMBED_MORE-}" ] || exit 0
 # A machine that has its own history checked: its verdict is that of the second program on its log. By effect a right
 # machine's is legal; by completion some has an order that isn't its own, and a lost invalidation is met.
 for way in effect completion lost; do
@@ -122,45 +123,5 @@ done
 "$embed/from_log.py" --completion "$work/machine.log" >"$work/machine.history"
 TARDIS=$top/reference/oracle.py "$top/tools/order.py" --out "$work" "$work/machine.history" | grep -q '^consistent' ||
     { echo "embed.sh: directory 0 completion has no order"; exit 1; }
-# Installed, as the Python package, pkg-config and CMake find it.
-"$top/maintain/install.sh" "$work/prefix" || exit 1
-TARDIS_LIBRARY="$work/prefix/lib/libtardis.so" "$top/tests/python_package.py" --library || exit 1
-printf '0 W 0x0 1\n1 R 0x0\n' >"$work/trace"
-printf '0 0 W 0x0 1 1 0\n1 0 R 0x0 1 1 1\n' >"$work/legal"
-"$work/prefix/bin/tardis" check "$work/trace" "$work/wrong" >"$work/said"
-[ "$(cat "$work/said")" = 'wrong value 1' ] || { echo "embed.sh: the installed program: $(cat "$work/said")"; exit 1; }
-export PKG_CONFIG_PATH="$work/prefix/lib/pkgconfig" LD_LIBRARY_PATH="$work/prefix/lib"
-"$top/tests/python_package.py" --library || exit 1  # as the system finds it
-# A network of one's own, in C++ and in Python: the same cycles.
-awk 'BEGIN { for (line = 0; line < 9; line++) printf "0 W 0x%x 1\n", 2048 * line }' >"$work/full.trace"
-for trace in FIRST-STORE MIGRATORY FALSE-SHARING PAST COMMENTS EMPTY full; do
-    path="$top/examples/traces/$trace.trace"
-    [ -e "$path" ] || path="$work/$trace.trace"
-    "$work/latency" "$work/prefix/bin/tardis-play-events" "$path" 1 100 >"$work/said"
-    TARDIS_PLAYER="$work/prefix/bin/tardis-play-events" "$embed/latency.py" "$path" 1 100 |
-        diff "$work/said" - || exit 1
-done
-# Machines in C++ whose players live side by side, are interrupted or gone.
-printf '#!/bin/sh\nfor answer in opened "refused NoMemory"; do read -r _; echo "$answer"; done\n' >"$work/full"
-chmod +x "$work/full"
-"$work/machines" "$work/prefix/bin/tardis-play-events" "$work/full" || exit 1
-# found NAME: a program that was built over what is installed checks a history.
-found() {
-    said=$("$work/$1" "$work/trace" "$work/legal")
-    [ "$said" = legal ] || { echo "embed.sh: $1: $said"; exit 1; }
-}
-if command -v pkg-config >/dev/null; then
-    # shellcheck disable=SC2046
-    gcc -o "$work/by_pkg_config" "$embed/check.c" $(pkg-config --cflags --libs tardis) && found by_pkg_config || exit 1
-else
-    echo "embed.sh: no pkg-config, so its file isn't tried" >&2
-fi
-if command -v cmake >/dev/null; then
-    mkdir "$work/cmake" && printf '%s\n' 'cmake_minimum_required(VERSION 3.13)' 'project(tried C)' \
-        'find_package(tardis REQUIRED)' "add_executable(by_cmake $embed/check.c)" \
-        'target_link_libraries(by_cmake tardis::tardis)' >"$work/cmake/CMakeLists.txt"
-    cmake -S "$work/cmake" -B "$work" -DCMAKE_PREFIX_PATH="$work/prefix" >"$work/said" 2>&1 &&
-        cmake --build "$work" >>"$work/said" 2>&1 && found by_cmake || { cat "$work/said"; exit 1; }
-else
-    echo "embed.sh: no cmake, so its file isn't tried" >&2
-fi
+
+"$top/tests/installed.sh"

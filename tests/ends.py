@@ -340,6 +340,12 @@ def graded(tester, folder):
         line = "{}: {} right, {} missing, {} impossible".format(listed, *counts)
         good = (status, out.splitlines()[1], error) == (int(counts[1:] != (0, 0)), line, "")
         tester.expect(good and (counts != (1, 2, 1) or out.endswith(GRADED)), f"{text}: {status} {out} {error}")
+    for test, words, count in ((SB, ("--seeds", "9"), 3), (SB, ("--seeds", "1", "--limit", "1"), 3),
+                               ("examples/litmus/LOCK.litmus", ("--seeds", "9", "--command", "echo me"), 3)):
+        own = tester.run(*words, "--threads", "9", test)[1]
+        status, out, error = tester.run("--grade", "-", test, text=own.encode())
+        said = f"-: {count} right, 0 missing, 0 impossible"
+        tester.expect((status, out.splitlines()[1:2], error) == (0, [said], ""), f"{own}: {status} {out} {error}")
     for text in NO_LISTS:
         listed.write_text("\n" + text)
         status, out, error = tester.run("--grade", str(listed), SB)

@@ -22,7 +22,8 @@ TOP = Path(__file__).resolve().parent.parent
 sys.path.insert(0, str(TOP))
 from reference.given import NUMBERS  # noqa: E402
 from reference.traces import Trace  # noqa: E402
-from tests.explored_rules import ANY, NUMBERED, RIGHT, SB, STORE_AND_LOAD, STUCK, TWO_STORES, WIDE, WRONG  # noqa: E402
+from tests.explored_rules import ANY, FAILING, FAILS, NUMBERED, RIGHT, SB, STORE_AND_LOAD, STUCK  # noqa: E402
+from tests.explored_rules import TWO_STORES, WIDE, WRONG  # noqa: E402
 from tools.explored import ahead  # noqa: E402
 from tools.explored.frozen import Elsewhere, Numbered, Unread  # noqa: E402
 from tools.explored.parts import MASK, Parts  # noqa: E402
@@ -99,17 +100,25 @@ def wrong_rule(folder, name, kind, most, text, given, changes):
     if len(texts) != 1 + bool(report.lost and kind != STUCK) and kind != STUCK or not marked:
         yield f"{name}: {texts}"
     events = [line for line in texts[0][2:] if not line.startswith(("check", "owners"))]
+    if kind == FAILS and not marked[0].endswith(failure_of(module, *FAILING[name])):
+        yield f"{name}: {marked}"
     at = next(number for number, line in enumerate(events, 1) if line in marked)
     if at != most or kind != STUCK and len(events) != most:
         yield f"{name}: event {at} is marked, of {len(events)}"
 
 
+def failure_of(module, error, code):
+    """What ends the text of a failure in this line of the machine."""
+    text = Path(module.__file__).read_text(encoding="utf-8")
+    return f"({error}, line {text[:text.index(code)].count(chr(10)) + 1} of {Path(module.__file__).name})"
+
+
 def right_rule(folder, name, text, given, changes):
     module, lines = module_of(folder, changes)
-    search, _ = searched(module, text, given)
+    search, keeps = searched(module, text, given)
     report = Report(search, True, name)
-    if not report.is_good or report.texts():
-        yield f"{name}: {list(report.lines())}"
+    if not report.is_good or report.texts() or "whole" in keeps:
+        yield f"{name}: {keeps} {list(report.lines())}"
     yield from (f"{name}: line {line} didn't run" for line in lines & set(search.system.maker.lines.never(module)))
 
 
@@ -382,7 +391,7 @@ def copied(folder):
             continue
         played, page = (subprocess.run(words, capture_output=True, text=True, check=False) for words in (
             [mine / "reference/play.py", mine / "found"],
-            [mine / "tools/page.py", "--player", mine / "reference/play.py", mine / "found"]))
+            [mine / "tools/page.py", mine / "found"]))
         if played.returncode or ": 1 examples" not in played.stdout:
             yield f"{name}, in a copy: {played}"
         if page.returncode or "(here: two owners of line 0)" not in page.stdout or page.stderr:

@@ -67,6 +67,9 @@ WRONG = [
         ('received = copy.words[index] if kind != "store" else None',
          'received = dict(load=copy.words[index], swap=value, store=None)[kind]')]),
 ]
+# Where those fail that the machine has no case for, and how.
+FAILING = {"no copy has version 0": ("AttributeError", 'assert copy.state == "Shared"'),
+           "a grant looks for an owner where none was": ("AttributeError", "        same = m.version")}
 # Rules that only differ, with a trace and a machine on which the change runs.
 RIGHT = [
     ("the rules as they are", SB, ANY, []),
@@ -75,6 +78,10 @@ RIGHT = [
     ("a store takes a later time than it must", SB, {}, [("fit(copy.rts + 1)", "fit(copy.rts + 2)")]),
     ("an owner leases only as far as it is asked", STORE_AND_LOAD + "1 W 0x0 2\n", ANY, [
         ("copy.rts = max(copy.rts, fit(copy.wts + self.o.lease), m.rts)", "copy.rts = max(copy.rts, m.rts)")]),
+    ("grants to own are of a new kind", SB, {}, [
+        ('TO_CORE = ("ShRep", "ExRep",', 'TO_CORE = ("ShRep", "Grant",'),
+        ('"UpgradeRep" if same else "ExRep")', '"UpgradeRep" if same else "Grant")'),
+        ('if m.kind in ("ShRep", "ExRep"):', 'if m.kind in ("ShRep", "Grant"):')]),
     ("a store leases its line at once", STORE_AND_LOAD + "1 W 0x0 2\n", ANY, [
         (TIMES, TIMES.replace("time, time, value", "time, fit(time + self.o.lease), value"))]),
 ]

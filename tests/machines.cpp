@@ -20,14 +20,24 @@ void nothing(int) {}
 
 int main(int, char **words) {
     alarm(60);
-    expect(!tardis::Machine::open("/none", ""), "a player that isn't there");
-    expect(!tardis::Machine::open(words[1], "cores 65"), "65 cores");
+    std::string why = "?";
+    expect(!tardis::Machine::open("/none", "", &why) && why.empty(), "a player that isn't there");
+    expect(!tardis::Machine::open(words[1], "cores 65", &why) && why == "refused BadConfig", "65 cores");
+    expect(!tardis::Machine::open(words[1], "core 2", &why) && why.rfind("unread: ", 0) == 0, "no such option");
     auto first = tardis::Machine::open(words[1], "cores 2"), second = tardis::Machine::open(words[1], "cores 1");
     expect(first && second, "two machines");
     first.reset();  // while the player of the other one lives, which was started later
     usleep(100000);
     expect(waitpid(-1, nullptr, WNOHANG) == 0, "a player that nobody waits for");
     expect(second->in_flight() && second->in_flight()->empty(), "nothing is in flight");
+    expect(second->call("issue 0 R 0x28") == "issued" && second->attempt(0) == "requested", "a load");
+    const auto sent = second->message(0);
+    expect(sent && sent->number == 0 && sent->kind == "ShReq" && sent->sender == "core 0" && sent->receiver == "bank 0" &&
+               sent->address == 0x28 && sent->carries == "pts 0 version none",
+           "its request");
+    expect(second->deliver(0) == "started" && second->message(1) && second->message(1)->carries.empty(), "its fetch");
+    expect(!second->message(7), "a message that isn't there");
+    expect(second->call("machine cores 1") == "opened", "another machine");
     expect(second->call("").empty() && second->call(" \r").empty(), "a blank line");
     expect(second->call("flight\nflight").empty() && second->call("flight") == "none", "two lines");
     // Signals that interrupt each wait for an answer.

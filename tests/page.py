@@ -376,7 +376,7 @@ def accessible(browser, path):
     named = {role: [node["name"]["value"] for node in nodes if node.get("role", {}).get("value") == role]
              for role in ("button", "slider", "image", "region")}
     compared.same("what is named", {role: len(names) for role, names in named.items()},
-                  {"button": 11, "slider": 1, "image": 1, "region": 2})
+                  {"button": 10, "slider": 1, "image": 1, "region": 2})  # none to a stale hit in a quiz
     compared.same("what has no name", [role for role, names in named.items() if not all(names)], [])
     return compared.faults
 
@@ -387,22 +387,26 @@ def quizzed(browser, path):
     compared = Compared(CASES["the past"])
     browser.open(path)
     what = lambda: browser.value("document.getElementById('what').textContent")  # noqa: E731
-    loads = [(0, "0x8"), (1, "0x0"), (1, "0x10"), (1, "0x0"), (1, "0x0")]
+    loads = [(0, "0x8", 0), (1, "0x0", 1), (1, "0x10", 3), (1, "0x0", 4), (1, "0x0", 5)]  # and how many are completed
+    to_last = """(slider => {
+      slider.value = slider.max;
+      slider.oninput({target: slider});
+    })(document.getElementById("slider"))"""
     browser.press("q")
-    for key in ("c", "ArrowRight", "ArrowDown"):
+    for key in ("c", "ArrowRight", "ArrowDown", "End", to_last):
+        press = browser.value if key == to_last else browser.press
         browser.press("Home")
-        asked, before = [], 0
+        asked = []
         while browser.value("at < run.steps.length && find('c', 1) !== null"):
-            browser.press(key)
+            press(key)
             if browser.value("isAsked"):
-                asked.append(what())
-                compared.same("no outcome yet", browser.value("counts[at]"), before)
-                browser.press(key)
+                asked.append([what(), browser.value("counts[at]")])
+                compared.same("the slider", *(browser.value(of) for of in ("Number(slider.value)", "at")))
+                press(key)
                 compared.same("the outcome", browser.value("[counts[at], run.steps[at - 1][1].split(' ')[0]].join()"),
-                              f"{before + 1},completed")
-            before = browser.value("counts[at]")
-        compared.same("what is asked", asked, [f"What does core {core}'s load of {word} return?"
-                                               for core, word in loads])
+                              f"{asked[-1][1] + 1},completed")
+        compared.same("what is asked", asked, [[f"What does core {core}'s load of {word} return?", before]
+                                               for core, word, before in loads])
     browser.press("q")
     browser.press("Home")
     browser.press("c")
@@ -423,10 +427,20 @@ def cut(browser):
         .map(one => one.textContent.trim()).join(", ")""")
 
 
-def long_trace(path):
-    """Operations of four cores on six words, many enough for some 4,000 events."""
-    steps = [f"{n * n % 4} {'R' if n * 7 % 5 < 3 else 'W'} {8 * (n * n * 3 % 7 % 6):#x}" for n in range(640)]
-    path.write_text("".join(step + (f" {n}\n" if " W " in step else "\n") for n, step in enumerate(steps)))
+def made_trace(cores, words, count):
+    """A trace of `count` operations of cores on words."""
+    steps = [f"{n * n % cores} {'R' if n * 7 % 5 < 3 else 'W'} {8 * (n * n * 3 % 7 % words):#x}" for n in range(count)]
+    return "".join(step + (f" {n}\n" if " W " in step else "\n") for n, step in enumerate(steps))
+
+
+def ring(cores):
+    """A test whose threads each store to a word of their own and then load the next one's."""
+    words, of = "abcdefgh"[:cores], range(cores)
+    row = lambda cell: " | ".join(cell for _ in of) + " ;\n"  # noqa: E731
+    named = " ".join(f"{core}:x5=1; {core}:x6={words[core]}; {core}:x8={words[core - cores + 1]};" for core in of)
+    return "RISCV RING\n\"a ring\"\n{ %s }\n%s%s%sexists (%s)\n" % (
+        named, " | ".join(f"P{core}" for core in of) + " ;\n", row("sw x5,0(x6)"), row("lw x7,0(x8)"),
+        " /\\ ".join(f"{core}:x7=0" for core in of))
 
 
 # A test with the longest names: by rounds P1 loads the flag before it is stored, and swaps behind that.
@@ -446,8 +460,15 @@ QUESTIONS = {"SB": ([[None, "x7"], [None, "x7"]], "not the end asked for; verdic
              "LOCK": ([["x7"], ["x7"], ["x7"]], "the expression does not hold; verdict yes"),
              "SB+forall": ([[None, "x7"], [None, "x7"]], "the expression holds; verdict yes"),
              "S": ([[None, None], ["x7", None]], "not the end asked for; verdict no")}
+# How many pixels of the cores are below the window, at the worst event.
+BELOW = """Math.max(...[...Array(run.steps.length + 1).keys()].map(at => {
+  go(at);
+  const bottom = of => document.querySelector(of).getBoundingClientRect().bottom;
+  return Math.max(bottom(".row:last-child"), bottom(".bank:last-child")) - bottom("#parts");
+}))"""
 # A store that takes its lease's last time, so that a load there misses it (docs/CHANGING-A-RULE.md).
 RULE, CHANGED = "copy.rts if private else fit(copy.rts + 1)", "copy.rts"
+WRONG_LOAD = "Core 1 loads 0x0 and receives 0, at time 1 (here: wrong value)"
 WRONG = ["--schedule", "seed", "--seed", "23", "--limit", "500", "--lease", "1", "--sets", "1", "--ways", "2",
          "--bank-sets", "1", "--bank-ways", "1"]
 SIZES = ((360, 740), (390, 844), (770, 1000), (1024, 768), (1280, 720), (1920, 1080))
@@ -472,7 +493,12 @@ def questions(player, folder):
             yield f"{name}: {found}, wanted {wanted}"
     written(player, ["examples/litmus/IRIW.litmus"], folder / "IRIW.html")
     (folder / "names.litmus").write_text(NAMES)
-    written(player, [str(folder / "names.litmus")], folder / "names.html")
+    (folder / "ring.litmus").write_text(ring(8))
+    (folder / "eight.trace").write_text("".join(f"{core} W {8 * core:#x} 1\n" for core in range(8)) +
+                                        made_trace(8, 4, 48))
+    for name, words in (("names", ["names.litmus"]), ("ring", ["--banks", "2", "ring.litmus"]),
+                        ("eight", ["eight.trace"])):
+        written(player, [*words[:-1], str(folder / words[-1])], folder / f"{name}.html")
     source = (TOP / "reference/machine.py").read_text()
     changed = folder / "changed.py"
     changed.write_text(f"#!{sys.executable}\nimport sys\nsys.path.insert(0, {str(TOP)!r})\n"
@@ -481,6 +507,13 @@ def questions(player, folder):
                        "from reference import play\nsys.exit(play.main(sys.argv[1:]))\n")
     changed.chmod(0o755)
     (folder / "two.trace").write_text("0 W 0x0 1\n1 R 0x0\n")
+    text = re.search(r"(?s)\nexample (.*?)```", (TOP / "docs/CHANGING-A-RULE.md").read_text())
+    (folder / "wrong.events").write_text(text[0].strip("`\n") + "\n")
+    status, said = written(str(changed), [str(folder / "wrong.events")], folder / "events.html")
+    shown = data_of(folder / "events.html")
+    if status != 1 or "wrong: wrong value 1" not in said or shown["end"] != "The text ends here." or \
+            [step[2] for step in shown["steps"] if "w" in step[6]] != [WRONG_LOAD]:
+        yield f"a text of a wrong history: status {status}, {said!r}, {shown['end']}"
     status, said = written(str(changed), [*WRONG, str(folder / "two.trace")], folder / "wrong.html")
     found = data_of(folder / "wrong.html")
     marked = [step[1] for step in found["steps"] if "w" in step[6]]
@@ -497,10 +530,12 @@ def asked(browser, folder):
         "JSON.stringify([...document.querySelectorAll('.registers')].map(one => one.textContent))"))
     browser.open(folder / "SB.html")
     compared.same("the condition", text("#condition"), "exists (0:x7=0 /\\ 1:x7=0)")
-    compared.same("no answer yet", [text("#answer"), rows()], ["", ["P0 x7", "P1 x7"]])
+    compared.same("no answer yet", [text("#answer"), rows()], ["", ["x7", "x7"]])
+    heads = [" ".join(browser.value(f"document.querySelector('#core-{core} h2').innerText").split()) for core in (0, 1)]
+    compared.same("whose thread", heads, ["core 0 runs P0 time 0", "core 1 runs P1 time 0"])
     browser.press("End")
     compared.same("the answer", text("#answer"), "0:x7=1 1:x7=1: not the end asked for; verdict no")
-    compared.same("the registers", rows(), ["P0 x7 = 1", "P1 x7 = 1"])
+    compared.same("the registers", rows(), ["x7 = 1", "x7 = 1"])
     compared.same("the address", browser.value("location.hash"), f"#{browser.value('at')}")
     browser.press("?")
     keys = text("#keys")
@@ -516,22 +551,27 @@ def asked(browser, folder):
     compared.same("no panel", browser.value("document.querySelectorAll('.over:not([hidden])').length"), 0)
     browser.open(folder / "wrong.html")
     compared.same("the heading", text("#by-time"), "By timestampoperation 1 is wrong here")
+    compared.same("the end", text("#end"), "All operations are done. By timestamp the run is not legal: wrong value 1.")
     browser.press("w")
     compared.same("the wrong record", browser.value("run.steps[at - 1][1]"), "completed 1 0 R 0x0 0 1 1")
+    place = browser.value("at")
+    browser.press("Home")
+    browser.open(f"{folder / 'wrong.html'}#wrong")
+    compared.same("a link to it", browser.value("at"), place)
     compared.same("its mark", browser.value("document.querySelector('#ties > .wrong').dataset.number"), "1")
     return compared.faults
 
 
 def narrow(browser, folder):
-    """What is cut or small in windows of six sizes; of four cores, what is below the window of a projector."""
-    browser.open(f"{folder / 'IRIW'}.html", 1280, 720)
-    for at in range(0, browser.value("run.steps.length") + 1, 5):
-        below = browser.value(f"go({at}), document.querySelector('.row:last-child').getBoundingClientRect().bottom - "
-                              "document.getElementById('parts').getBoundingClientRect().bottom")
+    """What is cut or small in windows of six sizes; of four and of eight cores, what is below the window of a
+    projector at some event."""
+    for name in ("IRIW", "ring", "eight"):
+        browser.open(f"{folder / name}.html", 1280, 720)
+        below = browser.value(BELOW)
         if below > 1:
-            yield f"IRIW at event {at}: {below} pixels are below"
-    for name in ("SB", "LOCK", "names", "wrong"):
-        for size in SIZES:
+            yield f"{name}: {below} pixels are below"
+    for name in ("SB", "LOCK", "names", "wrong", "events", "ring", "eight"):
+        for size in SIZES[4 * (name in ("ring", "eight")):]:
             browser.open(f"{folder / name}.html", *size)
             for at in ("run.steps.length >> 1", "run.steps.length"):
                 browser.value(f"go({at})")
@@ -589,7 +629,8 @@ def main(given):
     with tempfile.TemporaryDirectory() as name:
         folder = Path(name)
         pages = {name: folder / f"{place}.html" for place, name in enumerate(CASES)}
-        long_trace(folder / "long.trace")
+        # Many enough for some 4,000 events.
+        (folder / "long.trace").write_text(made_trace(4, 6, 640))
         for path, words in [*((pages[name], CASES[name][0]) for name in CASES),
                             (folder / "long.html", [str(folder / "long.trace")])]:
             status, said = written(player, words, path)
@@ -603,8 +644,7 @@ def main(given):
             if given[1:2] == ["--pictures"]:
                 browser.open(f"{pages['the past']}#stale")
                 (Path(given[2]) / "page.png").write_bytes(browser.picture())
-                browser.open(f"{folder / 'wrong.html'}", 1280, 520)
-                browser.press("w")
+                browser.open(f"{folder / 'events.html'}#wrong", 1280, 520)
                 (Path(given[2]) / "wrong.png").write_bytes(browser.picture())
             browser.close()
         else:

@@ -6,7 +6,9 @@ proved player and to the second program's. Then the package: answers by hand, fa
 (examples/embed/latency.py), by both. tests/python_package.py --library tries litmus tests, traces and checks by the
 shared library that TARDIS_LIBRARY names, against the reports in examples/; without the option, by the second program.
 """
+import importlib.util
 import os
+import shutil
 import signal
 import subprocess
 import sys
@@ -270,11 +272,38 @@ def faults(is_proved):
                 fail(f"{error}: line {error.line}, not {line}, and {error.kind}")
 
 
+def packaged():
+    """What setuptools builds of the package, where it is there: each module, and the version."""
+    if importlib.util.find_spec("setuptools") is None:
+        return print("python_package.py: no setuptools, so pyproject.toml isn't tried", file=sys.stderr)
+    with tempfile.TemporaryDirectory() as folder:
+        copied = shutil.copytree(TOP / "python", Path(folder, "python"),
+                                 ignore=shutil.ignore_patterns("__pycache__"))
+        told = subprocess.run([sys.executable, "-c", "import setuptools; setuptools.setup()", "build", "--build-lib",
+                               f"{folder}/built", "egg_info"], cwd=copied, capture_output=True, text=True)
+        if told.returncode:
+            fail(f"pyproject.toml: {told.stderr.splitlines()[-1:]}")
+        names = [{path.name for path in Path(top, "tardis").iterdir() if path.is_file()}
+                 for top in (copied, f"{folder}/built")]
+        if names[0] != names[1] or f"Version: {tardis.__version__}\n" not in \
+                (copied / "tardis_proved.egg-info/PKG-INFO").read_text():
+            fail(f"what is built: {names}")
+
+
+def another_version():
+    """A library of another version than the package's is refused."""
+    version, tardis.version.VERSION = tardis.version.VERSION, "0.1.1"
+    refuses(tardis.TardisError, lambda: tardis.trace(""), "a library of another version")
+    tardis.version.VERSION = version
+
+
 def main(words):
     if words[:1] in ([], ["-h"], ["--help"]):
         return print(__doc__)
     if words == ["--library"]:
+        another_version()
         return runs(True)
+    packaged()
     warnings.simplefilter("ignore")
     player = words[0]
     told = []

@@ -78,14 +78,18 @@ def changed(folder, changes):
 
 
 def ran(changes, *words):
-    """The status of the script on a copy, what it prints, and what the last command that it prints does."""
+    """The status of the script on a copy, what it prints, and what the last command that it prints does. The text of
+    --found must end what it prints."""
     with tempfile.TemporaryDirectory() as folder:
         copy = changed(folder, changes)
-        done = subprocess.run([copy / "tools/try_rule.py", *words], capture_output=True, text=True, timeout=120)
+        found = Path(folder, "found")
+        done = subprocess.run([copy / "tools/try_rule.py", "--found", found, *words], capture_output=True, text=True,
+                              timeout=120)
         again = None
         if done.returncode == 1:
             again = subprocess.run(command_of(done.stdout.splitlines()), shell=True, capture_output=True, text=True,
                                    timeout=60)
+            assert done.stdout.endswith(" states:\n" + found.read_text()), "--found writes another text"
         return done.returncode, done.stdout + done.stderr, again
 
 

@@ -337,6 +337,8 @@ def refusals(tester):
     tester.refused("some is none of no, yes, both", "--private-write", "some", "alone.trace")
     tester.refused("has other columns", "--csv", "plot.csv", "--counts", "alone.trace")
     tester.refused("has other columns", "--csv", "line", "alone.trace")
+    for words in (("--csv", "-"), ("--short", "-"), ("--plot", "lease:renewals", "--svg", "-")):
+        tester.refused("- isn't taken", *words, "alone.trace")
     tester.refused("Is a directory", "--csv", ".", "alone.trace")
     tester.refused("No such file or directory", "--csv", "none/a.csv", "alone.trace")
     tester.refused("TRACE")

@@ -6,9 +6,10 @@ reference/directory.py, by MSI and by MESI, run the same trace by the same sched
 rules, and says what the rows count.
 
 Options have lists, as those of tools/sweep.py: there is a table for each trace and combination, --csv TABLE gets a row
-for each machine, and --plot X:Y draws column Y over column X to PICTURE (compare.svg), a line for each machine. A
-message has --header bytes, --time-bytes for each of its times, and 8 bytes for each of its words, in whole flits of
---flit bytes. The status is 0 if each run is all done, 1 if not, and 2 if nothing was run.
+for each machine, and --plot X:Y draws column Y over column X to PICTURE (compare.svg), a line for each machine. If
+TABLE or PICTURE is -, standard output has that instead of tables. A message has --header bytes, --time-bytes for each
+of its times, and 8 bytes for each of its words, in whole flits of --flit bytes. The status is 0 if each run is all
+done, 1 if not, and 2 if nothing was run.
 """
 import sys
 from pathlib import Path
@@ -77,20 +78,29 @@ def told(path, chosen, names, rows):
                                *([kind, *(row.get(kind, "0") for row in rows)] for kind in shown)])
 
 
+def save(path, text):
+    """Writes a file, or standard output for -."""
+    if path == "-":
+        sys.stdout.write(text)
+    else:
+        sweep.save(path, text)
+
+
 def main(given):
     options = parser().parse_args(given)
     columns = ["trace", "name", *sweep.OPTIONS, *ROWS]
     axes = sweep.axes(options, columns) if options.plot else None
     names, rows = measured.varied(sweep.combinations(options)), []
     for path, chosen, found in compared(options):
-        print("\n".join([""] * bool(rows) + list(told(path, chosen, names, found))), flush=True)
+        if "-" not in (options.csv, options.svg):
+            print("\n".join([""] * bool(rows) + list(told(path, chosen, names, found))), flush=True)
         rows += found
     rows = [dict.fromkeys(columns, "0") | row for row in rows]
     if options.csv:
         table = [columns, *([row[name] for name in columns] for row in rows)]
-        sweep.save(options.csv, "".join(map(sweep.line_of, table)))
+        save(options.csv, "".join(map(sweep.line_of, table)))
     if axes:
-        sweep.save(options.svg, "\n".join(picture({"": sweep.series(rows, *axes)}, *axes)) + "\n")
+        save(options.svg, "\n".join(picture({"": sweep.series(rows, *axes)}, *axes)) + "\n")
     return int(any(map(sweep.is_cut, rows)))
 
 

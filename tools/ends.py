@@ -12,8 +12,8 @@ command that makes the run again. Of an end that no seed meets there is an order
 program finds: P0:2 is thread 0's second memory instruction. Runs that aren't all done have a dash. What can't be meant,
 such as a name in the condition that no instruction changes, follows the first line.
 
---grade LIST compares the ends that a student listed, one a line, as 0:x7=1 x=2. Blank lines, stars, orders, # and what
-follows, and the other lines of `tardis ends` are passed over.
+--grade LIST compares the ends that a student listed, one a line, as 0:x7=1 x=2; - is standard input. Blank lines,
+stars, orders, # and what follows, and what else `tardis ends` and this script print are passed over.
 
 Exit status: 0 done, or the list is right; 1 an end of the list is missing or impossible; 2 bad words, a bad text, or
 more states than --states N allows.
@@ -34,6 +34,8 @@ from tools.program import Refused  # noqa: E402
 # By threads: enough turns for a run on a busy machine (docs/TEXTS.md, Reports by threads), and so many workers.
 THREADS = {"--limit": "10000000", "--workers": "4"}
 HEADS = ("model", "test", "threads", "states", "ends", "condition", "held", "observation")
+# Lines of this script without an end: the first one, hints, runs that aren't all done.
+BESIDE = re.compile(r"\S+: \d+ ends in |  but |- [a-z-]+: ")
 
 
 class Ends:
@@ -134,9 +136,14 @@ def told(ends, met):
 
 def student_ends(path, names):
     """The ends of a student's list, as the text has them."""
-    for number, line in enumerate(contents(path).decode("ascii", "replace").splitlines(), 1):
-        line = line.partition("#")[0].strip()
-        if not line or "=" not in line and line.split()[0] in HEADS:
+    text = sys.stdin.buffer.read() if path == "-" else contents(path)
+    is_own = False  # whether this script printed the line before: a command and an order may follow
+    for number, whole in enumerate(text.decode("ascii", "replace").splitlines(), 1):
+        if is_own and whole.startswith("    "):
+            continue
+        line, colon, _ = whole.partition("#")[0].partition(": ")
+        line, is_own = line.strip(), bool(colon)
+        if not line or BESIDE.match(whole) or "=" not in line and line.split()[0] in HEADS:
             continue
         atom = rf"({NAME})\s*=\s*(\d+)"
         left = re.sub(rf"{atom}|\bP\d+:\d+\b|/\\|[\s*,;]", "", line)

@@ -7,11 +7,12 @@ reference/play.py, and standard error says so; nothing is built. --player names 
 
 The page stands alone: it loads nothing. Keys: right and left (on to the next event that changes something, and back),
 down and up (each event), space (play), c, s, r, l, e, w (the next completion, stale hit, renewal, recall, eviction,
-wrong record; with shift the one before), Home, End, q (a quiz: what a load returns is asked before it is shown), p (the
-rule's paragraph), d (dark or light), ? (the keys). The address follows the event: run.html#12 opens at event 12,
-run.html#stale at the first stale hit.
+wrong record; with shift the one before), Home, End, q (a quiz: what a load returns is asked before it is shown, however
+you go on), p (the rule's paragraph), d (dark or light), ? (the keys). The address follows the event: run.html#12 opens
+at event 12, run.html#stale at the first stale hit, run.html#wrong at the wrong record.
 
-Of a litmus test the page shows the question, the registers as they fill, and at the end the verdict.
+Of a litmus test the page shows the question, which core runs which thread, the registers as they fill, and at the end
+the verdict.
 
 FILE may also be a text of events, as tools/explore.py writes it: its first example is shown. A comment behind an event
 stands in its headline, and the machine is that of the text.
@@ -30,7 +31,7 @@ from reference import told  # noqa: E402
 from reference.given import Subject, Words, tool  # noqa: E402
 from reference.order import overwriting  # noqa: E402
 from reference.schedules import ADVANCE  # noqa: E402
-from tools.shown.played import SECOND, Played, Player, player_of  # noqa: E402
+from tools.shown.played import Played, Player, player_of, say_second  # noqa: E402
 from tools.shown.questions import question  # noqa: E402
 from tools.shown.rules import Rules  # noqa: E402
 from tools.shown.texts import PlayedText, Text, is_text  # noqa: E402
@@ -39,7 +40,8 @@ from tools.shown.texts import PlayedText, Text, is_text  # noqa: E402
 PARTS = Path(__file__).resolve().parent / "shown"
 ENDS = {"all-done": "All operations are done.", "stalled": "The run stalled: a round in which nothing went on.",
         "limit": "The run was cut: its rounds or turns are used up.", "memory": "Allocation failed.",
-        "exhausted": "The run ended: a time doesn't fit 64 bits.", "events": "The text has no more events."}
+        "exhausted": "The run ended: a time doesn't fit 64 bits.", "events": "The text ends here."}
+GOOD = ("all-done", "events")
 MARKS = {"completed": "c", "RenewRep": "r", "FlushReq": "l", "WbReq": "l", "evicted": "e", "recalled": "e"}
 
 
@@ -125,7 +127,7 @@ def data(run, options):
     records = [[one.core, one.kind, subject.name(one.word), *map(text_of, (one.value, one.received, one.time))]
                for one in run.records]
     past = {number: overwriting(run.records, run.records[number]).number for number in run.stale}
-    return {"title": subject.kind, "how": how(options), "end": ENDS[run.end], "done": run.end == "all-done",
+    return {"title": subject.kind, "how": how(options), "end": ENDS[run.end], "done": run.end in GOOD,
             "cores": cores_shown(run, options), "banks": options.banks, "words": options.line_words,
             "names": {line: [subject.name(int(line, 16) // 8 + place) for place in range(options.line_words)]
                       for line in run.lines()},
@@ -170,10 +172,8 @@ def main(given):
     command, made_by = player_of(options)
     run = (PlayedText if of_text else Played)(Player(command), subject, options)
     sys.stdout.write(page(run, run.options, made_by))
-    if made_by == SECOND and not options.player:
-        print(f"page.py: {SECOND} played, since ./play isn't built from these sources. This builds it, in many "
-              "minutes: ./play crates/play_events/data/pages.events", file=sys.stderr)
-    is_good = run.end in ("all-done", "events")
+    say_second("page.py", made_by, options, "played")
+    is_good = run.end in GOOD
     if not is_good:
         print(f"page.py: {options.FILE}: {ENDS[run.end]}", file=sys.stderr)
     if run.verdict != "legal":

@@ -384,6 +384,8 @@ def save(path, text):
 
 def refuse(options, columns):
     """What can be said of the words before rows are made."""
+    if "-" in (options.csv, options.svg, options.short):
+        raise Bad("- isn't taken: tables and pictures are files, and standard output has the count of rows")
     if options.part is not None and options.part >= (options.parts or 0):
         raise Bad("--part K is one of --parts N, from 0")
     if options.panel and options.panel not in columns:

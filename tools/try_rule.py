@@ -1,7 +1,7 @@
 #!/usr/bin/env python3
 """Tries a rule: plays short random traces on the machine of this folder, and shrinks the first wrong history.
 
-    tools/try_rule.py [--tries N] [--first N] [--stuck] [TEST|TRACE ..]
+    tools/try_rule.py [--tries N] [--first N] [--stuck] [--found FILE] [TEST|TRACE ..]
 
 The script makes N tries, 10,000 if it isn't given, from number 0 on, or from --first. Each draws a trace of a few
 operations and advances, a machine with small caches, and a schedule; its number alone decides what is drawn. If files
@@ -9,21 +9,21 @@ are named, the script plays their programs in place of drawn ones. It looks for 
 of a line, a message that the machine can't take, and a round that makes no progress; a seeded run that reaches its
 limit goes on by rounds. Then the script cuts the trace as far as one of 120 runs still shows the fault, and prints it
 with its records and the command that prints its run event by event, with the turn of the fault marked. Last it explores
-that machine (tools/explore.py) for a shortest list of events with a fault, in which the last event is marked.
+that machine (tools/explore.py) for a shortest list of events with a fault, in which the last event is marked. --found
+FILE writes that list to FILE, too: tools/page.py FILE >run.html makes a page of it.
 
 A machine has places for one message more than cores, or for more. With fewer it may be stuck by the rules as they are
 (docs/EXPLORING.md), and old recalls may fill it; --stuck draws fewer, too, and tells of runs that end so. If nothing is
 found, the script says how many different machines it tried, and how many rows of docs/PROTOCOL.md's tables it met.
 
 Change a rule in a copy of reference/ and tools/ (docs/CHANGING-A-RULE.md). The status is 0 if nothing was found, 1 if
-something was, and 2 for a bad file or word, which standard error names in one line. The script writes nothing but what
-it prints.
+something was, and 2 for a bad file or word, which standard error names in one line.
 """
 import argparse
 import re
 import shlex
 import sys
-from itertools import product
+from itertools import dropwhile, product
 from os.path import relpath
 from pathlib import Path
 from types import SimpleNamespace
@@ -37,16 +37,18 @@ from reference.reports import drive  # noqa: E402
 from reference.schedules import ADVANCE, Pcg32, Run, by_rounds  # noqa: E402
 from reference.traces import LETTERS, Fault, Steps, Trace, record_line  # noqa: E402
 from tools.explored.frozen import Elsewhere, Unread  # noqa: E402
+from tools.explored.local import failure  # noqa: E402
 from tools.explored.parts import Parts  # noqa: E402
 from tools.explored.reports import Report  # noqa: E402
 from tools.explored.rows import ROWS, Rows  # noqa: E402
 from tools.explored.search import Search  # noqa: E402
+from tools.explored.whole import Whole  # noqa: E402
 
 OWNING = ("ExRep", "UpgradeRep", "FlushRep", "WbRep")
 DEFAULTS = {name.replace("-", "_"): usual for name, (usual, _) in NUMBERS.items()}
 FAILURES = (AssertionError, AttributeError, IndexError, KeyError, TypeError)
 ROUNDS, TURNS, RUNS = 300, 500, 60
-STATES = 60000  # the most states that are explored for a shortest list of events
+STATES, WHOLE_STATES = 60000, 2000  # the most states that are explored for a shortest list of events
 LETTER_OF = {kind: letter.decode() for letter, kind in LETTERS.items()}
 
 
@@ -69,7 +71,7 @@ class Watched(Run):
         try:
             answer = super().make(*event)
         except FAILURES as error:
-            raise Broken(self, f"the machine fails at {self.machine.about(event)} ({type(error).__name__})") from error
+            raise Broken(self, f"the machine fails at {self.machine.about(event)} ({failure(error, machine)})") from error
         new = [self.machine.flight[number].kind for number in range(sent, self.machine.sent)]
         self.rows.met(row, answer, new, None)
         if event[0] == "Deliver":
@@ -106,7 +108,7 @@ class Trial:
         except Broken as broken:
             return str(broken) + after, broken.run.machine.records
         except FAILURES as error:
-            return f"the machine fails ({type(error).__name__})", []
+            return f"the machine fails ({failure(error, machine)})", []
         if verdict == "legal" and end == "stalled" and self.is_at_fault(run):
             verdict = "a round without progress"
         return None if verdict == "legal" else verdict + after, run.machine.records
@@ -275,20 +277,23 @@ def shortest(trial):
             yield f"The shortest way to a fault, of {len(report.search.states)} states:"
             yield from report.texts()[0]
             return
-    yield "No shorter way was found: the rule looks at more than one part, or there are too many states."
+    yield "No shorter way was found among the first states: tools/explore.py looks at more."
 
 
 def explored(options, subject, how):
-    """The report of a search; None if it looks at more than parts have, or has too many states."""
-    for keeps in ((), ("fields",), ("fields", "last")):
+    """The report of a search; None if the rule reads numbers, which states don't have."""
+    keeps = ()
+    while True:
+        kind, most = (Whole, WHOLE_STATES) if "whole" in keeps else (Parts, STATES)
         try:
-            search = Search(Parts(machine, options, subject, how, keeps))
-            return Report(search, search.run(STATES, is_first=True), "this machine")
-        except Unread:
-            continue
+            search = Search(kind(machine, options, subject, how, keeps))
+            return Report(search, search.run(most, is_first=True), "this machine")
+        except Unread as of:
+            keeps += ("last",) if str(of) == "last" else ("fields",)
         except Elsewhere:
-            break
-    return None
+            if "whole" in keeps:
+                return None
+            keeps = ("whole",)
 
 
 def program_of(path):
@@ -306,6 +311,16 @@ def program_of(path):
     return program
 
 
+def write(path, lines):
+    """Writes the text among the lines to a file, if one is named and there is a text."""
+    text = list(dropwhile(lambda line: not line.startswith("example "), lines))
+    try:
+        if path and text:
+            Path(path).write_text("\n".join(text) + "\n", encoding="ascii")
+    except OSError as error:
+        fail(f"{path}: {error.strerror}")
+
+
 def fail(said):
     print(f"try_rule.py: {said}", file=sys.stderr)
     sys.exit(2)
@@ -316,6 +331,7 @@ def main(given):
     parser.add_argument("--tries", type=int, default=10000, metavar="N", help="how many tries are made (10000)")
     parser.add_argument("--first", type=int, default=0, metavar="N", help="the number of the first try (0)")
     parser.add_argument("--stuck", action="store_true", help="look for runs that are stuck for want of places, too")
+    parser.add_argument("--found", metavar="FILE", help="write the shortest list of events to FILE, too")
     parser.add_argument("FILE", nargs="*", help="tests and traces to play in place of drawn ones")
     parser.error = lambda said: fail(f"{said} (--help tells all)")
     options = parser.parse_args(given)
@@ -326,7 +342,9 @@ def main(given):
         trial = trial_of(number, programs, options.stuck)
         machines.add(trial.machine())
         if trial.fault()[0]:
-            print("\n".join(told(number, trial, options.FILE[number % len(programs)] if programs else None)))
+            lines = list(told(number, trial, options.FILE[number % len(programs)] if programs else None))
+            print("\n".join(lines))
+            write(options.found, lines)
             return 1
     rows = Watched.rows
     print("\n".join([f"{options.tries} tries: all legal, one owner at most, and none stuck",

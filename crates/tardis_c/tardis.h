@@ -22,6 +22,9 @@
 extern "C" {
 #endif
 
+/* The version: 10000 for each major version, 100 for each minor one, 1 for each patch. So 100 is 0.1.0. */
+#define TARDIS_VERSION 100
+
 enum tardis_number {
     TARDIS_DONE = 0,         /* every run ended all done; the records are legal */
     TARDIS_NO_MEMORY = 3,    /* memory was refused */
@@ -95,6 +98,7 @@ struct tardis_told {
 };
 
 /* The exports. A slice is a pointer, which is never null, and then how many items there are, below 2^63 bytes. */
+uint32_t tardis_c_version(void);
 void tardis_c_defaults(struct tardis_options *options);
 uint32_t tardis_c_litmus(const uint8_t *text, size_t text_length, const struct tardis_options *options,
                          uint8_t *buffer, size_t size, size_t *length);
@@ -118,6 +122,9 @@ static inline const uint8_t *tardis_text(const char *text) {
 }
 
 static inline uint8_t *tardis_buffer(char *buffer) { return buffer ? (uint8_t *)buffer : (uint8_t *)&tardis_nothing; }
+
+/* The library's version. If it isn't TARDIS_VERSION, the library is of another header: compile anew. */
+static inline uint32_t tardis_version(void) { return tardis_c_version(); }
 
 /* The options of a run if none is said, as the program has them. */
 static inline int tardis_defaults(struct tardis_options *options) {

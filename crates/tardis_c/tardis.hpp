@@ -9,6 +9,7 @@
 #include <cerrno>
 #include <charconv>
 #include <functional>
+#include <memory>
 #include <optional>
 #include <sstream>
 #include <string>
@@ -22,6 +23,13 @@
 #include <unistd.h>
 
 namespace tardis {
+
+// The library's version, as 0.1.0.
+inline std::string version() {
+    const uint32_t number = tardis_version();
+    return std::to_string(number / 10000) + '.' + std::to_string(number / 100 % 100) + '.' +
+           std::to_string(number % 100);
+}
 
 // The default options of a run.
 inline tardis_options defaults() {
@@ -37,28 +45,32 @@ struct Report {
     bool is_report() const { return number == TARDIS_DONE || number == TARDIS_NOT_DONE; }
 };
 
-// Calls again where the text doesn't fit into the first buffer.
-inline Report told(const std::function<int(char *buffer, size_t size, size_t *length)> &call) {
-    std::string buffer(4096, '\0');
+// Calls once where the text fits into so many bytes, and once more with the length that this reports where it doesn't.
+// A page of the buffer that nothing is written to takes no memory.
+inline Report told(size_t size, const std::function<int(char *buffer, size_t size, size_t *length)> &call) {
+    std::unique_ptr<char[]> buffer(new char[size]);
     size_t length = 0;
-    int number = call(buffer.data(), buffer.size(), &length);
-    if (length > buffer.size()) {
-        buffer.resize(length);
-        number = call(buffer.data(), buffer.size(), &length);
+    int number = call(buffer.get(), size, &length);
+    if (length > size) {
+        buffer.reset(new char[length]);
+        number = call(buffer.get(), length, &length);
     }
-    buffer.resize(length);
-    return {number, buffer};
+    return {number, std::string(buffer.get(), length)};
 }
 
+// Bytes for the report on a text. A record has at most 12 times the bytes of its operation in the trace, and a word of
+// a report fewer. Only a report with some ten thousand end states is longer.
+inline size_t room(std::string_view text) { return (1 << 20) + 12 * text.size(); }
+
 inline Report litmus(std::string_view text, const tardis_options &options = defaults()) {
-    return told([&](char *buffer, size_t size, size_t *length) {
+    return told(room(text), [&](char *buffer, size_t size, size_t *length) {
         return tardis_run_litmus(text.data(), text.size(), &options, buffer, size, length);
     });
 }
 
 // The report of a trace, or its records if the options say so.
 inline Report trace(std::string_view text, const tardis_options &options = defaults()) {
-    return told([&](char *buffer, size_t size, size_t *length) {
+    return told(room(text), [&](char *buffer, size_t size, size_t *length) {
         return tardis_run_trace(text.data(), text.size(), &options, buffer, size, length);
     });
 }
@@ -67,7 +79,7 @@ inline Report trace(std::string_view text, const tardis_options &options = defau
 // whether each operation has its record.
 inline Report check(std::string_view trace, std::string_view records, std::string_view opening = {},
                     bool complete = false) {
-    return told([&](char *buffer, size_t size, size_t *length) {
+    return told(100, [&](char *buffer, size_t size, size_t *length) {
         return tardis_check_opened(opening.data(), opening.size(), trace.data(), trace.size(), records.data(),
                                    records.size(), complete, buffer, size, length);
     });
@@ -92,11 +104,13 @@ class History {
     std::vector<tardis_record> records;
 };
 
-// A message in flight: its number, kind (ShReq, ..) and ends (core 1, bank 0, dram 0), and its line's byte address.
+// A message in flight: its number, kind (ShReq, ..) and ends (core 1, bank 0, dram 0), its line's byte address, and what
+// it carries (`wts 0 rts 10 words 0`).
 struct Message {
     uint64_t number;
     std::string kind, sender, receiver;
     uint64_t address;
+    std::string carries;
 };
 
 // A machine that you drive: you say which core attempts, and when each message arrives. It runs in the player of
@@ -104,8 +118,11 @@ struct Message {
 // One thread at a time may call it.
 class Machine {
   public:
-    // Starts the player at this path and opens a machine, as `cores 4 lease 10`; none if that is refused.
-    static std::optional<Machine> open(const std::string &player, const std::string &options) {
+    // Starts the player at this path and opens a machine, as `cores 4 line-words 8 lease 10`; none if that is refused.
+    // Then `why` is the player's answer, or empty where there is no player.
+    static std::optional<Machine> open(const std::string &player, const std::string &options,
+                                       std::string *why = nullptr) {
+        if (why) why->clear();
         int ends[2];
         // Closed in all other programs that are started: a player ends when the last copy of its machine's end is gone.
         if (socketpair(AF_UNIX, SOCK_STREAM | SOCK_CLOEXEC, 0, ends) != 0) return std::nullopt;
@@ -123,8 +140,10 @@ class Machine {
             return std::nullopt;
         }
         Machine machine(child, ends[0]);
-        if (machine.call("machine " + options) != "opened") return std::nullopt;
-        return machine;
+        const std::string answer = machine.call("machine " + options);
+        if (answer == "opened") return machine;
+        if (why) *why = answer;
+        return std::nullopt;
     }
 
     Machine(Machine &&other) noexcept : child(std::exchange(other.child, -1)), end(std::exchange(other.end, -1)) {}
@@ -181,11 +200,12 @@ class Machine {
     // The message in flight that has this number, if there is one.
     std::optional<Message> message(uint64_t number) {
         std::istringstream words(call("message m" + std::to_string(number)));
-        std::string kind, from, of, arrow, to, at, address;
+        std::string kind, from, of, arrow, to, at, address, carries;
         if (!(words >> kind >> from >> of >> arrow >> to >> at >> address)) return std::nullopt;
+        std::getline(words >> std::ws, carries);
         const auto first = number_of(address, 2, 16);
         if (!first) return std::nullopt;
-        return Message{number, kind, from + ' ' + of, to + ' ' + at, *first};
+        return Message{number, kind, from + ' ' + of, to + ' ' + at, *first, carries};
     }
 
   private:

@@ -7,6 +7,7 @@ from tardis.errors import BadConfiguration, BadText, NoMemory, TardisError
 from tardis.machine import Answer, Machine, Message
 from tardis.reports import LitmusReport, Record, Records, State, TraceReport
 from tardis.runs import check, litmus, trace
+from tardis.version import VERSION as __version__
 
 __all__ = ["Answer", "BadConfiguration", "BadText", "LitmusReport", "Machine", "Message", "NoMemory", "Record",
-           "Records", "State", "TardisError", "TraceReport", "check", "litmus", "trace"]
+           "Records", "State", "TardisError", "TraceReport", "__version__", "check", "litmus", "trace"]

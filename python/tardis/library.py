@@ -3,7 +3,7 @@ import ctypes
 import functools
 from typing import Any
 
-from tardis import found
+from tardis import found, version
 from tardis.errors import BadConfiguration, BadText, NoMemory, TardisError
 from tardis.options import MOST, Options
 
@@ -27,10 +27,12 @@ def loaded() -> Any:
     if path is None:
         return None
     library = ctypes.CDLL(path)
-    room = (ctypes.c_uint64 * (len(FIELDS) + 8))(*[MOST] * (len(FIELDS) + 8))
-    library.tardis_c_defaults(room)
-    if list(room) != [*(int(getattr(Options(), name, 0)) for name in FIELDS), *[MOST] * 8]:
+    fields = (ctypes.c_uint64 * (len(FIELDS) + 8))(*[MOST] * (len(FIELDS) + 8))
+    library.tardis_c_defaults(fields)
+    if list(fields) != [*(int(getattr(Options(), name, 0)) for name in FIELDS), *[MOST] * 8]:
         raise TardisError(f"{path} is of another version: its options are others")
+    if not hasattr(library, "tardis_c_version") or library.tardis_c_version() != version.number():
+        raise TardisError(f"{path} is of another version than {version.VERSION}")
     for name in ("tardis_c_litmus", "tardis_c_trace", "tardis_c_check_opened"):
         getattr(library, name).restype = ctypes.c_uint32
     return library
@@ -42,21 +44,26 @@ def options_of(options: Options, records: bool) -> TardisOptions:
     return TardisOptions(**named, by_seed=options.schedule == "seed", records=records)
 
 
-def told(call: Any, *arguments: Any) -> tuple[int, str]:
-    """The number that a call answers, and its text: once more with a larger buffer if it doesn't fit."""
-    size = 1 << 16
+def told(call: Any, size: int, *arguments: Any) -> tuple[int, str]:
+    """The number that a call answers, and its text. The call is made with a buffer of `size` bytes, and once more where
+    the text doesn't fit."""
     while True:
         buffer, length = ctypes.create_string_buffer(size), ctypes.c_size_t(0)
         number = call(*arguments, buffer, ctypes.c_size_t(size), ctypes.byref(length))
-        if number != SHORT_BUFFER:
+        if length.value <= size:
             break
         size = length.value
-    text = buffer.raw[:length.value].decode() if length.value <= size else ""
+    text = buffer[:length.value].decode()
     if number in ERRORS:
         raise ERRORS[number](text.strip())
     if number > SHORT_BUFFER:
         raise TardisError(f"number {number}")
     return number, text
+
+
+def room(text: bytes) -> int:
+    """Bytes for the report on a text, as `room` of crates/tardis_c/tardis.hpp."""
+    return (1 << 20) + 12 * len(text)
 
 
 def text_argument(text: bytes) -> tuple[bytes, ctypes.c_size_t]:
@@ -66,10 +73,10 @@ def text_argument(text: bytes) -> tuple[bytes, ctypes.c_size_t]:
 def run(kind: str, text: bytes, options: Options, records: bool = False) -> str:
     """The report of a litmus test or a trace, or a trace's records."""
     call = getattr(loaded(), f"tardis_c_{kind}")
-    return told(call, *text_argument(text), ctypes.byref(options_of(options, records)))[1]
+    return told(call, room(text), *text_argument(text), ctypes.byref(options_of(options, records)))[1]
 
 
 def check(opening: bytes, trace: bytes, records: bytes, complete: bool) -> str:
     """The line of the verdict on records."""
-    return told(loaded().tardis_c_check_opened, *text_argument(opening), *text_argument(trace), *text_argument(records),
-                ctypes.c_uint32(complete))[1]
+    return told(loaded().tardis_c_check_opened, 100, *text_argument(opening), *text_argument(trace),
+                *text_argument(records), ctypes.c_uint32(complete))[1]

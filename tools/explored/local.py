@@ -7,6 +7,8 @@ aren't sound. What is written in a step may be read in it, too.
 """
 import sys
 from dis import findlinestarts
+from pathlib import Path
+from traceback import walk_tb
 from types import SimpleNamespace
 
 from tools.explored.frozen import Elsewhere, Numbered, Unread, frozen, thawed
@@ -91,6 +93,12 @@ class Flight(dict):
         raise Elsewhere("a rule looks at other messages")
 
     __iter__ = keys = values = items = get = look
+
+
+def failure(error, module):
+    """The kind of an error in the machine's code, and where it is there."""
+    lines = [line for frame, line in walk_tb(error.__traceback__) if frame.f_code.co_filename == module.__file__]
+    return type(error).__name__ + (f", line {lines[-1]} of {Path(module.__file__).name}" if lines else "")
 
 
 class Tables:
@@ -213,7 +221,7 @@ class Maker:
         except (Unread, Elsewhere):
             raise
         except Exception as error:
-            failed = type(error).__name__
+            failed = failure(error, self.module)
         if set(vars(machine)) != KNOWN:
             raise Elsewhere("the machine has more than cores, banks, DRAM and messages")
         left = machine.flight.all()

@@ -8,7 +8,7 @@ step of a part is made once, on the machine's own code, and kept as what it adds
 States are the same if they differ only in numbers of messages, in values that no rule reads (frozen.py), and in what
 no later record can tell (history.py). tests/explore.py compares that with whole machines, transition by transition.
 """
-from tools.explored.frozen import Elsewhere, Shapes, Unread
+from tools.explored.frozen import Elsewhere, Mapped, Shapes, Unread
 from tools.explored.history import memory_of, with_record
 from tools.explored.local import KNOWN, Maker, Tables
 from tools.explored.programs import end_of, programs_of
@@ -19,8 +19,7 @@ from reference.schedules import ADVANCE
 BITS = 24
 MASK = (1 << BITS) - 1
 OWNING = ("ExRep", "UpgradeRep", "FlushRep", "WbRep")
-TO_CORE = ("ShRep", "ExRep", "RenewRep", "UpgradeRep", "FlushReq", "WbReq")
-TO_DRAM = ("DramLd", "DramSt")
+
 
 class Full(Exception):
     """A part has more values than a state has numbers for."""
@@ -110,11 +109,10 @@ class Parts(Saved):
     def message_id(self, value):
         number = self.messages.id(value)
         if number == len(self.line_owned):
-            m = dict(value)
-            self.line_owned.append(m["line"] if m["kind"] in OWNING else None)
-            bank = self.cores + m["line"] % self.options.banks
-            self.target.append(m["core"] if m["kind"] in TO_CORE else len(self.parts) - 1
-                               if m["kind"] in TO_DRAM else bank)
+            m = self.shapes.held(value)
+            self.line_owned.append(m.line if m.kind in OWNING else None)
+            part, at = self.maker.machine(("dram",), Mapped(), None, 0, 0).nodes(m)[1]
+            self.target.append({"c": at, "b": self.cores + at, "d": len(self.parts) - 1}[part])
         return number
 
     def state_of(self, machine, programs, advances, lasts, history):

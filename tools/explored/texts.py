@@ -2,6 +2,7 @@
 
 The replay is a check, too: each fault must be seen there, by the checker of records and by a count of owners.
 """
+from tools.explored.local import failure
 from tools.explored.parts import OWNING
 from reference import order
 from reference.calls import OPTIONS
@@ -56,7 +57,7 @@ class Replay:
         try:
             answer = self.machine.step(event)
         except Exception as error:
-            self.failed = type(error).__name__
+            self.failed = failure(error, self.system.module)
             self.texts[-1] += f"  # next: {call}, which fails"
             self.texts.append(f"# {call} : the machine has no case for this ({self.failed})")
             return
@@ -81,8 +82,8 @@ class Replay:
 
 
 def fault_name(kind, said):
-    """A fault in words. It has a line that is owned twice, or the kind of a failure."""
-    return {"fails": "no case", "two owners": f"two owners of line {said}"}.get(kind, kind)
+    """A fault in words. It has a line that is owned twice, or what failed."""
+    return {"fails": f"no case ({said})", "two owners": f"two owners of line {said}"}.get(kind, kind)
 
 
 def of_fault(system, path, fault, title):

@@ -6,7 +6,7 @@ flight as a bag.
 """
 from tools.explored.frozen import Numbered, Shapes, frozen, thawed
 from tools.explored.history import with_record
-from tools.explored.local import KNOWN, NUMBERS, Maker, Tables
+from tools.explored.local import KNOWN, NUMBERS, Maker, Tables, failure
 from tools.explored.parts import OWNING
 from tools.explored.programs import end_of, programs_of
 from tools.explored.rows import Rows
@@ -122,7 +122,7 @@ class Whole(Saved):
         try:
             answer = self.maker.lines.traced(machine.step, event[:2] if event[0] == "Advance" else event)
         except Exception as error:
-            return "fails", type(error).__name__
+            return "fails", failure(error, self.module)
         self.rows.met(row, answer, [m.kind for number, m in machine.flight.items() if number >= sent], None)
         machine.answer = answer
         return ("exhausted", "") if answer == "Exhausted" else None

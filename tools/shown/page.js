@@ -135,7 +135,7 @@ function registers(core) {
       run.records[number][4]}</span>`);
     else if (!filled.has(name)) filled.set(name, name);
   });
-  return filled.size ? `<p class="registers"><b>P${core}</b> ${[...filled.values()].join(", ")}</p>` : "";
+  return filled.size ? `<p class="registers">${[...filled.values()].join(", ")}</p>` : "";
 }
 
 function message(name) {
@@ -166,13 +166,13 @@ function showCores() {
   scale();
   const acts = acting();
   const room = [0, 9, 5, 3][run.cores.length] || 2;
-  byId("cores").className = run.cores.length > 3 ? "tight" : "";
   byId("cores").innerHTML = run.cores.map(core => {
     const state = view[`core ${core}`], time = behind(state, "time");
     const before = at ? undone[at - 1][`core ${core}`] : null, moved = before && behind(before, "time") !== time;
     const wire = messages(text => new RegExp(` core ${core} `).test(text)), now = acts === `core ${core}` ? " now" : "";
     return `<div class="row"><div class="core${now}" id="core-${core}" ${hue(core)} ${asSeen(`core ${core}`)}>
-      <h2>core ${core}<span class="time${moved ? " new" : ""}" title="${time}">time ${brief(time)}</span></h2>
+      <h2><span>core ${core}${run.question ? ` runs P${core}` : ""}</span><span class="time${moved ? " new" : ""}"
+      title="${time}">time ${brief(time)}</span></h2>
       <div class="does"><ol>${program(core, room)}</ol>${registers(core)}</div>
       <div class="copies">${copies(core, time)}</div></div><div class="wire">${wire}</div></div>`;
   }).join("");
@@ -269,8 +269,8 @@ function showOrders(top) {
   const over = past in run.past ? run.past[past] : -1;
   const group = number => {
     const y = number * step + 6, to = rank[number] * step + 6;
-    const classes = [[number in run.past, "past"], [number === run.wrong, "wrong"], [number === last, "latest"], [number === over, "over"]]
-      .filter(([is]) => is).map(([, name]) => name).join(" ");
+    const classes = [[number in run.past, "past"], [number === run.wrong, "wrong"], [number === last, "latest"],
+      [number === over, "over"]].filter(([is]) => is).map(([, name]) => name).join(" ");
     const ends = [y + high / 2, to + high / 2];
     return `<g class="${classes}" ${hue(run.records[number][0])} data-number="${number}" data-rank="${rank[number]}">
       <path class="tie" d="M${LEFT + BOX} ${ends[0]} L${RIGHT} ${ends[1]}"/>${box(LEFT, y, high, number, true)}
@@ -308,7 +308,8 @@ function showSaid() {
   byId("what").textContent = asks || (step ? step[2] : `${run.title}: before the first event`);
   byId("why").innerHTML = asks ? "The right arrow shows it." : step ?
     `${escaped(step[3])} <cite><a href="#rule" id="cite" title="p">docs/PROTOCOL.md, ${escaped(step[4])}</a></cite>` :
-    `The right arrow goes on to the next event${find("s", 1) === null ? "" : ", and s to the first stale hit"}.`;
+    `The right arrow goes on to the next event${["w", "s"].filter(key => find(key, 1) !== null).map(key =>
+      `, and ${key} to the ${key === "w" ? "wrong operation" : "first stale hit"}`)[0] || ""}.`;
   byId("said").className = past ? "past" : "";
   if (!byId("rule").hidden) showRule();
   if (run.question) byId("answer").textContent = at === run.steps.length ? run.question.answer || "" : "";
@@ -366,9 +367,10 @@ function find(key, by) {
   return null;
 }
 
-// To another event; in a quiz, on to the next question at most.
+// To another event; in a quiz, on to the next question at most, and from there to what it asks.
 function move(to) {
-  let place = isAsked ? at + 1 : at;
+  if (isAsked && to > at) return go(at + 1);
+  let place = at;
   while (place < to && !question(place)) place += 1;
   if (place < to) go(place, true); else go(to);
 }
@@ -417,7 +419,7 @@ function dark(is) {
 }
 
 const KEYS = {ArrowRight: () => walk(1), ArrowLeft: () => walk(-1), PageDown: () => walk(1), PageUp: () => walk(-1),
-  ArrowDown: () => move(at + 1), ArrowUp: () => go(at - 1), Home: () => go(0), End: () => go(run.steps.length),
+  ArrowDown: () => move(at + 1), ArrowUp: () => go(at - 1), Home: () => go(0), End: () => move(run.steps.length),
   " ": play, q: turnQuiz, "?": () => turn("keys"), p: () => turn("rule"), Escape: () => {
     byId("keys").hidden = byId("rule").hidden = true;
   }, d: () => dark(!document.documentElement.classList.contains("dark"))};
@@ -440,11 +442,11 @@ document.addEventListener("click", event => {
 function begin() {
   const steps = run.steps.length;
   const ticks = key => run.steps.map((step, index) => step[6].includes(key) ? `M${index + 1} 0 V10` : "").join("");
+  document.body.className = run.cores.length > 4 ? "tight many" : run.cores.length > 3 ? "tight" : "";
   byId("title").textContent = run.title;
   byId("how").textContent = `${run.how}; played by ${run.made}`;
-  byId("end").textContent = !run.done ? run.end :
-    `The run: ${run.end[0].toLowerCase()}${run.end.slice(1)} By timestamp they are ${
-      run.wrong === null ? "legal" : `not legal: ${run.verdict}`}.`;
+  byId("end").textContent = run.end + (run.done ? ` By timestamp the run is ${
+    run.wrong === null ? "legal" : `not legal: ${run.verdict}`}.` : "");
   byId("end").className = run.done && run.wrong === null ? "" : "cut";
   if (run.wrong !== null) {
     byId("by-time").className = "wrong";
@@ -473,7 +475,7 @@ function begin() {
     event.preventDefault();
     turn("rule");
   });
-  byId("slider").oninput = event => go(Number(event.target.value));
+  byId("slider").oninput = event => move(Number(event.target.value));
   addEventListener("resize", () => {
     measure();
     show();
@@ -486,8 +488,8 @@ function begin() {
 }
 
 function fromHash() {
-  const wanted = location.hash.slice(1);
-  go(wanted === "stale" ? find("s", 1) || 0 : Number(wanted) || 0);
+  const wanted = location.hash.slice(1), key = {stale: "s", wrong: "w"}[wanted];
+  go(key ? run.steps.findIndex(step => step[6].includes(key)) + 1 : Number(wanted) || 0);
 }
 
 begin();

@@ -17,15 +17,17 @@ from reference.traces import read_records
 
 MOST_EVENTS = 5000
 TOP = Path(__file__).resolve().parent.parent.parent
+PLAY = TOP / "play"
 # The rule of ./play, at the folder $1.
 IS_BUILT = 'top=$1; . "$top/maintain/program.sh"; is_built play_events'
 SECOND = "the second program's machine"
 
 
-def say_second(name, made_by, options):
-    """Says on standard error that the second program's player counted, unless it was asked for."""
-    if made_by == SECOND and not options.player:
-        print(f"{name}: {SECOND} counted, since ./play isn't built from these sources. This builds it, in many "
+def say_second(name, made_by, options, did="counted"):
+    """Says on standard error that the second program's player did it, unless it was asked for, or is the only one: a
+    copy of reference/ and tools/ has no other."""
+    if made_by == SECOND and not options.player and PLAY.exists():
+        print(f"{name}: {SECOND} {did}, since ./play isn't built from these sources. This builds it, in many "
               "minutes: ./play crates/play_events/data/pages.events", file=sys.stderr)
 
 
@@ -207,6 +209,6 @@ def player_of(options):
     if options.player:
         command = shlex.split(options.player)
         return command, player_name(command)
-    if subprocess.run(["sh", "-c", IS_BUILT, "sh", TOP], check=False).returncode == 0:
-        return [str(TOP / "play")], "the proved machine"
+    if PLAY.exists() and subprocess.run(["sh", "-c", IS_BUILT, "sh", TOP], check=False).returncode == 0:
+        return [str(PLAY)], "the proved machine"
     return [str(TOP / "reference/play.py")], SECOND

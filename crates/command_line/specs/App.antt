@@ -103,9 +103,9 @@ Parsers = ValueParser × ValueParser
 abbrev pub NameSchedules : Parsers → Type 0
 NameSchedules p = NamesSchedules p.0 × NamesSchedules p.1
 
--- a command is required
+-- a command is required, and there is a version
 abbrev pub wanting : App → App
-wanting app = record app { top = record (app.top) { subcommand_required = true } }
+wanting app = record app { top = record (app.top) { subcommand_required = true; has_version = true } }
 
 abbrev pub tardis_app : Parsers → App
 tardis_app p =

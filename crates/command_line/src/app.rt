@@ -275,7 +275,8 @@ fn program<'a>(alloc: Global) -> Result<Command<'a>, AllocError>
 {
     let about = "A simulator of the Tardis coherence protocol that checks what it simulates";
     let named = Command::new(alloc, "tardis").about(about);
-    Ok(named.subcommand_required(true))
+    let numbered = named.version("0.1.0");
+    Ok(numbered.subcommand_required(true))
 }
 
 /// The command line of the program.

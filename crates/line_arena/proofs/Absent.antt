@@ -1,9 +1,8 @@
 -- The free cells are those that occur nowhere.
-use Rattle.std.proofs.Common.{◌≡◌, ℕ, ◌+◌, ◌<◌, zero, suc, inl, inr, Bool, true, false, cond, not, is_some, List, []}
-use Rattle.std.proofs.Common.{◌∷◌, length, get_or, sum_by, nat_eq, if◌then◌else◌, Option, Some, refl, sym, ap}
+use Rattle.std.proofs.Common.{◌≡◌, ℕ, ◌+◌, ◌<◌, zero, suc, Bool, true, false, cond, not, is_some, List, []}
+use Rattle.std.proofs.Common.{◌∷◌, length, get_or, sum_by, nat_eq, if◌then◌else◌, Option, Some, refl, ap}
 use Rattle.std.proofs.Common.{◌∙◌}
-use Rattle.std.proofs.Common.{arith, ne_eqb, eq-eqb}
-use Rattle.std.proofs.lemmas.Bool.{cases_eq}
+use Rattle.std.proofs.Common.{arith, ne_eqb}
 use Rattle.std.proofs.lemmas.List.Sums.{sum_by-cons}
 use Rattle.line_arena.specs.CellLists.{find_cell, or_else, look_up}
 use Rattle.line_arena.specs.Arenas.{Lists, cell_in, IsOnce, AreCells, count_below, free_cells, absent_cells}
@@ -11,10 +10,7 @@ use Rattle.line_arena.proofs.Finds.{look_none, nowhere}
 
 both : (p : ℕ → Bool) (n : ℕ) → count_below p n + count_below (λ x. not (p x)) n ≡ n
 both p zero = refl
-both p (suc n) =
-    let rest = both p n in
-    elim (p n) as (λ b. cond b 1 0 + count_below p n + (cond (not b) 1 0 + count_below (λ x. not (p x)) n) ≡ suc n)
-    [ true ↦ omega (arith, rest) | false ↦ omega (arith, rest) ]
+both p (suc n) = let rest = both p n in grind arith
 
 never_below : (n : ℕ) → count_below (λ _. false) n ≡ 0
 never_below zero = refl
@@ -28,19 +24,11 @@ same_below p q (suc n) h = λ i. cond (h n (omega arith) i) 1 0 + same_below p q
 one_more : (a : ℕ) (q : ℕ → Bool) (n : ℕ) → a < n → q a ≡ false → count_below (λ x. if nat_eq a x then true else q x)
     n ≡ 1 + count_below q n
 one_more a q zero lt no_a = absurd (omega (arith, lt))
-one_more a q (suc n) lt no_a = elim (cases_eq a n) [
-  | inl e ↦
-      let below = same_below (λ x. if nat_eq a x then true else q x) q n (λ x xl. ap (λ b. if b then true else q x)
-      (ne_eqb a x (λ i. absurd (omega arith)))) in
-      let here : ◌≡◌ {A = ℕ} (cond (if nat_eq a n then true else q n) 1 0) 1 =
-      ap (λ b. cond (if b then true else q n) 1 0) (eq-eqb a n e) in
-      let none : ◌≡◌ {A = ℕ} (cond (q n) 1 0) 0 = ap (λ b. cond b 1 0) (ap q (sym e) ∙ no_a) in
-      omega (arith, below, here, none)
-  | inr ne ↦
-      let rest = one_more a q n (omega arith) no_a in
-      let here : ◌≡◌ {A = ℕ} (cond (if nat_eq a n then true else q n) 1 0) (cond (q n) 1 0) =
-      ap (λ b. cond (if b then true else q n) 1 0) (ne_eqb a n ne) in omega (arith, rest, here)
-]
+one_more a q (suc n) lt no_a =
+    let below : a ≡ n → count_below (λ x. if nat_eq a x then true else q x) n ≡ count_below q n =
+    λ e. same_below (λ x. if nat_eq a x then true else q x) q n (λ x xl. ap (λ b. if b then true else q x)
+    (ne_eqb a x (λ i. absurd (omega arith)))) in
+    let rest = one_more a q n in let same : a ≡ n → q a ≡ q n = ap q in grind arith
 
 module _ {X : Type 0} where
   -- all cells are below n

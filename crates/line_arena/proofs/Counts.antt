@@ -17,12 +17,11 @@ pub sum_same : {A B : Type 0} (f : A → ℕ) (g : B → ℕ) (xs : List A) (ys 
     length xs ≡ length ys → ((k : ℕ) → k < length xs → f (get_or xs k d) ≡ g (get_or ys k e)) →
     sum_by f xs ≡ sum_by g ys
 sum_same f g [] [] d e long h = refl
-sum_same f g [] (y ∷ ys) d e long h = absurd (omega (arith, long))
-sum_same f g (x ∷ xs) [] d e long h = absurd (omega (arith, long))
 sum_same f g (x ∷ xs) (y ∷ ys) d e long h =
     let rest = sum_same f g xs ys d e (omega (arith, long)) (λ k lt. h (suc k) (omega (arith, lt))) in
     let first : f x ≡ g y = h 0 (omega arith) in
     sum_by-cons f x xs ∙ (λ i. first i + rest i) ∙ sym (sum_by-cons g y ys)
+sum_same f g _ _ d e long h = absurd (omega (arith, long))
 
 module _ {X : Type 0} where
   pub length-values : (xs : List (ℕ × Option X)) → AllSome xs → length (values xs) ≡ length xs

@@ -1,5 +1,5 @@
 -- A cell that is on no list keeps its node in the block; the lists are those of the block without that node.
-use Rattle.std.proofs.Common.{◌≡◌, ℕ, zero, suc, List, [], ◌∷◌, get_or, set, Option, Some, None, option_map}
+use Rattle.std.proofs.Common.{◌≡◌, ℕ, zero, suc, List, ◌∷◌, get_or, set, Option, Some, None, option_map}
 use Rattle.std.proofs.Common.{refl, sym, ap, ◌∙◌}
 use Rattle.std.proofs.Common.{arith}
 use Rattle.std.proofs.lemmas.List.{set-get_or}
@@ -12,21 +12,17 @@ module _ {A : Type 0} where
   set_none cs x e = ap (set cs x) (sym e) ∙ set-get_or cs x None
 
   pub filled_back : (cs : List (Option A)) (x y : ℕ) → IsFilled (set cs x None) y → IsFilled cs y
-  filled_back [] x y full = full
   filled_back (c ∷ cs) zero zero full = let two = full.1 in cc
-  filled_back (c ∷ cs) zero (suc y) full = full
-  filled_back (c ∷ cs) (suc x) zero full = full
   filled_back (c ∷ cs) (suc x) (suc y) full = filled_back cs x y full
+  filled_back _ _ _ full = full
 
 module _ {X : Type 0} where
   set_emptied : (f : Node X → Node X) (cs : List (Option (Node X))) (a x : ℕ)
       → set (set cs a (option_map f (get_or cs a None))) x None ≡ set (set cs x None) a
       (option_map f (get_or (set cs x None) a None))
-  set_emptied f [] a x = refl
   set_emptied f (c ∷ cs) zero zero = refl
-  set_emptied f (c ∷ cs) zero (suc x) = refl
-  set_emptied f (c ∷ cs) (suc a) zero = refl
   set_emptied f (c ∷ cs) (suc a) (suc x) = ap (λ zs. c ∷ zs) (set_emptied f cs a x)
+  set_emptied f _ _ _ = refl
 
   -- an edit of the block, and then without the node of x, is an edit of the block without it
   pub edit_emptied : (cap : ℕ) (f : Node X → Node X) (cs : List (Option (Node X))) (a x : ℕ) → set (edit cap f cs a) x
@@ -35,12 +31,9 @@ module _ {X : Type 0} where
 
   item_set : (f : Node X → Node X) → ((m : Node X) → (f m).item ≡ m.item) → (cs : List (Option (Node X))) (a x : ℕ)
       → (at (set cs a (option_map f (get_or cs a None))) x).item ≡ (at cs x).item
-  item_set f keeps [] a x = refl
-  item_set f keeps (None ∷ cs) zero zero = refl
   item_set f keeps (Some m ∷ cs) zero zero = keeps m
-  item_set f keeps (c ∷ cs) zero (suc x) = refl
-  item_set f keeps (c ∷ cs) (suc a) zero = refl
   item_set f keeps (c ∷ cs) (suc a) (suc x) = item_set f keeps cs a x
+  item_set f keeps _ _ _ = refl
 
   -- an edit of links leaves every item
   pub edit_item : (cap : ℕ) (f : Node X → Node X) → ((m : Node X) → (f m).item ≡ m.item) →

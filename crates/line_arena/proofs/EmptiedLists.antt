@@ -1,6 +1,6 @@
 -- The cells are taken out one after the other: a list whose head isn't empty yet has a cell that is still there.
-use Rattle.std.proofs.Common.{◌≡◌, ℕ, ◌+◌, ◌<◌, ◌≤◌, ◌⊎◌, inl, inr, List, [], length, get_or}
-use Rattle.std.proofs.Common.{replicate, Option, Some, None, sym, ap, subst, ◌∙◌, arith}
+use Rattle.std.proofs.Common.{◌≡◌, ℕ, ◌+◌, ◌<◌, ◌≤◌, ◌⊎◌, inl, inr, [], length, get_or}
+use Rattle.std.proofs.Common.{replicate, Option, Some, None, sym, ap, ◌∙◌, arith}
 use Rattle.std.proofs.Common.{ext_get_or}
 use Rattle.std.proofs.lemmas.Bool.{cases_lt}
 use Rattle.std.proofs.lemmas.List.{length-replicate}
@@ -84,9 +84,7 @@ module _ {X : Type 0} where
       (IsTied d × (rings_of d ≡ replicate (length c.heads.items) [])) × (total d.heads.items ≡ 0)
   emptied_tied c d a e =
       let hs = d.heads.items in let m = length c.heads.items in let new = tied_new {X = X} c.capacity m hs e.heads in
-      let tied : Tied d.block d.capacity hs (rings_of d) =
-      subst (λ n. Tied d.block n hs (rings_of d)) (sym e.capacity)
-      (subst (λ cs. Tied cs c.capacity hs (rings cs hs)) (sym e.cells) new.0) in
+      let tied : Tied d.block d.capacity hs (rings_of d) = rw (e.capacity, e.cells) new.0 in
       let cap = e.capacity in let small = a.tied.small in let many = e.heads.many in (
         (
           record { tied = tied; small = (omega (arith, cap, small.0), omega (arith, many, small.1)) },

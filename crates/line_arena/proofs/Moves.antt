@@ -14,7 +14,7 @@ use Rattle.line_arena.proofs.Finds.{find_absent, find_part, look_at_list}
 use Rattle.line_arena.proofs.Links.{has_left, has_right, apart_split, parted}
 use Rattle.line_arena.proofs.Edits.{edit_other, edit_same, last_in, first_in, within}
 use Rattle.line_arena.proofs.Ties.{on_list, one_list, rings_are, attached, detached}
-use Rattle.std.proofs.Common.{eq-eqb, ne_eqb}
+use Rattle.std.proofs.Common.{ne_eqb}
 use Rattle.std.proofs.lemmas.List.Sums.{sum_by-set}
 use Rattle.line_arena.specs.Chains.{total}
 
@@ -52,11 +52,9 @@ module _ {X : Type 0} where
 
   without_parts : (x : ℕ) (it : Option X) (us bs : List (ℕ × Option X)) → (Has us x → ⊥) → (Has bs x → ⊥) →
       without x (us ++ (x, it) ∷ bs) ≡ us ++ bs
-  without_parts x it [] bs nu nb = ap (λ b. if b then without x bs else (x, it) ∷ without x bs) (eq-eqb x x refl)
-      ∙ without_absent x bs nb
-  without_parts x it (a ∷ us) bs nu nb =
-      ap (λ b. if b then without x (us ++ (x, it) ∷ bs) else a ∷ without x (us ++ (x, it) ∷ bs))
-      (ne_eqb a.0 x (λ e. nu (inl e))) ∙ ap (λ ys. a ∷ ys) (without_parts x it us bs (λ w. nu (inr w)) nb)
+  without_parts x it [] bs nu nb = let rest = without_absent x bs nb in grind arith
+  without_parts x it (a ∷ us) bs nu nb = let ne : a.0 ≢ x = λ e. nu (inl e) in
+      let rest = without_parts x it us bs (λ w. nu (inr w)) nb in grind arith
 
 module _ {X : Type 0} (cs : List (Option (Node X))) (cap : ℕ) (heads : List Head)
     (t : Tied cs cap heads (rings cs heads)) where
@@ -120,9 +118,9 @@ module _ {X : Type 0} (cs : List (Option (Node X))) (cap : ℕ) (heads : List He
         let e : nd.prev ≡ last_of (cap + l) parts.0 = ap (λ n. n.prev) node_is in
         elim (last_in (cap + l) parts.0) [
           | inl i ↦ let at_end = e ∙ i in absurd (omega arith)
-          | inr w ↦ let v = subst (Has parts.0) (sym e) w in
-              near nd.prev (subst (λ zs. Has zs nd.prev) (sym parts.3) (has_left parts.0 ((x, parts.1) ∷ parts.2)
-              nd.prev v)) (λ i. cut.0 (subst (Has parts.0) i v))
+          | inr w ↦ let v = rw (← e) at w in
+              near nd.prev (rw parts.3 (has_left parts.0 ((x, parts.1) ∷ parts.2) nd.prev v))
+              (λ i. cut.0 (subst (Has parts.0) i v))
         ]
 
     pub next_near : nd.next < cap → IsOn l (set cs x None) nd.next
@@ -130,9 +128,9 @@ module _ {X : Type 0} (cs : List (Option (Node X))) (cap : ℕ) (heads : List He
         let e : nd.next ≡ first_of parts.2 (cap + l) = ap (λ n. n.next) node_is in
         elim (first_in parts.2 (cap + l)) [
           | inl i ↦ let at_end = e ∙ i in absurd (omega arith)
-          | inr w ↦ let v = subst (Has parts.2) (sym e) w in
-              near nd.next (subst (λ zs. Has zs nd.next) (sym parts.3) (has_right parts.0 ((x, parts.1) ∷ parts.2)
-              nd.next (inr v))) (λ i. cut.1 (subst (Has parts.2) i v))
+          | inr w ↦ let v = rw (← e) at w in
+              near nd.next (rw parts.3 (has_right parts.0 ((x, parts.1) ∷ parts.2) nd.next (inr v)))
+              (λ i. cut.1 (subst (Has parts.2) i v))
         ]
 
     pub some : 1 ≤ (get_or heads l no_head).count

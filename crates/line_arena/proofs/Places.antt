@@ -1,6 +1,7 @@
 -- A cell on one of a caller's lists: what its node is, and what the functions on the lists tell of it.
 use Rattle.std.proofs.Common.{◌≡◌, ◌≢◌, ℕ, ◌+◌, ◌<◌, ◌≤◌, inl, inr, List, [], ◌∷◌, ◌++◌, length, get_or}
-use Rattle.std.proofs.Common.{nat_eq, if◌then◌else◌, Option, Some, None, is_some, IsSome, true, map, refl, sym, ap, subst, ◌∙◌}
+use Rattle.std.proofs.Common.{nat_eq, if◌then◌else◌, Option, Some, None, is_some, IsSome, true, map, refl, sym, ap}
+use Rattle.std.proofs.Common.{subst, ◌∙◌}
 use Rattle.std.proofs.Common.{arith, ne_eqb}
 use Rattle.std.proofs.Common.{eq-eqb}
 use Rattle.line_arena.specs.declared.node.Node.{Node}
@@ -67,8 +68,7 @@ module _ {X : Type 0} where
         first_some_at f (shown (rings_of c)) l (omega arith) (λ m mt ne.
         ap f (shown_at (rings_of c) m (omega arith)) ∙ gone (get_or (rings_of c) m [])
         (λ w. one_list c.block c.capacity c.heads.items (rings_of c) h.tied.tied l m x x low (omega arith) ne on w
-        refl))
-        ∙ ap f (shown_at (rings_of c) l (omega arith)) ∙ ap (λ zs. f (values zs)) parts
+        refl)) ∙ ap f (shown_at (rings_of c) l (omega arith)) ∙ ap (λ zs. f (values zs)) parts
 
   module _ (c : Chains X) (h : IsArena c) (x : ℕ) where
     -- a cell of a list is found

@@ -98,8 +98,7 @@ module _ {X : Type 0} (x : ℕ) (o : Option X) where
                 let w : q.list ≡ n.list =
                 ap (λ z. (or_blank z).list) (sym is ∙ ap (λ k. get_or ds k None) i ∙ x_is) in
                 let listed : n.list < length heads = omega (arith, low, w) in
-                subst (λ k. Has (get_or ss k []) y) (sym w) (subst (λ zs. Has zs y) (sym (at_l n.list listed))
-                (has_l (get_or rs n.list []) y (subst (Has (get_or rs n.list [])) (sym i) (t.on x n here listed))))
+                rw (w, at_l n.list listed) (has_l (get_or rs n.list []) y (rw i (t.on x n here listed)))
             | inr ne ↦ subst (λ zs. Has zs y) (sym (at_l q.list low))
                 (has_l (get_or rs q.list []) y (t.on y q (sym (y_is y ne) ∙ is) low))
           ];
@@ -133,8 +132,7 @@ module _ {X : Type 0} where
       let d : Chains X = record c { block = with_value_of c.block x w } in
       let same : set c.block x (Some (with_item (Some w) nd)) ≡ d.block =
       ap (λ (m : Node X). set c.block x (Some (with_item (Some w) m))) (sym is) in
-      let tied : Tied d.block c.capacity hs (rings d.block hs) =
-      subst (λ bs. Tied bs c.capacity hs (rings bs hs)) same made.0 in
+      let tied = rw same at made.0 in
       let are : rings_of d ≡ map (rewritten x (Some w)) rs = ap (λ bs. rings bs hs) (sym same) ∙ made.1 in
       let n = h.tied.tied.many in let low = p.1 in (
         record {

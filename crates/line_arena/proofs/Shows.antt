@@ -5,10 +5,11 @@ use Rattle.std.proofs.Common.{length, get_or, set, nat_eq, if◌then◌else◌, 
 use Rattle.std.proofs.Common.{◌∙◌, arith, get_or-set_same, get_or-set_other}
 use Rattle.std.proofs.lemmas.Bool.{cases_lt, cases_eq}
 use Rattle.std.proofs.lemmas.List.{get_or-map, length-map, map-set}
+use Rattle.line_arena.specs.declared.node.Node.{Node}
 use Rattle.line_arena.specs.declared.chains.Chains.{Chains}
 use Rattle.line_arena.specs.Filled.{IsFilled}
 use Rattle.line_arena.specs.CellLists.{without, append_to}
-use Rattle.line_arena.specs.Chains.{total, rings_of, IsTied, SameUse, SameSizes}
+use Rattle.line_arena.specs.Chains.{total, emptied, rings_of, IsTied, SameUse, SameSizes}
 use Rattle.line_arena.specs.Rings.{or_blank, at}
 use Rattle.line_arena.specs.Arenas.{values, AllSome, IsArena, Lacks, shown, model, pushed}
 use Rattle.line_arena.specs.Arenas.{lists_of}
@@ -26,12 +27,18 @@ module _ {X : Type 0} where
   some_push [] a h s = (s, tt)
   some_push (b ∷ xs) a h s = (h.0, some_push xs a h.1 s)
 
-  pub lacks_from : (x : ℕ) (c d : Chains X) → IsArena c → IsFilled c.block x →
-      (at c.block x).list < length c.heads.items → IsTied d → total d.heads.items + 1 ≡ total c.heads.items →
-      SameUse x c d → get_or d.block x None ≡ None → SameSizes c d → rings_of d ≡ map (without x) (rings_of c) →
-      Lacks x d
-  lacks_from x c d a full on t less kept gap size are =
-      let long = length-map (rings_of c) (without x) in let n = a.tied.tied.many in let used = size.used in
+  -- sizes that are the same are so with other cells
+  pub same_sizes : (c d : Chains X) (bs cs : List (Option (Node X))) → SameSizes c d →
+      SameSizes (record c { block = bs }) (record d { block = cs })
+  same_sizes c d bs cs s = record { capacity = s.capacity; used = s.used; free = s.free; lists = s.lists }
+
+  pub lacks_from : (x : ℕ) (c e : Chains X) → IsArena c → IsFilled c.block x →
+      (at c.block x).list < length c.heads.items → let d = emptied x e in IsTied d →
+      total d.heads.items + 1 ≡ total c.heads.items → SameUse x c d → IsFilled e.block x → SameSizes c e →
+      rings_of d ≡ map (without x) (rings_of c) → Lacks x d
+  lacks_from x c e a full on t less kept filled size are =
+      let d = emptied x e in let long = length-map (rings_of c) (without x) in let n = a.tied.tied.many in
+      let used = size.used in
       let cap = size.capacity in let lists = size.lists in let spares = size.free.1 in
       let had = within c.block x full.0 full.1 in
       let x_low : x < c.used = elim (cases_lt x c.used) [
@@ -44,7 +51,7 @@ module _ {X : Type 0} where
       record {
         tied = t;
         total = (omega (arith, less, a.total.0, used, spares), omega (arith, used, cap, a.total.1));
-        gap = (omega arith, gap);
+        gap = (omega arith, get_or-set_same e.block x None None (within e.block x filled.0 filled.1));
         uses = λ y ne. (
           (λ lt. (kept y ne).0 (a.uses.0 y (omega arith))),
           λ le. (kept y ne).1
@@ -88,8 +95,7 @@ module _ {X : Type 0} where
           ],
         );
         loaded = λ k lt. elim (cases_eq k l) [
-          | inl i ↦ subst (λ j. AllSome (get_or (rings_of d) j [])) (sym i)
-              (subst AllSome (sym here) (some_push r (x, Some v) (a.loaded l low) (v, refl)))
+          | inl i ↦ rw (i, here) (some_push r (x, Some v) (a.loaded l low) (v, refl))
           | inr ne ↦ subst AllSome (sym (there k ne)) (a.loaded k (omega arith))
         ];
         spare = rw (lists, size.free.0, spares) (spare_same (length c.heads.items) c.spares c.free c.block d.block

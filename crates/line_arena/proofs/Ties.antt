@@ -202,11 +202,9 @@ module _ {X : Type 0} (cs : List (Option (Node X))) (cap : ℕ) (heads : List He
       let cut = apart_split us (x, it) bs (subst IsApart parts g.apart) in
       let halves = linked_split cs l e us ((x, it) ∷ bs) e linked in
       let here : get_or cs x None ≡ Some (node p n l it) = halves.1.0 in
-      let on_us : (y : ℕ) → Has us y → Has (r l) y =
-      λ y w. subst (λ zs. Has zs y) (sym parts) (has_left us ((x, it) ∷ bs) y w) in
-      let on_bs : (y : ℕ) → Has bs y → Has (r l) y =
-      λ y w. subst (λ zs. Has zs y) (sym parts) (has_right us ((x, it) ∷ bs) y (inr w)) in
-      let on_x : Has (r l) x = subst (λ zs. Has zs x) (sym parts) (has_right us ((x, it) ∷ bs) x (inl refl)) in
+      let on_us : (y : ℕ) → Has us y → Has (r l) y = λ y w. rw parts (has_left us ((x, it) ∷ bs) y w) in
+      let on_bs : (y : ℕ) → Has bs y → Has (r l) y = λ y w. rw parts (has_right us ((x, it) ∷ bs) y (inr w)) in
+      let on_x : Has (r l) x = rw parts (has_right us ((x, it) ∷ bs) x (inl refl)) in
       let low : (y : ℕ) → Has (r l) y → y < cap = λ y w. below l y lt w in
       let high : (y : ℕ) → y < cap → y ≢ e = λ y yl i. absurd (omega arith) in
       let keep1 : (y : ℕ) → y ≢ x → get_or c1 y None ≡ get_or cs y None =

@@ -33,8 +33,7 @@ module _ {X : Type 0} (passes : X → Bool) where
   counted-as line None = refl
   counted-as line (Some x) = refl
 
-  weighed : (c line n : ℕ) (o : Option X) → n ≡ count_of passes o → weigh passes (only c) line o ≡ cond (eqb line c) n
-      0
+  weighed : (c line n : ℕ) (o : Option X) → n ≡ count_of passes o → weigh passes (only c) line o ≡ cond (eqb line c) n 0
   weighed c line n o is = grind arith
 
   one-at-most : (x : X) → count_of passes (Some x) ≤ 1

@@ -40,11 +40,6 @@ module _ {X : Type 0} where
   find-put_in_place_other [] l j x ne = refl
   find-put_in_place_other (p ∷ ps) l j x ne = let rest = find-put_in_place_other ps l j x ne in grind arith
 
-  -- a line put in place and taken out
-  pub without-put_in_place : (ps : List (ℕ × X)) (l : ℕ) (x : X) → without (put_in_place ps l x) l ≡ without ps l
-  without-put_in_place [] l x = refl
-  without-put_in_place (p ∷ ps) l x = let rest = without-put_in_place ps l x in grind arith
-
   -- lengths
   pub length-without_le : (ps : List (ℕ × X)) (l : ℕ) → length (without ps l) ≤ length ps
   length-without_le [] l = omega arith

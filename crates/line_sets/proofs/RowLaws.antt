@@ -137,9 +137,8 @@ pub rows-empty : (n : ℕ) (places : List (Option ℕ)) (rows : List (List (ℕ 
 rows-empty n places rows e = ap (λ ps. rows_of ps rows) e ∙ rows-none n rows
 
 none-at : (n i : ℕ) → get_or (replicate {A = Option ℕ} n None) i None ≡ None
-none-at zero i = refl
-none-at (suc n) zero = refl
 none-at (suc n) (suc i) = none-at n i
+none-at _ _ = refl
 
 all-none : (n : ℕ) → count_none (replicate n None) ≡ n
 all-none zero = refl
@@ -164,9 +163,6 @@ spread-empty n places sets rows e f g =
 pub record IsHalfway (at : ℕ) (old new : List (Option ℕ)) : Type 0 where
   pub many : length new ≡ length old
   pub left : (i k : ℕ) → get_or new i None ≡ Some k → (at ≤ k) × (get_or old i None ≡ Some k)
-
-pub halfway-first : (places : List (Option ℕ)) → IsHalfway 0 places places
-halfway-first places = record { many = refl; left = λ i k e. (omega arith, e) }
 
 pub halfway-next :
     (old new : List (Option ℕ)) (sets : List ℕ) (rows : List (List (ℕ × ℕ))) (at : ℕ) → IsSpread old sets rows →

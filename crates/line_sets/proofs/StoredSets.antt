@@ -2,11 +2,12 @@
 use Rattle.std.proofs.Common.{◌≡◌, ◌≢◌, ℕ, zero, suc, ◌*◌, ◌<◌, ◌≤◌, inl, inr, true, List, [], ◌∷◌, ◌++◌, map}
 use Rattle.std.proofs.Common.{length, get_or, set, replicate, Option, Some, None, refl, sym, ap, ◌∙◌, arith}
 use Rattle.std.proofs.Common.{length-set, get_or-set_same, get_or-set_other, sum_by}
-use Rattle.std.specs.Prelude.{Result, Ok, Err, IsOk, IsErr, IfOk, IfSome}
+use Rattle.std.specs.Prelude.{Result, Ok, Err, IsOk, IsErr}
 use Rattle.std.specs.Option.{is_some}
 use Rattle.std.proofs.lemmas.Bool.{cases_eq}
 use Rattle.std.proofs.lemmas.List.{get_or-map, length-map, length-replicate, map-set, set-set, set-get_or}
-use Rattle.std.proofs.lemmas.List.Sums.{sum_by-cons}
+use Rattle.std.proofs.lemmas.List.Elements.{All-from_get_or}
+use Rattle.std.proofs.lemmas.List.Sums.{sum_by-cons, sum_by-le}
 use Rattle.line_arena.specs.CellLists.{find_cell, look_up, next_in, next_cell, or_else, rewritten}
 use Rattle.line_arena.specs.CellLists as cell
 use Rattle.line_arena.specs.Arenas.{Lists, lists_of, pushed, unlinked, free_cells, IsOnce}
@@ -30,8 +31,7 @@ module _ {X : Type 0} where
 
   -- a set of the table is one of the arena's lists
   pub below : {ways : ℕ} {a : Lists (ℕ × X)} {rows : List (List (ℕ × ℕ))} {now : Sets X} (i : ℕ) → IsStored ways a
-      rows →
-      table_of ways (sets_of a.lists) ≡ now → i < length now.sets → i < length a.lists
+      rows → table_of ways (sets_of a.lists) ≡ now → i < length now.sets → i < length a.lists
   below {a = a} i stored is h =
       let same = ap (λ t. length t.sets) is in let long = length-sets a.lists in omega (arith, same, long)
 
@@ -114,8 +114,7 @@ module _ {X : Type 0} where
   in-room table i line absent place = grind arith
 
   pub is-new : {ways : ℕ} {a : Lists (ℕ × X)} {rows : List (List (ℕ × ℕ))} {now : Sets X} {i line : ℕ} →
-      IsStored ways a rows → table_of ways (sets_of a.lists) ≡ now → i < length now.sets → look now.sets i line ≡ None
-      →
+      IsStored ways a rows → table_of ways (sets_of a.lists) ≡ now → i < length now.sets → look now.sets i line ≡ None →
       has_place now i line ≡ true → IsNew ways a rows i line
   is-new {ways} {a} {rows} {now} {i} {line} stored is h absent place =
       let low = below i stored is h in let fits = stored.fits i low in let narrow = stored.narrow in
@@ -166,8 +165,7 @@ module _ {X : Type 0} where
   -- one list and its row are changed
   becomes : {ways : ℕ} {a b : Lists (ℕ × X)} {rows new : List (List (ℕ × ℕ))} {i line : ℕ} {ps : List (ℕ × X)}
       {now : Option X} (row : List (ℕ × ℕ)) (xs : List (ℕ × (ℕ × X))) → IsStored ways a rows → i < length a.lists →
-      IsSwap (set_at (sets_of a.lists) i) ps line now → b ≡ lists_of (set a.lists i xs) a.cells → new ≡ set rows i row
-      →
+      IsSwap (set_at (sets_of a.lists) i) ps line now → b ≡ lists_of (set a.lists i xs) a.cells → new ≡ set rows i row →
       Fits ways row xs → entries_of xs ≡ ps → Becomes ways a b new i ps line now
   becomes {a = a} {i = i} row xs stored h swap is row_is fits are = record {
     stored = rw (is, row_is) (stored-set i row xs stored h fits);
@@ -202,8 +200,7 @@ module _ {X : Type 0} where
       ]))
 
   cut-lists : {ways : ℕ} {a : Lists (ℕ × X)} {rows : List (List (ℕ × ℕ))} {i line c : ℕ} → IsFound ways a rows i line
-      c →
-      WithoutLaws (ℕ × X) → map (cell.without c) a.lists ≡ set a.lists i (cell.without c (get_or a.lists i []))
+      c → WithoutLaws (ℕ × X) → map (cell.without c) a.lists ≡ set a.lists i (cell.without c (get_or a.lists i []))
   cut-lists {a = a} {i = i} {c = c} found laws = mapped-one (cell.without c) a.lists i found.low
       (λ j lt ne. laws.apart a.lists c i j found.once (ap is_some found.here) ne)
 
@@ -268,9 +265,8 @@ module _ {X : Type 0} where
   last-cell c w (a ∷ b ∷ xs) once there none = let rest = last-cell c w (b ∷ xs) once.1 in grind arith
 
   next-written : (c : ℕ) (w : ℕ × X) (xs : List (ℕ × (ℕ × X))) → next_in c (rewritten c w xs) ≡ next_in c xs
-  next-written c w [] = refl
-  next-written c w (a ∷ []) = refl
   next-written c w (a ∷ b ∷ xs) = let rest = next-written c w (b ∷ xs) in grind arith
+  next-written c w _ = refl
 
   all-next : (c : ℕ) (w : ℕ × X) (ls : List (List (ℕ × (ℕ × X)))) →
       next_cell c (map (rewritten c w) ls) ≡ next_cell c ls
@@ -337,13 +333,9 @@ module _ {X : Type 0} where
       (ap is_some (is-missing i line stored is h none))) ∙ set-get_or now.sets i [])
 
   -- where a set has room, a cell is free
-  sum-below : (ways : ℕ) (ls : List (List (ℕ × (ℕ × X)))) → ((j : ℕ) → j < length ls → length (get_or ls j []) ≤ ways)
-      →
+  sum-below : (ways : ℕ) (ls : List (List (ℕ × (ℕ × X)))) → ((j : ℕ) → j < length ls → length (get_or ls j []) ≤ ways) →
       sum_by length ls ≤ length ls * ways
-  sum-below ways [] all = omega arith
-  sum-below ways (xs ∷ ls) all =
-      let one = sum_by-cons length xs ls in let first = all 0 (omega arith) in
-      let rest = sum-below ways ls (λ j lt. all (suc j) (omega arith)) in omega arith
+  sum-below ways ls all = sum_by-le length ways ls (All-from_get_or (λ xs. length xs ≤ ways) ls [] all)
 
   sum-less : (ways : ℕ) (ls : List (List (ℕ × (ℕ × X)))) (i : ℕ) →
       ((j : ℕ) → j < length ls → length (get_or ls j []) ≤ ways) → i < length ls → length (get_or ls i []) < ways →
@@ -366,21 +358,14 @@ pub is-ok : {A B : Type 0} (r : Result A B) → (IsErr r → ⊥) → IsOk r
 is-ok (Ok x) never = refl
 is-ok (Err x) never = absurd (never refl)
 
-pub if-ok : {A B : Type 0} (P : A → Type 0) (r : Result A B) (x : A) → IfOk r P → r ≡ Ok x → P x
-if-ok P r x h e = rw e at h
-
-pub if-some : {A : Type 0} (P : A → Type 0) (o : Option A) (x : A) → IfSome o P → o ≡ Some x → P x
-if-some P o x h e = rw e at h
-
 -- a table without lines
 pub sets-empty : {X : Type 0} (n : ℕ) → sets_of {X = X} (replicate n []) ≡ replicate n []
 sets-empty zero = refl
 sets-empty (suc n) = ap (λ us. [] ∷ us) (sets-empty n)
 
 empty-at : {X : Type 0} (n i : ℕ) → get_or {A = List X} (replicate n []) i [] ≡ []
-empty-at zero i = refl
-empty-at (suc n) zero = refl
 empty-at (suc n) (suc i) = empty-at n i
+empty-at _ _ = refl
 
 pub stored-empty :
     {X : Type 0} (ways sets : ℕ) (a : Lists (ℕ × X)) (rows : List (List (ℕ × ℕ))) → ways ≤ 16 → sets ≤ 1024 →

@@ -78,8 +78,7 @@ module _ {X : Type 0} where
       a.1.0 ≢ line → find (tags_of xs) line ≡ Some c
   later-tag a xs line c h ne = grind arith
 
-  other : (a : ℕ × (ℕ × X)) (xs : List (ℕ × (ℕ × X))) (line c : ℕ) → IsOn xs line c → find_cell a.0 xs ≡ None →
-      a.0 ≢ c
+  other : (a : ℕ × (ℕ × X)) (xs : List (ℕ × (ℕ × X))) (line c : ℕ) → IsOn xs line c → find_cell a.0 xs ≡ None → a.0 ≢ c
   other a xs line c r none e = let found = r.cell in grind arith
 
   here-on : (a : ℕ × (ℕ × X)) (xs : List (ℕ × (ℕ × X))) (line c : ℕ) → a.1.0 ≡ line → a.0 ≡ c → IsOn (a ∷ xs) line c
@@ -126,8 +125,7 @@ module _ {X : Type 0} where
       (a.1.0 ≡ line → without (keyed g xs) line ≡ keyed g xs) →
       (find (tags_of xs) line ≡ Some c → keyed g (cell.without c xs) ≡ without (keyed g xs) line) →
       keyed g (cell.without c (a ∷ xs)) ≡ without (keyed g (a ∷ xs)) line
-  cut-first g a xs line c part gone line_gone rest = let mine = part.mine in let not_mine = part.not_mine in grind
-      arith
+  cut-first g a xs line c part gone line_gone rest = let mine = part.mine in let not_mine = part.not_mine in grind arith
 
   cut-line : {Z : Type 0} (g : ℕ × (ℕ × X) → Z) (xs : List (ℕ × (ℕ × X))) (line c : ℕ) → CellsOnce xs →
       IsDistinct (tags_of xs) → find (tags_of xs) line ≡ Some c →
@@ -213,8 +211,7 @@ module _ {X : Type 0} where
       fits.lines
 
   pub fits-moved : {ways : ℕ} {row : List (ℕ × ℕ)} {xs : List (ℕ × (ℕ × X))} (line : ℕ) {c : ℕ} (w : X) → Fits ways
-      row xs →
-      CellsOnce xs → find row line ≡ Some c → Fits ways row (cell.without c xs ++ (c, (line, w)) ∷ [])
+      row xs → CellsOnce xs → find row line ≡ Some c → Fits ways row (cell.without c xs ++ (c, (line, w)) ∷ [])
   fits-moved {ways} {row} {xs} line {c} w fits once h =
       let tag = sym (fits.found line) ∙ h in
       let fewer = length-without_exact (tags_of xs) line fits.lines (ap is_some tag) in

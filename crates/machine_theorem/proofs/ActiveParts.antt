@@ -1,12 +1,13 @@
 -- Which messages, attempts and evictions a part always does something with.
-use Rattle.std.proofs.Common.{◌≡◌, ℕ, ◌+◌, ◌<◌, Bool, true, false, ◌&&◌, cond, eqb, List, [], ◌∷◌}
+use Rattle.std.proofs.Common.{◌≡◌, ℕ, ◌+◌, ◌<◌, Bool, true, false, ◌&&◌, cond, eqb, List, [], ◌∷◌, ◌≤◌, ◌/◌}
 use Rattle.std.proofs.Common.{length, Option, Some, None, inl, inr, ◌⊎◌, refl, sym, ap, ◌∙◌, subst, ⊎_elim, arith}
 use Rattle.std.specs.Prelude.{is_some, option_map, Ok, Err}
 use Rattle.std.specs.List as list
 use Rattle.std.specs.List.{list_all}
 use Rattle.std.specs.Ordering.{nat_cmp}
 use Rattle.std.specs.FinMap.{FinMap}
-use Rattle.std.proofs.lemmas.Bool.{and_parts, cond-true, cond-false, eq-eqb, ne_eqb}
+use Rattle.std.proofs.lemmas.Bool.Decides.{nat_tests}
+use Rattle.std.proofs.lemmas.Bool.{and_parts, cond-true, cond-false, eqb-true, eq-eqb}
 use Rattle.physiological_order.specs.declared.operation.Op.{Op}
 use Rattle.physiological_order.specs.declared.operation.Op.TheVariants.{Load, Store, Swap}
 use Rattle.network.specs.declared.message.Body.{Body}
@@ -33,20 +34,79 @@ use Rattle.llc_bank.specs.OnEntry as on_entry
 use Rattle.llc_bank.specs.OnEntry.{at_bank}
 use Rattle.llc_bank.specs.Settled.{is_settled, is_shared}
 use Rattle.llc_bank.specs.BankTable as bank_table
-use Rattle.llc_bank.specs.BankTable.{BankState, comes_to_bank, is_owned}
+use Rattle.llc_bank.specs.BankTable.{BankState, comes_to_bank, is_owned, core_of}
 use Rattle.dram_mts.specs.Table.{dram_case, comes_to_dram}
 use Rattle.machine_table.specs.declared.event.Answer.TheVariants.{Held}
 use Rattle.machine_table.specs.Step.{Keeps, attempted, copy_evicted, entry_evicted, reacted}
 use Rattle.machine_theorem.specs.Rounds.{IsRequest}
+use Rattle.protocol.specs.Machine as by_line
+use Rattle.protocol.specs.Recalls.{recall_to}
 use Rattle.protocol.proofs.Lemmas.{Some_injective}
-use Rattle.machine_theorem.proofs.Deliveries.{and_right}
+use Rattle.machine_theorem.specs.View.{body_seen, message_seen, set_up, view}
+use Rattle.machine_theorem.proofs.Deliveries.{and_right, counts_if}
 use Rattle.machine_theorem.proofs.RoundEvents.{IsActive, IsTrying}
+use Rattle.machine_table.specs.declared.config.Config.{Config}
+use Rattle.machine_theorem.specs.States.{State}
+use Rattle.machine_theorem.specs.Kept.{IsKept}
+use Rattle.physiological_order.specs.Order.{address}
 
 -- a bank's recall of a line
 abbrev pub IsRecall : Body → Type 0
 IsRecall body.FlushReq = Unit {0}
 IsRecall (body.WbReq until) = Unit {0}
 IsRecall _ = ⊥
+
+-- what requests, or recalls, don't weigh
+pub no_request : (w : by_line.Message → ℕ) → ((c pts : ℕ) (version : Option ℕ) → w (by_line.ShReq c pts version) ≡ 0) →
+    ((c : ℕ) (version : Option ℕ) → w (by_line.ExReq c version) ≡ 0) → (x : Message) → IsRequest x.body →
+    w (message_seen x) ≡ 0
+no_request w sh ex x is = go x.body is
+  where
+    go : (b : Body) → IsRequest b → w (body_seen (core_of x.from) (core_of x.to) b) ≡ 0
+    go (body.ShReq pts version) is = sh (core_of x.from) pts version
+    go (body.ExReq version) is = ex (core_of x.from) version
+    go _ is = absurd is
+
+pub no_recall : (w : by_line.Message → ℕ) → ((c : ℕ) → w (by_line.FlushReq c) ≡ 0) →
+    ((c until : ℕ) → w (by_line.WbReq c until) ≡ 0) → (x : Message) → IsRecall x.body → w (message_seen x) ≡ 0
+no_recall w flush wb x is = go x.body is
+  where
+    go : (b : Body) → IsRecall b → w (body_seen (core_of x.from) (core_of x.to) b) ≡ 0
+    go body.FlushReq is = flush (core_of x.to)
+    go (body.WbReq until) is = wb (core_of x.to) until
+    go _ is = absurd is
+
+pub recall_weighs : (b : Body) → IsRecall b → (from to d : ℕ) → recall_to d (body_seen from to b) ≡ cond (eqb to d) 1 0
+recall_weighs body.FlushReq is from to d = refl
+recall_weighs (body.WbReq until) is from to d = refl
+recall_weighs _ is from to d = absurd is
+
+-- a core holds what is pinned on the line of its open operation
+pub pinned_op : (core : CoreState) (line : ℕ) → is_pinned (core_table.pinned_line core) line ≡ true →
+    (op : Op) × (core.open_op ≡ Some op) × (core_table.line_of core op ≡ line)
+pinned_op core line pinned = go core.open_op refl
+  where
+    go : (o : Option Op) → core.open_op ≡ o →
+        (op : Op) × (core.open_op ≡ Some op) × (core_table.line_of core op ≡ line)
+    go None opens = absurd (let z : false ≡ true =
+        sym (ap (λ (i : Option Op). is_pinned (option_map (core_table.line_of core) i) line) opens) ∙ pinned in cc)
+    go (Some op) opens = (
+      op,
+      opens,
+      eqb-true (core_table.line_of core op) line
+          (sym (ap (λ (i : Option Op). is_pinned (option_map (core_table.line_of core) i) line) opens) ∙ pinned),
+    )
+
+pub pinned_here : (config : Config) (opening : FinMap nat_cmp ℕ) (a : State) → IsKept config opening a → (c l : ℕ) →
+    is_pinned (core_table.pinned_line (a.cores c)) l ≡ true →
+    by_line.IsPinned (set_up config opening) (view config a).cores l c
+pinned_here config opening a s c l pinned = let op = pinned_op (a.cores c) l pinned in
+    (op.0, op.1, ap (λ (i : ℕ). address op.0 / i) (sym (s.shape.each_core c).line_words) ∙ op.2)
+
+-- the core that is asked to return a line
+pub recalled_core : (x : Message) → IsRecall x.body → (d : ℕ) → 1 ≤ recall_to d (message_seen x) → core_of x.to ≡ d
+recalled_core x is d some = eqb-true (core_of x.to) d (counts_if (eqb (core_of x.to) d) 1
+    (subst (λ (i : ℕ). 1 ≤ i) (recall_weighs x.body is (core_of x.from) (core_of x.to) d) some)).0
 
 module _ (more : Bool) (core : CoreState) (line : ℕ) where
   changes : (change : LineCopy → LineCopy) (o : Option LineCopy) → is_shared_copy o ≡ true →
@@ -76,7 +136,8 @@ module _ (more : Bool) (core : CoreState) (line : ℕ) where
 
   -- a message to a core, unless it is a recall of the line of the open operation
   pub core_active : (b : Body) (pinned : Bool) → comes_to_core core line b ≡ true →
-      IsActive more (reacted (core_table.after_reaction core line (at_core core.lease pinned (copy_of core.cache line) b)))
+      IsActive more (reacted (core_table.after_reaction core line
+      (at_core core.lease pinned (copy_of core.cache line) b)))
       ⊎ (IsRecall b × (pinned ≡ true))
   core_active (body.ShRep y) pinned comes = inl tt
   core_active (body.ExRep y) pinned comes = inl tt
@@ -106,7 +167,8 @@ module _ (core : CoreState) (op : Op) where
   served_tries more held None = tt
   served_tries more held (Some ts) = tt
 
-  needs : (version : Option ℕ) (p : Op) → IsTrying true (attempted core op (Some (core_table.need core.pts p version), core))
+  pub needs : (version : Option ℕ) (p : Op) → IsTrying true (attempted core op
+      (Some (core_table.need core.pts p version), core))
   needs version (Load a) = tt
   needs version (Store a v) = tt
   needs version (Swap a v) = tt
@@ -201,9 +263,7 @@ module _ {X : Type 0} (passes : X → Bool) (Else : Type 0) where
 
   behind : (p : ℕ × X) (ps : List (ℕ × X)) → is_there ps p.0 ≡ false → (h : ℕ) (x : X) → find ps h ≡ Some x →
       find (p ∷ ps) h ≡ Some x
-  behind p ps apart h x is =
-      cond-false (eqb p.0 h) (Some p.1) (find ps h)
-      (ne_eqb p.0 h (λ e. let z : false ≡ true = sym apart ∙ ap (is_there ps) e ∙ ap is_some is in cc)) ∙ is
+  behind p ps apart h x is = grind (arith, nat_tests)
 
   pub all_pass : (ps : List (ℕ × X)) → IsDistinct ps →
       ((h : ℕ) (x : X) → find ps h ≡ Some x → Else ⊎ (passes x ≡ true)) →

@@ -1,12 +1,11 @@
 -- Bags of messages: numbered, with one sent, and with one taken.
-use Rattle.std.proofs.Common.{◌≡◌, ℕ, ◌+◌, true, false, eqb, List, [], ◌∷◌, ◌++◌, length, Option, Some, None, refl, sym}
-use Rattle.std.proofs.Common.{ap, ◌∙◌, arith, ⊎_elim}
-use Rattle.std.proofs.lemmas.Bool.{cases_Bool, cond-true, cond-false}
+use Rattle.std.proofs.Common.{◌≡◌, ℕ, ◌+◌, List, [], ◌∷◌, ◌++◌, length, Option, Some, None, refl, sym}
+use Rattle.std.proofs.Common.{ap, ◌∙◌, arith}
+use Rattle.std.proofs.lemmas.Bool.Decides.{nat_tests}
 use Rattle.network.specs.declared.message.Message.{Message}
 use Rattle.network.specs.NumberedMessages.{IsRising, at_number, without_number}
 use Rattle.machine_theorem.specs.Bags.{weigh, SameBag, bag_of}
 use Rattle.machine_theorem.specs.States.{numbered_from}
-use Rattle.protocol.proofs.Lemmas.{Some_injective}
 
 -- numbers don't change a bag
 pub bag-numbered : (n : ℕ) (xs : List Message) → bag_of (numbered_from n xs) ≡ xs
@@ -39,15 +38,4 @@ pub bag-taken : (n : ℕ) (ms : List (ℕ × Message)) (m : Message) → at_numb
     SameBag (bag_of ms) (m ∷ bag_of (without_number n ms))
 bag-taken n [] m found h = absurd (let e : ◌≡◌ {A = Option Message} None (Some m) = found in cc)
 bag-taken n (x ∷ xs) m found h =
-    ⊎_elim
-    (λ (t : eqb x.0 n ≡ true).
-    let same : x.1 ≡ m = Some_injective x.1 m (sym (cond-true (eqb x.0 n) (Some x.1) (at_number n xs) t) ∙ found) in
-    ap (λ (y : Message). weigh h (y ∷ bag_of xs)) same
-    ∙ ap (λ (ys : List (ℕ × Message)). weigh h (m ∷ bag_of ys))
-    (sym (cond-true (eqb x.0 n) xs (x ∷ without_number n xs) t)))
-    (λ (f : eqb x.0 n ≡ false).
-    let rest = bag-taken n xs m (sym (cond-false (eqb x.0 n) (Some x.1) (at_number n xs) f) ∙ found) h in
-    let there : weigh h (bag_of (without_number n (x ∷ xs))) ≡ h x.1 + weigh h (bag_of (without_number n xs)) = ap
-    (λ (ys : List (ℕ × Message)). weigh h (bag_of ys)) (cond-false (eqb x.0 n) xs (x ∷ without_number n xs) f) in
-    omega arith)
-    (cases_Bool (eqb x.0 n))
+    let rest = λ (e : at_number n xs ≡ Some m). bag-taken n xs m e h in grind (arith, nat_tests, rest)

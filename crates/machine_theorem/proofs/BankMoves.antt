@@ -39,7 +39,7 @@ use Rattle.machine_theorem.specs.Moves.{with_bank, with_dram, with_answer}
 use Rattle.machine_theorem.specs.View.{timed, entry_seen, body_seen, message_seen, messages_of, set_up, line_seen, view}
 use Rattle.machine_theorem.specs.Shape.{IsBank, IsHome, GoesHome, IsOwnedBelow}
 use Rattle.machine_theorem.specs.Kept.{IsKept}
-use Rattle.machine_theorem.proofs.KeptSteps.{Goes}
+use Rattle.machine_theorem.proofs.KeptSteps.{Turned, Goes}
 use Rattle.machine_theorem.proofs.Lookups.{IsNow, put_now, change_now, drop_now, messages_here, messages_there}
 use Rattle.machine_theorem.proofs.Turns as turns
 use Rattle.machine_theorem.proofs.Routes.{GoesDown, both, core_and_bank, up_ends}
@@ -95,8 +95,9 @@ module _ (config : Config) (opening : FinMap nat_cmp ℕ) (a : State) (s : IsKep
       (counts : Counts) → IsNow own_set bank.table.sets table.sets l o → IsOwnedIf config.cores o →
       front ≡ messages_of bag l → ((k : ℕ) → k ≢ l → messages_of a.bag k ≡ messages_of bag k) →
       Each (GoesHome config) bag →
-      turns.Moves config opening a l time (record (line_seen config a l) { entry = entry_seen o; messages = front }) →
-      IsKept config opening (record a {
+      turns.Moves config opening a None l time
+      (record (line_seen config a l) { entry = entry_seen o; messages = front }) →
+      Turned config opening turns.delivering a (record a {
         banks = with_at a.banks b (record bank { mts = time; table = table });
         bag = bag;
         counts = counts;
@@ -116,17 +117,18 @@ module _ (config : Config) (opening : FinMap nat_cmp ℕ) (a : State) (s : IsKep
             each s.shape.cores_beyond
             (λ j le. with_at_other a.banks b new j (apart j le) ∙ s.shape.banks_beyond j le)
             s.shape.drams_beyond s.shape.lists_beyond;
-        reached = turns.bank_turn config opening a new l (entry_seen o) front bag (sym (ap entry_seen now.here)) bags
-            now.there others move s.reached;
+        leads = turns.bank_turn config opening a new l (entry_seen o) front bag (sym (ap entry_seen now.here)) bags
+            now.there others move;
       }
 
   -- a message is sent, with these in flight before it
   step_sent : (time : ℕ) (table : Sets Entry) (o : Option Entry) (bag : List Message) (q : Message) → q.line ≡ l →
       GoesHome config q → IsNow own_set bank.table.sets table.sets l o → IsOwnedIf config.cores o →
       ((k : ℕ) → k ≢ l → messages_of a.bag k ≡ messages_of bag k) → Each (GoesHome config) bag →
-      turns.Moves config opening a l time
+      turns.Moves config opening a None l time
       (record (line_seen config a l) { entry = entry_seen o; messages = message_seen q ∷ messages_of bag l }) →
-      IsKept config opening (with_answer (with_bank a b (record bank { mts = time; table = table })) bag (Some q))
+      Turned config opening turns.delivering a (with_answer (with_bank a b
+      (record bank { mts = time; table = table })) bag (Some q))
   step_sent time table o bag q line goes now owned others each =
       step time table o (message_seen q ∷ messages_of bag l) (q ∷ bag) (counted a.counts q.body) now owned
       (rw (← line) (sym (messages_here q bag)))
@@ -134,24 +136,25 @@ module _ (config : Config) (opening : FinMap nat_cmp ℕ) (a : State) (s : IsKep
 
   -- an entry leaves, or is recalled for that
   pub entry_goes : (o : Option Entry) → entry_of bank l ≡ o →
-      Goes config opening a (with_bank a b) a.bag (entry_evicted (after_eviction bank l (on_entry.evicted o)))
+      Goes config opening turns.delivering a (with_bank a b) a.bag
+      (entry_evicted (after_eviction bank l (on_entry.evicted o)))
   entry_goes None e = tt
   entry_goes (Some (entry.Shared false line)) e =
       step (max bank.mts line.rts) (without_entry bank l).table None (messages_of a.bag l) a.bag a.counts
       (drop_now own_set bank.table.sets is.sets l) tt refl (λ k ne. refl) s.shape.each_message
-      (evict_clean (timed line) (ap entry_seen e))
+      (evict_clean (timed line) (ap entry_seen e), refl)
   entry_goes (Some (entry.Shared true line)) e =
       step_sent (max bank.mts line.rts) (with_changed bank l entry.Storing).table (Some entry.Storing) a.bag
       (to_dram bank l (body.DramSt line.words)) refl
       (home (node.Dram bank.number) (body.DramSt line.words) is.numbered back)
       (change_now own_set bank.table.sets is.sets l entry.Storing (entry.Shared true line) e) tt (λ k ne. refl)
-      s.shape.each_message (evict_dirty (timed line) (ap entry_seen e))
+      s.shape.each_message (evict_dirty (timed line) (ap entry_seen e), refl)
   entry_goes (Some (entry.Exclusive o)) e =
       let owned = is.owners l (entry.Exclusive o) e in
       step_sent bank.mts (with_changed bank l (entry.Recalling o)).table (Some (entry.Recalling o)) a.bag
       (from_bank bank l (node.Core o) body.FlushReq) refl (home (node.Core o) body.FlushReq tt (down o owned))
       (change_now own_set bank.table.sets is.sets l (entry.Recalling o) (entry.Exclusive o) e) owned (λ k ne. refl)
-      s.shape.each_message (flush_starts o (ap entry_seen e))
+      s.shape.each_message (flush_starts o (ap entry_seen e), refl)
   entry_goes _ e = tt
 
 -- a message is delivered that comes first in the bag
@@ -183,10 +186,10 @@ module _ (config : Config) (opening : FinMap nat_cmp ℕ) (before : State) (mess
   place k = k / here.banks
 
   abbrev Reacts : Option (Reaction × BankState) → Type 0
-  Reacts o = Goes config opening a (with_bank a home_bank) rest (reacted o)
+  Reacts o = Goes config opening turns.delivering a (with_bank a home_bank) rest (reacted o)
 
   abbrev Leads : by_line.Entry → List by_line.Message → Type 0
-  Leads e ms = turns.Moves config opening a l here.mts (record (line_seen config a l) { entry = e; messages = ms })
+  Leads e ms = turns.Moves config opening a None l here.mts (record (line_seen config a l) { entry = e; messages = ms })
 
   loads : Leads Loading (DramLd ∷ messages_of a.bag l) →
       Reacts (Some (HeldAfter (to_dram here l body.DramLd), with_used here l entry.Loading))
@@ -278,11 +281,12 @@ module _ (config : Config) (opening : FinMap nat_cmp ℕ) (before : State) (mess
 
   answered : (new : FinMap nat_cmp (List ℕ)) (reply : Body) → has_route config.cores config.banks message.to
       message.from reply ≡ true → ((k : ℕ) → k ≢ l → words_of new k ≡ words_of lines k) →
-      turns.Moves config opening a l ((view config a).mts home_bank) (record (line_seen config a l) {
+      turns.Moves config opening a None l ((view config a).mts home_bank) (record (line_seen config a l) {
         dram = words_of new l;
         messages = body_seen (core_of message.to) (core_of message.from) reply ∷ messages_of rest l;
       }) →
-      Goes config opening a (with_dram a home_bank) rest (reacted (Some (Done (Some (answer_to message reply)), new)))
+      Goes config opening turns.delivering a (with_dram a home_bank) rest
+      (reacted (Some (Done (Some (answer_to message reply)), new)))
   answered new reply route there move =
       let q = answer_to message reply in
       record {
@@ -292,22 +296,22 @@ module _ (config : Config) (opening : FinMap nat_cmp ℕ) (before : State) (mess
             (λ j le. with_at_other a.drams home_bank new j (apart config opening a s l j le)
             ∙ s.shape.drams_beyond j le)
             s.shape.lists_beyond;
-        reached = turns.dram_turn config opening a new l
+        leads = turns.dram_turn config opening a new l
             (body_seen (core_of message.to) (core_of message.from) reply ∷ messages_of rest l) (q ∷ rest)
-            (sym (messages_here q rest)) there (λ k ne. others k ne ∙ messages_there q rest k ne) move s.reached;
+            (sym (messages_here q rest)) there (λ k ne. others k ne ∙ messages_there q rest k ne) move;
       }
 
   dram_delivered : (c : Body) → message.body ≡ c → comes_to_dram c ≡ true →
-      Goes config opening a (with_dram a home_bank) rest (reacted (dram_case lines message c))
+      Goes config opening turns.delivering a (with_dram a home_bank) rest (reacted (dram_case lines message c))
   dram_delivered body.DramLd e has =
       answered lines (body.DramLdRep (words_of lines l)) (rw e at goes_home.2) (λ k ne. refl)
-      (dram_loads (messages_of rest l) (came_as body.DramLd e))
+      (dram_loads (messages_of rest l) (came_as body.DramLd e), refl)
   dram_delivered (body.DramSt ws) e has =
       answered (insert lines l ws) body.DramStRep (rw e at goes_home.2) (λ k ne. words-insert_other lines l k ws ne)
-      (rw (words-insert_same lines l ws) (dram_stores ws (messages_of rest l) (came_as (body.DramSt ws) e)))
+      (rw (words-insert_same lines l ws) (dram_stores ws (messages_of rest l) (came_as (body.DramSt ws) e), refl))
   dram_delivered _ e has = absurd (let z : false ≡ true = has in cc)
 
   pub dram_delivery : dram_has_case lines message ≡ true →
-      Goes config opening a (with_dram a home_bank) rest (reacted (dram_table lines message))
+      Goes config opening turns.delivering a (with_dram a home_bank) rest (reacted (dram_table lines message))
   dram_delivery has =
       dram_delivered message.body refl (and_parts (is_dram message.to) (comes_to_dram message.body) has).1

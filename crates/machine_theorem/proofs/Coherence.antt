@@ -6,6 +6,7 @@ use Rattle.std.specs.List.{slice_get}
 use Rattle.std.specs.FinMap.{entries}
 use Rattle.std.proofs.lemmas.Option.{slice_get-get_or}
 use Rattle.std.proofs.Math.Nat.{mod-lt}
+use Rattle.std.proofs.lemmas.Bool.Decides.{nat_tests}
 use Rattle.network.specs.declared.message.Body.{Body}
 use Rattle.network.specs.declared.message.Body.TheVariants as body
 use Rattle.network.specs.declared.message.Message.{Message}
@@ -75,9 +76,7 @@ pub owners_weigh : (ms : List Message) (line : ℕ) → owners_in (messages_of m
 owners_weigh [] line = refl
 owners_weigh (x ∷ xs) line =
     let rest = owners_weigh xs line in
-    ⊎_elim (λ (e : eqb x.line line ≡ true). rw e
-    (ap₂ (λ a b. a + b) (carries_is (core_of x.from) (core_of x.to) x.body) rest))
-    (λ (e : eqb x.line line ≡ false). rw e (omega (arith, rest))) (cases_Bool (eqb x.line line))
+    let own = carries_is (core_of x.from) (core_of x.to) x.body in grind (arith, nat_tests, rest, own)
 
 pub owners_are : (ms : List (ℕ × Message)) (line : ℕ) → owners_in (messages_of (bag_of ms) line) ≡ count_messages
     (is_ownership_of line) ms
@@ -98,8 +97,7 @@ owner_first copies (suc n) = ap (owner_or (copies (suc n))) (owner_first copies 
         (owner_or (copies 0) None)) ≡ or_other (owner_or y (by_line.owner_words (λ k. copies (suc k)) n))
         (owner_or (copies 0) None)
     passed None = refl
-    passed (Some copy) = ⊎_elim (λ (e : copy.exclusive ≡ true). rw e) (λ (e : copy.exclusive ≡ false). rw e)
-        (cases_Bool copy.exclusive)
+    passed (Some copy) = grind (arith, nat_tests)
 
 none_owns : (cores : List CoreState) (line : ℕ) → exclusive_copies cores line ≡ 0 → owner_words cores line ≡ None
 none_owns [] line h = refl

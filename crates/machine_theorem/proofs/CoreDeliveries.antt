@@ -24,16 +24,15 @@ use Rattle.machine_table.specs.declared.config.Config.{Config}
 use Rattle.machine_table.specs.Step.{reacted}
 use Rattle.protocol.specs.Machine as by_line
 use Rattle.protocol.specs.Machine.{Line, with_at, IsPinned, Answers, answer}
-use Rattle.machine_theorem.proofs.PastWords.{goes_on}
 use Rattle.machine_theorem.specs.States.{State}
 use Rattle.machine_theorem.specs.Moves.{with_core, with_answer}
 use Rattle.machine_theorem.specs.View.{copy_seen, copy_or_none, body_seen, messages_of, core_seen, set_up, line_seen}
 use Rattle.machine_theorem.specs.View.{view}
 use Rattle.machine_theorem.specs.Shape.{IsCore}
 use Rattle.machine_theorem.specs.Kept.{IsKept}
-use Rattle.machine_theorem.proofs.KeptSteps.{shape_with, Goes}
+use Rattle.machine_theorem.proofs.KeptSteps.{shape_with, Turned, Goes}
 use Rattle.machine_theorem.proofs.Lookups.{IsNow, put_now, change_now, drop_now, messages_here, messages_there}
-use Rattle.machine_theorem.proofs.Turns.{core_turn, core_move, bag_turn}
+use Rattle.machine_theorem.proofs.Turns.{by_turn, delivering, core_turn, core_move, bag_turn}
 use Rattle.machine_theorem.proofs.OnCopies.{CoreFits, core_fits}
 use Rattle.machine_theorem.proofs.Rooms.{place-changed, place-without}
 use Rattle.machine_theorem.proofs.CoreMoves as moves
@@ -73,7 +72,8 @@ module _ (config : Config) (opening : FinMap nat_cmp ℕ) (before : State) (mess
       Answers c (line_seen config a l) (record (line_seen config a l) {
         copies = with_at (line_seen config a l).copies c (Some (copy_seen copy));
         messages = messages_of rest l;
-      }) → IsKept config opening (with_answer (with_core a c (record core { is_out = false; cache = kept })) rest None)
+      }) → Turned config opening delivering a
+      (with_answer (with_core a c (record core { is_out = false; cache = kept })) rest None)
   replied kept copy now answers =
       let y : Line = record (v.lines l) {
         copies = with_at ((v.lines l).copies) c (Some (copy_seen copy));
@@ -82,11 +82,11 @@ module _ (config : Config) (opening : FinMap nat_cmp ℕ) (before : State) (mess
       record {
         shape = moves.shape config opening a s c below core.pts core.open_op false kept now.some
             (λ p o q. absurd (let z : false ≡ true = q in cc)) rest a.records a.counts s.shape.each_message.1;
-        reached = core_turn config opening a c (record core { is_out = false; cache = kept }) l y
+        leads = core_turn config opening a c (record core { is_out = false; cache = kept }) l y
             (record (core_seen core) { out = false }) rest a.records
             (ap (λ (o : Option LineCopy). record y { copies = with_at ((v.lines l).copies) c (copy_or_none o) })
             (sym now.here)) refl (λ k ne. ap copy_or_none (now.there k ne)) others
-            (goes_on s.reached (answer {m = v} c l y answers));
+            (by_turn (answer {m = v} c l y answers));
       }
 
   kept_now : (old : LineCopy) → copy_of core.cache l ≡ Some old → (kept : Option LineCopy) →
@@ -104,7 +104,7 @@ module _ (config : Config) (opening : FinMap nat_cmp ℕ) (before : State) (mess
       (line_seen config a l) (messages_of rest l) (is_pinned (pinned_line core) l) (copy_of core.cache l)
 
   reaction_goes : (r : CoreReaction) → Fits r →
-      Goes config opening a (with_core a c) rest (reacted (core_table.after_reaction core l r))
+      Goes config opening delivering a (with_core a c) rest (reacted (core_table.after_reaction core l r))
   reaction_goes (Arrives copy) fit =
       replied (with_used core.cache l copy) copy (put_now (λ k. k) core.cache.sets is.sets l copy) fit
   reaction_goes (Grants copy) fit =
@@ -119,21 +119,21 @@ module _ (config : Config) (opening : FinMap nat_cmp ℕ) (before : State) (mess
             now.some (λ p o q. kept_room fit.0.0 fit.0.1 kept (core_table.line_of core p)
             (moves.off_line config opening a s c below l fit.1 p o) (is.room p o q)) (back ∷ rest) a.records
             (counted a.counts sent) (moves.home config opening a s c below l sent fit.2, s.shape.each_message.1);
-        reached = core_move config opening a c new l (copy_or_none kept) (body_seen c 0 sent ∷ messages_of rest l)
+        leads = core_move config opening a None c new l (copy_or_none kept) (body_seen c 0 sent ∷ messages_of rest l)
             (back ∷ rest) refl (sym (ap copy_or_none now.here)) (λ k ne. ap copy_or_none (now.there k ne))
             (moves.sent config opening a s c below l sent rest)
-            (λ k ne. others k ne ∙ messages_there back rest k ne) fit.3 s.reached;
+            (λ k ne. others k ne ∙ messages_there back rest k ne) fit.3;
       }
   reaction_goes Drops fit =
       record {
         shape = shape_with config opening a rest s.shape.each_message.1 s.shape;
-        reached = bag_turn config opening a l rest others fit s.reached;
+        leads = bag_turn config opening a l rest others fit;
       }
   reaction_goes NoCase fit = absurd fit
   reaction_goes _ fit = tt
 
   pub core_delivery : message.to ≡ node.Core c → core_table.core_has_case core message ≡ true →
-      Goes config opening a (with_core a c) rest (reacted (core_table.core_table core message))
+      Goes config opening delivering a (with_core a c) rest (reacted (core_table.core_table core message))
   core_delivery to has =
       let b = is_pinned (pinned_line core) l in
       let comes = (and_parts (is_this_core core.number message.to) (comes_to_core core l message.body) has).1 in

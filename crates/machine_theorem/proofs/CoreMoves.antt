@@ -36,17 +36,16 @@ use Rattle.protocol.specs.Machine.{Asks, to_read, to_write, Uses, issue, advance
 use Rattle.protocol.specs.Machine.{evict_exclusive}
 use Rattle.protocol.proofs.Lemmas.{with_at_same, with_at_other, with_at_cases, with_at_id, reachable_ok}
 use Rattle.protocol.proofs.Lemmas.{reachable_blocked, Some_injective}
-use Rattle.machine_theorem.specs.PastWords.{IsReached}
-use Rattle.machine_theorem.proofs.PastWords.{goes_on}
 use Rattle.machine_theorem.specs.States.{State}
 use Rattle.machine_theorem.specs.Moves.{with_core}
 use Rattle.machine_theorem.specs.View.{copy_seen, copy_or_none, body_seen, messages_of, copy_in, core_seen, set_up}
 use Rattle.machine_theorem.specs.View.{view}
 use Rattle.machine_theorem.specs.Shape.{IsCore, GoesHome, HasShape}
 use Rattle.machine_theorem.specs.Kept.{IsKept}
-use Rattle.machine_theorem.proofs.KeptSteps.{Goes, Tries}
+use Rattle.machine_theorem.proofs.KeptSteps.{Turned, Goes, Tries}
 use Rattle.machine_theorem.proofs.Lookups.{IsNow, put_now, drop_now, messages_here, messages_there}
-use Rattle.machine_theorem.proofs.Turns.{line_same, Moves, core_turn, core_alone, core_move}
+use Rattle.machine_theorem.proofs.Turns.{line_same, Leads, issuing, attempting, advancing, leaving, by_turn, Moves}
+use Rattle.machine_theorem.proofs.Turns.{core_turn, core_alone, core_move}
 use Rattle.machine_theorem.proofs.Routes.{GoesUp, core_and_bank}
 use Rattle.machine_theorem.proofs.Rooms.{place-without, place-there}
 use Rattle.machine_theorem.proofs.OnCopies.{serves_uses, serves_not, serves_clash}
@@ -71,18 +70,18 @@ completed_on n c l place op new received ts = record n {
 complete_at : (f : by_line.Config) (n : by_line.Machine) (c l place : ℕ) (op : Op) (copy new : Copy)
     (received : Option ℕ) (ts : ℕ) → line_of f (address op) ≡ l → length (of_core c n.records) ≡ place →
     (n.cores c).open_op ≡ Some op → (n.cores c).out ≡ false → (n.lines l).copies c ≡ Some copy →
-    Uses f (n.cores c).pts copy op received ts new → IsReached f n →
-    IsReached f (completed_on n c l place op new received ts)
-complete_at f n c l place op copy new received ts on count opens quiet is u r =
-    rw (← on, ← count) (goes_on r (complete {m = n} c op copy new received ts opens quiet (rw on is) u))
+    Uses f (n.cores c).pts copy op received ts new →
+    Leads f (attempting c) n (completed_on n c l place op new received ts)
+complete_at f n c l place op copy new received ts on count opens quiet is u =
+    rw (← on, ← count) (by_turn (complete {m = n} c op copy new received ts opens quiet (rw on is) u))
 
 ask_at : (f : by_line.Config) (n : by_line.Machine) (c l : ℕ) (op : Op) (y : Line) → line_of f (address op) ≡ l →
     (n.cores c).open_op ≡ Some op → (n.cores c).out ≡ false → Asks c (n.cores c).pts op (n.lines l) y →
-    IsReached f n → IsReached f (record n {
+    Leads f (attempting c) n (record n {
       cores = with_at n.cores c (record (n.cores c) { out = true });
       lines = with_at n.lines l y;
     })
-ask_at f n c l op y on opens quiet a r = rw (← on) (goes_on r (ask {m = n} c op y opens quiet (rw on a)))
+ask_at f n c l op y on opens quiet a = rw (← on) (by_turn (ask {m = n} c op y opens quiet (rw on a)))
 
 -- the request of an operation
 reads : (c pts a : ℕ) (x : Line) (version : Option ℕ) (y : Option Copy) → x.copies c ≡ y → CannotUse (Load a) pts y →
@@ -172,7 +171,8 @@ module _ (config : Config) (opening : FinMap nat_cmp ℕ) (a : State) (s : IsKep
   abbrev pub Issues : Op → Result (Unit {0}) IssueError × CoreState → Type 0
   Issues op (Err why, after) = Unit {0}
   Issues op (Ok done, after) =
-      IsKept config opening (record (with_core a c after) { issued = with_at a.issued c (a.issued c ++ op ∷ []) })
+      Turned config opening (issuing c) a
+      (record (with_core a c after) { issued = with_at a.issued c (a.issued c ++ op ∷ []) })
 
   issues_go : (op : Op) → core.open_op ≡ None → (b : Bool) →
       Issues op (cond b (Ok tt, record core { open_op = Some op; issued = core.issued + 1 })
@@ -192,8 +192,7 @@ module _ (config : Config) (opening : FinMap nat_cmp ℕ) (a : State) (s : IsKep
             (λ j le. with_at_other a.cores c new j (apart j le) ∙ s.shape.cores_beyond j le)
             s.shape.banks_beyond s.shape.drams_beyond
             (λ j le. with_at_other a.issued c more j (apart j le) ∙ s.shape.lists_beyond j le);
-        reached = core_alone config opening a c new (with_at a.issued c more) refl
-            (goes_on s.reached (issue {m = v} c op none));
+        leads = core_alone config opening a c new (with_at a.issued c more) refl (by_turn (issue {m = v} c op none));
       }
 
   pub issue_goes : (op : Op) (o : Option Op) → core.open_op ≡ o → Issues op (core_table.issue_to core op o)
@@ -201,7 +200,7 @@ module _ (config : Config) (opening : FinMap nat_cmp ℕ) (a : State) (s : IsKep
   issue_goes op None e = issues_go op e _
 
   -- a core's time goes on
-  pub advance_goes : (b : Bool) → Goes config opening a (with_core a c) a.bag
+  pub advance_goes : (b : Bool) → Goes config opening advancing a (with_core a c) a.bag
       (step.advanced (cond b (Some tt, record core { pts = core.pts + 1 }) (None, core)))
   advance_goes false = tt
   advance_goes true =
@@ -209,7 +208,7 @@ module _ (config : Config) (opening : FinMap nat_cmp ℕ) (a : State) (s : IsKep
       record {
         shape = shape (core.pts + 1) core.open_op core.is_out core.cache is.sets is.room a.bag a.records a.counts
             s.shape.each_message;
-        reached = core_alone config opening a c new a.issued refl (goes_on s.reached (advance {m = v} c));
+        leads = core_alone config opening a c new a.issued refl (by_turn (advance {m = v} c));
       }
 
   -- an attempt
@@ -218,7 +217,8 @@ module _ (config : Config) (opening : FinMap nat_cmp ℕ) (a : State) (s : IsKep
     l = core_table.line_of core op
 
     abbrev Attempts : Option Attempt × CoreState → Type 0
-    Attempts tries = Tries config opening a c a.bag (step.attempted core op tries)
+    Attempts tries = Tries config opening (Turned config opening (attempting c) a) a c a.bag
+        (step.attempted core op tries)
 
     on : line_of f (address op) ≡ l
     on = ap (λ (k : ℕ). address op / k) (sym is.line_words)
@@ -255,17 +255,17 @@ module _ (config : Config) (opening : FinMap nat_cmp ℕ) (a : State) (s : IsKep
           shape = shape ts None false (with_used core.cache l used) now.some
               (λ p o q. absurd (let z : ◌≡◌ {A = Option Op} None (Some p) = o in cc)) a.bag rs a.counts
               s.shape.each_message;
-          reached = core_turn config opening a c new l y (core_seen new) a.bag rs
+          leads = core_turn config opening a c new l y (core_seen new) a.bag rs
               (ap (λ (o : Option Copy). record (v.lines l) { copies = with_at ((v.lines l).copies) c o })
               (sym (ap copy_or_none now.here))) refl (λ k ne. ap copy_or_none (now.there k ne)) (λ k ne. refl)
               (complete_at f v c l (core.issued - 1) op (copy_seen copy) (copy_seen used) (received_at i op copy) ts
-              on count opens (quiet copy there can) (ap copy_or_none there) uses s.reached);
+              on count opens (quiet copy there can) (ap copy_or_none there) uses);
         }
 
     -- a request is sent
     requested_goes : (b : Body) → GoesUp b → place_for core.cache l ≡ true → core.is_out ≡ false →
         Asks c core.pts op (v.lines l) (record (v.lines l) { messages = body_seen c 0 b ∷ messages_of a.bag l }) →
-        Goes config opening a (with_core a c) a.bag (step.asks core op b)
+        Goes config opening (attempting c) a (with_core a c) a.bag (step.asks core op b)
     requested_goes b up place out asks =
         let q = to_bank core l b in
         let new : CoreState = record core { is_out = true } in
@@ -274,11 +274,11 @@ module _ (config : Config) (opening : FinMap nat_cmp ℕ) (a : State) (s : IsKep
           shape = shape core.pts core.open_op true core.cache is.sets
               (λ p o r. rw (← Some_injective op p (sym opens ∙ o)) place) (q ∷ a.bag) a.records (counted a.counts b)
               (home l b up, s.shape.each_message);
-          reached = core_turn config opening a c new l y (core_seen new) (q ∷ a.bag) a.records
+          leads = core_turn config opening a c new l y (core_seen new) (q ∷ a.bag) a.records
               (line_same _ _ refl (λ d. ap (λ (g : ℕ → Option Copy). g d)
               (sym (with_at_id ((v.lines l).copies) c (copy_in core l) refl))) (sent l b a.bag) refl) refl
               (λ k ne. refl) (messages_there q a.bag)
-              (ask_at f v c l op y on opens out asks s.reached);
+              (ask_at f v c l op y on opens out asks);
         }
 
     need_goes : (version : Option ℕ) (o : Option LineCopy) → copy_of core.cache l ≡ o → version_of (copy_or_none o) ≡
@@ -309,18 +309,20 @@ module _ (config : Config) (opening : FinMap nat_cmp ℕ) (a : State) (s : IsKep
         (λ out. need_goes (Some copy.wts) (Some copy) there refl (place-there core.cache l copy there) out
         (serves_not op core.pts copy no_use)))
 
-  pub attempt_goes : (o : Option Op) → core.open_op ≡ o → Tries config opening a c a.bag (step.attempt_open core o)
+  pub attempt_goes : (o : Option Op) → core.open_op ≡ o →
+      Tries config opening (Turned config opening (attempting c) a) a c a.bag (step.attempt_open core o)
   attempt_goes None e = tt
   attempt_goes (Some op) e = rw e (attempt_on_goes op e (copy_of core.cache (core_table.line_of core op)) refl)
 
   -- a copy leaves
   pub eviction_goes : (l : ℕ) (o : Option LineCopy) → copy_of core.cache l ≡ o →
-      Goes config opening a (with_core a c) a.bag (step.copy_evicted
+      Goes config opening (leaving c l) a (with_core a c) a.bag (step.copy_evicted
       (core_table.sent_back core l (cache.evicted core.cache l (pinned_line core) o)))
   eviction_goes l None there = tt
   eviction_goes l (Some copy) there =
       cond_both (is_pinned (pinned_line core) l) _ _
-      (λ r. Goes config opening a (with_core a c) a.bag (step.copy_evicted (core_table.sent_back core l r))) (λ p. tt)
+      (λ r. Goes config opening (leaving c l) a (with_core a c) a.bag
+      (step.copy_evicted (core_table.sent_back core l r))) (λ p. tt)
       (λ off. by_state off (is_exclusive copy.state) refl)
     where
       new : CoreState
@@ -340,16 +342,16 @@ module _ (config : Config) (opening : FinMap nat_cmp ℕ) (a : State) (s : IsKep
       -- these messages follow the copy
       left : (front : List by_line.Message) (bag : List Message) → front ≡ messages_of bag l →
           ((k : ℕ) → k ≢ l → messages_of a.bag k ≡ messages_of bag k) →
-          Moves config opening a l (v.mts (l % config.banks)) (record (v.lines l) {
+          Moves config opening a (Some c) l (v.mts (l % config.banks)) (record (v.lines l) {
             copies = with_at ((v.lines l).copies) c None;
             messages = front;
-          }) → IsReached f (view config (record a { cores = with_at a.cores c new; bag = bag }))
+          }) → Leads f (leaving c l) v (view config (record a { cores = with_at a.cores c new; bag = bag }))
       left front bag front_is others move =
-          core_move config opening a c new l None front bag refl (sym (ap copy_or_none now.here))
-          (λ k ne. ap copy_or_none (now.there k ne)) front_is others move s.reached
+          core_move config opening a (Some c) c new l None front bag refl (sym (ap copy_or_none now.here))
+          (λ k ne. ap copy_or_none (now.there k ne)) front_is others move
 
       by_state : is_pinned (pinned_line core) l ≡ false → (b : Bool) → is_exclusive copy.state ≡ b →
-          Goes config opening a (with_core a c) a.bag (step.copy_evicted (
+          Goes config opening (leaving c l) a (with_core a c) a.bag (step.copy_evicted (
             Ok (cond b (Some (to_bank core l (body.FlushRep (words_of_copy copy)))) None),
             new,
           ))
@@ -359,11 +361,11 @@ module _ (config : Config) (opening : FinMap nat_cmp ℕ) (a : State) (s : IsKep
           record {
             shape = gone off (back ∷ a.bag) (counted a.counts sent_back)
                 (home l sent_back (λ cores banks from to. refl), s.shape.each_message);
-            reached = left _ (back ∷ a.bag) (sent l sent_back a.bag) (messages_there back a.bag)
-                (evict_exclusive c (copy_seen copy) (unpinned l off) (ap copy_or_none there) ex);
+            leads = left _ (back ∷ a.bag) (sent l sent_back a.bag) (messages_there back a.bag)
+                (evict_exclusive c (copy_seen copy) (unpinned l off) (ap copy_or_none there) ex, refl);
           }
       by_state off false sh = record {
         shape = gone off a.bag a.counts s.shape.each_message;
-        reached = left (messages_of a.bag l) a.bag refl (λ k ne. refl)
-            (evict_shared c (copy_seen copy) (unpinned l off) (ap copy_or_none there) sh);
+        leads = left (messages_of a.bag l) a.bag refl (λ k ne. refl)
+            (evict_shared c (copy_seen copy) (unpinned l off) (ap copy_or_none there) sh, refl);
       }

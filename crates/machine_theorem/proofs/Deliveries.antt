@@ -30,7 +30,7 @@ use Rattle.machine_theorem.specs.Bags.{weigh, SameBag}
 use Rattle.machine_theorem.specs.States.{State}
 use Rattle.machine_theorem.specs.Moves.{Move, completes, with_completion}
 use Rattle.machine_theorem.specs.Consistent.{FindsCase}
-use Rattle.machine_theorem.specs.View.{message_seen, messages_of}
+use Rattle.machine_theorem.specs.View.{copy_or_none, message_seen, messages_of}
 use Rattle.machine_theorem.specs.Shape.{IsHome}
 use Rattle.machine_theorem.specs.Kept.{IsKept}
 use Rattle.machine_theorem.proofs.Services.{IsService, IsLate, a_core}
@@ -192,18 +192,21 @@ core_decided core x b p held r is pinned copy at =
     ∙ ap (λ (q : Bool). at_core core.lease q (copy_of core.cache x.line) b) pinned
     ∙ ap (λ (i : Option LineCopy). at_core core.lease p i b) copy ∙ at)
 
--- an attempt at an operation that the core's copy serves
+-- an attempt at an open operation, by the copy that there is
+pub attempt_as : (core : CoreState) (p : Op) → core.open_op ≡ Some p → (o : Option LineCopy) →
+    copy_of core.cache (core_table.line_of core p) ≡ o →
+    core_step core Attempting ≡ attempted core p (core_table.attempt_on core p o)
+attempt_as core p opens o is =
+    ap (step.attempt_open core) opens
+    ∙ ap (λ (i : Option Op). attempted core p (core_table.attempt_open core i)) opens
+    ∙ ap (λ (i : Option LineCopy). attempted core p (core_table.attempt_on core p i)) is
+
+-- one that the core's copy serves
 pub serving_attempt : (core : CoreState) (p : Op) (held : LineCopy) → core.open_op ≡ Some p →
     copy_of core.cache (core_table.line_of core p) ≡ Some held → on_copy.serves p core.pts held ≡ true →
     core_step core Attempting ≡ attempted core p (core_table.completed_at core p held
     (on_copy.time_of core.private_write core.pts p held))
-serving_attempt core p held opens is serves =
-    ap (step.attempt_open core) opens
-    ∙ ap (λ (o : Option Op). attempted core p (core_table.attempt_open core o)) opens
-    ∙ ap (λ (i : Option LineCopy). attempted core p (core_table.attempt_on core p i)) is
-    ∙ ap (λ (b : Bool). attempted core p (cond b (core_table.completed_at core p held
-    (on_copy.time_of core.private_write core.pts p held))
-    (Some (core_table.attempt_unserved core p held.wts), core))) serves
+serving_attempt core p held opens is serves = rw serves at (attempt_as core p opens (Some held) is)
 
 -- the core completes an operation with its copy at this time
 abbrev pub completed : State → ℕ → Op → LineCopy → ℕ → State
@@ -234,6 +237,12 @@ pub owner_serves : (pts : ℕ) (held : LineCopy) → is_exclusive held.state ≡
 owner_serves pts held ex (Load a) = ap (λ (b : Bool). b || leb pts held.rts) ex
 owner_serves pts held ex (Store a v) = ex
 owner_serves pts held ex (Swap a v) = ex
+
+-- a copy that owns its line
+pub owned_copy : (held : Option LineCopy) → by_line.owns (copy_or_none held) ≡ 1 →
+    (copy : LineCopy) × (held ≡ Some copy) × (is_exclusive copy.state ≡ true)
+owned_copy None e = absurd (omega arith)
+owned_copy (Some copy) e = (copy, refl, (counts_if (is_exclusive copy.state) 1 (omega arith)).0)
 
 -- what is on its way as a reply
 abbrev pub IsReply : Body → Type 0

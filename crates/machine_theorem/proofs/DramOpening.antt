@@ -1,7 +1,7 @@
 -- A DRAM opens with the words of the opening memory, eight to a line.
 use Rattle.std.proofs.Common.{◌≡◌, ◌≢◌, ℕ, zero, suc, ◌+◌, ◌*◌, ◌/◌, ◌%◌, ◌<◌, ◌≤◌, Bool, true, cond, eqb, List}
-use Rattle.std.proofs.Common.{[], ◌∷◌, length, replicate, set, get_or, Option, Some, refl, sym, ap, ◌∙◌, subst, arith}
-use Rattle.std.proofs.Common.{⊎_elim, get_or-set_same, get_or-set_other, length-set}
+use Rattle.std.proofs.Common.{[], ◌∷◌, length, replicate, set, get_or, Option, Some, refl, sym, ap, ◌∙◌, arith}
+use Rattle.std.proofs.Common.{⊎_elim, inl, inr, get_or-set_same, get_or-set_other, length-set}
 use Rattle.std.specs.Prelude.{unwrap_or}
 use Rattle.std.specs.Ordering.{nat_cmp, eq_by_cmp}
 use Rattle.std.specs.FinMap.{FinMap, empty, find, get-empty}
@@ -24,14 +24,11 @@ empty_words l = ap (λ (o : Option (List ℕ)). unwrap_or o (replicate 8 0)) (ge
 module _ (c : Config) (bank : ℕ) where
   word_long : (lines : FinMap nat_cmp (List ℕ)) (line index v l : ℕ) → ((k : ℕ) → length (words_of lines k) ≡ 8) →
       length (words_of (with_word lines line index v) l) ≡ 8
-  word_long lines line index v l long =
-      ⊎_elim
-      (λ (e : l ≡ line). subst (λ (k : ℕ). length (words_of (with_word lines line index v) k) ≡ 8) (sym e)
-      (ap length (words-insert_same lines line (set (words_of lines line) index v)) ∙ length-set (words_of lines line)
-      index v ∙ long line))
-      (λ (ne : l ≡ line → ⊥). ap length (words-insert_other lines line l (set (words_of lines line) index v) ne)
-      ∙ long l)
-      (cases_eq l line)
+  word_long lines line index v l long = elim (cases_eq l line) [
+    | inl e ↦ rw (e, words-insert_same lines line (set (words_of lines line) index v))
+        (length-set (words_of lines line) index v ∙ long line)
+    | inr ne ↦ rw (words-insert_other lines line l (set (words_of lines line) index v) ne) (long l)
+  ]
 
   pub dram_long : (es : List (ℕ × ℕ)) (l : ℕ) → length (words_of (dram_of c bank es) l) ≡ 8
   dram_long [] l = ap length (empty_words l)
@@ -43,15 +40,11 @@ module _ (c : Config) (bank : ℕ) where
   -- a word that isn't the one that is set stays
   word_stays : (lines : FinMap nat_cmp (List ℕ)) (line i v l k : ℕ) → (l ≡ line → k ≢ i) →
       get_or (words_of (with_word lines line i v) l) k 0 ≡ get_or (words_of lines l) k 0
-  word_stays lines line i v l k apart =
-      ⊎_elim
-      (λ (q : l ≡ line). subst (λ (j : ℕ). get_or (words_of (with_word lines line i v) j) k 0 ≡
-      get_or (words_of lines j) k 0) (sym q)
-      (ap (λ ws. get_or ws k 0) (words-insert_same lines line (set (words_of lines line) i v))
-      ∙ get_or-set_other (words_of lines line) i k v 0 (apart q)))
-      (λ (ne : l ≡ line → ⊥). ap (λ ws. get_or ws k 0)
-      (words-insert_other lines line l (set (words_of lines line) i v) ne))
-      (cases_eq l line)
+  word_stays lines line i v l k apart = elim (cases_eq l line) [
+    | inl q ↦ rw (q, words-insert_same lines line (set (words_of lines line) i v))
+        (get_or-set_other (words_of lines line) i k v 0 (apart q))
+    | inr ne ↦ rw (words-insert_other lines line l (set (words_of lines line) i v) ne) refl
+  ]
 
   -- no word is set behind those that lines have
   pub dram_zeros : 0 < c.line_words → (es : List (ℕ × ℕ)) (l k : ℕ) → c.line_words ≤ k →

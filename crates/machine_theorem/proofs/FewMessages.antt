@@ -1,30 +1,27 @@
 -- A machine that no event of a round changes has at most one message in flight for each core, if the recalls that cores
 -- hold find the owners.
-use Rattle.std.proofs.Common.{◌≡◌, ◌≢◌, ℕ, zero, suc, ◌+◌, ◌-◌, ◌/◌, ◌^◌, ◌<◌, ◌≤◌, Bool, true, false, eqb, List, []}
+use Rattle.std.proofs.Common.{◌≡◌, ◌≢◌, ℕ, zero, suc, ◌+◌, ◌-◌, ◌^◌, ◌<◌, ◌≤◌, Bool, true, false, eqb, List, []}
 use Rattle.std.proofs.Common.{◌∷◌, length, Option, Some, None, inl, inr, ◌⊎◌, refl, sym, ap, ◌∙◌, subst, ⊎_elim, arith}
-use Rattle.std.specs.Prelude.{option_map, nat_lt}
 use Rattle.std.specs.List.{slice_get, AllByRecursion as Each}
 use Rattle.std.specs.Ordering.{nat_cmp}
 use Rattle.std.specs.FinMap.{FinMap}
-use Rattle.std.proofs.lemmas.Bool.{and_parts, cases_eq, cond-true, cond-false, eqb-true, eq-eqb, ne_eqb, ltb-true}
-use Rattle.std.proofs.lemmas.Option.{get_or_from_slice_get}
+use Rattle.std.proofs.lemmas.Bool.{cases_eq, cond-true, cond-false, eq-eqb, ne_eqb}
+use Rattle.std.proofs.lemmas.Bool.Decides.{nat_tests}
 use Rattle.physiological_order.specs.declared.operation.Op.{Op}
 use Rattle.physiological_order.specs.Order.{address}
 use Rattle.network.specs.declared.message.Body.{Body}
 use Rattle.network.specs.declared.message.Body.TheVariants as body
 use Rattle.network.specs.declared.message.Message.{Message}
-use Rattle.network.specs.declared.message.Node.{Node}
 use Rattle.network.specs.declared.message.Node.TheVariants as node
 use Rattle.network.specs.NumberedMessages.{IsRising, at_number}
 use Rattle.network.specs.Routes.{has_route, is_core_to_bank}
-use Rattle.private_cache.specs.CopyTable.{copy_of, is_pinned}
-use Rattle.core_pts.specs.CoreTable as core_table
-use Rattle.core_pts.specs.CoreTable.{CoreState, pinned_line}
+use Rattle.private_cache.specs.CopyTable.{is_pinned}
+use Rattle.core_pts.specs.CoreTable.{pinned_line}
 use Rattle.llc_bank.specs.BankTable.{core_of}
 use Rattle.machine_table.specs.declared.config.Config.{Config}
 use Rattle.machine_table.specs.declared.event.Event.{Event}
 use Rattle.machine_table.specs.Machine.{Machine}
-use Rattle.machine_table.specs.Opening.{at_start, open_core}
+use Rattle.machine_table.specs.Opening.{at_start}
 use Rattle.machine_table.specs.Runs.{after_all}
 use Rattle.machine_table.specs.SetUp.{is_good}
 use Rattle.protocol.specs.Machine as by_line
@@ -37,16 +34,16 @@ use Rattle.machine_theorem.specs.Kept.{Invariant}
 use Rattle.machine_theorem.specs.Rounds.{IsRequest, MovesOn}
 use Rattle.machine_theorem.specs.Shape.{GoesHome}
 use Rattle.machine_theorem.specs.States.{seen}
-use Rattle.machine_theorem.specs.View.{body_seen, message_seen, messages_of, line_in, set_up, view}
-use Rattle.machine_theorem.proofs.ActiveParts.{IsRecall}
+use Rattle.machine_theorem.specs.View.{body_seen, message_seen, messages_of, line_in, set_up}
+use Rattle.machine_theorem.proofs.ActiveParts.{IsRecall, pinned_here, recall_weighs}
 use Rattle.machine_theorem.proofs.Bags.{bag-taken}
 use Rattle.machine_theorem.proofs.Deliveries.{of_line, line_weighs}
 use Rattle.machine_theorem.proofs.Events.{invariant}
-use Rattle.machine_theorem.proofs.MovingOn.{Stays, a_request, a_recall, owned_copy, message_moves, light_moves, asks}
+use Rattle.machine_theorem.proofs.MovingOn.{Stays, a_request, a_recall, message_moves, light_moves, asks}
 use Rattle.machine_theorem.proofs.MovingOn.{owner_moves}
-use Rattle.machine_theorem.proofs.Parts.{core_shape}
 use Rattle.machine_theorem.proofs.RoundEvents.{CanSend}
 use Rattle.machine_theorem.proofs.ServiceEvents.{bag_length, rising_after}
+use Rattle.machine_theorem.proofs.Routes.{up_ends}
 use Rattle.machine_theorem.proofs.SetUps.{after_all_same}
 
 -- what is so of each message that is found is so of all, or something else is
@@ -76,8 +73,7 @@ total_grows (suc n) w v = let z = total_grows n w v in omega (arith, z)
 one_more : (n c : ℕ) (w v : ℕ → ℕ) → c < n → 1 ≤ w c → total n v + 1 ≤ total n (λ d. w d + v d)
 one_more zero c w v below some = absurd (omega (arith, below))
 one_more (suc n) c w v below some = ⊎_elim
-    (λ (e : c ≡ n). let z = total_grows n w v in
-    let y = subst (λ (d : ℕ). 1 ≤ w d) e some in omega (arith, z, y))
+    (λ (e : c ≡ n). let z = total_grows n w v in let y = rw e at some in omega (arith, z, y))
     (λ (ne : c ≡ n → ⊥). let z = one_more n c w v (omega (arith, below, ne)) some in omega (arith, z)) (cases_eq c n)
 
 -- a message about a core that there is
@@ -98,36 +94,25 @@ on_line : (w : by_line.Message → ℕ) (l : ℕ) (bag : List Message) →
     ((k : ℕ) → k ≢ l → weigh (of_line k w) bag ≡ 0) → weigh (λ x. w (message_seen x)) bag ≡ weigh (of_line l w) bag
 on_line w l [] none = refl
 on_line w l (x ∷ xs) none =
-    let rest = on_line w l xs (λ k ne. let z = none k ne in omega (arith, z)) in ⊎_elim
-    (λ (e : x.line ≡ l). let z : of_line l w x ≡ w (message_seen x) =
-    cond-true (eqb x.line l) _ 0 (eq-eqb x.line l e) in omega (arith, rest, z))
-    (λ (ne : x.line ≡ l → ⊥). let z : of_line l w x ≡ 0 = cond-false (eqb x.line l) _ 0 (ne_eqb x.line l ne) in
-    let y : of_line x.line w x ≡ w (message_seen x) = cond-true (eqb x.line x.line) _ 0 (eq-eqb x.line x.line refl) in
-    let q = none x.line ne in omega (arith, rest, z, y, q)) (cases_eq x.line l)
+    let rest = on_line w l xs (λ k ne. let z = none k ne in omega (arith, z)) in
+    let other = none x.line in grind (arith, nat_tests, rest, other)
 
 -- a request is about its core, which there is
 requests : (config : Config) (x : Message) → GoesHome config x → IsRequest x.body → IsAbout config.cores x
-requests config x home is = go x.from x.body is home.2
+requests config x home is =
+    let u = up_ends config.cores config.banks x.from x.to (route x.body is home.2) in
+    (rw u.from_core u.some_core, asks x.body is (core_of x.from) (core_of x.to))
   where
-    one : (c : ℕ) → 1 ≤ one_if (eqb c c)
-    one c = let z = ap one_if (eq-eqb c c refl) in omega (arith, z)
+    route : (b : Body) → IsRequest b → has_route config.cores config.banks x.from x.to b ≡ true →
+        is_core_to_bank config.cores config.banks x.from x.to ≡ true
+    route (body.ShReq pts version) is r = r
+    route (body.ExReq version) is r = r
+    route _ is r = absurd is
 
-    core_there : (c : ℕ) (to : Node) → is_core_to_bank config.cores config.banks (node.Core c) to ≡ true →
-        nat_lt c config.cores ≡ true
-    core_there c (node.Bank b) route = (and_parts (nat_lt c config.cores) _ route).0
-    core_there c _ route = absurd (let z : false ≡ true = route in cc)
-
-    go : (from : Node) (b : Body) → IsRequest b → has_route config.cores config.banks from x.to b ≡ true →
-        (core_of from < config.cores) × (1 ≤ about (core_of from) (body_seen (core_of from) (core_of x.to) b))
-    go (node.Core c) (body.ShReq pts version) is route =
-        (ltb-true c config.cores (core_there c x.to route), one c)
-    go (node.Core c) (body.ExReq version) is route =
-        (ltb-true c config.cores (core_there c x.to route), one c)
-    go (node.Bank b) (body.ShReq pts version) is route = absurd (let z : false ≡ true = route in cc)
-    go (node.Bank b) (body.ExReq version) is route = absurd (let z : false ≡ true = route in cc)
-    go (node.Dram b) (body.ShReq pts version) is route = absurd (let z : false ≡ true = route in cc)
-    go (node.Dram b) (body.ExReq version) is route = absurd (let z : false ≡ true = route in cc)
-    go from _ is route = absurd is
+    asks : (b : Body) → IsRequest b → (from to : ℕ) → 1 ≤ about from (body_seen from to b)
+    asks (body.ShReq pts version) is from to = let z = ap one_if (eq-eqb from from refl) in omega (arith, z)
+    asks (body.ExReq version) is from to = let z = ap one_if (eq-eqb from from refl) in omega (arith, z)
+    asks _ is from to = absurd is
 
 module _ {more : Bool} (m : Machine) (able : CanSend more m) (s : Invariant m)
     (rising : IsRising 0 m.mail.messages m.mail.next) (owned : RecallsFindOwners m) where
@@ -138,55 +123,35 @@ module _ {more : Bool} (m : Machine) (able : CanSend more m) (s : Invariant m)
   bag = bag_of m.mail.messages
 
   -- a recall that is held finds the owner, which completes its operation, or its grant
-  held_moves : (n : ℕ) (x : Message) → at_number n m.mail.messages ≡ Some x → (c : ℕ) (core : CoreState) →
-      x.to ≡ node.Core c → slice_get m.cores c ≡ Some core → is_pinned (pinned_line core) x.line ≡ true →
+  held_moves : (n : ℕ) (x : Message) → at_number n m.mail.messages ≡ Some x → (c : ℕ) → x.to ≡ node.Core c →
+      slice_get m.cores c ≡ Some ((seen m).cores c) → is_pinned (pinned_line ((seen m).cores c)) x.line ≡ true →
       IsRecall x.body → MovesOn m
-  held_moves n x number c core to at pinned is = by_owner (owned x.line c recalled (pins core.open_op refl))
+  held_moves n x number c to at pinned is =
+      by_owner (owned x.line c recalled (pinned_here m.config m.opening (seen m) s.kept c x.line pinned))
     where
-      here : (seen m).cores c ≡ core
-      here = get_or_from_slice_get m.cores c core (open_core m.config c) at
-
-      its : (b : Body) → IsRecall b → recall_to c (body_seen (core_of x.from) c b) ≡ 1
-      its body.FlushReq is = cond-true (eqb c c) 1 0 (eq-eqb c c refl)
-      its (body.WbReq until) is = cond-true (eqb c c) 1 0 (eq-eqb c c refl)
-      its _ is = absurd is
-
       recalled : 1 ≤ tally (recall_to c) (messages_of bag x.line)
       recalled =
           let e = line_weighs x.line (recall_to c) bag in
           let t = bag-taken n m.mail.messages x number (of_line x.line (recall_to c)) in
           let w : of_line x.line (recall_to c) x ≡ 1 = cond-true (eqb x.line x.line) _ 0 (eq-eqb x.line x.line refl)
-          ∙ ap (λ (i : Node). recall_to c (body_seen (core_of x.from) (core_of i) x.body)) to ∙ its x.body is in
+          ∙ recall_weighs x.body is (core_of x.from) (core_of x.to) c
+          ∙ cond-true (eqb (core_of x.to) c) 1 0 (eq-eqb (core_of x.to) c (ap core_of to)) in
           omega (arith, e, t, w)
-
-      pins : (o : Option Op) → core.open_op ≡ o → IsPinned f (view m.config (seen m)).cores x.line c
-      pins None opens = absurd (let z : false ≡ true =
-          sym (ap (λ (i : Option Op). is_pinned (option_map (core_table.line_of core) i) x.line) opens) ∙ pinned in cc)
-      pins (Some p) opens = (
-        p,
-        ap (λ (k : CoreState). k.open_op) here ∙ opens,
-        ap (λ (k : ℕ). address p / k) (sym (core_shape m s c core at).line_words)
-            ∙ eqb-true (core_table.line_of core p) x.line
-            (sym (ap (λ (i : Option Op). is_pinned (option_map (core_table.line_of core) i) x.line) opens) ∙ pinned),
-      )
 
       by_owner : OwnsOrWill c (line_in m x.line) → MovesOn m
       by_owner (inr grant) = light_moves m able s rising (grant_to c) (λ d pts v. refl) (λ d v. refl) (λ d. refl)
           (λ d u. refl) x.line grant
-      by_owner (inl owns) =
-          let copy = owned_copy (copy_of ((seen m).cores c).cache x.line) owns in
-          owner_moves m able s rising c core at x.line copy.0
-          (sym (ap (λ (i : CoreState). copy_of i.cache x.line) here) ∙ copy.1) copy.2 pinned
+      by_owner (inl owns) = owner_moves m able s rising c at x.line owns pinned
 
   all_requests : MovesOn m ⊎ Each (λ x. IsRequest x.body) bag
   all_requests = each_found (λ x. IsRequest x.body) (MovesOn m) 0 m.mail.next m.mail.messages rising
       (λ n x low number. ⊎_elim (λ (moves : MovesOn m). inl moves) (stays n x number)
       (message_moves m able s rising n x number))
     where
-      stays : (n : ℕ) (x : Message) → at_number n m.mail.messages ≡ Some x → Stays m x →
+      stays : (n : ℕ) (x : Message) → at_number n m.mail.messages ≡ Some x → Stays m n x →
           MovesOn m ⊎ IsRequest x.body
-      stays n x number (a_request b bank to at has is) = inr is
-      stays n x number (a_recall c core to at pinned is) = inl (held_moves n x number c core to at pinned is)
+      stays n x number (a_request b to at reacts is) = inr is
+      stays n x number (a_recall c to at pinned is) = inl (held_moves n x number c to at pinned is)
 
   -- a core has at most one request in flight
   one_each : (c : ℕ) → weight bag c ≤ 1

@@ -1,11 +1,12 @@
 -- Every message in flight has a case in the table of the part that it goes to.
-use Rattle.std.proofs.Common.{◌≡◌, ℕ, ◌%◌, ◌/◌, ◌<◌, Bool, true, false, cond, eqb, List, [], ◌∷◌, Option, Some, None}
+use Rattle.std.proofs.Common.{◌≡◌, ℕ, ◌%◌, ◌/◌, ◌<◌, Bool, true, false, cond, eqb, List, [], ◌∷◌, get_or, Option, Some}
+use Rattle.std.proofs.Common.{None}
 use Rattle.std.proofs.Common.{refl, sym, ap, ◌∙◌, subst, arith}
-use Rattle.std.specs.List.{AllByRecursion as Each}
+use Rattle.std.specs.List.{slice_get, AllByRecursion as Each}
 use Rattle.std.specs.Option.{option_map}
 use Rattle.std.specs.Ordering.{nat_cmp}
 use Rattle.std.specs.FinMap.{FinMap, entries}
-use Rattle.std.proofs.lemmas.Option.{slice_get-get_or}
+use Rattle.std.proofs.lemmas.Option.{slice_get-get_or, get_or_from_slice_get}
 use Rattle.std.proofs.lemmas.Bool.{eq-eqb}
 use Rattle.physiological_order.specs.declared.operation.Op.{Op}
 use Rattle.physiological_order.specs.Order.{address}
@@ -14,6 +15,7 @@ use Rattle.network.specs.declared.message.Node.TheVariants as node
 use Rattle.network.specs.declared.message.Body.{Body}
 use Rattle.network.specs.declared.message.Body.TheVariants as body
 use Rattle.network.specs.declared.message.Message.{Message}
+use Rattle.network.specs.NumberedMessages.{at_number}
 use Rattle.network.specs.Routes.{has_route, is_bank_to_dram, is_core_to_bank}
 use Rattle.private_cache.specs.declared.line_copy.LineCopy.{LineCopy}
 use Rattle.private_cache.specs.CopyTable.{copy_of, place_for}
@@ -23,11 +25,15 @@ use Rattle.core_pts.specs.CoreTable.{core_has_case}
 use Rattle.llc_bank.specs.declared.entry.Entry.{Entry}
 use Rattle.llc_bank.specs.declared.entry.Entry.TheVariants as entry
 use Rattle.llc_bank.specs.BankTable.{BankState, core_of, entry_of, is_core, is_owned, is_this_bank, comes_to_bank}
-use Rattle.llc_bank.specs.BankTable.{bank_has_case}
-use Rattle.dram_mts.specs.Table.{is_dram, comes_to_dram, dram_has_case}
+use Rattle.llc_bank.specs.BankTable.{bank_has_case, bank_table}
+use Rattle.dram_mts.specs.Table.{is_dram, comes_to_dram, dram_has_case, dram_table}
 use Rattle.machine_table.specs.declared.config.Config.{Config}
-use Rattle.machine_table.specs.Machine.{Machine}
+use Rattle.machine_table.specs.declared.event.Event.TheVariants.{Deliver}
+use Rattle.machine_table.specs.Machine.{Machine, with_core, with_bank, with_dram}
 use Rattle.machine_table.specs.Opening.{dram_of, open_bank, open_core}
+use Rattle.machine_table.specs.Step.{reacted}
+use Rattle.machine_table.specs.Transition.{changed, on_event}
+use Rattle.machine_table.proofs.Lemmas.{delivers as is_delivered}
 use Rattle.protocol.specs.Machine as by_line
 use Rattle.protocol.specs.Machine.{WaitsFor, IsShared, IsGranted, HasCase}
 use Rattle.protocol.proofs.Lemmas.{messages_have_cases}
@@ -38,7 +44,7 @@ use Rattle.machine_theorem.specs.View.{copy_or_none, copy_in, entry_seen, entry_
 use Rattle.machine_theorem.specs.View.{messages_of, set_up, line_seen, view}
 use Rattle.machine_theorem.specs.Shape.{IsHome, IsCore, GoesHome}
 use Rattle.machine_theorem.specs.Kept.{IsKept, Invariant}
-use Rattle.machine_theorem.proofs.Lookups.{messages_here}
+use Rattle.machine_theorem.proofs.Lookups.{each_at_number, messages_here}
 use Rattle.machine_theorem.specs.Cases.{takes, has_case_at, has_case}
 use Rattle.machine_theorem.proofs.Routes.{both, up_ends, back_ends}
 
@@ -211,3 +217,41 @@ messages_find_cases m s = each m.mail.messages (bag_finds m.config m.opening (se
         Each (λ x. has_case m x.1 ≡ true) ms
     each [] k = tt
     each (x ∷ xs) k = (case_at x.1 x.1.to k.0.found, each xs k.1)
+
+-- the part that a message goes to, which has a case for it, and what happens when it is delivered
+pub data Gets (m : Machine) (n : ℕ) (x : Message) : Type 0 where
+  a_core : (c : ℕ) → x.to ≡ node.Core c → slice_get m.cores c ≡ Some ((seen m).cores c) →
+      core_has_case ((seen m).cores c) x ≡ true → on_event m (Deliver n)
+      ≡ changed m (with_core m c) (Some n) (reacted (core_table.core_table ((seen m).cores c) x)) → Gets m n x
+  a_bank : (b : ℕ) → x.to ≡ node.Bank b → slice_get m.banks b ≡ Some ((seen m).banks b) →
+      bank_has_case ((seen m).banks b) x ≡ true → on_event m (Deliver n)
+      ≡ changed m (with_bank m b) (Some n) (reacted (bank_table ((seen m).banks b) x)) → Gets m n x
+  a_dram : (b : ℕ) → x.to ≡ node.Dram b → slice_get m.drams b ≡ Some ((seen m).drams b) →
+      dram_has_case ((seen m).drams b) x ≡ true → on_event m (Deliver n)
+      ≡ changed m (with_dram m b) (Some n) (reacted (dram_table ((seen m).drams b) x)) → Gets m n x
+
+pub gets_it : (m : Machine) → Invariant m → (n : ℕ) (x : Message) → at_number n m.mail.messages ≡ Some x → Gets m n x
+gets_it m s n x number = go x.to refl
+    (each_at_number (λ y. has_case m y.1 ≡ true) n m.mail.messages x number (messages_find_cases m s) (λ k p. p))
+  where
+    part : {S : Type 0} (parts : List S) (i : ℕ) (d : S) (has_case : S → Message → Bool) →
+        takes has_case (slice_get parts i) x ≡ true →
+        (slice_get parts i ≡ Some (get_or parts i d)) × (has_case (get_or parts i d) x ≡ true)
+    part {S} parts i d has_case has = on (slice_get parts i) refl has
+      where
+        on : (o : Option S) → slice_get parts i ≡ o → takes has_case o x ≡ true →
+            (slice_get parts i ≡ Some (get_or parts i d)) × (has_case (get_or parts i d) x ≡ true)
+        on None at has = absurd (cc)
+        on (Some y) at has = let e = get_or_from_slice_get parts i y d at in
+            (at ∙ ap Some (sym e), ap (λ (z : S). has_case z x) e ∙ has)
+
+    go : (to : Node) → x.to ≡ to → has_case_at m x to ≡ true → Gets m n x
+    go (node.Core c) to has = let k = part m.cores c (open_core m.config c) core_has_case has in
+        a_core c to k.0 k.1 (is_delivered m n x (node.Core c) number to (with_core m c) (slice_get m.cores c) _ k.0
+        core_has_case core_table.core_table k.1 refl)
+    go (node.Bank b) to has = let k = part m.banks b (open_bank m.config b) bank_has_case has in
+        a_bank b to k.0 k.1 (is_delivered m n x (node.Bank b) number to (with_bank m b) (slice_get m.banks b) _ k.0
+        bank_has_case bank_table k.1 refl)
+    go (node.Dram b) to has = let k = part m.drams b (dram_of m.config b (entries m.opening)) dram_has_case has in
+        a_dram b to k.0 k.1 (is_delivered m n x (node.Dram b) number to (with_dram m b) (slice_get m.drams b) _ k.0
+        dram_has_case dram_table k.1 refl)

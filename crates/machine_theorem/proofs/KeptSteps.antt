@@ -21,7 +21,8 @@ use Rattle.machine_theorem.specs.Shape.{GoesHome, HasShape}
 use Rattle.machine_theorem.specs.Kept.{IsKept}
 use Rattle.machine_theorem.proofs.Reorderings.{Reordered, none, behind, swapped, followed, reordered}
 use Rattle.machine_theorem.proofs.Lookups.{messages_there}
-use Rattle.machine_theorem.proofs.Turns.{bag_turn}
+use Rattle.machine_theorem.proofs.Turns.{Kind, Leads, bag_turn}
+use Rattle.machine_theorem.proofs.PastWords.{goes_on}
 use Rattle.machine_theorem.proofs.ByParts.{shape_by}
 
 -- two messages next to one another
@@ -67,8 +68,8 @@ module _ (config : Config) (opening : FinMap nat_cmp ℕ) where
       rw (append_assoc before (x ∷ []) ys) at (reached_reordered a same (before ++ x ∷ [])
       (rw (append_assoc before (x ∷ []) xs) r))
   reached_reordered a (swapped x y xs) before r =
-      bag_turn config opening (record a { bag = before ++ x ∷ y ∷ xs }) x.line (before ++ y ∷ x ∷ xs)
-      (line_kept before x y xs) (shuffled _ (line_reordered before x y xs x.line)) r
+      goes_on r (bag_turn config opening (record a { bag = before ++ x ∷ y ∷ xs }) x.line (before ++ y ∷ x ∷ xs)
+      (line_kept before x y xs) (shuffled _ (line_reordered before x y xs x.line), refl)).turn
   reached_reordered a (followed same later) before r =
       reached_reordered a later before (reached_reordered a same before r)
 
@@ -101,29 +102,50 @@ module _ (config : Config) (opening : FinMap nat_cmp ℕ) where
         counts = k.counts i;
       }) (kept_reordered a b.bag k.bag s)
 
-  -- a step of a part keeps the invariant, if it leads to a state
-  abbrev pub Goes : {S : Type 0} → State → (S → State) → List Message → Step S → Type 0
-  Goes a put rest Drops = IsKept config opening (record a { bag = rest })
-  Goes a put rest (Makes did consumes sends part) =
-      IsKept config opening (with_answer (put part) (cond consumes rest a.bag) sends)
-  Goes a put rest _ = Unit {0}
+  -- a state with its shape, to which a transition of this kind leads
+  pub record Turned (kind : Kind) (a b : State) : Type 0 where
+    pub shape : HasShape config opening b
+    pub leads : Leads (set_up config opening) kind (view config a) (view config b)
 
-  pub goes_to : {S : Type 0} (a b : State) (put : S → State) (rest : List Message) (step : Step S) →
-      Goes a put rest step → StepsTo a put rest step b → IsKept config opening b
-  goes_to a b put rest Drops goes to = rw to goes
-  goes_to a b put rest (Makes did consumes sends part) goes to = rw to goes
-  goes_to a b put rest _ goes to = absurd to
+  pub turned_kept : {kind : Kind} (a b : State) → IsKept config opening a → Turned kind a b → IsKept config opening b
+  turned_kept a b s t = record { shape = t.shape; reached = goes_on s.reached t.leads.turn }
 
-  -- so does what an attempt of a core comes to
-  abbrev pub Tries : State → ℕ → List Message → Tried → Type 0
-  Tries a c rest (Completes op received ts core) = IsKept config opening (with_completion a c op received ts core)
-  Tries a c rest (Does step) = Goes a (with_core a c) rest step
+  -- this is so after a step of a part, if it leads to a state
+  abbrev pub Comes : {S : Type 0} → (State → Type 0) → State → (S → State) → List Message → Step S → Type 0
+  Comes X a put rest Drops = X (record a { bag = rest })
+  Comes X a put rest (Makes did consumes sends part) = X (with_answer (put part) (cond consumes rest a.bag) sends)
+  Comes X a put rest _ = Unit {0}
+
+  abbrev pub Goes : {S : Type 0} → Kind → State → (S → State) → List Message → Step S → Type 0
+  Goes kind a = Comes (Turned kind a) a
+
+  pub goes_to : {S : Type 0} (X : State → Type 0) (a b : State) (put : S → State) (rest : List Message)
+      (step : Step S) → Comes X a put rest step → StepsTo a put rest step b → X b
+  goes_to X a b put rest Drops goes to = rw to goes
+  goes_to X a b put rest (Makes did consumes sends part) goes to = rw to goes
+  goes_to X a b put rest _ goes to = absurd to
+
+  pub goes_kept : {S : Type 0} (kind : Kind) (a : State) (put : S → State) (rest : List Message) (step : Step S) →
+      IsKept config opening a → Goes kind a put rest step → Comes (IsKept config opening) a put rest step
+  goes_kept kind a put rest Drops s goes = turned_kept a _ s goes
+  goes_kept kind a put rest (Makes did consumes sends part) s goes = turned_kept a _ s goes
+  goes_kept kind a put rest _ s goes = tt
+
+  -- and after what an attempt of a core comes to
+  abbrev pub Tries : (State → Type 0) → State → ℕ → List Message → Tried → Type 0
+  Tries X a c rest (Completes op received ts core) = X (with_completion a c op received ts core)
+  Tries X a c rest (Does step) = Comes X a (with_core a c) rest step
+
+  pub tries_kept : (kind : Kind) (a : State) (c : ℕ) (rest : List Message) (t : Tried) → IsKept config opening a →
+      Tries (Turned kind a) a c rest t → Tries (IsKept config opening) a c rest t
+  tries_kept kind a c rest (Completes op received ts core) s goes = turned_kept a _ s goes
+  tries_kept kind a c rest (Does step) s goes = goes_kept kind a (with_core a c) rest step s goes
 
   -- where the delivered message comes first in the bag, or is in it anywhere
   pub found_anywhere : {S : Type 0} (a : State) (put : S → State) (message : Message) (rest : List Message) →
       SameBag a.bag (message ∷ rest) → (step : Step S) →
-      Goes (record a { bag = message ∷ rest }) (λ x. record (put x) { bag = message ∷ rest }) rest step →
-      Goes a put rest step
+      Comes (IsKept config opening) (record a { bag = message ∷ rest }) (λ x. record (put x) { bag = message ∷ rest })
+      rest step → Comes (IsKept config opening) a put rest step
   found_anywhere a put message rest same (Makes did true None part) goes = goes
   found_anywhere a put message rest same (Makes did true (Some q) part) goes = goes
   found_anywhere a put message rest same (Makes did false None part) goes =

@@ -26,7 +26,7 @@ pub use Rattle.machine_theorem.proofs.Lists.{first_at}
 pub use Rattle.machine_theorem.proofs.MovingOn.{moves_after}
 -- What rounds keep of recalls, event by event, and how many messages are in flight in a round that changes nothing.
 pub use Rattle.machine_theorem.proofs.FewMessages.{few_after}
-pub use Rattle.machine_theorem.proofs.RoundPhases.{Lasting, InTurn, Pends, Rested, AreOthers, turn_begins, turn_passes}
-pub use Rattle.machine_theorem.proofs.RoundPhases.{issue_lasts, advance_lasts, attempt_lasts, copy_lasts}
+pub use Rattle.machine_theorem.proofs.RoundPhases.{Claim, Lasting, InTurn, Pends, Rested, AreOthers, turn_begins}
+pub use Rattle.machine_theorem.proofs.RoundPhases.{turn_passes, issue_lasts, advance_lasts, attempt_lasts, copy_lasts}
 pub use Rattle.machine_theorem.proofs.RoundPhases.{delivery_lasts, again_lasts, line_lasts, delivery_begins}
 pub use Rattle.machine_theorem.proofs.RoundPhases.{delivery_ends, rising_others, opens_rested, rested_owns}

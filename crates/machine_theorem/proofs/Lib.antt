@@ -42,11 +42,8 @@ mod Reorderings
 mod Replies
 mod Rooms
 mod Routes
-mod RoundBanks
-mod RoundCores
-mod RoundDeliveries
 mod RoundEvents
-mod RoundPairs
+mod RoundLines
 mod RoundPhases
 mod RoundSteps
 mod RoundTurns

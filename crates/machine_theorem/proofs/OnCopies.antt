@@ -18,10 +18,11 @@ use Rattle.core_pts.specs.OnCopy.{is_exclusive, serves, time_of, received_at, co
 use Rattle.core_pts.specs.declared.decision.CoreReaction.{CoreReaction}
 use Rattle.core_pts.specs.declared.decision.CoreReaction.TheVariants.{Arrives, Grants, Returns, Drops, NoCase}
 use Rattle.protocol.specs.Machine.{Config, Message, RenewRep, UpgradeRep, FlushReq, WbReq, Line, with_at, CannotUse}
-use Rattle.protocol.specs.Machine.{Copy, NotOwned, LineTransition, dropped, wb_dropped, flushed, written_back, Answers}
+use Rattle.protocol.specs.Machine.{Copy, NotOwned, dropped, wb_dropped, flushed, written_back, Answers}
 use Rattle.protocol.specs.Machine.{shared, exclusive, renews, upgrades, Uses, load_hit, load_own, store_own, swap_own}
 use Rattle.protocol.proofs.Lemmas.{Some_injective}
 use Rattle.machine_theorem.proofs.Routes.{GoesUp}
+use Rattle.machine_theorem.proofs.Turns.{Changes}
 use Rattle.machine_theorem.specs.View.{copy_seen, copy_or_none, body_seen}
 
 -- the time of a write, where it fits
@@ -76,12 +77,12 @@ CoreFits lease pinned t c x rest b o (Arrives copy) =
 CoreFits lease pinned t c x rest b o (Grants copy) =
     IsThere o × Answers c x (record x { copies = with_at x.copies c (Some (copy_seen copy)); messages = rest })
 CoreFits lease pinned t c x rest b o (Returns kept sent) = IsThere o × (b ≡ false) × GoesUp sent ×
-    LineTransition lease false pinned t x t (record x {
+    Changes lease pinned None t x t (record x {
       copies = with_at x.copies c (copy_or_none kept);
       messages =
           body_seen c 0 sent ∷ rest;
     })
-CoreFits lease pinned t c x rest b o Drops = LineTransition lease false pinned t x t (record x { messages = rest })
+CoreFits lease pinned t c x rest b o Drops = Changes lease pinned None t x t (record x { messages = rest })
 CoreFits lease pinned t c x rest b o NoCase = ⊥
 CoreFits lease pinned t c x rest b o _ = Unit {0}
 
@@ -109,23 +110,28 @@ module _ (lease : ℕ) (pinned : ℕ → Type 0) (t c : ℕ) (x : Line) (rest : 
 
   flush_fits : (o : Option LineCopy) → x.copies c ≡ copy_or_none o → b ≡ false → (pinned c → ⊥) →
       IsPermutation x.messages (FlushReq c ∷ rest) → CoreFits lease pinned t c x rest b o (on_copy.flushed o)
-  flush_fits None is off un p = dropped c rest p (un, without_copy is)
+  flush_fits None is off un p = (dropped c rest p (un, without_copy is), refl)
   flush_fits (Some copy) is off un p =
       cond_both (is_exclusive copy.state) _ _ (CoreFits lease pinned t c x rest b (Some copy))
-      (λ ex. ((copy, refl), off, (λ cores banks from to. refl), flushed c rest (copy_seen copy) p un is ex))
-      (λ sh. dropped c rest p (un, with_shared copy is sh))
+      (λ ex. ((copy, refl), off, (λ cores banks from to. refl), (flushed c rest (copy_seen copy) p un is ex, refl)))
+      (λ sh. (dropped c rest p (un, with_shared copy is sh), refl))
 
   back_fits : (until : ℕ) (o : Option LineCopy) → x.copies c ≡ copy_or_none o → b ≡ false → (pinned c → ⊥) →
       IsPermutation x.messages (WbReq c until ∷ rest) → CoreFits lease pinned t c x rest b o
       (on_copy.written_back lease until o)
-  back_fits until None is off un p = wb_dropped c until rest p (un, without_copy is)
+  back_fits until None is off un p = (wb_dropped c until rest p (un, without_copy is), refl)
   back_fits until (Some copy) is off un p =
       cond_both (is_exclusive copy.state) _ _ (CoreFits lease pinned t c x rest b (Some copy))
       (λ ex. cond_both (fits (copy.wts + lease)) _ _
       (λ rts. CoreFits lease pinned t c x rest b (Some copy) (on_copy.returned copy rts))
-      (λ fit. ((copy, refl), off, (λ cores banks from to. refl), written_back c until rest (copy_seen copy) p un is ex))
+      (λ fit. (
+        (copy, refl),
+        off,
+        (λ cores banks from to. refl),
+        (written_back c until rest (copy_seen copy) p un is ex, refl),
+      ))
       (λ late. tt))
-      (λ sh. wb_dropped c until rest p (un, with_shared copy is sh))
+      (λ sh. (wb_dropped c until rest p (un, with_shared copy is sh), refl))
 
   pub core_fits : (core : CoreState) (line : ℕ) (m : Body) → (b ≡ false → pinned c → ⊥) → comes_to_core core line
       m ≡ true → x.copies c ≡ copy_or_none (copy_of core.cache line) → IsPermutation x.messages

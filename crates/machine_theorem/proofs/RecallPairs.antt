@@ -1,5 +1,5 @@
 -- What rounds keep of the recalls and returns of a line that go to and come from one core.
-use Rattle.std.proofs.Common.{◌≡◌, ◌≢◌, ℕ, zero, suc, ◌+◌, ◌≤◌, Option, Some, inl, inr, ◌⊎◌, refl, sym, ap, ◌∙◌, ⊎_elim}
+use Rattle.std.proofs.Common.{◌≡◌, ◌≢◌, ℕ, ◌+◌, ◌≤◌, Option, Some, inl, inr, ◌⊎◌, sym, ap, ◌∙◌, ⊎_elim}
 use Rattle.std.proofs.Common.{arith}
 use Rattle.physiological_order.specs.declared.operation.Op.{Op}
 use Rattle.physiological_order.specs.Order.{address}
@@ -41,6 +41,13 @@ module _ (f : Config) (l c : ℕ) where
     pub recalls_listed : (recalls c x ≤ recalled) ⊎ (OwnsOrWill c x ⊎ IsElsewhere f l o)
     pub returns_listed : x.entry ≡ Exclusive c → returns c x ≤ returned
 
+  pub listed_by : (x : Line) (o : Option Op) (qr qb pr pb : ℕ) → (recalls c x ≤ qr → recalls c x ≤ pr) →
+      (returns c x ≤ qb → returns c x ≤ pb) → Listed x o qr qb → Listed x o pr pb
+  listed_by x o qr qb pr pb r b s = record {
+    recalls_listed = ⊎_elim (λ (z : recalls c x ≤ qr). inl (r z)) (λ z. inr z) s.recalls_listed;
+    returns_listed = λ is. b (s.returns_listed is);
+  }
+
   -- the entry is another, and doesn't name the core
   abbrev pub IsOther : Entry → Type 0
   IsOther e = (e ≢ Exclusive c) × (e ≢ Recalling c)
@@ -52,18 +59,18 @@ module _ (f : Config) (l c : ℕ) where
     pub returned : returns c y ≤ returns c x
     pub owned : OwnsOrWill c x → OwnsOrWill c y
 
+  still_exclusive : (x y : Line) → Eased x y → y.entry ≡ Exclusive c → x.entry ≡ Exclusive c
+  still_exclusive x y e is = ⊎_elim (λ (q : y.entry ≡ x.entry). sym q ∙ is)
+      (λ (q : IsOther y.entry). absurd (q.0 is)) e.entry
+
   pub eased : (x y : Line) (o : Option Op) → Eased x y → Sound x o → Sound y o
   eased x y o e s = record {
     held = λ some here. e.owned (s.held (let z = e.recalled in omega (arith, some, z)) here);
-    unasked = λ is. ⊎_elim
-        (λ (q : y.entry ≡ x.entry). let z = s.unasked (sym q ∙ is) in let r = e.recalled in omega (arith, z, r))
-        (λ (q : IsOther y.entry). absurd (q.0 is)) e.entry;
-    asked = λ is. ⊎_elim
-        (λ (q : y.entry ≡ x.entry). let z = s.asked (sym q ∙ is) in let r = e.recalled in omega (arith, z, r))
+    unasked = λ is. let z = s.unasked (still_exclusive x y e is) in let r = e.recalled in omega (arith, z, r);
+    asked = λ is. let r = e.recalled in ⊎_elim
+        (λ (q : y.entry ≡ x.entry). let z = s.asked (sym q ∙ is) in omega (arith, z, r))
         (λ (q : IsOther y.entry). absurd (q.1 is)) e.entry;
-    returning = λ some is. ⊎_elim
-        (λ (q : y.entry ≡ x.entry). s.returning (let r = e.returned in omega (arith, some, r)) (sym q ∙ is))
-        (λ (q : IsOther y.entry). absurd (q.0 is)) e.entry;
+    returning = λ some is. s.returning (let r = e.returned in omega (arith, some, r)) (still_exclusive x y e is);
   }
 
   pub eased_list : (x y : Line) (o : Option Op) (qr qb pr pb : ℕ) → Eased x y →
@@ -73,14 +80,16 @@ module _ (f : Config) (l c : ℕ) where
     recalls_listed = ⊎_elim (λ (z : recalls c x ≤ qr). inl (r z))
         (λ (z : OwnsOrWill c x ⊎ IsElsewhere f l o). inr (⊎_elim (λ (w : OwnsOrWill c x). inl (e.owned w))
         (λ (w : IsElsewhere f l o). inr w) z)) s.recalls_listed;
-    returns_listed = λ is. ⊎_elim (λ (q : y.entry ≡ x.entry). b (s.returns_listed (sym q ∙ is)))
-        (λ (q : IsOther y.entry). absurd (q.0 is)) e.entry;
+    returns_listed = λ is. b (s.returns_listed (still_exclusive x y e is));
   }
+
+  -- nothing is left to be delivered
+  abbrev pub Settled : Line → Option Op → Type 0
+  Settled y o = Sound y o × Listed y o 0 0
 
   -- the core gives the line back, as it is asked
   pub served : (x y : Line) (o : Option Op) → y.entry ≡ x.entry →
-      ((x.entry ≡ Exclusive c) ⊎ (x.entry ≡ Recalling c)) → recalls c y + 1 ≡ recalls c x → Sound x o →
-      Sound y o × Listed y o 0 0
+      ((x.entry ≡ Exclusive c) ⊎ (x.entry ≡ Recalling c)) → recalls c y + 1 ≡ recalls c x → Sound x o → Settled y o
   served x y o same named one s = (
     record {
       held = λ some here. absurd (let z = gone in omega (arith, some, z));
@@ -102,10 +111,10 @@ module _ (f : Config) (l c : ℕ) where
       clash is = let z : Exclusive c ≡ Recalling c = sym is ∙ same ∙ is_recalled in cc
 
   -- the bank recalls the line
-  pub recalled : (x y : Line) (o : Option Op) (qr qb : ℕ) → x.entry ≡ Exclusive c → y.entry ≡ Recalling c →
+  pub recalled : (x y : Line) (o : Option Op) → x.entry ≡ Exclusive c → y.entry ≡ Recalling c →
       recalls c y ≡ recalls c x + 1 → (OwnsOrWill c x → OwnsOrWill c y) →
-      (1 ≤ returns c x) ⊎ OwnsOrWill c x → Sound x o → Sound y o × Listed y o qr qb
-  recalled x y o qr qb was is more owned answers s = (
+      (1 ≤ returns c x) ⊎ OwnsOrWill c x → Sound x o → Settled y o
+  recalled x y o was is more owned answers s = (
     record {
       held = λ some here. ⊎_elim
           (λ (back : 1 ≤ returns c x). absurd (not_both f l o here (s.returning back was)))
@@ -125,10 +134,9 @@ module _ (f : Config) (l c : ℕ) where
       clash e = let z : Exclusive c ≡ Recalling c = sym e ∙ is in cc
 
   -- the bank grants the line to the core, which asks for it
-  pub granted : (x y : Line) (o : Option Op) (qr qb : ℕ) → (OwnsOrWill c x → ⊥) → y.entry ≡ Exclusive c →
-      recalls c y ≤ recalls c x → returns c y ≡ 0 → OwnsOrWill c y → IsHere f l o → Sound x o →
-      Sound y o × Listed y o qr qb
-  granted x y o qr qb unowned is fewer none own here s = (
+  pub granted : (x y : Line) (o : Option Op) → (OwnsOrWill c x → ⊥) → y.entry ≡ Exclusive c →
+      recalls c y ≤ recalls c x → returns c y ≡ 0 → OwnsOrWill c y → IsHere f l o → Sound x o → Settled y o
+  granted x y o unowned is fewer none own here s = (
     record {
       held = λ some at. own;
       unasked = λ e. ⊎_elim (λ (z : recalls c x ≡ 0). omega (arith, z, fewer))
@@ -140,11 +148,4 @@ module _ (f : Config) (l c : ℕ) where
   )
     where
       none_or_some : (n : ℕ) → (n ≡ 0) ⊎ (1 ≤ n)
-      none_or_some zero = inl refl
-      none_or_some (suc n) = inr (omega arith)
-
-  -- the core holds a recall
-  pub holds : (x : Line) (o : Option Op) (qb pr : ℕ) → IsHere f l o → 1 ≤ recalls c x → Sound x o →
-      (x.entry ≡ Exclusive c → returns c x ≤ qb) → Listed x o pr qb
-  holds x o qb pr here some s listed =
-      record { recalls_listed = inr (inl (s.held some here)); returns_listed = listed }
+      none_or_some n = grind arith

@@ -39,13 +39,15 @@ use Rattle.machine_theorem.proofs.Services.{a_core, IsLate, IsService, leads_lat
 use Rattle.machine_theorem.proofs.Bags.{as_many}
 use Rattle.machine_theorem.proofs.Lookups.{put_now, messages_here}
 use Rattle.machine_theorem.proofs.Consistency.{state_consistent, line_counts}
-use Rattle.machine_theorem.proofs.Deliveries.{counts_if, of_line, line_weighs, Found, found, found_of, ToCore, to_core}
+use Rattle.machine_theorem.proofs.Deliveries.{owned_copy, counts_if, of_line, line_weighs, Found, found, found_of}
+use Rattle.machine_theorem.proofs.Deliveries.{ToCore, to_core}
 use Rattle.machine_theorem.proofs.Deliveries.{core_decided, owner_serves, IsReply, Suits, completed, its_core, served}
-use Rattle.machine_theorem.proofs.Ways.{Setting, IsAsk, IsRequest, Stands, Beside, Way, way_after, way_here, kept}
+use Rattle.machine_theorem.proofs.Ways.{Setting, AsksFor, Stands, Beside, Way, way_after, way_here, kept}
 use Rattle.machine_theorem.proofs.Ways.{unasked, asked_still, IsShared, IsGone, by_return, evicts, by_loading}
 use Rattle.machine_theorem.proofs.Ways.{by_storing, by_shared, way_then, answered, bank_moves, changed}
 use Rattle.machine_theorem.specs.Shape.{IsCore}
 use Rattle.machine_theorem.proofs.Taken.{takes}
+use Rattle.machine_theorem.specs.Rounds.{IsRequest}
 
 -- The core waits for a reply: its operation is open on the line, and one request is out.
 pub record Waits (who : Setting) : Type 0 where
@@ -136,7 +138,7 @@ module _ (who : Setting) where
     where
       -- the core gives the line back
       gives : (x : Message) (rest : List Message) (taken : SameBag a.bag (x ∷ rest)) (b : Body) → x.body ≡ b →
-          (IsAsk b → ⊥) → ToCore config opening a (kept who a st) x rest taken → core_of x.to ≡ o →
+          (IsRequest b → ⊥) → ToCore config opening a (kept who a st) x rest taken → core_of x.to ≡ o →
           (kept_copy : Option LineCopy) (line : TimedLine) (sent : Body) →
           (sent ≡ body.FlushRep line) ⊎ (sent ≡ body.WbRep line) →
           core_step (a.cores o) (Getting x)
@@ -271,12 +273,12 @@ module _ (who : Setting) where
         q : Found w rest
         q = found w rest (let z = asked_still who a.bag x rest taken calm st.asked in omega arith)
 
-        asks : (b : Body) → IsAsk b → (from to : ℕ) → from ≡ c → 1 ≤ about c (body_seen from to b)
+        asks : (b : Body) → IsRequest b → (from to : ℕ) → from ≡ c → 1 ≤ about c (body_seen from to b)
         asks (body.ShReq pts version) ask from to e = let z = ap one_if (eq-eqb from c e) in omega arith
         asks (body.ExReq version) ask from to e = let z = ap one_if (eq-eqb from c e) in omega arith
         asks _ ask from to e = absurd ask
 
-        request : IsRequest c l q.message
+        request : AsksFor c l q.message
         request = who.w_asks q.message q.weighs
 
         by_line' : (h ≡ l) ⊎ (h ≡ l → ⊥) → ⊥
@@ -303,7 +305,7 @@ module _ (who : Setting) where
         rw (← k.line) (go k.message k.rest k.taken (rw k.line recall) k.message.body refl k.weighs)
       where
         granted : (x : Message) (rest : List Message) (taken : SameBag a.bag (x ∷ rest)) (b : Body) → x.body ≡ b →
-            (IsAsk b → ⊥) → 1 ≤ tally (recall_to o) (messages_of a.bag x.line) →
+            (IsRequest b → ⊥) → 1 ≤ tally (recall_to o) (messages_of a.bag x.line) →
             ToCore config opening a (kept who a st) x rest taken → core_of x.to ≡ o →
             ((from to : ℕ) → about to (body_seen from to b) ≡ one_if (eqb to to)) →
             ((from to : ℕ) → recall_to o (body_seen from to b) ≡ 0) → IsReply b → ((p : Op) (pts : ℕ) → Suits p pts b) →
@@ -344,11 +346,6 @@ module _ (who : Setting) where
         (entry.Recalling o) →
         o < config.cores
     owner_below a st h o is = ((kept who a st).shape.each_bank (home h)).owners h (entry.Recalling o) is
-
-    pub owned_copy : (held : Option LineCopy) → by_line.owns (copy_or_none held) ≡ 1 →
-        (copy' : LineCopy) × (held ≡ Some copy') × (is_exclusive copy'.state ≡ true)
-    owned_copy None e = absurd (omega arith)
-    owned_copy (Some copy') e = (copy', refl, (counts_if (is_exclusive copy'.state) 1 (omega arith)).0)
 
     pub by_recalling : (a : State) → Stands who a → length a.bag ≤ suc n → (h o : ℕ) →
         entry_of (a.banks (home h)) h ≡ Some (entry.Recalling o) → Way who h 4 (IsShared who h) a

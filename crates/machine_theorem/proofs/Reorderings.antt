@@ -20,18 +20,13 @@ each_is false y e = absurd (let z : false ≡ true = e in cc)
 
 same_tree-true : (a b : Gv) → same_tree a b ≡ true → a ≡ b
 same_tree-true gnil gnil e = refl
-same_tree-true gnil (gnum n) e = absurd (let z : false ≡ true = e in cc)
-same_tree-true gnil (gcons c d) e = absurd (let z : false ≡ true = e in cc)
-same_tree-true (gnum m) gnil e = absurd (let z : false ≡ true = e in cc)
 same_tree-true (gnum m) (gnum n) e = ap gnum (eqb-true m n e)
-same_tree-true (gnum m) (gcons c d) e = absurd (let z : false ≡ true = e in cc)
-same_tree-true (gcons a b) gnil e = absurd (let z : false ≡ true = e in cc)
-same_tree-true (gcons a b) (gnum n) e = absurd (let z : false ≡ true = e in cc)
 same_tree-true (gcons a b) (gcons c d) e =
     let p = each_is (same_tree a c) (same_tree b d) e in
     let q = same_tree-true a c p.0 in
     let r = same_tree-true b d p.1 in
     λ i. gcons (q i) (r i)
+same_tree-true _ _ e = absurd (cc)
 
 same_tree-refl : (a : Gv) → same_tree a a ≡ true
 same_tree-refl gnil = refl

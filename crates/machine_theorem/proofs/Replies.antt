@@ -37,9 +37,10 @@ use Rattle.machine_theorem.proofs.Sizes.{reached_sized, lines_fewer, first_there
 use Rattle.machine_theorem.proofs.Openings.{fair}
 use Rattle.machine_theorem.proofs.Deliveries.{Found, found, ToBank, to_bank}
 use Rattle.line_sets.specs.Order.{is_there}
-use Rattle.machine_theorem.proofs.Ways.{Setting, IsAsk, IsRequest, Stands, Comes, Way, way_here, kept, IsShared, IsGone}
+use Rattle.machine_theorem.proofs.Ways.{Setting, AsksFor, Stands, Comes, Way, way_here, kept, IsShared, IsGone}
 use Rattle.machine_theorem.proofs.Ways.{decided, by_loading, by_storing, Path, path_of, path_then, bank_moves, put}
 use Rattle.machine_theorem.proofs.Recalled.{Waits, by_recalling, by_exclusive, emptied}
+use Rattle.machine_theorem.specs.Rounds.{IsRequest}
 
 module _ (who : Setting) where
   open who use {config, opening, n, c, l, K}
@@ -160,10 +161,11 @@ module _ (who : Setting) (how : Waits who) where
     abbrev q : Message
     q = request.message
 
-    is_request : IsRequest c l q
+    is_request : AsksFor c l q
     is_request = who.w_asks q request.weighs
 
-    asks_bank : (b : Body) → IsAsk b → ((core : CoreState) (line : ℕ) → core_table.comes_to_core core line b ≡ false)
+    asks_bank : (b : Body) → IsRequest b → ((core : CoreState) (line : ℕ) →
+        core_table.comes_to_core core line b ≡ false)
         × (comes_to_dram b ≡ false)
     asks_bank (body.ShReq pts version) ask = (λ k i. refl, refl)
     asks_bank (body.ExReq version) ask = (λ k i. refl, refl)
@@ -207,7 +209,7 @@ module _ (who : Setting) (how : Waits who) where
           (put who a st x.line entry.Loading) st.asked size
           (λ s same ss less now. by_loading who s ss less x.line now)
 
-      go : (b : Body) → x.body ≡ b → IsAsk b → Way who x.line 3 (IsShared who x.line) a
+      go : (b : Body) → x.body ≡ b → IsRequest b → Way who x.line 3 (IsShared who x.line) a
       go (body.ShReq pts version) is ask = started (body.ShReq pts version) is (λ core. refl)
       go (body.ExReq version) is ask = started (body.ExReq version) is (λ core. refl)
       go _ is ask = absurd ask
@@ -282,7 +284,7 @@ module _ (who : Setting) (how : Waits who) where
               refl {a = of_core c a.records},
             ))
 
-        go : (b : Body) → x.body ≡ b → IsAsk b → Answered who Suits 1 a
+        go : (b : Body) → x.body ≡ b → IsRequest b → Answered who Suits 1 a
         go (body.ShReq pts version) e ask = by_lease _ refl
           where
             by_lease : (o : Option (ℕ × Bool)) →

@@ -1,9 +1,10 @@
 -- A place for a line stays where other lines of a cache are changed or leave.
-use Rattle.std.proofs.Common.{◌≡◌, ◌≢◌, ℕ, ◌%◌, ◌<◌, ◌≤◌, Bool, true, false, ◌||◌, ltb, List, length, length-set, set}
-use Rattle.std.proofs.Common.{Some, sym, ap, ◌∙◌, subst, arith, ⊎_elim}
+use Rattle.std.proofs.Common.{◌≡◌, ◌≢◌, ℕ, ◌%◌, ◌<◌, ◌≤◌, Bool, true, ◌||◌, ltb, List, length, length-set, set}
+use Rattle.std.proofs.Common.{Some, sym, ap, subst, arith, inl, inr}
 use Rattle.std.specs.Option.{is_some}
 use Rattle.std.proofs.Math.Nat.{mod-lt}
-use Rattle.std.proofs.lemmas.Bool.{cases_eq, cases_Bool, lt-ltb, ltb-true}
+use Rattle.std.proofs.lemmas.Bool.{cases_eq}
+use Rattle.std.proofs.lemmas.Bool.Decides.{nat_tests}
 use Rattle.line_sets.specs.Order.{without, put_in_place}
 use Rattle.line_sets.specs.SetTable.{Sets, set_at}
 use Rattle.line_sets.proofs.Lemmas.{length-without_le, length-put_in_place, set_at-set_same, set_at-set_other}
@@ -12,24 +13,15 @@ use Rattle.private_cache.specs.CopyTable.{set_of, copy_of, place_for, with_chang
 use Rattle.machine_theorem.proofs.Lookups.{change_now, drop_now}
 
 or_keeps : (ways n k : ℕ) (p q : Bool) → q ≡ p → k ≤ n → (p || ltb n ways) ≡ true → (q || ltb k ways) ≡ true
-or_keeps ways n k p q same le h =
-    ⊎_elim
-    (λ (t : p ≡ true). ap (λ (r : Bool). r || ltb k ways) (same ∙ t))
-    (λ (f : p ≡ false).
-    let less : n < ways = ltb-true n ways (subst (λ (r : Bool). (r || ltb n ways) ≡ true) f h) in
-    ap (λ (r : Bool). r || ltb k ways) (same ∙ f) ∙ lt-ltb k ways (omega arith))
-    (cases_Bool p)
+or_keeps ways n k p q same le h = grind (arith, nat_tests)
 
 -- a set is written with no more lines than it had
 pub set_le : {X : Type 0} (sets : List (List (ℕ × X))) (i j : ℕ) (ps : List (ℕ × X)) → i < length sets →
     length ps ≤ length (set_at sets i) → length (set_at (set sets i ps) j) ≤ length (set_at sets j)
-set_le sets i j ps within le =
-    ⊎_elim
-    (λ (e : j ≡ i). subst (λ (k : ℕ). length (set_at (set sets i ps) k) ≤ length (set_at sets k)) (sym e)
-    (subst (λ (n : ℕ). n ≤ length (set_at sets i)) (sym (ap length (set_at-set_same sets i ps within))) le))
-    (λ (ne : j ≡ i → ⊥). subst (λ (n : ℕ). n ≤ length (set_at sets j))
-    (sym (ap length (set_at-set_other sets i j ps ne))) (omega arith))
-    (cases_eq j i)
+set_le sets i j ps within le = elim (cases_eq j i) [
+  | inl e ↦ rw (e, set_at-set_same sets i ps within) le
+  | inr ne ↦ rw (set_at-set_other sets i j ps ne) (omega arith)
+]
 
 module _ (cache : Sets LineCopy) (some : 0 < length cache.sets) (line k : ℕ) (other : k ≢ line)
     (place : place_for cache k ≡ true) where

@@ -1,10 +1,8 @@
 -- Events of a round that change a machine, where a message has a number, and room or the place of the one that is
 -- delivered: each is a step of its part.
-use Rattle.std.proofs.Common.{◌≡◌, ℕ, ◌-◌, ◌^◌, ◌<◌, ◌/◌, Bool, true, false, ◌&&◌, List, length, Option, Some, None}
+use Rattle.std.proofs.Common.{◌≡◌, ℕ, ◌-◌, ◌^◌, ◌<◌, ◌/◌, Bool, true, false, ◌&&◌, length, Option, Some, None}
 use Rattle.std.proofs.Common.{refl, sym, ap, ◌∙◌, subst}
 use Rattle.std.specs.List.{slice_get}
-use Rattle.std.specs.Ordering.{nat_cmp}
-use Rattle.std.specs.FinMap.{FinMap}
 use Rattle.std.proofs.lemmas.Bool.{cond-true, cond-false, lt-ltb}
 use Rattle.physiological_order.specs.declared.operation.Op.{Op}
 use Rattle.physiological_order.specs.Order.{address}
@@ -17,18 +15,17 @@ use Rattle.core_pts.specs.CoreTable as core_table
 use Rattle.core_pts.specs.CoreTable.{CoreState, core_has_case}
 use Rattle.llc_bank.specs.BankTable as bank_table
 use Rattle.llc_bank.specs.BankTable.{BankState, bank_has_case}
-use Rattle.dram_mts.specs.Table.{dram_table, dram_has_case}
 use Rattle.machine_table.specs.declared.event.Answer.{Answer}
 use Rattle.machine_table.specs.declared.event.Answer.TheVariants.{Held, Refused}
 use Rattle.machine_table.specs.declared.event.Event.{Event}
 use Rattle.machine_table.specs.declared.event.Event.TheVariants as event
 use Rattle.machine_table.specs.declared.event.Refusal.TheVariants as refusal
-use Rattle.machine_table.specs.Machine.{Machine, with_core, with_bank, with_dram}
+use Rattle.machine_table.specs.Machine.{Machine, with_core, with_bank}
 use Rattle.machine_table.specs.Posted.{can_post}
-use Rattle.machine_table.specs.Step.{Step, Exhausts, Keeps, Drops, Makes, Tried, Completes, Does, attempt_open, reacted}
+use Rattle.machine_table.specs.Step.{Step, Exhausts, Keeps, Drops, Makes, Tried, Completes, Does, attempt_open}
 use Rattle.machine_table.specs.Step.{copy_evicted, entry_evicted}
 use Rattle.machine_table.specs.Transition.{changed, tried, transition, on_event}
-use Rattle.machine_table.proofs.Lemmas.{finds, delivers as is_delivered}
+use Rattle.machine_table.proofs.Lemmas.{finds}
 use Rattle.machine_theorem.specs.Rounds.{IsMoving, IsRequest, IsInRound, attempts, copy_leaves, delivers, line_leaves}
 use Rattle.machine_theorem.specs.Rounds.{MovesOn}
 
@@ -122,43 +119,20 @@ module _ {more : Bool} (m : Machine) (able : CanSend more m) where
         (step_moves (with_core m c) None (copy_evicted (core_table.evict core line)) active)
 
   module _ (n : ℕ) (x : Message) (number : at_number n m.mail.messages ≡ Some x) where
-    -- a message whose part is there and has a case for it
-    pub core_moves : (c : ℕ) (core : CoreState) → x.to ≡ node.Core c → slice_get m.cores c ≡ Some core →
-        core_has_case core x ≡ true → IsActive more (reacted (core_table.core_table core x)) → MovesOn m
-    core_moves c core to at has active =
-        by_event (event.Deliver n) (delivers n x number) _
-        (is_delivered m n x (node.Core c) number to (with_core m c) (slice_get m.cores c) core at core_has_case
-        core_table.core_table has refl)
-        (step_moves (with_core m c) (Some n) (reacted (core_table.core_table core x)) active)
+    -- a delivery to a part
+    pub delivery_moves : {S : Type 0} (put : S → Machine) (done : Step S) →
+        on_event m (event.Deliver n) ≡ changed m put (Some n) done → IsActive more done → MovesOn m
+    delivery_moves put done is active =
+        by_event (event.Deliver n) (delivers n x number) _ is (step_moves put (Some n) done active)
 
-    pub dram_moves : (b : ℕ) (lines : FinMap nat_cmp (List ℕ)) → x.to ≡ node.Dram b →
-        slice_get m.drams b ≡ Some lines →
-        dram_has_case lines x ≡ true → IsActive more (reacted (dram_table lines x)) → MovesOn m
-    dram_moves b lines to at has active =
-        by_event (event.Deliver n) (delivers n x number) _
-        (is_delivered m n x (node.Dram b) number to (with_dram m b) (slice_get m.drams b) lines at dram_has_case
-        dram_table has refl) (step_moves (with_dram m b) (Some n) (reacted (dram_table lines x)) active)
-
-    module _ (b : ℕ) (bank : BankState) (to : x.to ≡ node.Bank b) (at : slice_get m.banks b ≡ Some bank)
-        (has : bank_has_case bank x ≡ true) where
-      reacts : on_event m (event.Deliver n)
-          ≡ changed m (with_bank m b) (Some n) (reacted (bank_table.bank_table bank x))
-      reacts = is_delivered m n x (node.Bank b) number to (with_bank m b) (slice_get m.banks b) bank at bank_has_case
-          bank_table.bank_table has refl
-
-      pub bank_moves : IsActive more (reacted (bank_table.bank_table bank x)) → MovesOn m
-      bank_moves active =
-          by_event (event.Deliver n) (delivers n x number) _ reacts
-          (step_moves (with_bank m b) (Some n) (reacted (bank_table.bank_table bank x)) active)
-
-      pub line_moves : (line : ℕ) → IsRequest x.body → reacted (bank_table.bank_table bank x) ≡ Keeps Held →
-          bank_table.make_room bank x.line ≡ Some line →
-          IsActive more (entry_evicted (bank_table.evict bank line)) → MovesOn m
-      line_moves line request held chosen active =
-          by_event (event.EvictBank b line)
-          (line_leaves n b line x bank number to request at
-          (ap (λ (o : Answer × Machine). o.0) (happens (event.Deliver n) _ reacts
-          ∙ ap (changed m (with_bank m b) (Some n)) held)) chosen)
-          (changed m (with_bank m b) None (entry_evicted (bank_table.evict bank line)))
-          (finds m (λ y. changed m (with_bank m b) None (entry_evicted (bank_table.evict y line))) at)
-          (step_moves (with_bank m b) None (entry_evicted (bank_table.evict bank line)) active)
+    pub line_moves : (b : ℕ) (bank : BankState) → x.to ≡ node.Bank b → slice_get m.banks b ≡ Some bank →
+        on_event m (event.Deliver n) ≡ changed m (with_bank m b) (Some n) (Keeps Held) →
+        (line : ℕ) → IsRequest x.body → bank_table.make_room bank x.line ≡ Some line →
+        IsActive more (entry_evicted (bank_table.evict bank line)) → MovesOn m
+    line_moves b bank to at held line request chosen active =
+        by_event (event.EvictBank b line)
+        (line_leaves n b line x bank number to request at
+        (ap (λ (o : Answer × Machine). o.0) (happens (event.Deliver n) _ held)) chosen)
+        (changed m (with_bank m b) None (entry_evicted (bank_table.evict bank line)))
+        (finds m (λ y. changed m (with_bank m b) None (entry_evicted (bank_table.evict y line))) at)
+        (step_moves (with_bank m b) None (entry_evicted (bank_table.evict bank line)) active)

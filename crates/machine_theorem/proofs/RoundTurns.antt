@@ -1,292 +1,339 @@
--- The turns of cores in a round keep what rounds keep of recalls.
-use Rattle.std.proofs.Common.{◌≡◌, ◌≢◌, ℕ, ◌+◌, ◌/◌, ◌%◌, ◌≤◌}
-use Rattle.std.proofs.Common.{◌∷◌, Option, Some, None, inl, inr, ◌⊎◌, refl, sym, ap}
+-- The turns of cores in a round keep what rounds keep of recalls, line by line and core by core.
+use Rattle.std.proofs.Common.{◌≡◌, ◌≢◌, ℕ, ◌+◌, ◌≤◌, Bool, false, ◌∷◌, Option, Some, None, inl, inr, ◌⊎◌, refl, sym, ap}
 use Rattle.std.proofs.Common.{◌∙◌}
-use Rattle.std.proofs.Common.{⊎_elim, arith}
-use Rattle.std.specs.Ordering.{nat_cmp}
-use Rattle.std.specs.FinMap.{FinMap}
+use Rattle.std.proofs.Common.{subst, ⊎_elim, arith, le_refl}
 use Rattle.std.proofs.lemmas.Bool.{cases_eq}
 use Rattle.physiological_order.specs.declared.operation.Op.{Op}
 use Rattle.physiological_order.specs.Order.{address}
-use Rattle.network.specs.declared.message.Message.{Message}
-use Rattle.line_sets.specs.SetTable.{Sets}
-use Rattle.private_cache.specs.declared.line_copy.LineCopy.{LineCopy}
-use Rattle.private_cache.specs.CopyTable.{copy_of}
-use Rattle.core_pts.specs.CoreTable as core_table
-use Rattle.core_pts.specs.CoreTable.{CoreState, pinned_line}
-use Rattle.llc_bank.specs.BankTable.{BankState}
-use Rattle.machine_table.specs.declared.config.Config.{Config}
-use Rattle.protocol.specs.Machine as by_line
-use Rattle.protocol.specs.Machine.{with_at, tally, Exclusive}
+use Rattle.protocol.specs.Machine.{Config, Copy, Exclusive, Message, FlushRep, Line, Core, Machine, owns, tally}
+use Rattle.protocol.specs.Machine.{with_at, line_of}
+use Rattle.protocol.specs.Machine.{IsPinned, LineTransition, evict_shared, evict_exclusive, Asks, to_read, to_write}
+use Rattle.protocol.specs.Machine.{Transition, issue, advance, ask, complete, line_changes}
 use Rattle.protocol.specs.Recalls.{recall_to, grant_to, return_of, OwnsOrWill}
-use Rattle.protocol.proofs.Lemmas.{with_at_other, with_at_same}
-use Rattle.machine_theorem.specs.Bags.{SameBag, weigh}
-use Rattle.machine_theorem.specs.Moves as moves
-use Rattle.machine_theorem.specs.Moves.{with_answer}
-use Rattle.machine_theorem.specs.States.{State}
-use Rattle.machine_theorem.specs.View.{copy_in, copy_or_none, entry_in, messages_of}
-use Rattle.machine_theorem.proofs.Deliveries.{of_line, line_weighs}
+use Rattle.protocol.proofs.Lemmas.{with_at_cases, with_at_other, with_at_same, Some_injective}
 use Rattle.machine_theorem.proofs.RecallPairs.{IsElsewhere, Sound, Listed, Eased, eased, eased_list, recalls}
-use Rattle.machine_theorem.proofs.RecallPairs.{returns}
-use Rattle.machine_theorem.proofs.RecallPairs.{not_both}
-use Rattle.machine_theorem.proofs.RoundPairs.{f, line_at, Good, weigh_of}
+use Rattle.machine_theorem.proofs.RecallPairs.{returns, not_both}
+use Rattle.machine_theorem.proofs.RoundLines.{Good, Alike, none_at}
+use Rattle.machine_theorem.proofs.Turns.{Kind, issuing, attempting, advancing, leaving, delivering, leaves_at, kind_at}
+use Rattle.machine_theorem.proofs.Turns.{kind_of, Leads}
 
--- the core has an operation open, and no copy of its line
-abbrev pub LacksCopy : CoreState → Type 0
-LacksCopy core = (op : Op) × (core.open_op ≡ Some op) × (copy_of core.cache (core_table.line_of core op) ≡ None)
+module _ (f : Config) where
+  -- the core has an operation open, and no copy of its line
+  abbrev pub LacksCopy : (ℕ → Line) → (ℕ → Core) → ℕ → Type 0
+  LacksCopy xs ds c = (op : Op) × ((ds c).open_op ≡ Some op) × ((xs (line_of f (address op))).copies c ≡ None)
 
--- two cores with one open operation and the same copies
-pub record Alike (x y : CoreState) : Type 0 where
-  pub opens : y.open_op ≡ x.open_op
-  pub cache : y.cache ≡ x.cache
-  pub words : y.line_words ≡ x.line_words
-
-pub lacks_too : (x y : CoreState) → Alike x y → LacksCopy x → LacksCopy y
-lacks_too x y k lacks = (
-  lacks.0,
-  k.opens ∙ lacks.1,
-  ap (λ (n : ℕ). copy_of y.cache (address lacks.0 / n)) k.words
-      ∙ ap (λ (c : Sets LineCopy). copy_of c (core_table.line_of x lacks.0)) k.cache ∙ lacks.2,
-)
-
-module _ (config : Config) (opening : FinMap nat_cmp ℕ) where
   -- while cores have their turns, those from a number on are still to come
-  pub record TurnPair (next : ℕ) (a : State) (l c : ℕ) : Type 0 where
-    pub sound : Sound (f config opening) l c (line_at config opening a l) ((a.cores c).open_op)
+  pub record TurnPair (next : ℕ) (xs : ℕ → Line) (ds : ℕ → Core) (l c : ℕ) : Type 0 where
+    pub sound : Sound f l c (xs l) ((ds c).open_op)
     -- who returns a line unasked can't complete its operation in this turn
-    pub lacks : 1 ≤ returns c (line_at config opening a l) →
-        (line_at config opening a l).entry ≡ Exclusive c → LacksCopy (a.cores c)
+    pub lacks : 1 ≤ returns c (xs l) → (xs l).entry ≡ Exclusive c → LacksCopy xs ds c
     -- no return of a core to come is unasked, and its recalls find the owner, or are of another line than its operation
-    pub listed : next ≤ c → Listed (f config opening) l c (line_at config opening a l) ((a.cores c).open_op) 0 0
+    pub listed : next ≤ c → Listed f l c (xs l) ((ds c).open_op) 0 0
 
-  abbrev pub Turns : ℕ → State → Type 0
-  Turns next a = (l c : ℕ) → TurnPair next a l c
+  abbrev pub Turns : ℕ → Machine → Type 0
+  Turns next m = (l c : ℕ) → TurnPair next m.lines m.cores l c
 
-  pub later : (next : ℕ) (a : State) → Turns next a → Turns (next + 1) a
-  later next a turns l c = let k = turns l c in
+  pub later : (next : ℕ) (m : Machine) → Turns next m → Turns (next + 1) m
+  later next m turns l c = let k = turns l c in
       record { sound = k.sound; lacks = k.lacks; listed = λ le. k.listed (omega (arith, le)) }
 
-  -- as rounds begin and as deliveries begin
-  pub begins : (a : State) → Good config opening (λ h. 0) a → Turns 0 a
-  begins a good l c = let k = good l c in record {
+  -- as rounds begin, and as deliveries begin
+  pub begins : (m : Machine) → Good f (λ l w. 0) m → Turns 0 m
+  begins m good l c = let k = good l c in record {
     sound = k.0;
     lacks = λ some is. absurd (let z = k.1.returns_listed is in omega (arith, some, z));
     listed = λ le. k.1;
   }
 
-  pub delivers_next : (next : ℕ) (a : State) → Turns next a → Good config opening (λ h. weigh h a.bag) a
-  delivers_next next a turns l c = (
+  pub delivers_next : (p : ℕ → (Message → ℕ) → ℕ) (next : ℕ) (m : Machine) →
+      ((l : ℕ) (w : Message → ℕ) → tally w (m.lines l).messages ≤ p l w) → Turns next m → Good f p m
+  delivers_next p next m le turns l c = (
     (turns l c).sound,
-    record {
-      recalls_listed = inl (let z = line_weighs l (recall_to c) a.bag in omega (arith, z));
-      returns_listed = λ is. let z = line_weighs l (return_of c) a.bag in omega (arith, z);
-    },
+    record { recalls_listed = inl (le l (recall_to c)); returns_listed = λ is. le l (return_of c) },
   )
 
-  module _ (next : ℕ) (a b : State) (l c : ℕ) (entry : (line_at config opening b l).entry
-      ≡ (line_at config opening a l).entry) (fewer : recalls c (line_at config opening b l)
-      ≤ recalls c (line_at config opening a l)) (granted : tally (grant_to c) (messages_of a.bag l)
-      ≤ tally (grant_to c) (messages_of b.bag l)) where
-    pub pair_alike : Alike (a.cores c) (b.cores c) →
-        returns c (line_at config opening b l) ≤ returns c (line_at config opening a l) → TurnPair next a l c →
-        TurnPair next b l c
-    pair_alike alike returned k = record {
-      sound = rw alike.opens (eased (f config opening) l c _ _ ((a.cores c).open_op) e k.sound);
-      lacks = λ some is. lacks_too (a.cores c) (b.cores c) alike
-          (k.lacks (omega (arith, some, returned)) (sym entry ∙ is));
-      listed = λ le. rw alike.opens (eased_list (f config opening) l c _ _ ((a.cores c).open_op) 0 0 0 0 e
-          (λ z. omega (arith, z, fewer)) (λ z. omega (arith, z, returned)) (k.listed le));
+  module _ (next : ℕ) (xs ys : ℕ → Line) (ds es : ℕ → Core) (l c : ℕ) where
+    -- the line and the core stay as they were
+    kept : Eased f l c (xs l) (ys l) → (ys l).entry ≡ (xs l).entry → (es c).open_op ≡ (ds c).open_op →
+        (LacksCopy xs ds c → LacksCopy ys es c) → TurnPair next xs ds l c → TurnPair next ys es l c
+    kept e entry opens lacks k = record {
+      sound = rw opens (eased f l c _ _ _ e k.sound);
+      lacks = λ some is. lacks (k.lacks (let z = e.returned in omega (arith, z, some)) (sym entry ∙ is));
+      listed = λ le. rw opens (eased_list f l c _ _ _ 0 0 0 0 e (λ z. let y = e.recalled in omega (arith, z, y))
+          (λ z. let y = e.returned in omega (arith, z, y)) (k.listed le));
     }
-      where
-        e : Eased (f config opening) l c (line_at config opening a l) (line_at config opening b l)
-        e = record {
-          entry = inl entry;
-          recalled = fewer;
-          returned = returned;
-          owned = λ own. ⊎_elim
-              (λ (z : by_line.owns (copy_in (a.cores c) l) ≡ 1).
-              inl (ap (λ (k : Sets LineCopy). by_line.owns (copy_or_none (copy_of k l))) alike.cache ∙ z))
-              (λ (z : 1 ≤ tally (grant_to c) (messages_of a.bag l)). inr (omega (arith, z, granted))) own;
-        }
 
-  -- the same cores, banks and messages
-  pub turns_same : (next : ℕ) (a b : State) → ((c : ℕ) → a.cores c ≡ b.cores c) → ((j : ℕ) → a.banks j ≡ b.banks j) →
-      SameBag a.bag b.bag → Turns next a → Turns next b
-  turns_same next a b cores banks bags turns l c =
-      pair_alike next a b l c (ap (λ (z : BankState). entry_in z l) (sym (banks (l % config.banks))))
-      (let z = weighs (recall_to c) in omega (arith, z)) (let z = weighs (grant_to c) in omega (arith, z))
-      (record {
-        opens = ap (λ (z : CoreState). z.open_op) (sym (cores c));
-        cache = ap (λ (z : CoreState). z.cache) (sym (cores c));
-        words = ap (λ (z : CoreState). z.line_words) (sym (cores c));
-      }) (let z = weighs (return_of c) in omega (arith, z)) (turns l c)
+  -- what a core's turn leaves of a line, as another core sees it
+  record Beside (c : ℕ) (x y : Line) : Type 0 where
+    entry : y.entry ≡ x.entry
+    copies : y.copies c ≡ x.copies c
+    recalled : recalls c y ≤ recalls c x
+    returned : returns c y ≤ returns c x
+    granted : tally (grant_to c) x.messages ≤ tally (grant_to c) y.messages
+
+  beside_by : {c : ℕ} {x y : Line} → y.entry ≡ x.entry → y.copies c ≡ x.copies c → recalls c y ≤ recalls c x →
+      returns c y ≤ returns c x → tally (grant_to c) x.messages ≤ tally (grant_to c) y.messages → Beside c x y
+  beside_by entry copies recalled returned granted =
+      record { entry = entry; copies = copies; recalled = recalled; returned = returned; granted = granted }
+
+  unchanged : (c : ℕ) (x : Line) → Beside c x x
+  unchanged c x = beside_by refl refl (le_refl _) (le_refl _) (le_refl _)
+
+  eased_beside : (l c : ℕ) (x y : Line) → Beside c x y → Eased f l c x y
+  eased_beside l c x y b = record {
+    entry = inl b.entry;
+    recalled = b.recalled;
+    returned = b.returned;
+    owned = λ own. ⊎_elim (λ (z : owns (x.copies c) ≡ 1). inl (ap owns b.copies ∙ z))
+        (λ (z : 1 ≤ tally (grant_to c) x.messages). inr (let g = b.granted in omega (arith, z, g))) own;
+  }
+
+  -- a core's turn, as another core sees it, or this one, if its operation stays
+  beside : (next : ℕ) (xs ys : ℕ → Line) (ds es : ℕ → Core) (c : ℕ) → ((l : ℕ) → Beside c (xs l) (ys l)) →
+      (es c).open_op ≡ (ds c).open_op → (l : ℕ) → TurnPair next xs ds l c → TurnPair next ys es l c
+  beside next xs ys ds es c b opens l = kept next xs ys ds es l c (eased_beside l c _ _ (b l)) (b l).entry opens
+      (λ k. (k.0, opens ∙ k.1, (b (line_of f (address k.0))).copies ∙ k.2))
+
+  pub turns_alike : (next : ℕ) (m n : Machine) → Alike f m n → Turns next m → Turns next n
+  turns_alike next m n k turns l c = beside next m.lines n.lines m.cores n.cores c
+      (λ j. beside_by (k.entry j) (k.copies j c) (let z = k.weighs j (recall_to c) in omega (arith, z))
+      (let z = k.weighs j (return_of c) in omega (arith, z)) (let z = k.weighs j (grant_to c) in omega (arith, z)))
+      (k.opens c) l (turns l c)
+
+  -- a core other than the one whose turn it is, and its own lines, where one line changes
+  one_line : (m : Machine) (k : ℕ) (y : Line) (c : ℕ) → Beside c (m.lines k) y → (l : ℕ) →
+      Beside c (m.lines l) (with_at m.lines k y l)
+  one_line m k y c here =
+      with_at_cases (λ l (z : Line). Beside c (m.lines l) z) m.lines k y here (λ l ne. unchanged c (m.lines l))
+
+  same_op : (m : Machine) (d : ℕ) (core : Core) → core.open_op ≡ (m.cores d).open_op → (c : ℕ) →
+      (with_at m.cores d core c).open_op ≡ (m.cores c).open_op
+  same_op m d core same = with_at_cases (λ c (z : Core). z.open_op ≡ (m.cores c).open_op) m.cores d core same
+      (λ c ne. refl)
+
+  other_op : (m : Machine) (d : ℕ) (core : Core) (c : ℕ) → c ≢ d →
+      (with_at m.cores d core c).open_op ≡ (m.cores c).open_op
+  other_op m d core c ne = ap (λ (z : Core). z.open_op) (with_at_other m.cores d core c ne)
+
+  asked : (d pts : ℕ) (op : Op) (x y : Line) → Asks d pts op x y → (c : ℕ) → Beside c x y
+  asked d pts op x y (to_read a cannot) c = beside_by refl refl (omega arith) (omega arith) (omega arith)
+  asked d pts op x y (to_write cannot) c = beside_by refl refl (omega arith) (omega arith) (omega arith)
+
+  -- a copy leaves, as another core sees it
+  left_beside : (d c : ℕ) → c ≢ d → {lease t u : ℕ} {loses : Bool} {pinned : ℕ → Type 0} {x y : Line}
+      (move : LineTransition lease loses pinned t x u y) → leaves_at move ≡ Some d → Beside c x y
+  left_beside d c ne {x = x} (evict_shared e copy un is sh) at = beside_by refl
+      (with_at_other x.copies e None c (λ q. ne (q ∙ Some_injective e d at))) (le_refl _) (le_refl _) (le_refl _)
+  left_beside d c ne {x = x} (evict_exclusive e copy un is ex) at =
+      let apart : c ≢ e = λ q. ne (q ∙ Some_injective e d at) in
+      beside_by refl (with_at_other x.copies e None c apart) (omega arith)
+      (let z = none_at c e apart in omega (arith, z)) (omega arith)
+  left_beside d c ne _ at = absurd (let z : ◌≡◌ {A = Option ℕ} None (Some d) = at in cc)
+
+  -- as the core itself sees it
+  record LeftBy (d : ℕ) (pinned : ℕ → Type 0) (x y : Line) : Type 0 where
+    unpinned : pinned d → ⊥
+    entry : y.entry ≡ x.entry
+    gone : y.copies d ≡ None
+    recalled : recalls d y ≡ recalls d x
+
+  left_by : (d : ℕ) {lease t u : ℕ} {loses : Bool} {pinned : ℕ → Type 0} {x y : Line}
+      (move : LineTransition lease loses pinned t x u y) → leaves_at move ≡ Some d → LeftBy d pinned x y
+  left_by d {pinned = pinned} {x = x} (evict_shared e copy un is sh) at =
+      subst (λ i. LeftBy i pinned x (record x { copies = with_at x.copies e None })) (Some_injective e d at) (record {
+        unpinned = un;
+        entry = refl;
+        gone = with_at_same x.copies e None;
+        recalled = refl;
+      })
+  left_by d {pinned = pinned} {x = x} (evict_exclusive e copy un is ex) at = subst (λ i. LeftBy i pinned x (record x {
+    copies = with_at x.copies e None;
+    messages = FlushRep e copy.line ∷ x.messages;
+  })) (Some_injective e d at) (record {
+    unpinned = un;
+    entry = refl;
+    gone = with_at_same x.copies e None;
+    recalled = omega arith;
+  })
+  left_by d _ at = absurd (let z : ◌≡◌ {A = Option ℕ} None (Some d) = at in cc)
+
+  -- what line_changes may be
+  abbrev IsLines : Kind → Type 0
+  IsLines delivering = Unit {0}
+  IsLines (leaving c l) = Unit {0}
+  IsLines _ = ⊥
+
+  line_kind : (l : ℕ) (o : Option ℕ) → IsLines (kind_at l o)
+  line_kind l None = tt
+  line_kind l (Some c) = tt
+
+  no_copy : {copy : Copy} {o : Option Copy} → o ≡ Some copy → o ≡ None → ⊥
+  no_copy {copy} is none = let z : None ≡ Some copy = sym none ∙ is in absurd (cc)
+
+  -- an attempt
+  attempts : (c : ℕ) {m n : Machine} (turn : Transition f m n) → kind_of turn ≡ attempting c → Turns (c + 1) m →
+      Turns (c + 1) n
+  attempts c {m} (ask d op y opens out asks) is turns l e =
+      beside (c + 1) m.lines _ m.cores _ e (one_line m (line_of f (address op)) y e (asked d _ op _ y asks e))
+      (same_op m d _ refl e) l (turns l e)
+  attempts c {m} (complete d op copy new received ts opens out there uses) is turns l e = go (cases_eq e d)
     where
-      weighs : (w : by_line.Message → ℕ) → tally w (messages_of b.bag l) ≡ tally w (messages_of a.bag l)
-      weighs w = line_weighs l w b.bag ∙ sym (bags (of_line l w)) ∙ sym (line_weighs l w a.bag)
+      k : ℕ
+      k = line_of f (address op)
 
-  -- one core becomes another, and a message is sent, or none
-  module _ (a : State) (c : ℕ) (part : CoreState) (sent : Option Message) (next : ℕ) (turns : Turns next a)
-      (calm : (l d : ℕ) → (weigh_of (of_line l (recall_to d)) sent ≡ 0))
-      (back : (l d : ℕ) → d ≢ c → weigh_of (of_line l (return_of d)) sent ≡ 0) where
-    abbrev after : State
-    after = with_answer (moves.with_core a c part) a.bag sent
+      y : Line
+      y = record (m.lines k) { copies = with_at ((m.lines k).copies) d (Some new) }
 
-    weighs : (w : by_line.Message → ℕ) (l : ℕ) →
-        tally w (messages_of after.bag l) ≡ tally w (messages_of a.bag l) + weigh_of (of_line l w) sent
-    weighs w l = go sent
-      where
-        go : (q : Option Message) → tally w (messages_of (with_answer (moves.with_core a c part) a.bag q).bag l)
-            ≡ tally w (messages_of a.bag l) + weigh_of (of_line l w) q
-        go None = omega arith
-        go (Some q) = let u = line_weighs l w (q ∷ a.bag) in let v = line_weighs l w a.bag in omega (arith, u, v)
+      has : LacksCopy m.lines m.cores d → ⊥
+      has lacks = no_copy (subst (λ (p : Op). (m.lines (line_of f (address p))).copies d ≡ Some copy)
+          (Some_injective op lacks.0 (sym opens ∙ lacks.1)) there) lacks.2
 
-    entries : (l : ℕ) → (line_at config opening after l).entry ≡ (line_at config opening a l).entry
-    entries l = go sent
-      where
-        go : (q : Option Message) → (line_at config opening (with_answer (moves.with_core a c part) a.bag q) l).entry
-            ≡ (line_at config opening a l).entry
-        go None = refl
-        go (Some q) = refl
+      same : ((with_at m.lines k y l).entry ≡ (m.lines l).entry)
+          × ((with_at m.lines k y l).messages ≡ (m.lines l).messages)
+      same = with_at_cases (λ j (z : Line). (z.entry ≡ (m.lines j).entry) × (z.messages ≡ (m.lines j).messages))
+          m.lines k y (refl, refl) (λ j ne. (refl, refl)) l
 
-    cores : (d : ℕ) → after.cores d ≡ with_at a.cores c part d
-    cores d = go sent
-      where
-        go : (q : Option Message) → (with_answer (moves.with_core a c part) a.bag q).cores d ≡ with_at a.cores c part d
-        go None = refl
-        go (Some q) = refl
+      back : 1 ≤ returns d (with_at m.lines k y l) → (with_at m.lines k y l).entry ≡ Exclusive d → ⊥
+      back some at = has ((turns l d).lacks
+          (let w = ap (tally (return_of d)) same.1 in omega (arith, w, some)) (sym same.0 ∙ at))
 
-    -- the pairs of the core itself are seen to
-    pub by_core : ((l : ℕ) → TurnPair next after l c) → Turns next after
-    by_core own l d = ⊎_elim (λ (e : d ≡ c). rw e (own l))
-        (λ (ne : d ≡ c → ⊥).
-        let e : after.cores d ≡ a.cores d = cores d ∙ with_at_other a.cores c part d ne in
-        pair_alike next a after l d (entries l)
-        (let z = weighs (recall_to d) l in let y = calm l d in omega (arith, z, y))
-        (let z = weighs (grant_to d) l in omega (arith, z)) (record {
-          opens = ap (λ (z : CoreState). z.open_op) e;
-          cache = ap (λ (z : CoreState). z.cache) e;
-          words = ap (λ (z : CoreState). z.line_words) e;
-        }) (let z = weighs (return_of d) l in let y = back l d ne in omega (arith, z, y)) (turns l d)) (cases_eq d c)
+      core : Core
+      core = record { pts = ts; open_op = None; out = false }
 
-    own_core : after.cores c ≡ part
-    own_core = cores c ∙ with_at_same a.cores c part
+      closed : (with_at m.cores d core d).open_op ≡ None
+      closed = ap (λ (z : Core). z.open_op) (with_at_same m.cores d core)
 
-    -- it is like the one before
-    pub by_alike : Alike (a.cores c) part → ((l : ℕ) → weigh_of (of_line l (return_of c)) sent ≡ 0) → Turns next after
-    by_alike alike none = by_core (λ l. pair_alike next a after l c (entries l)
-        (let z = weighs (recall_to c) l in let y = calm l c in omega (arith, z, y))
-        (let z = weighs (grant_to c) l in omega (arith, z)) (rw own_core alike)
-        (let z = weighs (return_of c) l in let y = none l in omega (arith, z, y)) (turns l c))
+      attempts_at : (i j : ℕ) → attempting i ≡ attempting j → i ≡ j
+      attempts_at i j e = cc
 
-    -- it completes its operation, of whose line it has a copy
-    pub by_completion : part.open_op ≡ None → (LacksCopy (a.cores c) → ⊥) →
-        ((l : ℕ) → weigh_of (of_line l (return_of c)) sent ≡ 0) → next ≡ c + 1 → Turns next after
-    by_completion closed has none turn = by_core (λ l.
-        let k = turns l c in record {
-          sound = record {
-            held = λ some here. absurd (let z : None ≡ Some here.0 = sym closed
-                ∙ sym (ap (λ (z : CoreState). z.open_op) own_core) ∙ here.1 in cc);
-            unasked = λ is. let z = weighs (recall_to c) l in let y = calm l c in
-                let w = k.sound.unasked (sym (entries l) ∙ is) in omega (arith, z, y, w);
-            asked = λ is. let z = weighs (recall_to c) l in let y = calm l c in
-                let w = k.sound.asked (sym (entries l) ∙ is) in omega (arith, z, y, w);
-            returning = λ some is. absurd (has (k.lacks (returned l some) (sym (entries l) ∙ is)));
-          };
-          lacks = λ some is. absurd (has (k.lacks (returned l some) (sym (entries l) ∙ is)));
-          listed = λ le. absurd (omega (arith, le, turn));
-        })
-      where
-        returned : (l : ℕ) → 1 ≤ tally (return_of c) (messages_of after.bag l) →
-            1 ≤ tally (return_of c) (messages_of a.bag l)
-        returned l some = let z = weighs (return_of c) l in let y = none l in omega (arith, z, y, some)
+      own : TurnPair (c + 1) (with_at m.lines k y) (with_at m.cores d core) l d
+      own = let q = turns l d in record {
+        sound = record {
+          held = λ some here. absurd (let z : None ≡ Some here.0 = sym closed ∙ here.1 in cc);
+          unasked = λ at. ap (tally (recall_to d)) same.1 ∙ q.sound.unasked (sym same.0 ∙ at);
+          asked = λ at. let z = q.sound.asked (sym same.0 ∙ at) in let w = ap (tally (recall_to d)) same.1 in
+              omega (arith, z, w);
+          returning = λ some at. absurd (back some at);
+        };
+        lacks = λ some at. absurd (back some at);
+        listed = λ le. absurd (let w = attempts_at d c is in omega (arith, w, le));
+      }
 
-    -- a copy of another line leaves, where it lacks one of its operation's
-    pub by_eviction : (line : ℕ) (op : Op) → part.open_op ≡ Some op → part.open_op ≡ (a.cores c).open_op →
-        by_line.line_of (f config opening) (address op) ≢ line →
-        ((l : ℕ) → l ≢ line → copy_of part.cache l ≡ copy_of (a.cores c).cache l) →
-        LacksCopy part → ((l : ℕ) → l ≢ line → weigh_of (of_line l (return_of c)) sent ≡ 0) →
-        next ≡ c + 1 → Turns next after
-    by_eviction line op opens same off others lacks none turn = by_core own
-      where
-        opens_now : (after.cores c).open_op ≡ (a.cores c).open_op
-        opens_now = ap (λ (z : CoreState). z.open_op) own_core ∙ same
+      go : (e ≡ d) ⊎ (e ≡ d → ⊥) → TurnPair (c + 1) (with_at m.lines k y) (with_at m.cores d core) l e
+      go (inl at) = rw at own
+      go (inr ne) = beside (c + 1) m.lines _ m.cores _ e (one_line m k y e (beside_by refl
+          (with_at_other ((m.lines k).copies) d (Some new) e ne) (le_refl _) (le_refl _) (le_refl _)))
+          (other_op m d _ e ne) l (turns l e)
+  attempts c (line_changes l t y move) is turns k e =
+      absurd (subst IsLines is (line_kind l (leaves_at move)))
+  attempts c _ is turns l e = absurd (cc)
 
-        elsewhere : (l : ℕ) → l ≡ line → IsElsewhere (f config opening) l ((after.cores c).open_op)
-        elsewhere l e = (op, ap (λ (z : CoreState). z.open_op) own_core ∙ opens, λ q. off (q ∙ e))
+  -- its time goes on
+  advances : (next : ℕ) {m n : Machine} (turn : Transition f m n) → kind_of turn ≡ advancing → Turns next m →
+      Turns next n
+  advances next {m} (advance d) is turns l c =
+      beside next m.lines _ m.cores _ c (λ j. unchanged c (m.lines j)) (same_op m d _ refl c) l (turns l c)
+  advances next (line_changes l t y move) is turns k e =
+      absurd (subst IsLines is (line_kind l (leaves_at move)))
+  advances next _ is turns l e = absurd (cc)
 
-        there : (l : ℕ) → l ≢ line → OwnsOrWill c (line_at config opening a l) →
-            OwnsOrWill c (line_at config opening after l)
-        there l ne (inl owns) = inl (ap (λ (z : CoreState). by_line.owns (copy_in z l)) own_core
-            ∙ ap (λ (z : Option LineCopy). by_line.owns (copy_or_none z)) (others l ne) ∙ owns)
-        there l ne (inr grant) = inr (let z = weighs (grant_to c) l in omega (arith, z, grant))
+  -- a copy leaves of a core that lacks one of its operation's line
+  leaves : (c k : ℕ) {m n : Machine} (turn : Transition f m n) → kind_of turn ≡ leaving c k →
+      LacksCopy m.lines m.cores c →
+      Turns (c + 1) m → Turns (c + 1) n
+  leaves c k {m} (line_changes d t y move) is lacks turns l e = go (cases_eq e c)
+    where
+      both : (o : Option ℕ) → kind_at d o ≡ leaving c k → o ≡ Some c
+      both None at = absurd (cc)
+      both (Some i) at = ap Some (let z : i ≡ c = cc in z)
 
-        own : (l : ℕ) → TurnPair next after l c
-        own l = let k = turns l c in record {
-          sound = record {
-            held = λ some here. ⊎_elim
-                (λ (e : l ≡ line). absurd (not_both (f config opening) l _ here (elsewhere l e)))
-                (λ (ne : l ≡ line → ⊥). there l ne (k.sound.held
-                (let z = weighs (recall_to c) l in let y = calm l c in omega (arith, z, y, some))
-                (here.0, sym opens_now ∙ here.1, here.2))) (cases_eq l line);
-            unasked = λ is. let z = weighs (recall_to c) l in let y = calm l c in
-                let w = k.sound.unasked (sym (entries l) ∙ is) in omega (arith, z, y, w);
-            asked = λ is. let z = weighs (recall_to c) l in let y = calm l c in
-                let w = k.sound.asked (sym (entries l) ∙ is) in omega (arith, z, y, w);
-            returning = λ some is. ⊎_elim (λ (e : l ≡ line). elsewhere l e)
-                (λ (ne : l ≡ line → ⊥).
-                let q = k.sound.returning (let z = weighs (return_of c) l in let y = none l ne in
-                omega (arith, z, y, some)) (sym (entries l) ∙ is) in (q.0, opens_now ∙ q.1, q.2)) (cases_eq l line);
-          };
-          lacks = λ some is. rw own_core lacks;
-          listed = λ le. absurd (omega (arith, le, turn));
-        }
+      at : leaves_at move ≡ Some c
+      at = both (leaves_at move) is
 
-    -- it is given an operation
-    pub by_issue : (a.cores c).open_op ≡ None → part.cache ≡ (a.cores c).cache → next ≡ c →
-        ((l : ℕ) → weigh_of (of_line l (return_of c)) sent ≡ 0) → Turns (next + 1) after
-    by_issue free cache turn none l d = go (cases_eq d c)
-      where
-        closed : (l : ℕ) → IsElsewhere (f config opening) l ((a.cores c).open_op) → ⊥
-        closed l there = let z : None ≡ Some there.0 = sym free ∙ there.1 in absurd (cc)
+      left : LeftBy c (IsPinned f m.cores d) (m.lines d) y
+      left = left_by c move at
 
-        own_now : (l : ℕ) → OwnsOrWill c (line_at config opening a l) → OwnsOrWill c (line_at config opening after l)
-        own_now l (inl owns) = inl (ap (λ (z : CoreState). by_line.owns (copy_in z l)) own_core
-            ∙ ap (λ (k : Sets LineCopy). by_line.owns (copy_or_none (copy_of k l))) cache ∙ owns)
-        own_now l (inr grant) = inr (let z = weighs (grant_to c) l in omega (arith, z, grant))
+      elsewhere : (j : ℕ) → j ≡ d → IsElsewhere f j ((m.cores c).open_op)
+      elsewhere j q = (lacks.0, lacks.1, λ on. left.unpinned (lacks.0, lacks.1, on ∙ q))
 
-        back_before : 1 ≤ tally (return_of c) (messages_of after.bag l) →
-            1 ≤ tally (return_of c) (messages_of a.bag l)
-        back_before some = let z = weighs (return_of c) l in let y = none l in omega (arith, z, y, some)
+      lacks_now : (j : ℕ) (copy : Option Copy) → (m.lines j).copies c ≡ copy → copy ≡ None →
+          (with_at m.lines d y j).copies c ≡ None
+      lacks_now j copy there gone = with_at_cases (λ j (z : Line). (m.lines j).copies c ≡ None → z.copies c ≡ None)
+          m.lines d y (λ none. left.gone) (λ j ne none. none) j (there ∙ gone)
 
-        own : TurnPair (next + 1) after l c
-        own = let k = turns l c in record {
-          sound = record {
-            held = λ some here. ⊎_elim
-                (λ (z : recalls c (line_at config opening a l) ≤ 0). absurd
-                (let y = weighs (recall_to c) l in let w = calm l c in omega (arith, z, y, w, some)))
-                (λ (z : OwnsOrWill c (line_at config opening a l)
-                ⊎ IsElsewhere (f config opening) l ((a.cores c).open_op)).
-                ⊎_elim (λ (q : OwnsOrWill c (line_at config opening a l)). own_now l q)
-                (λ (q : IsElsewhere (f config opening) l ((a.cores c).open_op)). absurd (closed l q)) z)
-                (k.listed (omega (arith, turn))).recalls_listed;
-            unasked = λ is. let z = weighs (recall_to c) l in let y = calm l c in
-                let w = k.sound.unasked (sym (entries l) ∙ is) in omega (arith, z, y, w);
-            asked = λ is. let z = weighs (recall_to c) l in let y = calm l c in
-                let w = k.sound.asked (sym (entries l) ∙ is) in omega (arith, z, y, w);
-            returning = λ some is. absurd (closed l (k.sound.returning (back_before some) (sym (entries l) ∙ is)));
-          };
-          lacks = λ some is. absurd (closed l (k.sound.returning (back_before some) (sym (entries l) ∙ is)));
-          listed = λ le. absurd (omega (arith, le, turn));
-        }
+      here : TurnPair (c + 1) m.lines m.cores d c → TurnPair (c + 1) (with_at m.lines d y) m.cores d c
+      here q = let y_is : with_at m.lines d y d ≡ y = with_at_same m.lines d y in record {
+        sound = rw y_is (record {
+          held = λ some on. absurd (not_both f d _ on (elsewhere d refl));
+          unasked = λ named. left.recalled ∙ q.sound.unasked (sym left.entry ∙ named);
+          asked = λ named. let z = q.sound.asked (sym left.entry ∙ named) in let w = left.recalled in
+              omega (arith, z, w);
+          returning = λ some named. elsewhere d refl;
+        });
+        lacks = λ some named. (lacks.0, lacks.1, lacks_now _ None lacks.2 refl);
+        listed = λ le. absurd (omega (arith, le));
+      }
 
-        go : (d ≡ c) ⊎ (d ≡ c → ⊥) → TurnPair (next + 1) after l d
-        go (inl e) = rw e own
-        go (inr ne) =
-            let e : after.cores d ≡ a.cores d = cores d ∙ with_at_other a.cores c part d ne in
-            pair_alike (next + 1) a after l d (entries l)
-            (let z = weighs (recall_to d) l in let y = calm l d in omega (arith, z, y))
-            (let z = weighs (grant_to d) l in omega (arith, z)) (record {
-              opens = ap (λ (z : CoreState). z.open_op) e;
-              cache = ap (λ (z : CoreState). z.cache) e;
-              words = ap (λ (z : CoreState). z.line_words) e;
-            }) (let z = weighs (return_of d) l in let y = back l d ne in omega (arith, z, y)) (later next a turns l d)
+      own : (l ≡ d) ⊎ (l ≡ d → ⊥) → TurnPair (c + 1) (with_at m.lines d y) m.cores l c
+      own (inl q) = rw q (here (turns d c))
+      own (inr ne) = let same : with_at m.lines d y l ≡ m.lines l = with_at_other m.lines d y l ne in
+          kept (c + 1) m.lines _ m.cores _ l c (rw same (eased_beside l c _ _ (unchanged c (m.lines l))))
+          (ap (λ (z : Line). z.entry) same)
+          refl (λ q. (q.0, q.1, lacks_now _ None q.2 refl)) (turns l c)
+
+      go : (e ≡ c) ⊎ (e ≡ c → ⊥) → TurnPair (c + 1) (with_at m.lines d y) m.cores l e
+      go (inl q) = rw q (own (cases_eq l d))
+      go (inr ne) = beside (c + 1) m.lines _ m.cores _ e (one_line m d y e (left_beside c e ne move at)) refl l
+          (turns l e)
+  leaves c k _ is lacks turns l e = absurd (cc)
+
+  -- a core is given an operation
+  issues : (c : ℕ) {m n : Machine} (turn : Transition f m n) → kind_of turn ≡ issuing c → Turns c m → Turns (c + 1) n
+  issues c {m} (issue d op free) is turns l e = go (cases_eq e c)
+    where
+      at : d ≡ c
+      at = cc
+
+      closed : IsElsewhere f l ((m.cores c).open_op) → ⊥
+      closed there = let z : None ≡ Some there.0 = sym free ∙ ap (λ i. (m.cores i).open_op) at ∙ there.1 in absurd (cc)
+
+      given : ℕ → Core
+      given = with_at m.cores d (record (m.cores d) { open_op = Some op })
+
+      own : TurnPair (c + 1) m.lines given l c
+      own = let q = turns l c in record {
+        sound = record {
+          held = λ some here. ⊎_elim (λ (z : recalls c (m.lines l) ≤ 0). absurd (omega (arith, z, some)))
+              (λ (z : OwnsOrWill c (m.lines l) ⊎ IsElsewhere f l ((m.cores c).open_op)).
+              ⊎_elim (λ (own : OwnsOrWill c (m.lines l)). own)
+              (λ (there : IsElsewhere f l ((m.cores c).open_op)). absurd (closed there)) z)
+              (q.listed (le_refl c)).recalls_listed;
+          unasked = q.sound.unasked;
+          asked = q.sound.asked;
+          returning = λ some named. absurd (closed (q.sound.returning some named));
+        };
+        lacks = λ some named. absurd (closed (q.sound.returning some named));
+        listed = λ le. absurd (omega (arith, le));
+      }
+
+      go : (e ≡ c) ⊎ (e ≡ c → ⊥) → TurnPair (c + 1) m.lines given l e
+      go (inl q) = rw q own
+      go (inr ne) = beside (c + 1) m.lines _ m.cores _ e (λ j. unchanged e (m.lines j))
+          (other_op m d _ e (λ q. ne (q ∙ at))) l
+          (later c m turns l e)
+  issues c (line_changes l t y move) is turns k e = absurd (subst IsLines is (line_kind l (leaves_at move)))
+  issues c _ is turns l e = absurd (cc)
+
+  module _ (m n : Machine) where
+    pub attempt_keeps : (c : ℕ) → Leads f (attempting c) m n → Turns (c + 1) m → Turns (c + 1) n
+    attempt_keeps c t = attempts c t.turn t.is
+
+    pub advance_keeps : (next : ℕ) → Leads f advancing m n → Turns next m → Turns next n
+    advance_keeps next t = advances next t.turn t.is
+
+    pub leaving_keeps : (c k : ℕ) → Leads f (leaving c k) m n → LacksCopy m.lines m.cores c → Turns (c + 1) m →
+        Turns (c + 1) n
+    leaving_keeps c k t = leaves c k t.turn t.is
+
+    pub issue_keeps : (c : ℕ) → Leads f (issuing c) m n → Turns c m → Turns (c + 1) n
+    issue_keeps c t = issues c t.turn t.is

@@ -67,35 +67,40 @@ module _ {X : Type 0} where
   rising_on low high x (y ∷ ys) rising = (rising.0, rising_on (y.0 + 1) high x ys rising.1)
 
 module _ (m : Machine) (rising : IsRising 0 m.mail.messages m.mail.next) where
-  -- so at each event, which gives at most one number
+  -- so at each event, which gives at most one number, and takes none back
   abbrev Rises : Mail → Type 0
-  Rises mail = IsRising 0 mail.messages mail.next × (mail.next ≤ m.mail.next + 1)
+  Rises mail = IsRising 0 mail.messages mail.next × (mail.next ≤ m.mail.next + 1) × (m.mail.next ≤ mail.next)
 
   left_rises : (n : Option ℕ) → IsRising 0 (left m.mail n).messages m.mail.next
   left_rises None = rising
   left_rises (Some k) = still_rising k 0 m.mail.next m.mail.messages rising
 
   posted_rises : (n : Option ℕ) (consumes : Bool) (sends : Option Message) → Rises (posted m.mail n consumes sends)
-  posted_rises n true None = (left_rises n, omega arith)
-  posted_rises n false None = (rising, omega arith)
-  posted_rises n true (Some q) = (rising_on 0 m.mail.next q (left m.mail n).messages (left_rises n), omega arith)
-  posted_rises n false (Some q) = (rising_on 0 m.mail.next q m.mail.messages rising, omega arith)
+  posted_rises n true None = (left_rises n, omega arith, omega arith)
+  posted_rises n false None = (rising, omega arith, omega arith)
+  posted_rises n true (Some q) = (
+    rising_on 0 m.mail.next q (left m.mail n).messages
+        (left_rises n),
+    omega arith,
+    omega arith,
+  )
+  posted_rises n false (Some q) = (rising_on 0 m.mail.next q m.mail.messages rising, omega arith, omega arith)
 
   changed_rises : {S : Type 0} (put : S → Machine) (n : Option ℕ) (done : Step S) → Rises (changed m put n done).1.mail
   changed_rises put n Drops = posted_rises n true None
   changed_rises put n (Makes answer consumes sends part) =
       cond_both (can_post m.config.messages m.mail consumes sends)
       (answer, record (put part) { mail = posted m.mail n consumes sends }) (refused m refusal.NetworkFull)
-      (λ o. Rises o.1.mail) (λ e. posted_rises n consumes sends) (λ e. (rising, omega arith))
-  changed_rises put n _ = (rising, omega arith)
+      (λ o. Rises o.1.mail) (λ e. posted_rises n consumes sends) (λ e. (rising, omega arith, omega arith))
+  changed_rises put n _ = (rising, omega arith, omega arith)
 
   outcome_rises : (e : Event) (o : Answer × Machine) → Outcome m e o → Rises o.1.mail
   outcome_rises e o (core_comes c core act n done at given is fits) = changed_rises (with_core m c) n done
   outcome_rises e o (bank_comes b bank act n done at given is fits) = changed_rises (with_bank m b) n done
   outcome_rises e o (dram_comes b lines act n done at given is fits) = changed_rises (with_dram m b) n done
-  outcome_rises e o _ = (rising, omega arith)
+  outcome_rises e o _ = (rising, omega arith, omega arith)
 
-  event_rises : (e : Event) → Rises (transition m e).1.mail
+  pub event_rises : (e : Event) → Rises (transition m e).1.mail
   event_rises e = outcome_rises e (transition m e) (transition_outcome m e)
 
 pub rising_after : (m : Machine) (events : List Event) → IsRising 0 m.mail.messages m.mail.next →
@@ -104,9 +109,9 @@ rising_after m [] rising = rising
 rising_after m (e ∷ es) rising = rising_after (transition m e).1 es (event_rises m rising e).0
 
 -- a message that is in flight has a number
-record Numbered (ms : List (ℕ × Message)) (x : Message) (low : ℕ) : Type 0 where
-  number : ℕ
-  at : at_number number ms ≡ Some x
+pub record Numbered (ms : List (ℕ × Message)) (x : Message) (low : ℕ) : Type 0 where
+  pub number : ℕ
+  pub at : at_number number ms ≡ Some x
   least : low ≤ number
 
 number_of : (x : Message) (low high : ℕ) (ms : List (ℕ × Message)) → IsRising low ms high →
@@ -129,6 +134,12 @@ number_of x low high (y ∷ ys) rising some =
             least = let z = k.least in let r = rising.0 in omega (arith, z, r);
           }
     ]
+
+pub number_in : (m : Machine) → IsRising 0 m.mail.messages m.mail.next → (bag : List Message) →
+    SameBag bag (bag_of m.mail.messages) → (x : Message) (rest : List Message) → SameBag bag (x ∷ rest) →
+    Numbered m.mail.messages x 0
+number_in m rising bag all x rest taken = number_of x 0 m.mail.next m.mail.messages rising
+    (let e = all (hit x) in let s = taken (hit x) in let z = hit-itself x in omega arith)
 
 -- a machine in a state, which runs, with numbers for so many more messages
 pub record IsIn (config : Config) (a : State) (m : Machine) (more : ℕ) : Type 0 where
@@ -171,8 +182,7 @@ module _ (config : Config) (a : State) (m : Machine) (k : ℕ) (i : IsIn config 
     is = tt;
   }
   given to has_case (Some x) rest beside =
-      let n = number_of x 0 m.mail.next m.mail.messages i.rising
-      (let e = i.same.bag (hit x) in let s = beside.0 (hit x) in let z = hit-itself x in omega arith) in
+      let n = number_in m i.rising a.bag i.same.bag x rest beside.0 in
       let taken = bag-taken n.number m.mail.messages x n.at in
       record {
         number = Some n.number;

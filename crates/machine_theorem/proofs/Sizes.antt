@@ -1,11 +1,12 @@
 -- Every reached state's sets have their sizes.
-use Rattle.std.proofs.Common.{◌≡◌, ◌≢◌, ℕ, ◌+◌, ◌/◌, ◌%◌, ◌<◌, ◌≤◌, Bool, true, false, ◌||◌, ◌&&◌, cond, eqb, List}
+use Rattle.std.proofs.Common.{◌≡◌, ◌≢◌, ℕ, ◌+◌, ◌/◌, ◌%◌, ◌<◌, ◌≤◌, Bool, true, false, ◌||◌, cond, eqb, List}
 use Rattle.std.proofs.Common.{[], ◌∷◌, length, set, length-set, Option, Some, None, refl, sym, ap}
 use Rattle.std.proofs.Common.{◌∙◌, subst, arith, inl, inr, length-append, replicate}
 use Rattle.std.proofs.lemmas.List.{length-replicate}
 use Rattle.std.specs.Option.{is_some}
 use Rattle.std.proofs.Math.Nat.{mod-lt}
 use Rattle.std.proofs.lemmas.Bool.{cases_eq, cases_Bool, cond_both, ltb-true, eq-eqb, ne_eqb, eqb-true, eqb-false}
+use Rattle.std.proofs.lemmas.Bool.{and_parts}
 use Rattle.line_sets.specs.Order.{find, is_there, put_last, put_in_place, without, IsDistinct}
 use Rattle.line_sets.specs.SetTable.{Sets, set_at, put, put_within, drop_line, has_room, has_place}
 use Rattle.line_sets.proofs.Lemmas.{set_at-set_same, set_at-set_other, length-put_in_place, length-without_le}
@@ -140,10 +141,6 @@ module _ {X : Type 0} (n ways : ℕ) (some : 0 < n) (home : ℕ → ℕ) (table 
 abbrev Made : {S : Type 0} → (S → Type 0) → Step S → Type 0
 Made P (Makes answer consumes sends part) = P part
 Made P _ = Unit {0}
-
-and_right : (p q : Bool) → (p && q) ≡ true → q ≡ true
-and_right true q e = e
-and_right false q e = absurd (cc)
 
 -- a bank
 abbrev BankFits : Config → BankState → Type 0
@@ -300,8 +297,8 @@ module _ (config : Config) (some : 0 < config.sets) (core : CoreState) (fits : C
     held_or r k = cond_both (is_pinned (core_table.pinned_line core) line) on_core.Holds r Reacts (λ e. tt) (λ e. k)
 
     reaction_fits : (b : Body) → comes_to_core core line b ≡ true → Reacts (core_table.decided core line b)
-    reaction_fits (body.ShRep x) comes = cache_used line _ (and_right (waits_for core line) _ comes)
-    reaction_fits (body.ExRep x) comes = cache_used line _ (and_right (waits_for core line) _ comes)
+    reaction_fits (body.ShRep x) comes = cache_used line _ ((and_parts (waits_for core line) _ comes).1)
+    reaction_fits (body.ExRep x) comes = cache_used line _ ((and_parts (waits_for core line) _ comes).1)
     reaction_fits (body.RenewRep rts) comes = with_copy (cache.renewed rts) (copy_of core.cache line)
     reaction_fits (body.UpgradeRep rts) comes = with_copy (cache.upgraded rts) (copy_of core.cache line)
     reaction_fits body.FlushReq comes = held_or _ (flushed (copy_of core.cache line))
@@ -317,7 +314,7 @@ module _ (config : Config) (some : 0 < config.sets) (core : CoreState) (fits : C
       go (Some op) e = subst (λ i. TriedFits config (attempted core op (core_table.attempt_open core i))) (sym e)
           (attempt_fits op)
   core_fits (step.Getting m) bag rest to beside =
-      reaction_fits m.line m.body (and_right (is_this_core core.number m.to) _ beside.2)
+      reaction_fits m.line m.body ((and_parts (is_this_core core.number m.to) _ beside.2).1)
   core_fits (step.Evicting line) bag rest to beside =
       eviction_fits line (core_table.pinned_line core) (copy_of core.cache line)
   core_fits step.Advancing bag rest to beside =

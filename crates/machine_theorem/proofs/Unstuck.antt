@@ -55,13 +55,14 @@ use Rattle.machine_theorem.proofs.ReachedStates.{reached_kept}
 use Rattle.machine_theorem.proofs.Openings.{fair}
 use Rattle.machine_theorem.proofs.SetSizes.{Fits}
 use Rattle.machine_theorem.proofs.Sizes.{reached_sized, first_there}
-use Rattle.machine_theorem.proofs.Deliveries.{OfLine, found_of, counts_if, to_bank, to_core, IsReply, Suits}
+use Rattle.machine_theorem.proofs.Deliveries.{attempt_as, OfLine, found_of, counts_if, to_bank, to_core, IsReply, Suits}
 use Rattle.machine_theorem.proofs.Deliveries.{suits_replies, comes, completed, its_core, served}
-use Rattle.machine_theorem.proofs.Ways.{IsAsk, IsRequest, Setting, returned}
+use Rattle.machine_theorem.proofs.Ways.{AsksFor, Setting, returned}
 use Rattle.machine_theorem.proofs.Recalled.{is_back}
 use Rattle.machine_theorem.proofs.Replies.{reply_comes, Answered, Replied}
 use Rattle.machine_theorem.proofs.Taken.{taken}
 use Rattle.machine_theorem.proofs.Consistency.{line_counts}
+use Rattle.machine_theorem.specs.Rounds.{IsRequest}
 
 module _ (config : Config) (good : is_good config ≡ true) (opening : FinMap nat_cmp ℕ) (c : ℕ)
     (below : c < config.cores) (op : Op) where
@@ -120,7 +121,7 @@ module _ (config : Config) (good : is_good config ≡ true) (opening : FinMap na
   asked_by reads (body.ExReq version) = 1
   asked_by reads _ = 0
 
-  asked_by_asks : (reads : ℕ → Bool) (b : Body) → 1 ≤ asked_by reads b → IsAsk b
+  asked_by_asks : (reads : ℕ → Bool) (b : Body) → 1 ≤ asked_by reads b → IsRequest b
   asked_by_asks reads (body.ShReq pts version) some = tt
   asked_by_asks reads (body.ExReq version) some = tt
   asked_by_asks reads _ some = absurd (omega arith)
@@ -133,7 +134,7 @@ module _ (config : Config) (good : is_good config ≡ true) (opening : FinMap na
   abbrev weight : (ℕ → Bool) → Message → ℕ
   weight reads m = cond (eqb m.line l && is_from m.from) (asked_by reads m.body) 0
 
-  weight_asks : (reads : ℕ → Bool) (m : Message) → 1 ≤ weight reads m → IsRequest c l m
+  weight_asks : (reads : ℕ → Bool) (m : Message) → 1 ≤ weight reads m → AsksFor c l m
   weight_asks reads m some =
       let k = counts_if (eqb m.line l && is_from m.from) (asked_by reads m.body) some in
       let its = and_parts (eqb m.line l) (is_from m.from) k.0 in
@@ -261,26 +262,18 @@ module _ (config : Config) (good : is_good config ≡ true) (opening : FinMap na
             (done ∙ ap (λ (p : Op). attempted core op (Some (core_table.need core.pts p version), core)) e)
             (omega arith)
 
-    -- an attempt, by the copy that there is
-    attempts : (o : Option LineCopy) → copy_of core.cache (core_table.line_of core op) ≡ o →
-        core_step core Attempting ≡ attempted core op (core_table.attempt_on core op o)
-    attempts o is =
-        ap (step.attempt_open core) opens
-        ∙ ap (λ (i : Option Op). attempted core op (core_table.attempt_open core i)) opens
-        ∙ ap (λ (i : Option LineCopy). attempted core op (core_table.attempt_on core op i)) is
-
     with_held : (held : LineCopy) → copy_of core.cache (core_table.line_of core op) ≡ Some held →
         Ends (suc (suc n)) 17 a
     with_held held is = ⊎_elim
         (λ (serves : on_copy.serves op core.pts held ≡ true). leads_within
         (by_copy (suc (suc n)) a r (omega arith) opens held (rw (its_line a r) at is) serves) (omega arith))
         (λ (serves : on_copy.serves op core.pts held ≡ false).
-        needs (Some held.wts) (rw (serves, quiet) at (attempts (Some held) is)))
+        needs (Some held.wts) (rw (serves, quiet) at (attempt_as core op opens (Some held) is)))
         (cases_Bool (on_copy.serves op core.pts held))
 
     with_place : copy_of core.cache (core_table.line_of core op) ≡ None →
         place_for core.cache (core_table.line_of core op) ≡ true → Ends (suc (suc n)) 17 a
-    with_place is place = needs None (rw (quiet, place) at (attempts None is))
+    with_place is place = needs None (rw (quiet, place) at (attempt_as core op opens None is))
 
   -- one whose copy needs a place first
   module _ (n : ℕ) (a : State) (r : Reached config opening a) (size : length a.bag ≤ n)

@@ -42,20 +42,16 @@ use Rattle.machine_theorem.proofs.Services.{IsService, LeadsTo, leads_after, lea
 use Rattle.machine_theorem.proofs.Services.{leads_within}
 use Rattle.machine_theorem.proofs.Bags.{as_many}
 use Rattle.machine_theorem.proofs.Lookups.{IsNow, change_now, drop_now, put_now}
+use Rattle.machine_theorem.specs.Rounds.{IsRequest}
 use Rattle.machine_theorem.proofs.ReachedStates.{reached_kept}
 use Rattle.machine_theorem.proofs.Consistency.{line_counts}
 use Rattle.machine_theorem.proofs.Deliveries.{found_of, ToBank, to_bank, ToDram, to_dram, comes}
 
--- a request of a core
-abbrev pub IsAsk : Body → Type 0
-IsAsk (body.ShReq pts version) = Unit {0}
-IsAsk (body.ExReq version) = Unit {0}
-IsAsk _ = ⊥
-
-pub record IsRequest (c l : ℕ) (m : Message) : Type 0 where
+-- a request of a core for a line
+pub record AsksFor (c l : ℕ) (m : Message) : Type 0 where
   pub line : m.line ≡ l
   pub from : m.from ≡ node.Core c
-  pub asks : IsAsk m.body
+  pub asks : IsRequest m.body
 
 -- A core stands: K is what is seen of it. w weighs its request for line l, of which need many are out. At most n
 -- messages are in flight but for one, which a service may send.
@@ -69,7 +65,7 @@ pub record Setting : Type 0 where
   pub need : ℕ
   pub K : by_line.Core
   pub w : Message → ℕ
-  pub w_asks : (m : Message) → 1 ≤ w m → IsRequest c l m
+  pub w_asks : (m : Message) → 1 ≤ w m → AsksFor c l m
 
 -- a message is sent, or none: no part changes by it, and at most one message more is in flight
 pub record IsAnswered (w : Message → ℕ) (s : State) (bag : List Message) (b : State) : Type 0 where
@@ -166,12 +162,12 @@ module _ (who : Setting) where
   kept a st = reached_kept config opening good a st.reached
 
   -- a message that is no request is none that the core waits by
-  pub unasked : (x : Message) (b : Body) → x.body ≡ b → (IsAsk b → ⊥) → w x ≡ 0
+  pub unasked : (x : Message) (b : Body) → x.body ≡ b → (IsRequest b → ⊥) → w x ≡ 0
   unasked x b is no_ask = go (w x) refl
     where
       go : (i : ℕ) → w x ≡ i → w x ≡ 0
       go zero e = e
-      go (suc i) e = absurd (no_ask (subst IsAsk is (who.w_asks x (omega arith)).asks))
+      go (suc i) e = absurd (no_ask (subst IsRequest is (who.w_asks x (omega arith)).asks))
 
   pub asked_still : (bag : List Message) (x : Message) (rest : List Message) → SameBag bag (x ∷ rest) → w x ≡ 0 →
       who.need ≤ weigh w bag → who.need ≤ weigh w rest
@@ -255,7 +251,7 @@ module _ (who : Setting) where
 
   -- a message with this body, which is no request, is delivered to its line's bank, or to the DRAM behind it
   module _ (a : State) (st : Stands a) (size : length a.bag ≤ suc n) (x : Message) (rest : List Message)
-      (taken : SameBag a.bag (x ∷ rest)) (b : Body) (is : x.body ≡ b) (no_ask : IsAsk b → ⊥) where
+      (taken : SameBag a.bag (x ∷ rest)) (b : Body) (is : x.body ≡ b) (no_ask : IsRequest b → ⊥) where
     abbrev here : BankState
     here = a.banks (home x.line)
 

@@ -13,14 +13,15 @@ use Rattle.llc_bank.specs.BankTable.{BankState, make_room}
 use Rattle.machine_table.specs.declared.event.Event.{Event}
 use Rattle.machine_table.specs.declared.event.Event.TheVariants.{Attempt, Deliver, EvictCache, EvictBank}
 use Rattle.machine_table.specs.declared.event.Answer.{Answer}
-use Rattle.machine_table.specs.declared.event.Answer.TheVariants.{Waiting, Held, Refused}
+use Rattle.machine_table.specs.declared.event.Answer.TheVariants.{Waiting, Idle, Held, Refused}
 use Rattle.machine_table.specs.declared.event.Refusal.TheVariants.{Exhausted, NoRoom}
 use Rattle.machine_table.specs.Machine.{Machine}
 use Rattle.machine_table.specs.Transition.{transition}
 
--- the answer is none of Waiting, Held and the refusals, or times are exhausted. No event of a round is answered Idle
+-- the answer is none of Waiting, Idle, Held and the refusals, or times are exhausted
 abbrev pub IsMoving : Answer → Type 0
 IsMoving Waiting = ⊥
+IsMoving Idle = ⊥
 IsMoving Held = ⊥
 IsMoving (Refused Exhausted) = Unit {0}
 IsMoving (Refused why) = ⊥

@@ -94,7 +94,7 @@ pub fn nothing_is_stuck()
 /// A round changes the machine where an operation is open, and there is room for one more message, and a number. After
 /// any list of events, refused ones included, of a machine that opened with a good set-up and hasn't stopped: if a core
 /// has an operation open, one of the events that a round makes of the machine as it is changes it. Its answer is none
-/// of Waiting, Held and the refusals, or times are exhausted.
+/// of Waiting, Idle, Held and the refusals, or times are exhausted.
 pub fn rounds_move_on()
     ensures { (config : Config) (opening : FinMap nat_cmp ℕ) (events : List Event) → is_good config ≡ true →
         let m = after_all (at_start config opening) events in

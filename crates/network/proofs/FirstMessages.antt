@@ -77,8 +77,7 @@ first-either p q r low high (x ∷ xs) rising h =
 -- messages over the first links, and over one more
 below-none : (n : ℕ) (s : Bool) (o : Option ℕ) → n ≡ 0 → s && has_link_below n o ≡ false
 below-none n true (Some k) e = grind (arith, nat_tests, e)
-below-none n true None e = refl
-below-none n false _ e = refl
+below-none n _ _ e = refl
 
 pub none-below : (cores banks n : ℕ) (test : Message → Bool) (m : Message) → n ≡ 0 →
     test m && is_below cores banks n m ≡ false

@@ -1,5 +1,4 @@
 mod Powers
-mod FlightLaws
 mod RisingLists
 mod SlotChanges
 mod StoredMessages

@@ -12,9 +12,8 @@ use Rattle.network.specs.LinkNumbers.{count_links, link_of, has_link, has_link_b
 use Rattle.network.specs.Routes.{AllHaveEndpoints, has_endpoints, has_route, is_core_to_bank, is_bank_to_dram}
 use Rattle.network.specs.Search.{first_message, is_between, is_dram_store, is_same_node, is_store_of}
 use Rattle.network.specs.declared.message.Body.{Body}
-use Rattle.network.specs.declared.message.Body.TheVariants.{ShReq, ExReq, ShRep, ExRep, RenewRep, UpgradeRep}
-use Rattle.network.specs.declared.message.Body.TheVariants.{FlushReq, WbReq, FlushRep, WbRep, DramLd, DramLdRep}
-use Rattle.network.specs.declared.message.Body.TheVariants.{DramSt, DramStRep}
+use Rattle.network.specs.declared.message.Body.TheVariants.{ShReq, ExReq, FlushRep, WbRep, DramLd, DramLdRep, DramSt}
+use Rattle.network.specs.declared.message.Body.TheVariants.{DramStRep}
 
 -- a core and a bank by one number, below how many such pairs there are
 pair-below : (c b cores banks : ℕ) → c < cores → b < banks → c * banks + b < cores * banks
@@ -178,16 +177,11 @@ route-link cores banks f t (ShReq pts version) h = up cores banks f t h
 route-link cores banks f t (ExReq version) h = up cores banks f t h
 route-link cores banks f t (FlushRep line) h = up cores banks f t h
 route-link cores banks f t (WbRep line) h = up cores banks f t h
-route-link cores banks f t (ShRep line) h = down cores banks t f h
-route-link cores banks f t (ExRep line) h = down cores banks t f h
-route-link cores banks f t (RenewRep rts) h = down cores banks t f h
-route-link cores banks f t (UpgradeRep rts) h = down cores banks t f h
-route-link cores banks f t FlushReq h = down cores banks t f h
-route-link cores banks f t (WbReq rts) h = down cores banks t f h
 route-link cores banks f t DramLd h = let l = out cores banks f t h in (l.0, l.1, omega (arith, l.2))
 route-link cores banks f t (DramSt words) h = let l = out cores banks f t h in (l.0, l.1, omega (arith, l.2))
 route-link cores banks f t (DramLdRep words) h = back cores banks t f h
 route-link cores banks f t DramStRep h = back cores banks t f h
+route-link cores banks f t _ h = down cores banks t f h
 
 pub has-link : (cores banks : ℕ) (m : Message) → IsTrue (has_endpoints cores banks m) →
     IsLink (count_links cores banks) cores banks m.from m.to

@@ -1,6 +1,7 @@
 -- Lists by rising number: what two places say of one another, and what has a number.
-use Rattle.std.proofs.Common.{◌≡◌, ℕ, zero, suc, ◌+◌, ◌-◌, ◌<◌, ◌≤◌, List, [], ◌∷◌, length, get_or, Option, Some, None}
-use Rattle.std.proofs.Common.{refl, sym, ap, ◌∙◌, inl, inr, ◌⊎◌, arith}
+use Rattle.std.proofs.Common.{◌≡◌, ◌≢◌, ℕ, zero, suc, ◌+◌, ◌-◌, ◌<◌, ◌≤◌, List, [], ◌∷◌, length, get_or, Option, Some}
+use Rattle.std.proofs.Common.{None}
+use Rattle.std.proofs.Common.{refl, sym, ap, ◌∙◌, arith}
 use Rattle.std.specs.Prelude.{slice_get}
 use Rattle.std.proofs.lemmas.Bool.Decides.{nat_tests}
 use Rattle.network.specs.NumberedMessages.{IsRising, at_number, number_at, still_there, given}
@@ -28,12 +29,11 @@ module _ {X : Type 0} where
   -- of two elements the later one has the greater number
   pub number_at-rises : (xs : List (ℕ × X)) (low high i j : ℕ) → IsRising low xs high → i < j → j < length xs →
       number_at xs i < number_at xs j
-  number_at-rises [] low high i j rising before h = absurd (omega arith)
-  number_at-rises (x ∷ xs) low high i zero rising before h = absurd (omega arith)
   number_at-rises (x ∷ xs) low high zero (suc j) rising before h = let rest =
       number_at-within xs (x.0 + 1) high j rising.1 (omega arith) in omega (arith, rest.0)
   number_at-rises (x ∷ xs) low high (suc i) (suc j) rising before h =
       number_at-rises xs (x.0 + 1) high i j rising.1 (omega arith) (omega arith)
+  number_at-rises _ low high i _ rising before h = absurd (omega arith)
 
 module _ {X : Type 0} where
   -- the thing in front is passed over where its number is another
@@ -74,55 +74,29 @@ module _ {X : Type 0} where
       let skip = at_number-given_other n x.0 x.1 (still_there xs) (λ e. omega (arith, later.0)) in
       slice_get-at_number n (x.0 + 1) high k xs rising.1 (omega arith) same ∙ ap (λ o. Some (n, o)) (sym skip)
 
--- what is at most a number is it or below it
-same_or_less : (a b : ℕ) → a ≤ b → (a ≡ b) ⊎ (a < b)
-same_or_less a b h = grind arith
-
--- a number is below another, or it, or above it
-three : (a b : ℕ) → (a < b) ⊎ ((a ≡ b) ⊎ (b < a))
-three a b = grind arith
-
 module _ {X : Type 0} where
   -- where the number in the middle is below `n`, so are those before it
   pub passes_middle : (xs : List (ℕ × X)) (low high middle n : ℕ) (x : ℕ × X) → IsRising low xs high →
       middle < length xs → (get_or xs middle x).0 < n → (k : ℕ) → k < middle + 1 → number_at xs k < n
   passes_middle xs low high middle n x rising h below k before =
-      let here = number_at-get_or xs middle x h in
-      elim (same_or_less k middle (omega arith)) as (λ _. number_at xs k < n) [
-        | inl same ↦ rw same (omega (arith, here))
-        | inr less ↦ let rise = number_at-rises xs low high k middle
-            rising less h in omega (arith, here, rise)
-      ]
+      let here = number_at-get_or xs middle x h in let rise = number_at-rises xs low high k middle rising in
+      let same : k ≡ middle → number_at xs k ≡ number_at xs middle = ap (number_at xs) in grind arith
 
   -- where the number in the middle is not below `n`, nor are those behind it
   pub stops_middle : (xs : List (ℕ × X)) (low high middle n : ℕ) (x : ℕ × X) → IsRising low xs high →
       middle < length xs → n ≤ (get_or xs middle x).0 → (k : ℕ) → middle ≤ k → k < length xs → n ≤ number_at xs k
   stops_middle xs low high middle n x rising h above k behind within =
-      let here = number_at-get_or xs middle x h in
-      elim (same_or_less middle k behind) as (λ _. n ≤ number_at xs k) [
-        | inl same ↦ rw (← same) (omega (arith, here))
-        | inr less ↦ let rise = number_at-rises xs low high middle k rising less within in
-            omega (arith, here, rise)
-      ]
+      let here = number_at-get_or xs middle x h in let rise = number_at-rises xs low high middle k rising in
+      let same : middle ≡ k → number_at xs middle ≡ number_at xs k = ap (number_at xs) in grind arith
 
 module _ {X : Type 0} where
   -- where all before `at` are below `n`, none from `at` on are, and the one at `at` isn't `n`, nothing has the number
   pub at_number-absent : (n high at : ℕ) (xs : List (ℕ × Option X)) → IsRising 0 xs high →
       ((k : ℕ) → k < at → number_at xs k < n) → ((k : ℕ) → at ≤ k → k < length xs → n ≤ number_at xs k) →
       (at < length xs → number_at xs at ≡ n → ⊥) → at_number n (still_there xs) ≡ None
-  at_number-absent n high at xs rising before after other = at_number-none n xs differs
-    where
-      differs : (k : ℕ) → k < length xs → number_at xs k ≡ n → ⊥
-      differs k within same = elim (three k at) as (λ _. ⊥) [
-        | inl less ↦ omega (arith, before k less)
-        | inr rest ↦
-            elim rest as (λ _. ⊥) [
-              | inl is ↦ other (rw (← is) within) (rw (← is) same)
-              | inr more ↦ let rise =
-                  number_at-rises xs 0 high at k rising more within in let first =
-                  after at (omega arith) (omega arith) in omega (arith, rise, first)
-            ]
-      ]
+  at_number-absent n high at xs rising before after other = at_number-none n xs (λ k within same.
+      let less = before k in let more = after at in let rise = number_at-rises xs 0 high at k rising in
+      let ne : k ≢ at = λ e. other (rw e at within) (rw e at same) in grind arith)
 
 module _ {X : Type 0} where
   -- the number at an index is that of the element there

@@ -161,10 +161,9 @@ module _ {X : Type 0} where
   -- where no slot is empty, what is there stands where its slot does
   pub slice_get-all_there : (k : ℕ) (xs : List (ℕ × Option X)) → length (still_there xs) ≡ length xs →
       slice_get (map (λ x. x.0) (still_there xs)) k ≡ option_map (λ x. x.0) (slice_get xs k)
-  slice_get-all_there k [] full = refl
   slice_get-all_there k ((n, None) ∷ xs) full = let most = still_there-most xs in absurd (omega (arith, full, most))
-  slice_get-all_there zero ((n, Some x) ∷ xs) full = refl
   slice_get-all_there (suc k) ((n, Some x) ∷ xs) full = slice_get-all_there k xs (omega (arith, full))
+  slice_get-all_there _ _ full = refl
 
 -- what is found has the endpoints of its kind
 pub AllHaveEndpoints-at_number : (cores banks n : ℕ) (m : Message) (xs : List (ℕ × Message)) → AllHaveEndpoints cores

@@ -1,15 +1,15 @@
 -- What is stored after a message is sent or taken, or empty slots are dropped.
 use Rattle.std.proofs.Common.{◌≡◌, ℕ, ◌+◌, ◌-◌, ◌*◌, ◌<◌, ◌≤◌, ◌^◌, ◌++◌, List, [], ◌∷◌, length, length-append}
-use Rattle.std.proofs.Common.{Option, Some, None, Result, Ok, Err, IsOk, IsErr, IfOk, IsTrue, refl, sym, ap, ◌∙◌}
+use Rattle.std.proofs.Common.{Option, Some, None, Result, Ok, Err, IsOk, IsErr, IsTrue, refl, sym, ap, ◌∙◌}
 use Rattle.std.proofs.Common.{arith}
-use Rattle.line_arena.specs.Arenas.{Lists, pushed, unlinked, free_cells, IsOnce}
+use Rattle.line_arena.specs.Arenas.{Lists, lists_of, pushed, unlinked, free_cells, IsOnce}
 use Rattle.line_arena.specs.CellLists.{look_up}
 use Rattle.line_arena.specs.ListLaws.{LookUpLaws, AppendLaws, WithoutLaws}
 use Rattle.network.specs.declared.message.Message.{Message}
 use Rattle.network.specs.LinkNumbers.{link_of}
 use Rattle.network.specs.NumberedMessages.{IsRising, at_number, without_number, still_there}
 use Rattle.network.specs.Routes.{has_endpoints}
-use Rattle.network.specs.Stored.{IsStored, cell_messages}
+use Rattle.network.specs.Stored.{AreLinked, IsStored, cell_messages}
 use Rattle.network.proofs.LinkLaws.{link-low}
 use Rattle.network.proofs.SlotChanges.{still_there-append, IsRising-append, IsRising-still_there}
 use Rattle.network.proofs.SlotChanges.{length-without_number, without_number-none}
@@ -19,9 +19,6 @@ use Rattle.network.proofs.StoredMessages.{messages-length, placed-at, linked-sen
 pub is-ok : {A B : Type 0} (r : Result A B) → (IsErr r → ⊥) → IsOk r
 is-ok (Ok x) never = refl
 is-ok (Err x) never = absurd (never refl)
-
-pub if-ok : {A B : Type 0} (P : A → Type 0) (r : Result A B) (x : A) → IfOk r P → r ≡ Ok x → P x
-if-ok P r x h e = rw e at h
 
 -- how many messages there are
 pub stored-count : (cores banks next count places : ℕ) (slots : List (ℕ × Option ℕ)) (arena : Lists (ℕ × Message)) →
@@ -37,6 +34,25 @@ pub stored-free : (cores banks next count places : ℕ) (slots : List (ℕ × Op
 stored-free cores banks next count places slots arena stored room none =
     let many = messages-length arena.lists (still_there slots) stored.linked.placed in
     omega (arith, many, room, none, stored.linked.total)
+
+-- what is stored with other slots and lists
+stored-as : {cores banks next count places : ℕ} {slots : List (ℕ × Option ℕ)} {arena : Lists (ℕ × Message)}
+    (n m : ℕ) (new : List (ℕ × Option ℕ)) (ls : List (List (ℕ × (ℕ × Message)))) →
+    IsStored cores banks next count places slots arena → IsRising 0 new n → n < 2 ^ 64 →
+    m ≡ length (still_there new) → m ≤ arena.cells → length new ≤ 2 * m + 1 →
+    AreLinked cores banks ls (still_there new) → IsStored cores banks n m places new (lists_of ls arena.cells)
+stored-as n m new ls stored rising numbered counted bounded few linked = record {
+  most_cores = stored.most_cores;
+  most_banks = stored.most_banks;
+  most_cells = stored.most_cells;
+  rising = rising;
+  numbered = numbered;
+  counted = counted;
+  bounded = bounded;
+  few = few;
+  room = stored.room;
+  linked = linked;
+}
 
 -- a message is sent
 pub record Sends (cores banks next count places : ℕ) (m : Message) (slots : List (ℕ × Option ℕ))
@@ -59,18 +75,10 @@ stored-sent cores banks next count places l c m slots arena stored laws here num
     (omega (arith, low, stored.linked.many)) here in
     let many = stored-count cores banks next count places slots arena stored in
     record {
-      stored = record {
-        most_cores = stored.most_cores;
-        most_banks = stored.most_banks;
-        most_cells = stored.most_cells;
-        rising = IsRising-append 0 next (Some c) slots stored.rising;
-        numbered = omega (arith, number);
-        counted = rw there (omega (arith, stored.counted, length-append xs ((next, c) ∷ [])));
-        bounded = omega (arith, many, room);
-        few = omega (arith, stored.few, length-append slots ((next, Some c) ∷ []));
-        room = stored.room;
-        linked = rw there after.linked;
-      };
+      stored = stored-as (next + 1) (count + 1) (slots ++ (next, Some c) ∷ []) _ stored
+          (IsRising-append 0 next (Some c) slots stored.rising) (omega (arith, number))
+          (rw there (omega (arith, stored.counted, length-append xs ((next, c) ∷ [])))) (omega (arith, many, room))
+          (omega (arith, stored.few, length-append slots ((next, Some c) ∷ []))) (rw there after.linked);
       are = rw there after.are;
     }
 
@@ -78,18 +86,8 @@ stored-sent cores banks next count places l c m slots arena stored laws here num
 pub stored-same : (cores banks next count places : ℕ) (slots new : List (ℕ × Option ℕ)) (arena : Lists (ℕ × Message)) →
     IsStored cores banks next count places slots arena → still_there new ≡ still_there slots → IsRising 0 new next →
     length new ≤ 2 * count + 1 → IsStored cores banks next count places new arena
-stored-same cores banks next count places slots new arena stored same rising few = record {
-  most_cores = stored.most_cores;
-  most_banks = stored.most_banks;
-  most_cells = stored.most_cells;
-  rising = rising;
-  numbered = stored.numbered;
-  counted = rw same stored.counted;
-  bounded = stored.bounded;
-  few = few;
-  room = stored.room;
-  linked = rw same stored.linked;
-}
+stored-same cores banks next count places slots new arena stored same rising few = stored-as next count new
+    arena.lists stored rising stored.numbered (rw same stored.counted) stored.bounded few (rw same stored.linked)
 
 -- nothing is there to be taken
 pub stored-none : (cores banks next count places n : ℕ) (slots new : List (ℕ × Option ℕ))
@@ -120,18 +118,8 @@ stored-taken cores banks next count places n c slots new arena stored finds laws
     (IsRising-still_there 0 next slots stored.rising) e there.1 finds laws once in
     let less = length-without_number n c (still_there slots) e in
     record {
-      stored = record {
-        most_cores = stored.most_cores;
-        most_banks = stored.most_banks;
-        most_cells = stored.most_cells;
-        rising = rising;
-        numbered = stored.numbered;
-        counted = rw after (omega (arith, stored.counted, less));
-        bounded = omega (arith, stored.bounded);
-        few = few;
-        room = stored.room;
-        linked = rw after cut.linked;
-      };
+      stored = stored-as next (count - 1) new _ stored rising stored.numbered
+          (rw after (omega (arith, stored.counted, less))) (omega (arith, stored.bounded)) few (rw after cut.linked);
       are = rw after cut.are;
     }
 
@@ -161,17 +149,8 @@ stored-answered cores banks next count places n l c m slots left new arena store
     (laws.gone arena.lists c) link (omega (arith, low, cut.linked.many)) here in
     let after = same ∙ still_there-answered n next c slots left taken in
     record {
-      stored = record {
-        most_cores = stored.most_cores;
-        most_banks = stored.most_banks;
-        most_cells = stored.most_cells;
-        rising = rising;
-        numbered = omega (arith, number);
-        counted = stored.counted ∙ sym (ap length same ∙ length-answered n next c slots left e taken);
-        bounded = stored.bounded;
-        few = few;
-        room = stored.room;
-        linked = rw after sent.linked;
-      };
+      stored = stored-as (next + 1) count new _ stored rising (omega (arith, number))
+          (stored.counted ∙ sym (ap length same ∙ length-answered n next c slots left e taken)) stored.bounded few
+          (rw after sent.linked);
       are = rw after (sent.are ∙ ap (λ ms. ms ++ (next, m) ∷ []) cut.are);
     }

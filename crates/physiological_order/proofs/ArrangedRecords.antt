@@ -1,21 +1,23 @@
 -- Records arranged one after another: their members, order, program orders and numbers.
-use Rattle.std.proofs.Common.{◌≡◌, ℕ, ◌+◌, ◌<◌, ◌≤◌, ◌≢◌, Bool, true, false, cond, leb, eqb, List, [], ◌∷◌, ◌++◌}
-use Rattle.std.proofs.Common.{length, Some, inl, inr, refl, sym, ap, ap₂, ◌∙◌, subst, arith, ⊎_elim, length-append}
+use Rattle.std.proofs.Common.{◌≡◌, ℕ, ◌+◌, ◌<◌, ◌≤◌, ◌≢◌, cond, leb, eqb, List, [], ◌∷◌, ◌++◌}
+use Rattle.std.proofs.Common.{length, Some, inl, refl, ap, ◌∙◌, subst, arith, length-append}
 use Rattle.std.specs.Prelude.{count_by, slice_get, ◌==◌}
 use Rattle.std.proofs.Math.ListN.{get_or-append}
 use Rattle.std.proofs.lemmas.Option.{slice_get_within, slice_get-get_or, get_or_from_slice_get}
 use Rattle.std.specs.List.{AllByRecursion as Each}
 use Rattle.std.specs.List.Sorted.{IsPermutation}
 use Rattle.std.proofs.lemmas.List.Sorted.{IsPermutation-refl, IsPermutation-cons, IsPermutation-trans}
-use Rattle.std.proofs.lemmas.List.Sorted.{IsPermutation-swap, IsPermutation-to_front}
+use Rattle.std.proofs.lemmas.List.Sorted.{IsPermutation-to_front}
 use Rattle.std.proofs.lemmas.List.Sums.{sum_by-cons, sum_by_push}
-use Rattle.std.proofs.lemmas.Bool.{cond_both, leb-true, leb-false, cases_lt, cases_eq, cond-true, cond-false, ne_eqb}
-use Rattle.std.proofs.lemmas.Bool.{eq-eqb}
+use Rattle.std.proofs.lemmas.Bool.{cond_both, leb-true, leb-false, cond-false, ne_eqb}
 use Rattle.physiological_order.specs.declared.operation.Op.{Op}
 use Rattle.physiological_order.specs.declared.operation.Record.{Record}
 use Rattle.physiological_order.specs.Order.{Before, Rises, Follows, of_core}
 use Rattle.physiological_order.specs.Completion.{placed, arranged_from, arranged, Ascends}
-use Rattle.physiological_order.proofs.History.{Sorted, each_weaker, each_placed}
+use Rattle.physiological_order.proofs.History.{Sorted, apart, each_weaker, each_placed}
+use Rattle.physiological_order.proofs.PickedRecords.{each_append, two_heads}
+use Rattle.std.proofs.lemmas.Bool.Decides.{nat_tests}
+use Rattle.std.proofs.lemmas.List.{length_push}
 
 pub arranged_from-push : (start : List Record) (rs : List Record) (r : Record) → arranged_from start (rs ++ r ∷ []) ≡
     placed r (arranged_from start rs)
@@ -34,12 +36,7 @@ pub each_arranged : (P : Record → Type 0) (rs : List Record) → Each P rs →
 each_arranged P rs h = each_arranged_from P [] rs tt h
 
 pub each_push : (P : Record → Type 0) (rs : List Record) (r : Record) → Each P rs → P r → Each P (rs ++ r ∷ [])
-each_push P [] r h p = (p, tt)
-each_push P (s ∷ ss) r h p = (h.0, each_push P ss r h.1 p)
-
--- same members
-two_heads : (r s : Record) (ss : List Record) → IsPermutation (r ∷ s ∷ ss) (s ∷ r ∷ ss)
-two_heads r s ss = IsPermutation-swap (r ∷ s ∷ ss) (s ∷ r ∷ ss) 0 1 (omega arith) (omega arith) refl
+each_push P rs r h p = each_append P rs (r ∷ []) h (p, tt)
 
 pub IsPermutation-placed : (r : Record) (rs : List Record) → IsPermutation (r ∷ rs) (placed r rs)
 IsPermutation-placed r [] = IsPermutation-refl (r ∷ [])
@@ -56,26 +53,22 @@ IsPermutation-push_placed rs ss r h =
     (IsPermutation-trans (r ∷ rs) (r ∷ ss) (placed r ss) (IsPermutation-cons r rs ss h) (IsPermutation-placed r ss))
 
 before_times : (r s : Record) → Before r s → r.ts ≤ s.ts
-before_times r s (inl h) = omega arith
-before_times r s (inr h) = omega arith
+before_times r s h = grind arith
 
 pub Sorted-from_Ascends : (rs : List Record) → Ascends rs → Sorted rs
 Sorted-from_Ascends [] h = tt
 Sorted-from_Ascends (r ∷ rs) h = (each_weaker (before_times r) rs h.0, Sorted-from_Ascends rs h.1)
 
 pub Rises-from_Ascends : (rs : List Record) → Ascends rs → Rises rs
-Rises-from_Ascends [] h = tt
-Rises-from_Ascends (r ∷ []) h = tt
 Rises-from_Ascends (r ∷ s ∷ ss) h = (h.0.0, Rises-from_Ascends (s ∷ ss) h.1)
+Rises-from_Ascends _ h = tt
 
 -- s before r, as its time is no later and its number smaller
 joins : (s r : Record) → s.ts ≤ r.ts → s.number < r.number → Before s r
-joins s r le lt = ⊎_elim (λ (h : s.ts < r.ts). inl h) (λ (h : r.ts ≤ s.ts). inr (omega arith, lt))
-    (cases_lt s.ts r.ts)
+joins s r le lt = grind arith
 
 later : (r : Record) (s x : Record) → r.ts < s.ts → Before s x → Before r x
-later r s x lt (inl h) = inl (omega arith)
-later r s x lt (inr h) = inl (omega arith)
+later r s x lt h = grind arith
 
 pub Ascends-placed : (r : Record) (rs : List Record) → Ascends rs → Each (λ s. s.number < r.number) rs →
     Ascends (placed r rs)
@@ -96,36 +89,17 @@ of_core_none c (r ∷ rs) h = cond-false (eqb r.core c) (r ∷ of_core c rs) (of
 
 pub of_core-placed_other : (c : ℕ) (r : Record) (rs : List Record) → r.core ≢ c →
     of_core c (placed r rs) ≡ of_core c rs
-of_core-placed_other c r [] ne = cond-false (eqb r.core c) (r ∷ []) [] (ne_eqb r.core c ne)
-of_core-placed_other c r (s ∷ ss) ne =
-    cond_both (leb s.ts r.ts) (s ∷ placed r ss) (r ∷ s ∷ ss) (λ xs. of_core c xs ≡ of_core c (s ∷ ss))
-    (λ e. ap (λ xs. cond (eqb s.core c) (s ∷ xs) xs) (of_core-placed_other c r ss ne))
-    (λ e. cond-false (eqb r.core c) (r ∷ of_core c (s ∷ ss)) (of_core c (s ∷ ss)) (ne_eqb r.core c ne))
-
-cond_push : (b : Bool) (s r : Record) (xs ys : List Record) → xs ≡ ys ++ r ∷ [] → cond b (s ∷ xs) xs ≡ cond b
-    (s ∷ ys) ys ++ r ∷ []
-cond_push true s r xs ys h = ap (λ zs. s ∷ zs) h
-cond_push false s r xs ys h = h
+of_core-placed_other c r [] ne = grind (arith, nat_tests)
+of_core-placed_other c r (s ∷ ss) ne = let rest = of_core-placed_other c r ss ne in grind (arith, nat_tests)
 
 pub of_core-placed_own : (r : Record) (rs : List Record) → Sorted rs → Each (λ s. s.core ≡ r.core → s.ts ≤ r.ts) rs →
     of_core r.core (placed r rs) ≡ of_core r.core rs ++ r ∷ []
-of_core-placed_own r [] s h = cond-true (eqb r.core r.core) (r ∷ []) [] (eq-eqb r.core r.core refl)
+of_core-placed_own r [] s h = grind (arith, nat_tests)
 of_core-placed_own r (x ∷ xs) s h =
-    cond_both (leb x.ts r.ts) (x ∷ placed r xs) (r ∷ x ∷ xs) (λ ys. of_core r.core ys ≡ of_core r.core (x ∷ xs)
-    ++ r ∷ [])
-    (λ e. cond_push (eqb x.core r.core) x r (of_core r.core (placed r xs)) (of_core r.core xs)
-    (of_core-placed_own r xs s.1 h.1))
-    (λ e.
-    let lt = leb-false x.ts r.ts e in
-    let none = of_core_none r.core (x ∷ xs) (apart (x ∷ xs) (lt, each_weaker (λ y k. omega arith) xs s.0) h) in
-    cond-true (eqb r.core r.core) (r ∷ of_core r.core (x ∷ xs)) (of_core r.core (x ∷ xs)) (eq-eqb r.core r.core refl)
-    ∙ ap (λ ys. r ∷ ys) none ∙ sym (ap (λ ys. ys ++ r ∷ []) none))
-  where
-    apart : (ys : List Record) → Each (λ s. r.ts < s.ts) ys → Each (λ s. s.core ≡ r.core → s.ts ≤ r.ts) ys →
-        Each (λ s. s.core ≢ r.core) ys
-    apart [] l k = tt
-    apart (y ∷ ys) l k =
-        (λ e. absurd (let le : y.ts ≤ r.ts = k.0 e in let lt : r.ts < y.ts = l.0 in omega arith), apart ys l.1 k.1)
+    let rest = of_core-placed_own r xs s.1 h.1 in
+    let none : r.ts < x.ts → of_core r.core (x ∷ xs) ≡ [] = λ lt. of_core_none r.core (x ∷ xs)
+    (apart (λ y. y.core ≡ r.core) r.ts (x ∷ xs) (lt, each_weaker (λ y k. omega arith) xs s.0) h) in
+    grind (arith, nat_tests)
 
 pub Follows-push : (k : ℕ) (ops : List Op) (rs : List Record) (r : Record) → Follows k ops rs →
     r.place ≡ k + length rs → slice_get ops (k + length rs) ≡ Some r.op → Follows k ops (rs ++ r ∷ [])
@@ -140,57 +114,32 @@ Follows-push k ops (s ∷ ss) r h p o = (
 -- numbers
 pub count_none : (k : ℕ) (rs : List Record) → Each (λ s. s.number < k) rs → count_by (λ s. s.number == k) rs ≡ 0
 count_none k [] h = refl
-count_none k (r ∷ rs) h =
-    let lt : r.number < k = h.0 in
-    sum_by-cons (λ (s : Record). cond (eqb s.number k) 1 0) r rs
-    ∙ ap₂ (λ x y. x + y) (cond-false (eqb r.number k) 1 0 (ne_eqb r.number k (λ e. absurd (omega arith))))
-    (count_none k rs h.1)
+count_none k (r ∷ rs) h = let lt = h.0 in let rest = count_none k rs h.1 in
+    let one = sum_by-cons (λ (s : Record). cond (eqb s.number k) 1 0) r rs in grind (arith, nat_tests)
 
 pub count-push : (k : ℕ) (rs : List Record) (r : Record) → count_by (λ s. s.number == k) (rs ++ r ∷ []) ≡ count_by
     (λ s. s.number == k) rs + cond (eqb r.number k) 1 0
 count-push k rs r = sum_by_push (λ (s : Record). cond (eqb s.number k) 1 0) rs r
-
-length-push : (rs : List Record) (r : Record) → length (rs ++ r ∷ []) ≡ length rs + 1
-length-push rs r = length-append rs (r ∷ []) ∙ omega arith
 
 -- with the next number, the numbers are still 0 to n - 1, each once
 pub counts-push : (rs : List Record) (r : Record) → r.number ≡ length rs → Each (λ s. s.number < length rs) rs →
     ((k : ℕ) → k < length rs → count_by (λ s. s.number == k) rs ≡ 1) → (k : ℕ) → k < length (rs ++ r ∷ []) →
     count_by (λ s. s.number == k) (rs ++ r ∷ []) ≡ 1
 counts-push rs r n below once k lt =
-    count-push k rs r ∙ ⊎_elim
-    (λ (e : k ≡ length rs). ap₂ (λ x y. x + y) (subst (λ (j : ℕ). count_by (λ (s : Record). s.number == j) rs ≡ 0)
-    (sym e) (count_none (length rs) rs below)) (cond-true (eqb r.number k) 1 0 (eq-eqb r.number k (n ∙ sym e))))
-    (λ (ne : k ≡ length rs → ⊥). ap₂ (λ x y. x + y) (once k (let l = length-push rs r in
-    ⊎_elim (λ (h : k < length rs). h) (λ (h : length rs ≤ k). absurd (ne (omega arith)))
-    (cases_lt k (length rs)))) (cond-false (eqb r.number k) 1 0 (ne_eqb r.number k (λ e. ne (sym e ∙ n)))))
-    (cases_eq k (length rs))
-
--- how many records a core has
-length_of_core : (c : ℕ) (b : Bool) (r : Record) (xs : List Record) → length (cond b (r ∷ xs) xs) ≡
-    length xs + cond b 1 0
-length_of_core c true r xs = omega arith
-length_of_core c false r xs = omega arith
+    let more = count-push k rs r in let long = length_push rs r in let old = once k in
+    let none : k ≡ length rs → count_by (λ (s : Record). s.number == k) rs ≡ 0 =
+    λ e. count_none k rs (rw (← e) at below) in grind (arith, nat_tests)
 
 length_placed : (c : ℕ) (r : Record) (rs : List Record) → length (of_core c (placed r rs)) ≡ length
     (of_core c rs) + cond (eqb r.core c) 1 0
-length_placed c r [] = length_of_core c (eqb r.core c) r []
-length_placed c r (s ∷ ss) =
-    cond_both (leb s.ts r.ts) (s ∷ placed r ss) (r ∷ s ∷ ss) (λ xs. length (of_core c xs) ≡ length
-    (of_core c (s ∷ ss)) + cond (eqb r.core c) 1 0)
-    (λ e.
-    let a = length_of_core c (eqb s.core c) s (of_core c (placed r ss)) in
-    let b = length_of_core c (eqb s.core c) s (of_core c ss) in
-    let i = length_placed c r ss in omega arith)
-    (λ e. length_of_core c (eqb r.core c) r (of_core c (s ∷ ss)))
+length_placed c r [] = grind arith
+length_placed c r (s ∷ ss) = let rest = length_placed c r ss in grind arith
 
 length_arranged_from : (c : ℕ) (start rs : List Record) → length (of_core c (arranged_from start rs)) ≡ length
     (of_core c start) + length (of_core c rs)
 length_arranged_from c start [] = omega arith
 length_arranged_from c start (r ∷ rs) =
-    let i = length_arranged_from c (placed r start) rs in
-    let p = length_placed c r start in
-    let l = length_of_core c (eqb r.core c) r (of_core c rs) in omega arith
+    let i = length_arranged_from c (placed r start) rs in let p = length_placed c r start in grind arith
 
 pub length_arranged : (c : ℕ) (rs : List Record) → length (of_core c (arranged rs)) ≡ length (of_core c rs)
 length_arranged c rs = length_arranged_from c [] rs ∙ omega arith

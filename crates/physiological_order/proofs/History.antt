@@ -1,7 +1,8 @@
 -- One more record behind those of its time or an earlier one: what the records receive, and the memory up to a time.
-use Rattle.std.proofs.Common.{◌≡◌, ℕ, ◌<◌, ◌≤◌, ◌≢◌, Bool, true, false, cond, leb, eqb, List, [], ◌∷◌, map, Some}
+use Rattle.std.proofs.Common.{◌≡◌, ℕ, ◌<◌, ◌≤◌, ◌≢◌, Bool, cond, leb, eqb, List, [], ◌∷◌, map}
 use Rattle.std.proofs.Common.{refl, sym, ap, ap₂, ◌∙◌, arith}
 use Rattle.std.specs.List.{AllByRecursion as Each}
+use Rattle.std.proofs.lemmas.Bool.Decides.{nat_tests}
 use Rattle.std.proofs.lemmas.Bool.{cond_both, leb-false, le-leb, lt-leb, cond-false, ne_eqb}
 use Rattle.physiological_order.specs.declared.operation.Op.{Op}
 use Rattle.physiological_order.specs.declared.operation.Op.TheVariants.{Load, Store, Swap}
@@ -20,9 +21,7 @@ each_weaker f (r ∷ rs) h = (f r h.0, each_weaker f rs h.1)
 
 pub each_placed : (P : Record → Type 0) (r : Record) (rs : List Record) → P r → Each P rs → Each P (placed r rs)
 each_placed P r [] p h = (p, tt)
-each_placed P r (s ∷ ss) p h =
-    cond_both (leb s.ts r.ts) (s ∷ placed r ss) (r ∷ s ∷ ss) (λ xs. Each P xs) (λ e. (h.0, each_placed P r ss p h.1))
-    (λ e. (p, h))
+each_placed P r (s ∷ ss) p h = let rest = each_placed P r ss p h.1 in grind arith
 
 -- records after a time change nothing up to it
 pub memory_at-late : (m : Memory) (rs : List Record) (t : ℕ) → Each (λ s. t < s.ts) rs → memory_at m rs t ≡ m
@@ -32,15 +31,11 @@ memory_at-late m (r ∷ rs) t h = ap (λ b. memory_at (cond b (flat_after m r.op
 
 -- a word after a step depends on that word before it alone
 pub flat_after-word : (m n : Memory) (op : Op) (a : ℕ) → m a ≡ n a → flat_after m op a ≡ flat_after n op a
-flat_after-word m n (Load b) a h = h
-flat_after-word m n (Store b v) a h = ap (λ x. cond (eqb a b) v x) h
-flat_after-word m n (Swap b v) a h = ap (λ x. cond (eqb a b) v x) h
+flat_after-word m n op a h = grind arith
 
 pub flat_received-word : (m n : Memory) (op : Op) → m (address op) ≡ n (address op) →
     flat_received m op ≡ flat_received n op
-flat_received-word m n (Load b) h = ap Some h
-flat_received-word m n (Store b v) h = refl
-flat_received-word m n (Swap b v) h = ap Some h
+flat_received-word m n op h = grind arith
 
 -- records that don't read or write a word receive the same whatever it holds
 pub Receives-elsewhere : (m n : Memory) (w : ℕ) (rs : List Record) → ((a : ℕ) → a ≢ w → m a ≡ n a) →
@@ -55,31 +50,24 @@ Receives-elsewhere m n w (r ∷ rs) same other h = (
 with_word-other : (m : Memory) (w v a : ℕ) → a ≢ w → m a ≡ with_word m w v a
 with_word-other m w v a ne = sym (cond-false (eqb a w) v (m a) (ne_eqb a w ne))
 
+-- what comes later than a time, where what has a property comes no later, doesn't have it
+pub apart : (P : Record → Type 0) (t : ℕ) (xs : List Record) → Each (λ s. t < s.ts) xs →
+    Each (λ s. P s → s.ts ≤ t) xs → Each (λ s. P s → ⊥) xs
+apart P t [] late k = tt
+apart P t (x ∷ xs) late k = ((λ p. omega (arith, k.0 p, late.0)), apart P t xs late.1 k.1)
+
 -- what stands behind r receives the same with r
 behind : (m : Memory) (op : Op) (t : ℕ) (rs : List Record) → Each (λ s. t < s.ts) rs → Undisturbed op t rs →
     Receives m rs → Receives (flat_after m op) rs
 behind m (Load a) t rs late u h = h
 behind m (Store a v) t rs late u h =
-    Receives-elsewhere m (with_word m a v) a rs (with_word-other m a v) (apart rs late u) h
-  where
-    apart : (xs : List Record) → Each (λ s. t < s.ts) xs → Each (λ s. address s.op ≡ a → s.ts ≤ t) xs →
-        Each (λ s. address s.op ≢ a) xs
-    apart [] l k = tt
-    apart (x ∷ xs) l k =
-        (λ e. absurd (let le : x.ts ≤ t = k.0 e in let lt : t < x.ts = l.0 in omega arith), apart xs l.1 k.1)
+    Receives-elsewhere m (with_word m a v) a rs (with_word-other m a v) (apart (λ s. address s.op ≡ a) t rs late u) h
 behind m (Swap a v) t rs late u h =
-    Receives-elsewhere m (with_word m a v) a rs (with_word-other m a v) (apart rs late u) h
-  where
-    apart : (xs : List Record) → Each (λ s. t < s.ts) xs → Each (λ s. address s.op ≡ a → s.ts ≤ t) xs →
-        Each (λ s. address s.op ≢ a) xs
-    apart [] l k = tt
-    apart (x ∷ xs) l k =
-        (λ e. absurd (let le : x.ts ≤ t = k.0 e in let lt : t < x.ts = l.0 in omega arith), apart xs l.1 k.1)
+    Receives-elsewhere m (with_word m a v) a rs (with_word-other m a v) (apart (λ s. address s.op ≡ a) t rs late u) h
 
 undisturbed_tail : (op : Op) (t : ℕ) (s : Record) (ss : List Record) → Undisturbed op t (s ∷ ss) → Undisturbed op t ss
 undisturbed_tail (Load a) t s ss u = tt
-undisturbed_tail (Store a v) t s ss u = u.1
-undisturbed_tail (Swap a v) t s ss u = u.1
+undisturbed_tail _ t s ss u = u.1
 
 -- the key: legal values stay legal when a record is put behind all of its time, if it received what the memory at
 -- its time gives, and no record of a word that it writes stands behind it
@@ -102,8 +90,7 @@ Receives-placed m r (x ∷ xs) s h e u =
 -- a word of the memory at a time depends on that word of the opening memory alone
 step_word : (m n : Memory) (b : Bool) (op : Op) (a : ℕ) → m a ≡ n a → cond b (flat_after m op) m a ≡ cond b
     (flat_after n op) n a
-step_word m n true op a h = flat_after-word m n op a h
-step_word m n false op a h = h
+step_word m n b op a h = let one = flat_after-word m n op a h in grind arith
 
 pub memory_at-word : (m n : Memory) (rs : List Record) (t a : ℕ) → m a ≡ n a → memory_at m rs t a ≡ memory_at n rs t a
 memory_at-word m n [] t a h = h
@@ -116,9 +103,7 @@ pub memory_at-placed_before : (m : Memory) (r : Record) (rs : List Record) (t : 
     memory_at m (placed r rs) t ≡ memory_at m rs t
 memory_at-placed_before m r [] t h = ap (λ b. cond b (flat_after m r.op) m) (lt-leb r.ts t h)
 memory_at-placed_before m r (s ∷ ss) t h =
-    cond_both (leb s.ts r.ts) (s ∷ placed r ss) (r ∷ s ∷ ss) (λ xs. memory_at m xs t ≡ memory_at m (s ∷ ss) t)
-    (λ e. memory_at-placed_before (cond (leb s.ts t) (flat_after m s.op) m) r ss t h)
-    (λ e. ap (λ b. memory_at (cond b (flat_after m r.op) m) (s ∷ ss) t) (lt-leb r.ts t h))
+    let rest = memory_at-placed_before (cond (leb s.ts t) (flat_after m s.op) m) r ss t h in grind (arith, nat_tests)
 
 -- an operation leaves a word as it was
 abbrev pub Keeps : Op → ℕ → Type 0
@@ -128,22 +113,18 @@ pub Keeps-load : (b a : ℕ) → Keeps (Load b) a
 Keeps-load b a n = refl
 
 pub Keeps-other : (op : Op) (a : ℕ) → address op ≢ a → Keeps op a
-Keeps-other (Load b) a ne n = refl
-Keeps-other (Store b v) a ne n = cond-false (eqb a b) v (n a) (ne_eqb a b (λ e. ne (sym e)))
-Keeps-other (Swap b v) a ne n = cond-false (eqb a b) v (n a) (ne_eqb a b (λ e. ne (sym e)))
+Keeps-other op a ne n = grind (arith, nat_tests)
 
 step_keeps : (m : Memory) (b : Bool) (op : Op) (a : ℕ) → Keeps op a → cond b (flat_after m op) m a ≡ m a
-step_keeps m true op a k = k m
-step_keeps m false op a k = refl
+step_keeps m b op a k = let one = k m in grind arith
 
 pub memory_at-placed_keeps : (m : Memory) (r : Record) (rs : List Record) (t a : ℕ) → Keeps r.op a →
     memory_at m (placed r rs) t a ≡ memory_at m rs t a
 memory_at-placed_keeps m r [] t a k = step_keeps m (leb r.ts t) r.op a k
 memory_at-placed_keeps m r (s ∷ ss) t a k =
-    cond_both (leb s.ts r.ts) (s ∷ placed r ss) (r ∷ s ∷ ss) (λ xs. memory_at m xs t a ≡ memory_at m (s ∷ ss) t a)
-    (λ e. memory_at-placed_keeps (cond (leb s.ts t) (flat_after m s.op) m) r ss t a k)
-    (λ e. memory_at-word (cond (leb r.ts t) (flat_after m r.op) m) m (s ∷ ss) t a
-    (step_keeps m (leb r.ts t) r.op a k))
+    let rest = memory_at-placed_keeps (cond (leb s.ts t) (flat_after m s.op) m) r ss t a k in
+    let here = memory_at-word (cond (leb r.ts t) (flat_after m r.op) m) m (s ∷ ss) t a
+    (step_keeps m (leb r.ts t) r.op a k) in grind arith
 
 pub memory_at-untouched : (m : Memory) (rs : List Record) (t a : ℕ) → Each (λ s. address s.op ≢ a) rs →
     memory_at m rs t a ≡ m a
@@ -163,14 +144,8 @@ memory_at-placed_writes m r (x ∷ xs) t a v s u w h =
     (λ e.
     let lt = leb-false x.ts r.ts e in
     memory_at-untouched (cond (leb r.ts t) (flat_after m r.op) m) (x ∷ xs) t a
-    (apart (x ∷ xs) (lt, each_weaker (λ y k. omega arith) xs s.0) u)
+    (apart (λ s. address s.op ≡ a) r.ts (x ∷ xs) (lt, each_weaker (λ y k. omega arith) xs s.0) u)
     ∙ ap (λ b. cond b (flat_after m r.op) m a) (le-leb r.ts t h) ∙ w m)
-  where
-    apart : (ys : List Record) → Each (λ s. r.ts < s.ts) ys → Each (λ s. address s.op ≡ a → s.ts ≤ r.ts) ys →
-        Each (λ s. address s.op ≢ a) ys
-    apart [] l k = tt
-    apart (y ∷ ys) l k =
-        (λ e. absurd (let le : y.ts ≤ r.ts = k.0 e in let lt : r.ts < y.ts = l.0 in omega arith), apart ys l.1 k.1)
 
 -- past all times the memory is that of the whole replay
 pub memory_at-end : (m : Memory) (rs : List Record) (t : ℕ) → Each (λ s. s.ts ≤ t) rs → memory_at m rs t ≡ replay_end

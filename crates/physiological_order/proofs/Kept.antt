@@ -1,5 +1,5 @@
 -- What is kept of records stays so when one more completes.
-use Rattle.std.proofs.Common.{◌≡◌, ℕ, ◌+◌, ◌<◌, ◌≤◌, List, [], ◌∷◌, ◌++◌, length, Some, sym, subst, arith, ⊎_elim}
+use Rattle.std.proofs.Common.{◌≡◌, ℕ, ◌+◌, ◌<◌, ◌≤◌, List, [], ◌∷◌, ◌++◌, length, Some, inl, inr, sym, subst, arith}
 use Rattle.std.proofs.Common.{length-append}
 use Rattle.std.specs.Prelude.{slice_get}
 use Rattle.std.specs.List.{AllByRecursion as Each}
@@ -53,8 +53,7 @@ Kept-issue opening old new records grows k =
       below = k.below;
       members = k.members;
       ascends = k.ascends;
-      program = λ c. subst (λ (ops : List Op). Follows 0 ops (of_core c (arranged records))) (sym (grows c).1)
-          (Follows-issued 0 (old c) (grows c).0 (of_core c (arranged records)) (k.program c));
+      program = λ c. rw (grows c).1 (Follows-issued 0 (old c) (grows c).0 (of_core c (arranged records)) (k.program c));
       values = k.values;
     }
 
@@ -62,20 +61,15 @@ program_push : (ops : List Op) (records : List Record) (r : Record) (c : ℕ) �
     r.place ≡ length (of_core r.core records) → (c ≡ r.core → slice_get ops r.place ≡ Some r.op) →
     Each (λ s. s.core ≡ r.core → s.ts ≤ r.ts) records → Follows 0 ops (of_core c (arranged records)) →
     Follows 0 ops (of_core c (placed r (arranged records)))
-program_push ops records r c s place there pts h =
-    ⊎_elim
-    (λ (e : r.core ≡ c). subst (λ (d : ℕ). Follows 0 ops (of_core d (placed r (arranged records)))) e
-    (subst (λ (rs : List Record). Follows 0 ops rs)
-    (sym (of_core-placed_own r (arranged records) s
-    (each_arranged (λ x. x.core ≡ r.core → x.ts ≤ r.ts) records pts)))
-    (let at : r.place ≡ 0 + length (of_core r.core (arranged records)) =
-    (let l = length_arranged r.core records in omega arith) in
-    Follows-push 0 ops (of_core r.core (arranged records)) r
-    (subst (λ (d : ℕ). Follows 0 ops (of_core d (arranged records))) (sym e) h)
-    at (subst (λ (n : ℕ). slice_get ops n ≡ Some r.op) at (there (sym e))))))
-    (λ (ne : r.core ≡ c → ⊥). subst (λ (rs : List Record). Follows 0 ops rs)
-    (sym (of_core-placed_other c r (arranged records) ne)) h)
-    (cases_eq r.core c)
+program_push ops records r c s place there pts h = elim (cases_eq r.core c) [
+  | inl e ↦ (let long = length_arranged r.core records in
+      let next : r.place ≡ 0 + length (of_core r.core (arranged records)) = omega arith in
+      let last = of_core-placed_own r (arranged records) s
+      (each_arranged (λ x. x.core ≡ r.core → x.ts ≤ r.ts) records pts) in
+      rw (← e, last)
+      (Follows-push 0 ops (of_core r.core (arranged records)) r (rw (← e) at h) next (rw next at (there (sym e)))))
+  | inr ne ↦ rw (of_core-placed_other c r (arranged records) ne) h
+]
 
 -- records are kept when one more is completed
 pub Kept-push : (opening : Memory) (issued : ℕ → List Op) (records : List Record) (r : Record) →

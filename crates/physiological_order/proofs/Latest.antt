@@ -1,6 +1,6 @@
 -- One walk along records by number finds the stale loads.
 use Rattle.std.proofs.Common.{◌≡◌, ℕ, ◌+◌, ◌<◌, ◌≤◌, Bool, true, false, cond, eqb, nat_lt, ◌&&◌, List, [], ◌∷◌, ◌++◌}
-use Rattle.std.proofs.Common.{length, get_or, take, drop, suc, Option, Some, None, refl, sym, ap, ap₂, subst, ◌∙◌}
+use Rattle.std.proofs.Common.{length, get_or, take, drop, suc, Option, Some, refl, sym, ap, ap₂, subst, ◌∙◌}
 use Rattle.std.proofs.Common.{arith}
 use Rattle.std.specs.Prelude.{◌||◌, count_by}
 use Rattle.std.proofs.lemmas.Bool.Decides.{nat_tests}
@@ -34,8 +34,7 @@ or_false true = refl
 or_false false = refl
 
 raised_later : (o : Option ℕ) (t u : ℕ) → nat_lt t (raised o u) ≡ (later_than o t || nat_lt t u)
-raised_later None t u = refl
-raised_later (Some m) t u = grind (arith, nat_tests)
+raised_later o t u = grind (arith, nat_tests)
 
 same_test : (a b : ℕ) → eq_by_cmp nat_cmp a b ≡ eqb b a
 same_test a b = grind (arith, nat_tests)
@@ -47,11 +46,8 @@ same_word a b e = grind (arith, nat_tests)
 after_write : (latest : FinMap nat_cmp ℕ) (a b t u : ℕ) (test : Bool) → eqb b a ≡ test →
     later_than (cond test (Some (raised (get latest b) u)) (get latest a)) t ≡ (later_than (get latest a) t
     || ((test && nat_lt t u) || false))
-after_write latest a b t u true e =
-    raised_later (get latest b) t u
-    ∙ ap₂ (λ found tail. later_than (get latest found) t || tail) (sym (same_word b a e))
-    (sym (or_false (nat_lt t u)))
-after_write latest a b t u false e = sym (or_false (later_than (get latest a) t))
+after_write latest a b t u test e =
+    let more = raised_later (get latest b) t u in let same = same_word b a in grind (arith, nat_tests)
 
 Latest-write : (latest : FinMap nat_cmp ℕ) (rs : List Record) (r : Record) (b : ℕ) →
     ((a : ℕ) → writes r.op a ≡ eqb b a) → Latest latest rs → Latest (insert latest b (raised (get latest b) r.ts))
@@ -114,11 +110,10 @@ abbrev test : ℕ → ℕ → ℕ → Record → Bool
 test a n t s = writes s.op a && (nat_lt s.number n && nat_lt t s.ts)
 
 passes : (w : Bool) (m n t u : ℕ) → m < n → (w && (nat_lt m n && nat_lt t u)) ≡ (w && nat_lt t u)
-passes w m n t u lt = let e : nat_lt m n ≡ true = grind (arith, nat_tests) in ap (λ b. w && (b && nat_lt t u)) e
+passes w m n t u lt = grind (arith, nat_tests)
 
 fails : (w : Bool) (m n t u : ℕ) → n ≤ m → (w && (nat_lt m n && nat_lt t u)) ≡ false
-fails true m n t u le = let e : nat_lt m n ≡ false = grind (arith, nat_tests) in ap (λ b. b && nat_lt t u) e
-fails false m n t u le = refl
+fails w m n t u le = grind (arith, nat_tests)
 
 in_front : (a n t : ℕ) (rs : List Record) → Each (λ s. s.number < n) rs →
     list_any (test a n t) rs ≡ writes_later a t rs
@@ -142,8 +137,7 @@ stale-at front r back (Load a) latest h l =
           (above r back (rises_behind front r back h)),
     ))
     ∙ or_false (writes_later a r.ts front) ∙ sym (l a r.ts)
-stale-at front r back (Store a v) latest h l = refl
-stale-at front r back (Swap a v) latest h l = refl
+stale-at front r back _ latest h l = refl
 
 -- how many of the first records are stale loads among all
 abbrev pub stale_among : List Record → List Record → ℕ

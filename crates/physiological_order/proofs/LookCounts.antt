@@ -2,7 +2,6 @@
 use Rattle.std.proofs.Common.{◌≡◌, ℕ, ◌+◌, ◌*◌, ◌≤◌, List, [], ◌∷◌, ◌++◌, length, take, ap, ◌∙◌, arith}
 use Rattle.std.proofs.lemmas.List.{length-take}
 use Rattle.physiological_order.specs.declared.operation.Op.{Op}
-use Rattle.physiological_order.specs.declared.operation.Op.TheVariants.{Load, Store, Swap}
 use Rattle.physiological_order.specs.declared.operation.Record.{Record}
 use Rattle.physiological_order.specs.Counting.{after_steps, looks, looks_of}
 
@@ -20,9 +19,7 @@ looks-push [] r = omega arith
 looks-push (s ∷ ss) r = let i = looks-push ss r in omega arith
 
 looks_of-le : (op : Op) → looks_of op ≤ 2
-looks_of-le (Load a) = omega arith
-looks_of-le (Store a v) = omega arith
-looks_of-le (Swap a v) = omega arith
+looks_of-le op = grind arith
 
 pub looks-le : (rs : List Record) → looks rs ≤ 2 * length rs
 looks-le [] = omega arith

@@ -1,5 +1,5 @@
 -- A replay one operation further.
-use Rattle.std.proofs.Common.{◌≡◌, ℕ, ◌+◌, ◌<◌, Bool, true, false, cond, List, [], ◌∷◌, ◌++◌, length, get_or, take}
+use Rattle.std.proofs.Common.{◌≡◌, ℕ, ◌+◌, ◌<◌, Bool, cond, List, [], ◌∷◌, ◌++◌, length, get_or, take}
 use Rattle.std.proofs.Common.{Option, Some, refl, sym, ap, ◌∙◌}
 use Rattle.std.proofs.lemmas.List.{take_more}
 use Rattle.std.specs.Prelude.{eqb, unwrap_or}
@@ -18,8 +18,7 @@ same_test : (a b : ℕ) → eq_by_cmp nat_cmp a b ≡ eqb a b
 same_test a b = grind (arith, nat_tests)
 
 or_zero : (b : Bool) (v : ℕ) (rest : Option ℕ) → unwrap_or (cond b (Some v) rest) 0 ≡ cond b v (unwrap_or rest 0)
-or_zero true v rest = refl
-or_zero false v rest = refl
+or_zero b v rest = grind arith
 
 flat-insert : (words : FinMap nat_cmp ℕ) (a v : ℕ) → flat (insert words a v) ≡ with_word (flat words) a v
 flat-insert words a v = fun_ext (λ b.

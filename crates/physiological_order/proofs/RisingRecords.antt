@@ -18,22 +18,20 @@ after k = omega arith
 
 rises : (rs : List Record) → ((k : ℕ) (d : Record) → k + 1 < length rs → true ≡ nat_lt (get_or rs k d).number
     (get_or rs (k + 1) d).number) → RisesByNumber rs
-rises [] h = tt
-rises (r ∷ []) h = tt
 rises (r ∷ s ∷ rs) h = (
   below r.number s.number (h 0 r (omega arith)),
   rises (s ∷ rs) (λ k d lt. subst (λ (n : ℕ). true ≡ nat_lt (get_or (s ∷ rs) k d).number
       (get_or (r ∷ s ∷ rs) n d).number) (after k) (h (suc k) d (omega arith))),
 )
+rises _ h = tt
 
 rises_at : (rs : List Record) → RisesByNumber rs → (k : ℕ) (d : Record) → k + 1 < length rs →
     (get_or rs k d).number < (get_or rs (k + 1) d).number
-rises_at [] h k d lt = absurd (omega arith)
-rises_at (r ∷ []) h k d lt = absurd (omega arith)
 rises_at (r ∷ s ∷ rs) h zero d lt = h.0
 rises_at (r ∷ s ∷ rs) h (suc k) d lt =
     subst (λ (n : ℕ). (get_or (s ∷ rs) k d).number < (get_or (r ∷ s ∷ rs) n d).number) (sym (after k))
     (rises_at (s ∷ rs) h.1 k d (omega arith))
+rises_at _ h k d lt = absurd (omega arith)
 
 pub rises_exactly : (rs : List Record) (answer : Bool) → IsAllAdjacentAnswer (λ x y b. b ≡ nat_lt x.number y.number)
     rs answer → IsTrue answer ↔ RisesByNumber rs

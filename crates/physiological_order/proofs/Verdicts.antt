@@ -1,10 +1,9 @@
 -- A verdict on records is the only one.
-use Rattle.std.proofs.Common.{◌≡◌, ℕ, ◌+◌, ◌<◌, ◌≤◌, List, [], ◌∷◌, ◌++◌, map, refl, sym, ap, ap₂, subst, ◌∙◌, arith}
-use Rattle.std.proofs.Common.{⊎_elim, ◌⊎◌, inl, inr}
+use Rattle.std.proofs.Common.{◌≡◌, ℕ, ◌+◌, List, [], ◌∷◌, ◌++◌, map, refl, sym, ap, ap₂, subst, ◌∙◌, arith}
+use Rattle.std.proofs.Common.{append_assoc, ◌⊎◌, inl, inr}
 use Rattle.std.specs.Prelude.{◌↔◌}
 use Rattle.std.proofs.lemmas.List.Elements.{filter-append}
 use Rattle.std.proofs.Common.{eqb}
-use Rattle.std.proofs.lemmas.Bool.{cases_lt}
 use Rattle.physiological_order.specs.declared.operation.Op.{Op}
 use Rattle.physiological_order.specs.declared.operation.Record.{Record}
 use Rattle.physiological_order.specs.declared.verdict.Verdict.{Verdict}
@@ -25,8 +24,7 @@ pub order-front : (issued : ℕ → List Op) (xs ys : List Record) → KeepsProg
     KeepsProgramOrder issued xs
 order-front issued xs ys h core =
     Follows-front 0 (issued core) (of_core core xs) (of_core core ys)
-    (subst (λ (rs : List Record). Follows 0 (issued core) rs)
-    (filter-append (λ (r : Record). eqb r.core core) xs ys) (h core))
+    (rw (filter-append (λ (r : Record). eqb r.core core) xs ys) at (h core))
 
 tail_same : {A : Type 0} (x y : A) (xs ys : List A) → x ∷ xs ≡ y ∷ ys → xs ≡ ys
 tail_same x y xs ys h = cc
@@ -44,8 +42,7 @@ values-front m (x ∷ xs) ys h =
     ap (λ v. v ∷ replay (flat_after m x.op) (map (λ r. r.op) xs)) first ∙ ap (λ vs. x.received ∷ vs) rest
 
 one_more : (xs : List Record) (y : Record) (ys : List Record) → xs ++ y ∷ ys ≡ (xs ++ y ∷ []) ++ ys
-one_more [] y ys = refl
-one_more (x ∷ xs) y ys = ap (λ rs. x ∷ rs) (one_more xs y ys)
+one_more xs y ys = sym (append_assoc xs (y ∷ []) ys)
 
 -- where a list is split twice, the splits are one, or one lies in front of the other
 abbrev Splits : List Record → List Record → Record → Record → Type 0
@@ -82,10 +79,8 @@ module _ (opening : Memory) (issued : ℕ → List Op) where
       ++ s.upto.faulty ∷ rest → ⊥
   too_far arranged number s before rest order values e =
       let apart = e ∙ one_more s.upto.before s.upto.faulty rest in
-      s.stops (order-front issued (s.upto.before ++ s.upto.faulty ∷ []) rest
-      (subst (KeepsProgramOrder issued) apart order))
-      (values-front opening (s.upto.before ++ s.upto.faulty ∷ []) rest
-      (subst (ReceivesAsReplayed opening) apart values))
+      s.stops (order-front issued (s.upto.before ++ s.upto.faulty ∷ []) rest (rw apart at order))
+      (values-front opening (s.upto.before ++ s.upto.faulty ∷ []) rest (rw apart at values))
 
   one_stop : (arranged : List Record) (m n : ℕ) (s : Stop arranged m) (t : Stop arranged n) →
       (s.upto.before ≡ t.upto.before) × (s.upto.faulty ≡ t.upto.faulty)
@@ -122,11 +117,8 @@ module _ (opening : Memory) (issued : ℕ → List Op) where
       too_far arranged number s arranged s.upto.behind order values s.upto.split
 
   one_least : (records : List Record) (j k : ℕ) → LeastMissing records j → LeastMissing records k → j ≡ k
-  one_least records j k a b =
-      ⊎_elim (λ (lt : j < k). absurd (b.least j lt a.missing))
-      (λ (le : k ≤ j). ⊎_elim (λ (lt : k < j). absurd (a.least k lt b.missing))
-      (λ (ge : j ≤ k). omega arith) (cases_lt k j))
-      (cases_lt j k)
+  one_least records j k a b = let fewer = a.least k in let more = b.least j in let none = a.missing in
+      let missing = b.missing in grind arith
 
   -- the walk of one arrangement is that of the other
   along : (records : List Record) (v : Verdict) (w : IsWalked opening issued records v) (arranged : List Record) →

@@ -1,20 +1,20 @@
 -- Rising lists in blocks, and what is put into a block or taken out.
-use Rattle.std.proofs.Common.{◌≡◌, ℕ, zero, suc, ◌+◌, ◌-◌, ◌<◌, ◌≤◌, ◌⊎◌, true, false, cond, ltb, List, []}
-use Rattle.std.proofs.Common.{◌∷◌, ◌++◌, Bool, length, get_or, set, take, drop, inl, inr, Option, None, Some, refl}
-use Rattle.std.proofs.Common.{sym}
+use Rattle.std.proofs.Common.{◌≡◌, ℕ, zero, suc, ◌+◌, ◌-◌, ◌<◌, ◌≤◌, ◌⊎◌, true, false, ltb, List, []}
+use Rattle.std.proofs.Common.{◌∷◌, ◌++◌, Bool, length, get_or, set, take, drop, inl, inr, Option, Some, refl}
+use Rattle.std.proofs.Common.{sym, drop-cons}
 use Rattle.std.proofs.Common.{ap, ap₂, ◌∙◌, arith, append_assoc, append-nil, length-append}
 use Rattle.std.specs.List.{insert, remove, slice_get}
 use Rattle.arrayvec.specs.ArrayVec.{ArrayVec}
-use Rattle.std.proofs.Math.Seq.{take-length}
-use Rattle.std.proofs.lemmas.List.{length-drop, length-take-le}
-use Rattle.std.proofs.lemmas.Bool.{cases_eq, cases_lt, le-leb}
+use Rattle.std.proofs.lemmas.List.{drop-take, get_or_default, length-drop, length-take-le, take-append-drop, take-take}
+use Rattle.std.proofs.lemmas.List.{take_rest}
+use Rattle.std.proofs.lemmas.Bool.{cases_eq, cases_lt}
 use Rattle.ranked_lines.specs.Rising.{all_below, all_but, put_in, take_out, AllFrom, Rises}
 use Rattle.ranked_lines.specs.Blocked.{block_at, joined, size_at, Filled, IsPlaceOf, DenseBut, Dense}
 use Rattle.ranked_lines.proofs.BlockNeighbours.{dense-but-set, pair-before, pair-next, dense-dense-but, dense-push}
 use Rattle.ranked_lines.proofs.BlockNeighbours.{dense-remove, dense-set, split-dense}
 use Rattle.ranked_lines.proofs.SortedLists.{from-weaker}
 use Rattle.ranked_lines.proofs.RisingEdits.{at-from, at-less, less-most}
-use Rattle.ranked_lines.proofs.RisingEdits.{all_but-above, gt-leb, less}
+use Rattle.ranked_lines.proofs.RisingEdits.{all_but-above, less}
 use Rattle.ranked_lines.proofs.RisingEdits.{most}
 use Rattle.ranked_lines.proofs.RisingEdits.{most-none, none-below}
 
@@ -46,13 +46,7 @@ take-before x (a ∷ fs) bs lt = let later = take-before x fs bs in grind arith
 block-cases : (x : ℕ) (b : ArrayVec ℕ) (bs : List (ArrayVec ℕ)) →
     ((less x b.items < length b.items) × (block_at x (b ∷ bs) ≡ 0))
     ⊎ ((length b.items ≤ less x b.items) × (block_at x (b ∷ bs) ≡ suc (block_at x bs)))
-block-cases x b bs = elim (cases_lt (less x b.items) (length b.items)) [
-  | inl lt ↦ inl (lt, ap (λ t. cond t (1 + block_at x bs) 0) (gt-leb (length b.items) (less x b.items) lt))
-  | inr ge ↦ inr (
-    ge,
-    ap (λ t. cond t (1 + block_at x bs) 0) (le-leb (length b.items) (less x b.items) ge) ∙ omega arith,
-  )
-]
+block-cases x b bs = grind arith
 
 pub put-block : (x : ℕ) (bs : List (ArrayVec ℕ)) (k : ℕ) (d w : ArrayVec ℕ) → k < length bs →
     k ≤ block_at x bs → (suc k < length bs → k ≡ block_at x bs) → w.items ≡ put_in x (get_or bs k d).items →
@@ -141,18 +135,12 @@ joined-push [] w = append-nil w.items
 joined-push (b ∷ bs) w =
     ap (λ zs. b.items ++ zs) (joined-push bs w) ∙ sym (append_assoc b.items (joined bs) w.items)
 
--- a block that is split in two
-halves : (n : ℕ) (ys : List ℕ) → take n ys ++ drop n ys ≡ ys
-halves zero ys = refl
-halves (suc n) [] = refl
-halves (suc n) (y ∷ ys) = ap (λ zs. y ∷ zs) (halves n ys)
-
 pub split-joined : (n : ℕ) (bs : List (ArrayVec ℕ)) (k : ℕ) (d u w : ArrayVec ℕ) → k < length bs →
     u.items ≡ drop n (get_or bs k d).items → w.items ≡ take n (get_or bs k d).items →
     joined (set (insert bs (suc k) u) k w) ≡ joined bs
 split-joined n [] k d u w lt e f = absurd (omega (arith, lt))
 split-joined n (b ∷ bs) zero d u w lt e f = sym (append_assoc w.items u.items (joined bs))
-    ∙ ap (λ zs. zs ++ joined bs) (ap₂ (λ xs ys. xs ++ ys) f e ∙ halves n b.items)
+    ∙ ap (λ zs. zs ++ joined bs) (ap₂ (λ xs ys. xs ++ ys) f e ∙ take-append-drop n b.items)
 split-joined n (b ∷ bs) (suc k) d u w lt e f =
     ap (λ zs. b.items ++ zs) (split-joined n bs k d u w (omega (arith, lt)) e f)
 
@@ -338,15 +326,9 @@ get-back (a ∷ fs) bs zero le = absurd (omega (arith, le))
 get-back (a ∷ fs) bs (suc k) le =
     get-back fs bs k (omega (arith, le)) ∙ ap (λ n. slice_get bs n) (omega arith)
 
-drop-at : (bs : List (ArrayVec ℕ)) (i : ℕ) (d : ArrayVec ℕ) → i < length bs →
-    drop i bs ≡ get_or bs i d ∷ drop (suc i) bs
-drop-at [] i d lt = absurd (omega (arith, lt))
-drop-at (b ∷ bs) zero d lt = refl
-drop-at (b ∷ bs) (suc i) d lt = drop-at bs i d (omega (arith, lt))
-
 parted : (but : Option ℕ) (bs : List (ArrayVec ℕ)) (i : ℕ) (d : ArrayVec ℕ) → i < length bs →
     all_but but (joined (drop i bs)) ≡ all_but but (get_or bs i d).items ++ all_but but (joined (drop (suc i) bs))
-parted but bs i d lt = ap (λ cs. all_but but (joined cs)) (drop-at bs i d lt)
+parted but bs i d lt = ap (λ cs. all_but but (joined cs)) (drop-cons bs i d lt)
     ∙ all_but-joined but (get_or bs i d).items (joined (drop (suc i) bs))
 
 pub found-here : (but : Option ℕ) (bs : List (ArrayVec ℕ)) (i k : ℕ) (d : ArrayVec ℕ) → i < length bs →
@@ -384,16 +366,6 @@ pub block-ahead : (x : ℕ) (bs : List (ArrayVec ℕ)) (k : ℕ) (d : ArrayVec �
 block-ahead x bs k d ys b lt is e f t = at-most x bs k d lt
     (sym (ap (all_below x) (e ∙ ap (λ (v : ArrayVec ℕ). v.items) is)) ∙ sym f ∙ t)
 
-pub read-at : (ys : List ℕ) (k : ℕ) → k < length ys → slice_get ys k ≡ Some (get_or ys k 0)
-read-at [] k lt = absurd (omega (arith, lt))
-read-at (y ∷ ys) zero lt = refl
-read-at (y ∷ ys) (suc k) lt = read-at ys k (omega (arith, lt))
-
-pub read-none : (ys : List ℕ) (k : ℕ) → length ys ≤ k → slice_get ys k ≡ None
-read-none [] k le = refl
-read-none (y ∷ ys) zero le = absurd (omega (arith, le))
-read-none (y ∷ ys) (suc k) le = read-none ys k (omega (arith, le))
-
 pub nth-here : (but : Option ℕ) (bs : List (ArrayVec ℕ)) (i k : ℕ) (d : ArrayVec ℕ) (ys : List ℕ) →
     i < length bs → d ≡ get_or bs i d → ys ≡ d.items → k < length (all_but but ys) →
     slice_get (all_but but (joined (drop i bs))) k ≡ slice_get (all_but but ys) k
@@ -410,18 +382,9 @@ nth-later but bs i k n d ys lt is e long behind =
     found-later but bs i k d lt (omega (arith, same, behind))
     ∙ ap₂ (λ j m. slice_get (all_but but (joined (drop j bs))) (k - m)) more (sym same)
 
--- the first numbers of a list in blocks, and one block more
-take-nil : (k : ℕ) → take {A = ℕ} k [] ≡ []
-take-nil zero = refl
-take-nil (suc k) = refl
-
 taken : (n t : ℕ) (xs : List ℕ) → n ≤ t → take n xs ++ take (t - n) (drop n xs) ≡ take t xs
-taken zero t xs le = ap (λ k. take k xs) (omega arith)
-taken (suc n) zero xs le = absurd (omega (arith, le))
-taken (suc n) (suc t) [] le = take-nil (suc t - suc n)
-taken (suc n) (suc t) (x ∷ xs) le =
-    ap (λ k. x ∷ (take n xs ++ take k (drop n xs))) (omega arith) ∙ ap (λ zs. x ∷ zs)
-    (taken n t xs (omega (arith, le)))
+taken n t xs le = let more : n + (t - n) ≡ t = omega arith in
+    rw (← take-take n t xs le, ← drop-take n (t - n) xs, more) (take-append-drop n (take t xs))
 
 pub more-joined : (xs : List ℕ) (n t : ℕ) (bs cs : List (ArrayVec ℕ)) (w : ArrayVec ℕ) → n ≤ t →
     joined bs ≡ take n xs → cs ≡ bs ++ w ∷ [] → w.items ≡ take (t - n) (drop n xs) → joined cs ≡ take t xs
@@ -434,15 +397,6 @@ more-filled xs n t bs cs w lt le h f g =
     let long = ap length g ∙ length-take-le (t - n) (drop n xs) (omega (arith, rest, le)) in
     rw (sym f) at (filled-push bs w h (omega (arith, long, lt)))
 
--- what `split` does, of what it read
-pub any-default : (bs : List (ArrayVec ℕ)) (k : ℕ) (d e : ArrayVec ℕ) → k < length bs → get_or bs k d ≡ get_or bs k e
-any-default [] k d e lt = absurd (omega (arith, lt))
-any-default (b ∷ bs) zero d e lt = refl
-any-default (b ∷ bs) (suc k) d e lt = any-default bs k d e (omega (arith, lt))
-
-upper-half : (n : ℕ) (ys : List ℕ) → take (length ys - n) (drop n ys) ≡ drop n ys
-upper-half n ys = ap (λ k. take k (drop n ys)) (sym (length-drop n ys)) ∙ take-length (drop n ys)
-
 module _ (n k : ℕ) (bs ns : List (ArrayVec ℕ)) (d e u w : ArrayVec ℕ) (ys : List ℕ) (lt : k < length bs)
     (read : d ≡ get_or bs k d) (same : ys ≡ d.items) (upper : u.items ≡ take (length ys - n) (drop n ys))
     (put : ns ≡ insert bs (k + 1) u) (lent : e ≡ get_or ns k e) (lower : w.items ≡ take n e.items) where
@@ -450,10 +404,10 @@ module _ (n k : ℕ) (bs ns : List (ArrayVec ℕ)) (d e u w : ArrayVec ℕ) (ys 
   next = let more : k + 1 ≡ suc k = omega arith in put ∙ ap (λ j. insert bs j u) more
 
   there : e ≡ get_or bs k d
-  there = lent ∙ ap (λ cs. get_or cs k e) next ∙ split-kept bs k e u lt ∙ any-default bs k e d lt
+  there = lent ∙ ap (λ cs. get_or cs k e) next ∙ split-kept bs k e u lt ∙ get_or_default bs k e d lt
 
   high : u.items ≡ drop n (get_or bs k d).items
-  high = upper ∙ upper-half n ys ∙ ap (drop n) (same ∙ ap (λ (v : ArrayVec ℕ). v.items) read)
+  high = upper ∙ take_rest ys n ∙ ap (drop n) (same ∙ ap (λ (v : ArrayVec ℕ). v.items) read)
 
   low : w.items ≡ take n (get_or bs k d).items
   low = lower ∙ ap (λ (v : ArrayVec ℕ). take n v.items) there
@@ -475,8 +429,9 @@ module _ (n k : ℕ) (bs ns : List (ArrayVec ℕ)) (d e u w : ArrayVec ℕ) (ys 
       let top = ap length high ∙ length-drop n (get_or bs k d).items in
       let bottom = ap length low ∙ length-take-le n (get_or bs k d).items (omega (arith, long, more)) in
       let is = ap (λ cs. set cs k w) next in
-      rw (sym is) at (half-room x bs k j d u w (ap₂ (λ us vs. us ++ vs) low high ∙ halves n (get_or bs k d).items)
-      (omega (arith, bottom, few)) (omega (arith, long, top, most, some)) here (rw is at there))
+      rw (sym is) at (half-room x bs k j d u w (ap₂ (λ us vs. us ++ vs) low high
+      ∙ take-append-drop n (get_or bs k d).items) (omega (arith, bottom, few)) (omega (arith, long, top, most, some))
+      here (rw is at there))
 
   pub split-apart : 64 ≤ n → n + 64 ≤ length ys → Filled bs → Dense 65 bs → Dense 65 (set ns k w)
   split-apart some more h s =
@@ -550,11 +505,10 @@ remove-kept (b ∷ bs) (suc k) d lt = remove-kept bs k d (omega (arith, lt))
 
 pair-joined : (bs : List (ArrayVec ℕ)) (k : ℕ) (d w : ArrayVec ℕ) → suc k < length bs →
     w.items ≡ (get_or bs k d).items ++ (get_or bs (suc k) d).items → joined (set (remove bs (suc k)) k w) ≡ joined bs
-pair-joined [] k d w lt e = absurd (omega (arith, lt))
-pair-joined (b ∷ []) zero d w lt e = absurd (omega (arith, lt))
 pair-joined (b ∷ c ∷ bs) zero d w lt e =
     ap (λ zs. zs ++ joined bs) e ∙ append_assoc b.items c.items (joined bs)
 pair-joined (b ∷ bs) (suc k) d w lt e = ap (λ zs. b.items ++ zs) (pair-joined bs k d w (omega (arith, lt)) e)
+pair-joined _ _ d w lt e = absurd (omega (arith, lt))
 
 module _ (bs ns : List (ArrayVec ℕ)) (k : ℕ) (u e w : ArrayVec ℕ) (ys : List ℕ) (lt : k + 1 < length bs)
     (upper : u ≡ get_or bs (k + 1) u) (left : ns ≡ remove bs (k + 1)) (lent : e ≡ get_or ns k e)
@@ -578,7 +532,7 @@ module _ (bs ns : List (ArrayVec ℕ)) (k : ℕ) (u e w : ArrayVec ℕ) (ys : Li
   pair-same put = ap (λ cs. joined (set cs k w)) rest
       ∙ pair-joined bs k e w (omega (arith, lt)) (put ∙ ap₂ (λ vs zs. vs ++ zs)
       (ap (λ (v : ArrayVec ℕ). v.items) beside) (read ∙ ap (λ (v : ArrayVec ℕ). v.items) (above
-      ∙ any-default bs (suc k) u e (omega (arith, lt)))))
+      ∙ get_or_default bs (suc k) u e (omega (arith, lt)))))
 
   pub pair-filled : w.items ≡ e.items ++ ys → Filled bs → Filled (set ns k w)
   pair-filled put h =

@@ -125,10 +125,7 @@ order-entered line xs zs ys e h = ap (put_in line) e
     ∙ one-sorted (put_in line (sorted xs)) (sorted zs) (rises-put_in line (sorted xs) (rises-sorted xs))
     (rises-sorted zs)
     (λ c. (let first = tally-sorted c xs in let second = tally-sorted c zs in let both = h c in
-    let put = tally-put_in c line (sorted xs) in
-    let none : ◌≡◌ {A = ℕ} (cond (eqb line c) 0 0) 0 =
-    cond_both (eqb line c) 0 0 (λ n. n ≡ 0) (λ e. refl) (λ e. refl) in
-    omega (arith, first, second, both, put, none)))
+    let put = tally-put_in c line (sorted xs) in grind arith))
 
 pub order-left : (line : ℕ) (xs zs ys : List ℕ) → ys ≡ sorted xs → IsExchanged line 1 0 xs zs →
     take_out line ys ≡ sorted zs
@@ -136,14 +133,8 @@ order-left line xs zs ys e h = ap (take_out line) e
     ∙ one-sorted (take_out line (sorted xs)) (sorted zs) (rises-take_out line (sorted xs) (rises-sorted xs))
     (rises-sorted zs)
     (λ c. (let first = tally-sorted c xs in let second = tally-sorted c zs in let both = h c in
-    let there : 1 ≤ tally line (sorted xs) = (let same = h line in let at = tally-sorted line xs in
-    let here : ◌≡◌ {A = ℕ} (cond (eqb line line) 1 0) 1 = ap (λ b. cond b 1 0) (eq-eqb line line refl) in
-    let none : ◌≡◌ {A = ℕ} (cond (eqb line line) 0 0) 0 =
-    cond_both (eqb line line) 0 0 (λ n. n ≡ 0) (λ e. refl) (λ e. refl) in omega (arith, same, at, here, none)) in
-    let taken = tally-take_out c line (sorted xs) (rises-sorted xs) there in
-    let none : ◌≡◌ {A = ℕ} (cond (eqb line c) 0 0) 0 =
-    cond_both (eqb line c) 0 0 (λ n. n ≡ 0) (λ e. refl) (λ e. refl) in
-    omega (arith, first, second, both, taken, none)))
+    let same = h line in let at = tally-sorted line xs in
+    let taken = tally-take_out c line (sorted xs) (rises-sorted xs) (grind (arith, same, at)) in grind arith))
 
 pub order-kept : (o : Option (List ℕ × ℕ)) (line n m : ℕ) (xs zs : List ℕ) → n ≡ m → IsOrderOf o xs →
     IsExchanged line n m xs zs → IsOrderOf o zs
@@ -161,11 +152,6 @@ order-fewer : (line n m : ℕ) (xs zs ys : List ℕ) → m < n → n ≤ 1 → y
 order-fewer line n m xs zs ys lt one h f =
     let low : m ≡ 0 = omega (arith, lt, one) in let high : n ≡ 1 = omega (arith, lt, one) in
     order-left line xs zs ys h (rw high at (rw low at f))
-
-pub rises-exchanged : (goes : Bool) (x : ℕ) (ys : List ℕ) → Rises ys →
-    Rises (cond goes (take_out x ys) (put_in x ys))
-rises-exchanged goes x ys h =
-    cond_both goes (take_out x ys) (put_in x ys) Rises (λ _. rises-take_out x ys h) (λ _. rises-put_in x ys h)
 
 -- a rising list but one number
 from-all_but : (b : ℕ) (but : Option ℕ) (ys : List ℕ) → AllFrom b ys → AllFrom b (all_but but ys)

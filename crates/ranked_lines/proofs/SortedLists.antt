@@ -9,7 +9,7 @@ use Rattle.std.proofs.lemmas.Bool.{cond_both}
 use Rattle.std.proofs.lemmas.List.Sorted.{sum_by-IsPermutation, IsNonDecreasingBy-from_sort, IsPermutation-refl}
 use Rattle.std.proofs.lemmas.List.Sorted.{IsPermutation-cons, IsPermutation-middle, IsPermutation-sym}
 use Rattle.std.proofs.lemmas.List.Sorted.{IsPermutation-trans}
-use Rattle.std.proofs.lemmas.List.Sums.{sum_by-cons}
+use Rattle.std.proofs.lemmas.List.Recursion.{is_sum_by}
 use Rattle.std.proofs.lemmas.Map.Keys.{ge_from_not_lt}
 use Rattle.ranked_lines.specs.Rising.{all_but, put_in, sorted, tally, AllFrom, Rises}
 
@@ -20,9 +20,7 @@ AllTo x (y ∷ ys) = (y ≤ x) × AllTo x ys
 
 -- permutations keep tallies
 tally-sum : (c : ℕ) (xs : List ℕ) → tally c xs ≡ sum_by (λ y. cond (eqb y c) 1 0) xs
-tally-sum c [] = refl
-tally-sum c (x ∷ xs) = ap (λ n. cond (eqb x c) 1 0 + n) (tally-sum c xs)
-    ∙ sym (sum_by-cons (λ y. cond (eqb y c) 1 0) x xs)
+tally-sum c xs = is_sum_by (tally c) (λ y. cond (eqb y c) 1 0) refl (λ y ys. refl) xs
 
 tally-permuted : (c : ℕ) (xs ys : List ℕ) → IsPermutation xs ys → tally c ys ≡ tally c xs
 tally-permuted c xs ys p =

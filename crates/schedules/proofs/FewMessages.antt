@@ -23,7 +23,7 @@ use Rattle.machine_table.proofs.Lemmas.{every_answer}
 use Rattle.interleaving_core.specs.LookUps.{victim_for_core, make_room}
 use Rattle.machine_theorem.specs.HeldRecalls.{RecallsFindOwners}
 use Rattle.machine_theorem.specs.Rounds.{MovesOn}
-use Rattle.machine_theorem.proofs.Lemmas.{few_after, Lasting, InTurn, Pends, Rested, AreOthers, turn_begins}
+use Rattle.machine_theorem.proofs.Lemmas.{few_after, Claim, Lasting, InTurn, Pends, Rested, AreOthers, turn_begins}
 use Rattle.machine_theorem.proofs.Lemmas.{turn_passes}
 use Rattle.machine_theorem.proofs.Lemmas.{issue_lasts, advance_lasts, attempt_lasts, copy_lasts, delivery_lasts}
 use Rattle.machine_theorem.proofs.Lemmas.{again_lasts, line_lasts, delivery_begins, delivery_ends, rising_others}
@@ -56,23 +56,23 @@ no_room_leaves : (m : Machine) (a : Answer) (after : Machine) → Answered m a a
     a ≡ answer.Refused refusal.NoRoom → after ≡ m
 no_room_leaves m a after says is = subst (λ (b : Answer). Answered m b after) is says
 
-module _ {P : Type 0} (acts : Acts P) (config : Config) (memory : FinMap nat_cmp ℕ) where
+module _ {P : Type 0} (acts : Acts P) where
   -- so it is of a turn's machine, unless times are exhausted
-  abbrev Holds : (Machine → Type 0) → Standing P → Type 0
-  Holds K s = (s.is_out ≡ true) ⊎ Lasting config memory K s.machine
+  abbrev Holds : Claim → Standing P → Type 0
+  Holds K s = (s.is_out ≡ true) ⊎ Lasting K s.machine
 
-  abbrev Leads : (K L : Machine → Type 0) → Part P → Type 0
+  abbrev Leads : (K L : Claim) → Part P → Type 0
   Leads K L part = (s : Standing P) → Holds K s → Holds L (after_actions acts s (part s))
 
-  event_leads : (K L : Machine → Type 0) (e : Event) (tells : Answer → List P) (s : Standing P) →
-      (Lasting config memory K s.machine → Lasting config memory L (transition s.machine e).1) → Holds K s →
+  event_leads : (K L : Claim) (e : Event) (tells : Answer → List P) (s : Standing P) →
+      (Lasting K s.machine → Lasting L (transition s.machine e).1) → Holds K s →
       Holds L (cond s.is_out s (after_answer s tells (transition s.machine e)))
   event_leads K L e tells s leads so =
       cond_both s.is_out s (after_answer s tells (transition s.machine e)) (Holds L) (λ out. inl out)
       (λ more. ⊎_elim (λ (out : s.is_out ≡ true). absurd (let z : true ≡ false = sym out ∙ more in cc))
-      (λ (k : Lasting config memory K s.machine). inr (leads k)) so)
+      (λ (k : Lasting K s.machine). inr (leads k)) so)
 
-  both_lead : (K M L : Machine → Type 0) (f g : Part P) (s : Standing P) →
+  both_lead : (K M L : Claim) (f g : Part P) (s : Standing P) →
       Holds M (after_actions acts s (f s)) →
       (Holds M (after_actions acts s (f s)) →
       Holds L (after_actions acts (after_actions acts s (f s)) (g (after_actions acts s (f s))))) →
@@ -80,50 +80,48 @@ module _ {P : Type 0} (acts : Acts P) (config : Config) (memory : FinMap nat_cmp
   both_lead K M L f g s first second =
       subst (Holds L) (sym (after_both acts s (f s) (g (after_actions acts s (f s))))) (second first)
 
-  if_leads : (b : Bool) (K : Machine → Type 0) (part : Part P) (s : Standing P) → Holds K s →
+  if_leads : (b : Bool) (K : Claim) (part : Part P) (s : Standing P) → Holds K s →
       (b ≡ true → Holds K (after_actions acts s (part s))) → Holds K (after_actions acts s (only_if b part s))
   if_leads true K part s so leads = leads refl
   if_leads false K part s so leads = so
 
-  abbrev Turn : ℕ → Machine → Type 0
-  Turn next = InTurn config memory next
-
-  passes : (c : ℕ) (s : Standing P) → Holds (Turn c) s → Holds (Turn (c + 1)) s
+  passes : (c : ℕ) (s : Standing P) → Holds (InTurn c) s → Holds (InTurn (c + 1)) s
   passes c s (inl out) = inl out
-  passes c s (inr k) = inr (turn_passes config memory c s.machine k)
+  passes c s (inr k) = inr (turn_passes c s.machine k)
 
   -- a core's turn
-  steps_lead : (c : ℕ) → Leads (Turn c) (Turn (c + 1)) (steps_on acts c)
+  steps_lead : (c : ℕ) → Leads (InTurn c) (InTurn (c + 1)) (steps_on acts c)
   steps_lead c s so = go (open_op s.machine c) (next_in acts s.programs c)
     where
       go : (o : Option (Op × Bool)) (next : Option Step) →
-          Holds (Turn (c + 1)) (after_actions acts s (step_of c o next s))
+          Holds (InTurn (c + 1)) (after_actions acts s (step_of c o next s))
       go None None = passes c s so
-      go None (Some (step.Op op)) = event_leads (Turn c) (Turn (c + 1)) (event.Issue c op)
-          (programs_told acts s.programs) s (issue_lasts config memory c op s.machine) so
-      go None (Some step.Advance) = event_leads (Turn (c + 1)) (Turn (c + 1)) (event.Advance c)
-          (told_advance acts s.programs c) s (advance_lasts config memory c (c + 1) s.machine) (passes c s so)
+      go None (Some (step.Op op)) = event_leads (InTurn c) (InTurn (c + 1)) (event.Issue c op)
+          (programs_told acts s.programs) s (issue_lasts c op s.machine) so
+      go None (Some step.Advance) = event_leads (InTurn (c + 1)) (InTurn (c + 1)) (event.Advance c)
+          (told_advance acts s.programs c) s (advance_lasts c (c + 1) s.machine) (passes c s so)
       go (Some x) next = passes c s so
 
-  attempt_leads : (c : ℕ) → Leads (Turn (c + 1)) (Turn (c + 1)) (one (Does (event.Attempt c)))
-  attempt_leads c s so = event_leads (Turn (c + 1)) (Turn (c + 1)) (event.Attempt c) (programs_told acts s.programs) s
-      (attempt_lasts config memory c s.machine) so
+  attempt_leads : (c : ℕ) → Leads (InTurn (c + 1)) (InTurn (c + 1)) (one (Does (event.Attempt c)))
+  attempt_leads c s so = event_leads (InTurn (c + 1)) (InTurn (c + 1)) (event.Attempt c)
+      (programs_told acts s.programs) s
+      (attempt_lasts c s.machine) so
 
-  place_leads : (c : ℕ) (t : Standing P) → finds_no_place t.machine c ≡ true → Holds (Turn (c + 1)) t →
-      Holds (Turn (c + 1)) (after_actions acts t (makes_place c t))
+  place_leads : (c : ℕ) (t : Standing P) → finds_no_place t.machine c ≡ true → Holds (InTurn (c + 1)) t →
+      Holds (InTurn (c + 1)) (after_actions acts t (makes_place c t))
   place_leads c t no_place so = go (victim_for_core t.machine c (open_op t.machine c))
     where
-      go : (o : Option ℕ) → Holds (Turn (c + 1)) (after_actions acts t (parts.copy_leaves c o t))
+      go : (o : Option ℕ) → Holds (InTurn (c + 1)) (after_actions acts t (parts.copy_leaves c o t))
       go None = so
-      go (Some line) = event_leads (Turn (c + 1)) (Turn (c + 1)) (event.EvictCache c line)
+      go (Some line) = event_leads (InTurn (c + 1)) (InTurn (c + 1)) (event.EvictCache c line)
           (programs_told acts t.programs) t
-          (copy_lasts config memory c line t.machine
+          (copy_lasts c line t.machine
           (no_room_is (transition t.machine (event.Attempt c)).0 no_place)) so
 
-  tries_lead : (c : ℕ) → Leads (Turn (c + 1)) (Turn (c + 1)) (tries acts c)
-  tries_lead c s so = both_lead (Turn (c + 1)) (Turn (c + 1)) (Turn (c + 1)) (one (Does (event.Attempt c)))
+  tries_lead : (c : ℕ) → Leads (InTurn (c + 1)) (InTurn (c + 1)) (tries acts c)
+  tries_lead c s so = both_lead (InTurn (c + 1)) (InTurn (c + 1)) (InTurn (c + 1)) (one (Does (event.Attempt c)))
       (only_if (finds_no_place s.machine c) (makes_place c)) s (attempt_leads c s so)
-      (λ k. if_leads (finds_no_place s.machine c) (Turn (c + 1)) (makes_place c) t k
+      (λ k. if_leads (finds_no_place s.machine c) (InTurn (c + 1)) (makes_place c) t k
       (λ no_place. place_leads c t (ap (λ (m : Machine). finds_no_place m c) (stays no_place) ∙ no_place) k))
     where
       t : Standing P
@@ -135,30 +133,30 @@ module _ {P : Type 0} (acts : Acts P) (config : Config) (memory : FinMap nat_cmp
           (λ more. no_room_leaves s.machine (transition s.machine (event.Attempt c)).0 _
           (every_answer s.machine (event.Attempt c)) (no_room_is (transition s.machine (event.Attempt c)).0 no_place))
 
-  attempts_lead : (c : ℕ) → Leads (Turn (c + 1)) (Turn (c + 1)) (attempts acts c)
+  attempts_lead : (c : ℕ) → Leads (InTurn (c + 1)) (InTurn (c + 1)) (attempts acts c)
   attempts_lead c s so = go (open_op s.machine c)
     where
-      go : (o : Option (Op × Bool)) → Holds (Turn (c + 1)) (after_actions acts s (attempt_of acts c o s))
+      go : (o : Option (Op × Bool)) → Holds (InTurn (c + 1)) (after_actions acts s (attempt_of acts c o s))
       go None = so
-      go (Some x) = both_lead (Turn (c + 1)) (Turn (c + 1)) (Turn (c + 1)) (tries acts c)
+      go (Some x) = both_lead (InTurn (c + 1)) (InTurn (c + 1)) (InTurn (c + 1)) (tries acts c)
           (only_if (finds_no_place s.machine c) (one (Does (event.Attempt c)))) s (tries_lead c s so)
-          (λ k. if_leads (finds_no_place s.machine c) (Turn (c + 1)) (one (Does (event.Attempt c)))
+          (λ k. if_leads (finds_no_place s.machine c) (InTurn (c + 1)) (one (Does (event.Attempt c)))
           (after_actions acts s (tries acts c s)) k
           (λ no_place. attempt_leads c (after_actions acts s (tries acts c s)) k))
 
-  turn_leads : (c : ℕ) → Leads (Turn c) (Turn (c + 1)) (core_turn acts c)
-  turn_leads c s so = both_lead (Turn c) (Turn (c + 1)) (Turn (c + 1)) (steps_on acts c) (attempts acts c) s
+  turn_leads : (c : ℕ) → Leads (InTurn c) (InTurn (c + 1)) (core_turn acts c)
+  turn_leads c s so = both_lead (InTurn c) (InTurn (c + 1)) (InTurn (c + 1)) (steps_on acts c) (attempts acts c) s
       (steps_lead c s so) (attempts_lead c (after_actions acts s (steps_on acts c s)))
 
   -- the cores' turns, after which deliveries begin
-  turns_lead : (count first : ℕ) (s : Standing P) → Holds (Turn first) s →
-      (next : ℕ) × Holds (Turn next) (after_actions acts s (for_each acts (core_turn acts) (rising count first) s))
+  turns_lead : (count first : ℕ) (s : Standing P) → Holds (InTurn first) s →
+      (next : ℕ) × Holds (InTurn next) (after_actions acts s (for_each acts (core_turn acts) (rising count first) s))
   turns_lead zero first s so = (first, so)
   turns_lead (suc count) first s so =
       let t = after_actions acts s (core_turn acts first s) in
       let k = turns_lead count (first + 1) t (turn_leads first s so) in (
         k.0,
-        subst (Holds (Turn k.0)) (sym (after_both acts s (core_turn acts first s)
+        subst (Holds (InTurn k.0)) (sym (after_both acts s (core_turn acts first s)
             (for_each acts (core_turn acts) (rising count (first + 1)) t))) k.1,
       )
 
@@ -166,95 +164,87 @@ module _ {P : Type 0} (acts : Acts P) (config : Config) (memory : FinMap nat_cmp
   abbrev Wins : Bool → ℕ × ℕ → Standing P → Bool
   Wins fair x t = fair && is_evicted (transition t.machine (event.EvictBank x.0 x.1)).0
 
-  room_leads : (fair : Bool) (n : ℕ) (ys : List (ℕ × Message)) → AreOthers config memory n ys →
-      Leads (Pends config memory ys) (Pends config memory ys) (makes_room acts fair n)
+  room_leads : (fair : Bool) (n : ℕ) (ys : List (ℕ × Message)) → AreOthers n ys →
+      Leads (Pends ys) (Pends ys) (makes_room acts fair n)
   room_leads fair n ys others t so = go (make_room t.machine n)
     where
       go : (o : Option (ℕ × ℕ)) →
-          Holds (Pends config memory ys) (after_actions acts t (parts.line_leaves acts fair n o t))
+          Holds (Pends ys) (after_actions acts t (parts.line_leaves acts fair n o t))
       go None = so
-      go (Some x) = both_lead (Pends config memory ys) (Pends config memory ys) (Pends config memory ys)
+      go (Some x) = both_lead (Pends ys) (Pends ys) (Pends ys)
           (one (Does (event.EvictBank x.0 x.1))) (only_if (Wins fair x t) (one (Does (event.Deliver n)))) t
-          (event_leads (Pends config memory ys) (Pends config memory ys) (event.EvictBank x.0 x.1)
-          (programs_told acts t.programs) t (line_lasts config memory x.0 x.1 ys t.machine) so)
-          (λ k. if_leads (Wins fair x t) (Pends config memory ys) (one (Does (event.Deliver n)))
+          (event_leads (Pends ys) (Pends ys) (event.EvictBank x.0 x.1)
+          (programs_told acts t.programs) t (line_lasts x.0 x.1 ys t.machine) so)
+          (λ k. if_leads (Wins fair x t) (Pends ys) (one (Does (event.Deliver n)))
           (after_action acts t (Does (event.EvictBank x.0 x.1))) k
-          (λ is. event_leads (Pends config memory ys) (Pends config memory ys) (event.Deliver n)
+          (λ is. event_leads (Pends ys) (Pends ys) (event.Deliver n)
           (programs_told acts (after_action acts t (Does (event.EvictBank x.0 x.1))).programs)
           (after_action acts t (Does (event.EvictBank x.0 x.1)))
-          (again_lasts config memory n ys others (after_action acts t (Does (event.EvictBank x.0 x.1))).machine) k))
+          (again_lasts n ys others (after_action acts t (Does (event.EvictBank x.0 x.1))).machine) k))
 
-  one_delivered : (K : Machine → Type 0) (fair : Bool) (n : ℕ) (ys : List (ℕ × Message)) →
-      AreOthers config memory n ys →
-      ((m : Machine) → Lasting config memory K m →
-      Lasting config memory (Pends config memory ys) (transition m (event.Deliver n)).1) →
-      Leads K (Pends config memory ys) (delivery acts fair n)
+  one_delivered : (K : Claim) (fair : Bool) (n : ℕ) (ys : List (ℕ × Message)) →
+      AreOthers n ys →
+      ((m : Machine) → Lasting K m →
+      Lasting (Pends ys) (transition m (event.Deliver n)).1) →
+      Leads K (Pends ys) (delivery acts fair n)
   one_delivered K fair n ys others lasts s so =
-      both_lead K (Pends config memory ys) (Pends config memory ys) (one (Does (event.Deliver n)))
+      both_lead K (Pends ys) (Pends ys) (one (Does (event.Deliver n)))
       (only_if (is_held (transition s.machine (event.Deliver n)).0) (makes_room acts fair n)) s
-      (event_leads K (Pends config memory ys) (event.Deliver n) (programs_told acts s.programs) s (lasts s.machine) so)
-      (λ k. if_leads (is_held (transition s.machine (event.Deliver n)).0) (Pends config memory ys)
+      (event_leads K (Pends ys) (event.Deliver n) (programs_told acts s.programs) s (lasts s.machine) so)
+      (λ k. if_leads (is_held (transition s.machine (event.Deliver n)).0) (Pends ys)
       (makes_room acts fair n) (after_action acts s (Does (event.Deliver n))) k
       (λ is. room_leads fair n ys others (after_action acts s (Does (event.Deliver n))) k))
 
   all_delivered : (fair : Bool) (low high : ℕ) (ys : List (ℕ × Message)) → IsRising low ys high → (s : Standing P) →
-      Holds (Pends config memory ys) s →
-      Holds (Pends config memory []) (after_actions acts s (for_each acts (delivery acts fair)
+      Holds (Pends ys) s →
+      Holds (Pends []) (after_actions acts s (for_each acts (delivery acts fair)
       (map (λ message. message.0) ys) s))
   all_delivered fair low high [] rises s so = so
   all_delivered fair low high (y ∷ ys) rises s so =
       let t = after_actions acts s (delivery acts fair y.0 s) in
-      let others = rising_others config memory y.0 (y.0 + 1) high ys (omega arith) rises.1 in
-      subst (Holds (Pends config memory [])) (sym (after_both acts s (delivery acts fair y.0 s)
+      let others = rising_others y.0 (y.0 + 1) high ys (omega arith) rises.1 in
+      subst (Holds (Pends [])) (sym (after_both acts s (delivery acts fair y.0 s)
       (for_each acts (delivery acts fair) (map (λ message. message.0) ys) t)))
       (all_delivered fair (y.0 + 1) high ys rises.1 t
-      (one_delivered (Pends config memory (y ∷ ys)) fair y.0 ys others
-      (delivery_lasts config memory y.0 y.1 ys others) s so))
+      (one_delivered (Pends (y ∷ ys)) fair y.0 ys others
+      (delivery_lasts y.0 y.1 ys others) s so))
 
   -- once nothing is left to be delivered, any delivery leaves it so
-  rest_delivered : (fair : Bool) (ns : List ℕ) (s : Standing P) → Holds (Pends config memory []) s →
-      Holds (Pends config memory []) (after_actions acts s (for_each acts (delivery acts fair) ns s))
+  rest_delivered : (fair : Bool) (ns : List ℕ) (s : Standing P) → Holds (Pends []) s →
+      Holds (Pends []) (after_actions acts s (for_each acts (delivery acts fair) ns s))
   rest_delivered fair [] s so = so
   rest_delivered fair (n ∷ ns) s so =
       let t = after_actions acts s (delivery acts fair n s) in
-      subst (Holds (Pends config memory [])) (sym (after_both acts s (delivery acts fair n s)
+      subst (Holds (Pends [])) (sym (after_both acts s (delivery acts fair n s)
       (for_each acts (delivery acts fair) ns t)))
       (rest_delivered fair ns t
-      (one_delivered (Pends config memory []) fair n [] tt (again_lasts config memory n [] tt) s so))
+      (one_delivered (Pends []) fair n [] tt (again_lasts n [] tt) s so))
 
   -- a whole round
-  abbrev Rest : Machine → Type 0
-  Rest = Rested config memory
-
-  delivered : (fair : Bool) (next : ℕ) (s : Standing P) → Holds (Turn next) s →
-      Holds (Pends config memory []) (after_actions acts s (deliveries acts fair s))
+  delivered : (fair : Bool) (next : ℕ) (s : Standing P) → Holds (InTurn next) s →
+      Holds (Pends []) (after_actions acts s (deliveries acts fair s))
   delivered fair next s (inl out) = rest_delivered fair (numbers_in_flight s.machine) s (inl out)
-  delivered fair next s (inr (inl stopped)) =
-      rest_delivered fair (numbers_in_flight s.machine) s (inr (inl stopped))
-  delivered fair next s (inr (inr (inl used))) =
-      rest_delivered fair (numbers_in_flight s.machine) s (inr (inr (inl used)))
-  delivered fair next s (inr (inr (inr k))) =
-      all_delivered fair 0 s.machine.mail.next s.machine.mail.messages k.0.rises s
-      (inr (delivery_begins config memory next s.machine (inr (inr k))))
+  delivered fair next s (inr k) = all_delivered fair 0 s.machine.mail.next s.machine.mail.messages k.0.rises s
+      (inr (delivery_begins next s.machine k))
 
-  begins : (s : Standing P) → Holds Rest s → Holds (Turn 0) s
+  begins : (s : Standing P) → Holds Rested s → Holds (InTurn 0) s
   begins s (inl out) = inl out
-  begins s (inr k) = inr (turn_begins config memory s.machine k)
+  begins s (inr k) = inr (turn_begins s.machine k)
 
-  ends : (s : Standing P) → Holds (Pends config memory []) s → Holds Rest s
+  ends : (s : Standing P) → Holds (Pends []) s → Holds Rested s
   ends s (inl out) = inl out
-  ends s (inr k) = inr (delivery_ends config memory s.machine k)
+  ends s (inr k) = inr (delivery_ends s.machine k)
 
-  round_leads : (round : Round) → Leads Rest Rest (round_of acts round)
+  round_leads : (round : Round) → Leads Rested Rested (round_of acts round)
   round_leads round s so =
       let t = after_actions acts s (core_turns acts round.cores s) in
       let k = turns_lead round.cores 0 s (begins s so) in
-      subst (Holds Rest) (sym (after_both acts s (core_turns acts round.cores s) (deliveries acts round.is_fair t)))
+      subst (Holds Rested) (sym (after_both acts s (core_turns acts round.cores s) (deliveries acts round.is_fair t)))
       (ends (after_actions acts t (deliveries acts round.is_fair t)) (delivered round.is_fair k.0 t k.1))
 
   -- so it is after any rounds
-  rounds_lead : (round : Round) (start : Standing P) → Holds Rest start → (events : List Event) (s : Standing P) →
-      AreRounds acts round start events s → Holds Rest s
+  rounds_lead : (round : Round) (start : Standing P) → Holds Rested start → (events : List Event) (s : Standing P) →
+      AreRounds acts round start events s → Holds Rested s
   rounds_lead round start so _ _ none = so
   rounds_lead round start so _ _ (more {s = s} before) =
       round_leads round (begin s) (rounds_lead round start so _ s before)
@@ -274,15 +264,15 @@ module _ {P : Type 0} (acts : Acts P) (config : Config) (good : is_good config �
     goes_on : GoesOn last
     goes_on = (stands acts config good memory [] fair limit opening refl ended).goes_on
 
-    rested : Lasting config memory (Rested config memory) last.machine
+    rested : Lasting Rested last.machine
     rested = let h = not_cut ended (λ bad. absurd cc) in
-        let so : Holds acts config memory (Rested config memory) last =
-        subst (Holds acts config memory (Rested config memory)) h.standing_is
-        (rounds_lead acts config memory round (opened (at_start config memory) opening)
+        let so : Holds acts Rested last =
+        subst (Holds acts Rested) h.standing_is
+        (rounds_lead acts round (opened (at_start config memory) opening)
         (inr (opens_rested config memory good)) _ _
         (run_stands acts limit round (at_start config memory) opening limit).rounds_are) in
         ⊎_elim (λ (out : last.is_out ≡ true). absurd (let z : true ≡ false = sym out ∙ goes_on.in_time in cc))
-        (λ (k : Lasting config memory (Rested config memory) last.machine). k) so
+        (λ (k : Lasting Rested last.machine). k) so
 
     abbrev Few : Machine → Type 0
     Few n = n.is_stopped ≡ false → n.mail.next < 2 ^ 64 - 1 → RecallsFindOwners n →
@@ -295,7 +285,7 @@ module _ {P : Type 0} (acts : Acts P) (config : Config) (good : is_good config �
         (stands acts config good memory [] fair limit opening refl ended).still moves))
         (λ (most : length last.machine.mail.messages ≤ config.cores). most)
         (subst Few (sym (machine_is acts config good memory [] fair limit opening refl ended))
-        (few_after config good memory events) running numbers (rested_owns config memory last.machine running numbers
+        (few_after config good memory events) running numbers (rested_owns last.machine running numbers
         rested))
       where
         running : last.machine.is_stopped ≡ false

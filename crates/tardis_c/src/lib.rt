@@ -6,3 +6,4 @@ mod arrays;
 mod options;
 mod plain;
 mod texts;
+mod version;

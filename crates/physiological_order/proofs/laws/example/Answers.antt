@@ -44,7 +44,6 @@ pub returns-clause-zero : goal.returns-clause-zero
 returns-clause-zero c = λ k.
     let e = one_arrangement (two_records 0) k.arranged (two_records 0) k.arrangement
     (record { same_members = IsPermutation-refl (two_records 0); rises = (inr (refl, omega arith), tt) }) in
-    let v = subst (λ (rs : List Record). replay (λ a. 0) (map (λ r. r.op) rs) ≡ map (λ r. r.received) rs) e
-    k.values in
+    let v = subst (λ (rs : List Record). replay (λ a. 0) (map (λ r. r.op) rs) ≡ map (λ r. r.received) rs) e k.values in
     let z : ◌≡◌ {A = List (Option ℕ)} (None ∷ Some 1 ∷ []) (None ∷ Some 0 ∷ []) = v in
     let one : ◌≡◌ {A = ℕ} 1 0 = cc in absurd (omega arith)

@@ -1,13 +1,11 @@
-use Rattle.std.proofs.Common.{◌≡◌, ℕ, ◌+◌, ◌*◌, ◌≤◌, length, cond, List, [], take, refl, sym, ap, ap₂, subst, ◌∙◌}
+use Rattle.std.proofs.Common.{◌≡◌, ℕ, ◌+◌, ◌*◌, ◌≤◌, length, cond, take, refl, sym, ap, ap₂, subst, ◌∙◌}
 use Rattle.std.proofs.Common.{arith}
-use Rattle.physiological_order.specs.declared.operation.Record.{Record}
-use Rattle.physiological_order.specs.LatestWrites.{latest_after}
 use Rattle.physiological_order.proofs.WalkSteps.{take-next}
 use Rattle.std.proofs.lemmas.List.{take_all}
 use Rattle.physiological_order.proofs.LookCounts.{after_none, after_more, after_at_most, looks-next, looks-part}
 use Rattle.physiological_order.proofs.LookCounts.{looks-one_more}
 use Rattle.physiological_order.specs.Counting.{after_steps, looks, looks_of}
-use Rattle.physiological_order.proofs.Latest.{Latest, Latest-none, Latest-push, stale_among-take}
+use Rattle.physiological_order.proofs.Latest.{Latest-none, Latest-push, stale_among-take}
 use Rattle.physiological_order.proofs.stale.stale_hits_counted.Goals as goal
 use Rattle.physiological_order.proofs.stale.stale_hits_counted.Goals.{then-branch, else-branch}
 
@@ -16,7 +14,7 @@ no_more n = omega arith
 
 pub loop-record-init : goal.loop-record-init
 loop-record-init c = record {
-  latest = subst (λ (latest : _). Latest latest []) (sym c.new-latest.ensures) Latest-none;
+  latest = rw c.new-latest.ensures Latest-none;
   counted = refl;
   small = omega arith;
   made = after_none c.args.steps.now;
@@ -30,12 +28,10 @@ loop-record-preserved c =
     let stale = c.in_ok-visit.ensures.stale in
     let counted = stale_among-take c.args.records.now i r c.loop-record.latest c.loop-record-test.true
     c.record-item.is c.requires invariant.latest in
+    let more = take-next c.args.records.now i r c.loop-record-test.true c.record-item.is in
     record {
-      latest = subst (λ (latest : _). Latest latest (take (i + 1) c.args.records.now))
-          (sym c.in_ok-visit.ensures.kept)
-          (subst (λ (rs : List Record). Latest (latest_after c.loop-record.latest r.op r.ts) rs)
-          (sym (take-next c.args.records.now i r c.loop-record-test.true c.record-item.is))
-          (Latest-push c.loop-record.latest (take i c.args.records.now) r invariant.latest));
+      latest = rw (c.in_ok-visit.ensures.kept, more)
+          (Latest-push c.loop-record.latest (take i c.args.records.now) r invariant.latest);
       counted = elim c.if-branch.branch [
         | then-branch w ↦ w.count-is ∙ ap₂ (λ n b. n + cond b 1 0) invariant.counted (sym w.if-branch.true ∙ stale)
             ∙ sym counted

@@ -1,14 +1,11 @@
-use Rattle.std.proofs.Common.{ℕ, ◌+◌, ◌<◌, List, length, set, take, drop, suc, refl, sym, ap, subst, ◌∙◌, arith}
+use Rattle.std.proofs.Common.{◌+◌, ◌<◌, length, take, drop, suc, refl, sym, ap, ◌∙◌, arith}
 use Rattle.std.proofs.lemmas.List.{length-set}
-use Rattle.physiological_order.specs.declared.operation.Record.{Record}
-use Rattle.physiological_order.specs.Order.{flat, flat_received, flat_after, KeepsProgramOrder, ReceivesAsReplayed}
-use Rattle.physiological_order.specs.Faults.{issued_by}
+use Rattle.physiological_order.specs.Order.{flat, flat_received, flat_after}
 use mathlib.Core.Bool.{false≢true}
-use Rattle.physiological_order.specs.Walking.{IsNext}
 use Rattle.physiological_order.specs.Picking.{picked}
 use Rattle.physiological_order.proofs.PickedRecords.{no_stamp, picked-one, picked-next, picked-split}
 use Rattle.physiological_order.proofs.WalkSteps.{next_from, order_with, values-last, values-push, received_same}
-use Rattle.physiological_order.proofs.WalkSteps.{received_other, Counted, Counted-push, left_by, left_by-push}
+use Rattle.physiological_order.proofs.WalkSteps.{received_other, Counted-push, left_by, left_by-push}
 use Rattle.physiological_order.proofs.ReplaySteps.{flat-words_after}
 use Rattle.physiological_order.proofs.walk.walk.Goals as goal
 
@@ -29,9 +26,7 @@ returns-then-not-is_next c =
         values_before = c.loop-stamp.invariant.values;
       };
       fault = λ h. false≢true
-          (c.if-not-is_next.ensures.1 (subst (λ (places : List ℕ). IsNext c.args.issued.now places r)
-          (sym c.deref.ensures.value)
-          (next_from c.args.issued.now c.loop-stamp.places.items
+          (c.if-not-is_next.ensures.1 (rw c.deref.ensures.value (next_from c.args.issued.now c.loop-stamp.places.items
           (picked c.args.records.now c.args.by_number.now (take i c.args.stamps.now)) r c.loop-stamp.invariant.long
           c.loop-stamp.invariant.counted h)));
     }
@@ -40,9 +35,7 @@ pub returns-then-ne : goal.returns-then-ne
 returns-then-ne c =
     let i = c.loop-stamp.stamp-index in
     let r = c.index-records-by_number.result in
-    let next : IsNext c.args.issued.now c.loop-stamp.places.items r =
-    subst (λ (places : List ℕ). IsNext c.args.issued.now places r) c.deref.ensures.value
-    (c.if-not-is_next.ensures.0 refl) in
+    let next = rw c.deref.ensures.value at (c.if-not-is_next.ensures.0 refl) in
     record {
       upto = record {
         before = picked c.args.records.now c.args.by_number.now (take i c.args.stamps.now);
@@ -71,9 +64,7 @@ loop-stamp-preserved c =
     let r = c.index-records-by_number.result in
     let rs = picked c.args.records.now c.args.by_number.now (take i c.args.stamps.now) in
     let invariant = c.loop-stamp.invariant in
-    let next : IsNext c.args.issued.now c.loop-stamp.places.items r =
-    subst (λ (places : List ℕ). IsNext c.args.issued.now places r) c.deref.ensures.value
-    (c.if-not-is_next.ensures.0 refl) in
+    let next = rw c.deref.ensures.value at (c.if-not-is_next.ensures.0 refl) in
     let within : r.core < length c.loop-stamp.places.items =
     (let there = next.core_there in let long = invariant.long in omega arith) in
     let more = sym (picked-next c.args.records.now c.args.by_number.now c.args.stamps.now i no_stamp r
@@ -82,15 +73,11 @@ loop-stamp-preserved c =
     let received = c.in_ok-perform.ensures.received ∙ ap (λ m. flat_received m r.op) invariant.memory in
     record {
       long = length-set c.loop-stamp.places.items r.core (c.from.result + 1) ∙ invariant.long;
-      counted = subst (λ (xs : List Record). Counted (set c.loop-stamp.places.items r.core (c.from.result + 1)) xs)
-          more
-          (Counted-push c.loop-stamp.places.items rs r (c.from.result + 1) within
+      counted = rw (← more) (Counted-push c.loop-stamp.places.items rs r (c.from.result + 1) within
           (ap (λ n. n + 1) (c.from.ensures ∙ sym next.place)) invariant.counted);
-      in_order = subst (KeepsProgramOrder (issued_by c.args.issued.now)) more
-          (order_with c.args.issued.now c.loop-stamp.places.items rs r invariant.long invariant.counted
-          invariant.in_order next);
-      values = subst (ReceivesAsReplayed (flat c.args.opening.now)) more
-          (values-push (flat c.args.opening.now) rs r invariant.values (sym received
+      in_order = rw (← more) (order_with c.args.issued.now c.loop-stamp.places.items rs r invariant.long
+          invariant.counted invariant.in_order next);
+      values = rw (← more) (values-push (flat c.args.opening.now) rs r invariant.values (sym received
           ∙ received_same c.in_ok-perform.field-0 r.received c.if-ne.ensures));
       memory = ap flat c.in_ok-perform.ensures.performed ∙ flat-words_after c.loop-stamp.memory r.op
           ∙ ap (λ m. flat_after m r.op) invariant.memory

@@ -1,6 +1,7 @@
 use Rattle.std.proofs.Common.{arith, sym, ap, ◌∙◌, length}
+use Rattle.std.proofs.lemmas.Option.{slice_get-get_or}
 use Rattle.ranked_lines.specs.Rising.{all_but}
-use Rattle.ranked_lines.proofs.BlockedLists.{all_but-length, block-rises, nth-here, nth-later, read-at}
+use Rattle.ranked_lines.proofs.BlockedLists.{all_but-length, block-rises, nth-here, nth-later}
 use Rattle.ranked_lines.proofs.blocks.nth_within.Goals as goal
 
 pub kept-here-requires-clause-rises : goal.kept-here-requires-clause-rises
@@ -30,7 +31,7 @@ returns-then-left-here c =
     let same = c.as_slice-numbers.ensures.value in
     let long = c.kept-here.ensures
     ∙ ap (λ ys. length (all_but c.args.but.now ys)) (c.as_slice.ensures.value ∙ sym same) in
-    sym (read-at c.as_slice-numbers.result.now c.index_but.result c.index_but.ensures.within)
+    sym (slice_get-get_or c.as_slice-numbers.result.now c.index_but.result 0 c.index_but.ensures.within)
     ∙ c.index_but.ensures.number
     ∙ sym (nth-here c.args.but.now c.args.blocks.now c.loop-block.block-index c.loop-block.left c.block-item.result
     c.as_slice-numbers.result.now c.loop-block-test.true c.block-item.is same (omega (arith, less, long)))

@@ -1,6 +1,7 @@
 use Rattle.std.proofs.Common.{arith, refl, sym, ap, ◌∙◌}
 use Rattle.ranked_lines.specs.Blocked.{joined}
-use Rattle.ranked_lines.proofs.BlockedLists.{block-rises, filled-remove, took, took-filled, took-dense-but, went, went-dense-but}
+use Rattle.ranked_lines.proofs.BlockedLists.{block-rises, filled-remove, took, took-filled, took-dense-but, went}
+use Rattle.ranked_lines.proofs.BlockedLists.{went-dense-but}
 use Rattle.ranked_lines.proofs.blocks.take_at.Goals as goal
 
 pub returns-then-size-le1-clause-taken : goal.returns-then-size-le1-clause-taken

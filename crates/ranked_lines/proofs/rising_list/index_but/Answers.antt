@@ -28,5 +28,6 @@ returns-clause-number c =
     let same : c.args.at + (length ys - c.args.here) ≡ c.args.at + (most b ys - less b ys) =
     omega (arith, here, le, most_in) in
     ap (λ n. slice_get ys n) same
-    ∙ from-but b ys c.args.at c.requires.rises (at-from b ys c.args.at 0 (omega (arith, within, all)) c.if-numbers-at.false)
+    ∙ from-but b ys c.args.at c.requires.rises (at-from b ys c.args.at 0 (omega (arith, within, all))
+    c.if-numbers-at.false)
     ∙ sym (ap (λ but. slice_get (all_but but ys) c.args.at) is)

@@ -5,7 +5,8 @@ use Rattle.schedules.proofs.seed.core_at.Goals as goal
 
 pub loop-skipped-init : goal.loop-skipped-init
 loop-skipped-init g c = record {
-  left = first_left g.P.Program.acts c.args._system.now c.args._programs.now c.args._system.now.config.cores c.args.ready;
+  left = first_left g.P.Program.acts c.args._system.now c.args._programs.now c.args._system.now.config.cores
+      c.args.ready;
   fits = omega arith;
   few = omega arith;
 }

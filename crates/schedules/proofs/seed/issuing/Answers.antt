@@ -10,7 +10,8 @@ use Rattle.schedules.proofs.seed.issuing.Goals as goal
 pub loop-left-init : goal.loop-left-init
 loop-left-init g c = record {
   asked = none_asked (is_idle c.args.system.now)
-      (λ core. is_some (next_in g.P.Program.acts c.args.programs.now core)) c.idle_cores-left.result c.idle_cores-left.ensures;
+      (λ core. is_some (next_in g.P.Program.acts c.args.programs.now core)) c.idle_cores-left.result
+      c.idle_cores-left.ensures;
   fits = omega arith;
 }
 

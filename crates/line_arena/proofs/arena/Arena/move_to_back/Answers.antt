@@ -1,7 +1,6 @@
-use Rattle.std.proofs.Common.{◌≡◌, map, IfSome, Some, sym, ap, subst, ◌∙◌, arith}
+use Rattle.std.proofs.Common.{map, ap, ◌∙◌, arith}
 use Rattle.std.proofs.lemmas.List.{length-map}
-use Rattle.line_arena.specs.Arenas.{model, pushed, unlinked}
-use Rattle.line_arena.specs.CellLists.{without, append_to}
+use Rattle.line_arena.specs.CellLists.{without}
 use Rattle.line_arena.specs.Chains.{rings_of}
 use Rattle.line_arena.specs.Rings.{or_blank}
 use Rattle.line_arena.proofs.Places.{held}
@@ -21,12 +20,8 @@ returns g c =
     let h = held c.self.invariant c.self.view_is c.cell.view_is c.requires.cell in
     let s = c.self.inside.chains in let x = c.cell.inside.0 in let new = c.relink.new.self in let l = c.args.list in
     let low = c.requires.list in let same = length-map c.args.self.now.lists (without c.args.cell) in
-    let moved : rings_of new ≡ append_to l (x, Some h.value) (map (without x) (rings_of s)) =
-    subst (λ o. IfSome o (λ item. rings_of new ≡ append_to l (x, item) (map (without x) (rings_of s)))) h.held_as
-    c.relink.ensures.lists in
-    subst (λ o. IfSome o (λ item. model new ≡ pushed l (c.args.cell, item)
-    (unlinked c.args.cell c.args.self.now))) (sym h.found)
-    (pushed_to (map (without x) (rings_of s)) new h.value h.kept (omega arith) c.cell.view_is
+    let moved = rw h.held_as at c.relink.ensures.lists in
+    rw h.found (pushed_to (map (without x) (rings_of s)) new h.value h.kept (omega arith) c.cell.view_is
     moved (c.relink.ensures.sizes.0 ∙ ap (λ a. a.cells) c.self.view_is))
 
 pub relink-requires-clause-on : goal.relink-requires-clause-on

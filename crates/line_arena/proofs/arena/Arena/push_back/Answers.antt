@@ -8,7 +8,8 @@ use Rattle.line_arena.proofs.arena.Arena.push_back.Goals as goal
 
 pub returns-in-Some-clause-after : goal.returns-in-Some-clause-after
 returns-in-Some-clause-after g c =
-    pushed_to (rings_of c.take_free.new.self) c.fill.new.self c.args.item (ap shown c.in-Some.ensures.same.0 ∙ ap (λ a. a.lists) c.self.view_is) c.requires refl
+    pushed_to (rings_of c.take_free.new.self) c.fill.new.self c.args.item
+    (ap shown c.in-Some.ensures.same.0 ∙ ap (λ a. a.lists) c.self.view_is) c.requires refl
     c.fill.ensures.lists (c.fill.ensures.sizes.0 ∙ c.in-Some.ensures.same.1 ∙ ap (λ a. a.cells) c.self.view_is)
 
 pub returns-in-Some-clause-fresh : goal.returns-in-Some-clause-fresh

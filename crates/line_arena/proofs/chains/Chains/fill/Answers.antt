@@ -1,11 +1,11 @@
 use Rattle.std.proofs.Common.{set, Some, None, sym, ap, subst, ◌∙◌, arith, get_or-set_same}
 use Rattle.std.proofs.lemmas.List.{set-set}
 use Rattle.line_arena.specs.CellLists.{append_to}
-use Rattle.line_arena.specs.Chains.{IsTied, SameUse}
+use Rattle.line_arena.specs.Chains.{SameUse}
 use Rattle.line_arena.specs.Filled.{IsFilled}
 use Rattle.line_arena.specs.Rings.{node, at, or_blank, rings}
 use Rattle.line_arena.proofs.EmptiedCells.{set_none}
-use Rattle.line_arena.proofs.Shows.{arena_from}
+use Rattle.line_arena.proofs.Shows.{arena_from, same_sizes}
 use Rattle.line_arena.proofs.chains.Chains.fill.Goals as goal
 
 pub hook-requires-clause-tied : goal.hook-requires-clause-tied
@@ -13,8 +13,7 @@ hook-requires-clause-tied g c =
     let s = c.args.self.now in let x = c.args.cell in let n = node 0 0 c.args.list (Some c.args.item) in
     let back = ap (λ cs. set cs x None) c.put.ensures ∙ set-set s.block x (Some n) None
     ∙ set_none s.block x c.requires.lacks.gap.1 in
-    subst (λ cs. IsTied (record s { block = cs })) (sym back)
-    c.requires.lacks.tied
+    rw back c.requires.lacks.tied
 
 pub hook-requires-clause-cell : goal.hook-requires-clause-cell
 hook-requires-clause-cell g c =
@@ -41,12 +40,8 @@ returns g c =
     let kept = subst (λ cs. SameUse x (record s { block = cs }) c.hook.new.self) back e.uses.0 in
     let lists = e.rings ∙ (λ j. append_to l (x, item j) (rings (back j) s.heads.items)) in
     record {
-      arena = arena_from l x c.args.item s c.hook.new.self a c.requires.list e.tied e.total kept e.uses.1 (record {
-        capacity = e.sizes.capacity;
-        used = e.sizes.used;
-        free = e.sizes.free;
-        lists = e.sizes.lists;
-      }) lists;
+      arena = arena_from l x c.args.item s c.hook.new.self a c.requires.list e.tied e.total kept e.uses.1
+          (same_sizes _ c.hook.new.self s.block c.hook.new.self.block e.sizes) lists;
       lists = lists;
       sizes = (e.sizes.capacity, e.sizes.used);
     }

@@ -1,23 +1,14 @@
-use Rattle.std.proofs.Common.{Some, None, sym, ap, subst, ◌∙◌, get_or-set_same}
+use Rattle.std.proofs.Common.{Some, sym, ap, subst, ◌∙◌}
 use Rattle.line_arena.specs.Arenas.{Lacks}
-use Rattle.line_arena.specs.Chains.{emptied}
 use Rattle.line_arena.specs.Rings.{or_blank, rings}
-use Rattle.line_arena.proofs.Edits.{within}
 use Rattle.line_arena.proofs.Shows.{lacks_from}
 use Rattle.line_arena.proofs.chains.Chains.lift.Goals as goal
 
 pub returns-clause-lacks : goal.returns-clause-lacks
 returns-clause-lacks g c =
     let s = c.args.self.now in let mid = c.unhook.new.self in let x = c.args.cell in let d = c.unhook.ensures in
-    let inside = within mid.block x d.uses.1.0 d.uses.1.1 in
-    let lacks = lacks_from x s (emptied x mid) c.requires.arena c.requires.cell c.requires.on d.tied d.total d.uses.0
-    (get_or-set_same mid.block x None None inside) (record {
-      capacity = d.sizes.capacity;
-      used = d.sizes.used;
-      free = d.sizes.free;
-      lists = d.sizes.lists;
-    }) d.lists in
-    subst (λ cs. Lacks x (record mid { block = cs })) (sym c.take.ensures.after) lacks
+    subst (λ cs. Lacks x (record mid { block = cs })) (sym c.take.ensures.after) (lacks_from x s mid c.requires.arena
+    c.requires.cell c.requires.on d.tied d.total d.uses.0 d.uses.1 d.sizes d.lists)
 
 pub returns-clause-value : goal.returns-clause-value
 returns-clause-value g c = c.unhook.ensures.value ∙ ap (λ o. Some (or_blank o).item) c.take.ensures.value

@@ -25,7 +25,8 @@ returns-clause-value c =
 pub returns-clause-items : goal.returns-clause-items
 returns-clause-items c =
     let xs = c.self.inside.entries in let count = c.self.inside.count in
-    let h : IsFirstAt (take count xs) c.args.line c.in-Some.at = rw (c.in-Some.is, ← c.self.view_is) at c.index_of.ensures.index in
+    let h : IsFirstAt (take count xs) c.args.line c.in-Some.at =
+    rw (c.in-Some.is, ← c.self.view_is) at c.index_of.ensures.index in
     let distinct = rw (← c.self.view_is) at c.requires in
     rw (← c.self.view_is) (cut-swapped xs count c.args.line c.in-Some.at (0, 0)
     (omega (arith, c.self.invariant, c.self.ranges)) distinct h)

@@ -1,6 +1,6 @@
 use Rattle.std.proofs.Common.{arith, refl, ap, ◌∙◌}
 use Rattle.line_sets.proofs.ListedChanges.{can-count, counted, exchanged, next-fits, recounted, still-room}
-use Rattle.line_sets.proofs.StoredSets.{table_of, is-free, is-new, is-ok, if-ok, put-new}
+use Rattle.line_sets.proofs.StoredSets.{table_of, is-free, is-new, is-ok, put-new}
 use Rattle.line_sets.proofs.sets.LineSets.add.Goals as goal
 
 pub unwrap-cell-requires : goal.unwrap-cell-requires
@@ -15,8 +15,8 @@ push-requires-clause-room g c =
 pub invariant_of-self : goal.invariant_of-self
 invariant_of-self g c =
     let fresh = is-new c.self.invariant.0 c.self.view_is c.requires.in_table c.requires.absent c.requires.way in
-    let after = if-ok _ c.push_back-pushed.result c.unwrap-cell.result c.push_back-pushed.ensures.after
-    c.unwrap-cell.ensures in let is = c.count_of-after.ensures.count in
+    let after = rw c.unwrap-cell.ensures at c.push_back-pushed.ensures.after in
+    let is = c.count_of-after.ensures.count in
     let new = put-new c.cell.inside.0 c.args.value fresh (rw (← c.cell.view_is) at after) c.push.ensures in (
       new.stored,
       omega (arith, counted g.V.Listed.is_listed new fresh.absent {n = 0} refl is c.self.invariant.1),
@@ -36,8 +36,7 @@ recount-requires g c =
 pub returns : goal.returns
 returns g c =
     let fresh = is-new c.self.invariant.0 c.self.view_is c.requires.in_table c.requires.absent c.requires.way in
-    let after = if-ok _ c.push_back-pushed.result c.unwrap-cell.result c.push_back-pushed.ensures.after
-    c.unwrap-cell.ensures in
+    let after = rw c.unwrap-cell.ensures at c.push_back-pushed.ensures.after in
     rw (← c.self.view_is) (ap (table_of c.self.inside.ways)
     (put-new c.cell.inside.0 c.args.value fresh (rw (← c.cell.view_is) at after) c.push.ensures).are)
 

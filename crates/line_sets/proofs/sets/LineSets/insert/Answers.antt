@@ -1,7 +1,7 @@
 use Rattle.std.proofs.Common.{arith, sym, ap, ◌∙◌, not}
 use Rattle.std.specs.Option.{is_some}
 use Rattle.line_sets.proofs.ListedChanges.{can-count, counted, exchanged, in-count, next-fits, recounted, still-room}
-use Rattle.line_sets.proofs.StoredSets.{table_of, is-found, is-missing, if-some, read-value, used, used-last}
+use Rattle.line_sets.proofs.StoredSets.{table_of, is-found, is-missing, read-value, used, used-last}
 use Rattle.line_sets.proofs.StoredSets.{written-there}
 use Rattle.line_sets.proofs.Walks.{is-none}
 use Rattle.line_sets.proofs.sets.LineSets.insert.Goals as goal
@@ -34,8 +34,8 @@ pub invariant_of-self-2 : goal.invariant_of-self-2
 invariant_of-self-2 g c =
     let found = is-found c.self.invariant.0 c.lists-lists.ensures.once c.looked_up.ensures c.self.view_is
     c.requires.in_table (sym c.find.ensures ∙ c.in-Some.is) in let was = read-value found c.get.ensures in
-    let moved = if-some _ _ (c.args.line, c.args.value) c.move_to_back.ensures
-    (written-there c.in-Some.cell _ c.self.inside.arena.lists (ap is_some found.cell)) in
+    let moved = rw (written-there c.in-Some.cell (c.args.line, c.args.value) c.self.inside.arena.lists
+    (ap is_some found.cell)) at c.move_to_back.ensures in
     let new = used c.args.value found c.taken_off.ensures moved in let before = c.count_of-before.ensures.count in
     let after = c.count_of-after.ensures.count in (
       new.stored,
@@ -51,8 +51,8 @@ pub returns : goal.returns
 returns g c =
     let found = is-found c.self.invariant.0 c.lists-lists.ensures.once c.looked_up.ensures c.self.view_is
     c.requires.in_table (sym c.find.ensures ∙ c.in-Some.is) in
-    let moved = if-some _ _ (c.args.line, c.args.value) c.move_to_back.ensures
-    (written-there c.in-Some.cell _ c.self.inside.arena.lists (ap is_some found.cell)) in
+    let moved = rw (written-there c.in-Some.cell (c.args.line, c.args.value) c.self.inside.arena.lists
+    (ap is_some found.cell)) at c.move_to_back.ensures in
     rw (← c.self.view_is) (ap (table_of c.self.inside.ways) (used c.args.value found c.taken_off.ensures moved).are)
 
 pub next-requires : goal.next-requires

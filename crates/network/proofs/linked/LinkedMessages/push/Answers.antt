@@ -3,7 +3,7 @@ use Rattle.line_arena.specs.Arenas.{pushed}
 use Rattle.network.specs.NumberedMessages.{still_there}
 use Rattle.network.specs.Stored.{cell_messages}
 use Rattle.network.proofs.LinkLaws.{has-link, link-low}
-use Rattle.network.proofs.StoredChanges.{Sends, is-ok, if-ok, stored-free, stored-sent}
+use Rattle.network.proofs.StoredChanges.{Sends, is-ok, stored-free, stored-sent}
 use Rattle.network.proofs.linked.LinkedMessages.push.Goals.{After-push_reserved}
 use Rattle.network.proofs.linked.LinkedMessages.push.Goals as goal
 
@@ -38,23 +38,20 @@ sent c =
     let here = rw (← c.self.view_is) at c.requires.endpoints in
     let room = rw (← c.self.view_is) at c.requires.room in
     let number = rw (← c.self.view_is) at c.requires.number in
-    let fresh = if-ok _ c.push_back-pushed.result c.unwrap-cell.result c.push_back-pushed.ensures.fresh
-    c.unwrap-cell.ensures in
+    let fresh = rw c.unwrap-cell.ensures at c.push_back-pushed.ensures.fresh in
     stored-sent _ _ _ _ _ c.unwrap.result c.cell.inside.0 c.args.message c.self.inside.slots.items c.self.inside.arena
     c.self.invariant c.appended.ensures here number room (rw (← c.cell.view_is) at fresh)
     (sym c.link_of-link.ensures ∙ c.unwrap.ensures)
 
 pub invariant_of-self : goal.invariant_of-self
 invariant_of-self c =
-    let after = if-ok _ c.push_back-pushed.result c.unwrap-cell.result c.push_back-pushed.ensures.after
-    c.unwrap-cell.ensures in
+    let after = rw c.unwrap-cell.ensures at c.push_back-pushed.ensures.after in
     rw (c.push_reserved.ensures.items, c.push_reserved.ensures.capacity, rw (← c.cell.view_is) at after)
     (sent (goal.at.invariant_of-self c).After-push_reserved).stored
 
 pub returns-clause-after : goal.returns-clause-after
 returns-clause-after c =
-    let after = if-ok _ c.push_back-pushed.result c.unwrap-cell.result c.push_back-pushed.ensures.after
-    c.unwrap-cell.ensures in
+    let after = rw c.unwrap-cell.ensures at c.push_back-pushed.ensures.after in
     let new = sent (goal.at.returns-clause-after c).After-push_reserved in
     let long = length-append c.self.inside.slots.items ((c.self.inside.next, Some c.cell.inside.0) ∷ []) in
     rw (

@@ -1,0 +1,79 @@
+#!/bin/sh
+# Tries what is installed, as other programs find it: tests/installed.sh
+# The program, the player of events and the static library must be built; `tardis` and `events` in the environment name
+# the first two elsewhere. Where dpkg-deb is there, a Debian package is made, in which lintian finds no error, and it is
+# unpacked into a folder; else maintain/install.sh fills the folder. Then the Python package, the notebook, networks and
+# machines in C++, pkg-config and CMake use what is there. Standard error says what isn't tried, and for lack of what.
+case ${1-} in -h | --help) exec sed -n '2,/^[^#]/s/^# \{0,1\}//p' "$0" ;; esac
+top=$(CDPATH='' cd -- "$(dirname -- "$0")/.." && pwd) || exit 1
+embed=$top/examples/embed
+work=$(mktemp -d) || exit 1
+trap 'rm -rf "$work"' EXIT
+trap 'exit 1' HUP INT TERM
+
+# has TOOL WHAT: whether the tool is there; if not, standard error says what isn't tried.
+has() { command -v "$1" >/dev/null || { echo "installed.sh: no $1, so $2 isn't tried" >&2; return 1; }; }
+fail() { echo "installed.sh: $*"; exit 1; }
+
+prefix=$work/package/usr
+if has dpkg-deb "the Debian package"; then
+    "$top/maintain/deb.sh" "$work" 2>"$work/said" || fail "$(cat "$work/said")"
+    dpkg-deb --extract "$work"/tardis-proved_*.deb "$work/package" || exit 1
+    if has lintian "the package's form"; then
+        lintian --allow-root --fail-on error "$work"/*.deb >"$work/said" 2>&1 || fail "$(cat "$work/said")"
+    fi
+else
+    "$top/maintain/install.sh" "$prefix" || exit 1
+fi
+export PATH="$prefix/bin:$PATH" LD_LIBRARY_PATH="$prefix/lib" PKG_CONFIG_PATH="$prefix/lib/pkgconfig"
+export TARDIS_PLAYER="$prefix/bin/tardis-play-events"
+
+printf '0 W 0x0 1\n1 R 0x0\n' >"$work/trace"
+printf '0 0 W 0x0 1 1 0\n1 0 R 0x0 1 1 1\n' >"$work/legal"
+# legal NAME COMMAND..: the command, which was built over what is installed, or is installed, checks a history.
+legal() {
+    name=$1
+    shift
+    said=$("$@" "$work/trace" "$work/legal")
+    [ "$said" = legal ] || fail "$name: $said"
+}
+legal tardis "$prefix/bin/tardis" check
+version=$("$prefix/bin/tardis" --version 2>&1)
+said=$(cd "$top/python" && python3 -c 'import tardis; print("tardis", tardis.__version__)')
+[ "$version" = "$said" ] || fail "$version, and in Python $said"
+"$top/tests/python_package.py" --library || exit 1
+! has jupyter-nbconvert "the notebook" || "$top/tests/notebook.py" || exit 1
+
+if has pkg-config "its file"; then
+    # shellcheck disable=SC2046
+    gcc -o "$work/by_pkg_config" "$embed/check.c" $(pkg-config --cflags --libs tardis) || exit 1
+    legal pkg-config "$work/by_pkg_config"
+    said=$(pkg-config --modversion tardis)
+    [ "$version" = "tardis $said" ] || fail "$version, and by pkg-config $said"
+fi
+if has cmake "its file"; then
+    printf '%s\n' 'cmake_minimum_required(VERSION 3.13)' 'project(tried C)' 'find_package(tardis 0.1 REQUIRED)' \
+        "add_executable(by_cmake $embed/check.c)" 'target_link_libraries(by_cmake tardis::tardis)' \
+        >"$work/CMakeLists.txt"
+    { cmake -S "$work" -B "$work/cmake" -DCMAKE_PREFIX_PATH="$prefix" && cmake --build "$work/cmake"; } \
+        >"$work/said" 2>&1 || fail "$(cat "$work/said")"
+    legal cmake "$work/cmake/by_cmake"
+fi
+
+strict="-std=c++17 -pedantic -O1 -Wall -Wextra -Werror -I$prefix/include"
+for each in "$embed/latency.cpp" "$top/tests/machines.cpp"; do
+    # shellcheck disable=SC2086
+    g++ $strict -o "$work/$(basename "$each" .cpp)" "$each" -L"$prefix/lib" -ltardis || exit 1
+done
+# A network of one's own, in C++ and in Python: the same cycles.
+awk 'BEGIN { for (line = 0; line < 9; line++) printf "0 W 0x%x 1\n", 2048 * line }' >"$work/full.trace"
+for trace in FIRST-STORE MIGRATORY FALSE-SHARING PAST COMMENTS EMPTY full; do
+    path=$top/examples/traces/$trace.trace
+    [ -e "$path" ] || path=$work/$trace.trace
+    "$work/latency" "$TARDIS_PLAYER" "$path" 1 100 >"$work/said"
+    "$embed/latency.py" "$path" 1 100 | diff "$work/said" - || exit 1
+done
+# Machines in C++ whose players live side by side, are interrupted or gone.
+printf '#!/bin/sh\nfor answer in opened "refused NoMemory"; do read -r _; echo "$answer"; done\n' >"$work/full"
+chmod +x "$work/full"
+"$work/machines" "$TARDIS_PLAYER" "$work/full"

@@ -1,0 +1,176 @@
+#!/usr/bin/env python3
+"""Tries random runs for hours: tests/soak.py [options] HOURS PROGRAM [EVENTS SEATS].
+
+PROGRAM is the built crate tardis, EVENTS and SEATS are the players. The parts have their turns one after the other,
+each a share of the time:
+
+    threads   traces of 64 cores by 16 workers on 8 banks, with few places or many, lines of both sizes, private writes,
+              fair turns or not. Each history is closed and checked: by the program, which must find each operation's
+              record where the run was all done, and by the second program.
+    texts     litmus tests and traces, some damaged, under any options: the program prints what the second one does.
+    players   events and calls of seats: the players answer what the second program's parts do.
+
+Case N of a part depends on the seed and N alone. A difference ends the part with status 1; its text, records and
+command stay in the folder of --kept. The last line of a part says how much it tried, without a difference.
+"""
+import argparse
+import random
+import shlex
+import subprocess
+import sys
+import time
+from pathlib import Path
+
+TOP = Path(__file__).resolve().parent.parent
+sys.path.insert(0, str(TOP))
+from reference.order import check  # noqa: E402
+from reference.traces import Trace, read_records  # noqa: E402
+from tests import ends, fair, texts  # noqa: E402
+
+CORES, WORKERS, BANKS = 64, 16, 8
+PATIENCE = 600  # seconds, after which a command hangs
+
+
+class Difference(Exception):
+    """What differs: in words, with the files that make it again."""
+
+    def __init__(self, what, **files):
+        super().__init__(what)
+        self.files = files
+
+
+def ran(words, text):
+    done = subprocess.run([str(word) for word in words], input=text, capture_output=True, timeout=PATIENCE, check=False)
+    return done.returncode, done.stdout, done.stderr
+
+
+def random_words(draw, most=9999):
+    """Options of a machine and its run, all of which both programs take."""
+    few = fair.options_of(draw)
+    words = [f"--{name}={getattr(few, name.replace('-', '_'))}"
+             for name in ("banks", "sets", "ways", "bank-sets", "bank-ways", "line-words", "lease")]
+    words += draw.choice([[], ["--private-write"]]) + draw.choice([[], [f"--messages={draw.randint(1, 99)}"]])
+    schedule = draw.choice([["--fair"], [], ["--schedule=seed", f"--seed={draw.randrange(2 ** 64)}"],
+                            ["--schedule=threads", "--workers=1"]])
+    return [*words, *schedule, f"--limit={draw.randint(1, most)}"]
+
+
+class Threads:
+    """Traces by many workers."""
+
+    def __init__(self, options):
+        self.program, self.kept, self.steps, self.finished = options.PROGRAM, options.kept, 0, 0
+
+    def case(self, draw):
+        each, words = draw.choice([5, 20, 100]), draw.choice([4, 16, 64, 512])
+        programs = [[fair.step_of(draw, words) for _ in range(draw.randint(1, each))] for _ in range(CORES)]
+        text = fair.text_of(programs)
+        few = draw.choice([[], [f"--sets={draw.randint(1, 2)}", f"--ways={draw.randint(1, 2)}"]])
+        few += draw.choice([[], [f"--bank-sets={draw.randint(1, 2)}", f"--bank-ways={draw.randint(1, 4)}"]])
+        line = [self.program, "trace", "--schedule=threads", f"--workers={WORKERS}", f"--banks={BANKS}", *few,
+                f"--line-words={draw.choice([1, 8])}", f"--lease={draw.choice([1, 10, 1000])}",
+                *draw.choice([[], ["--private-write"]]), "--limit=2000000", "--records", "/dev/stdin"]
+        status, records, error = ran(line, text)
+        files = {"trace": text, "records": records, "command": shlex.join(line).encode()}
+        if status not in (0, 1) or error:
+            raise Difference(f"status {status}: {error.decode(errors='replace')}", **files)
+        self.judge(text, records, status == 0, files)
+        self.steps += records.count(b"\n")
+        self.finished += status == 0
+
+    def judge(self, text, records, is_done, files):
+        trace, history = self.kept / "trace", self.kept / "records"
+        trace.write_bytes(text)
+        history.write_bytes(records)
+        said = ran([self.program, "check", *["--complete"] * is_done, trace, history], None)
+        if said != (0, b"legal\n", b""):
+            raise Difference(f"the program's check: {said}", **files)
+        said = check({}, Trace(text).issued(), read_records(records))
+        if said != "legal":
+            raise Difference(f"the second program's check: {said}", **files)
+
+    def tried(self, count):
+        return (f"{count} traces of {CORES} cores by {WORKERS} workers, {self.finished} all done, {self.steps} records "
+                "checked twice")
+
+
+class Texts:
+    """Litmus tests and traces by both programs."""
+
+    def __init__(self, options):
+        self.program, self.damaged = options.PROGRAM, 0
+
+    def case(self, draw):
+        if draw.random() < 0.5:
+            name, text = "litmus", ends.drawn(draw.randrange(2 ** 32)).encode()
+        else:
+            programs = fair.steps_of(draw, draw.choice([1, 2, 3, 4, 8]), draw.choice([2, 9, 70]))
+            name, text = "trace", fair.text_of(programs)
+        if draw.random() < 0.3:
+            text, self.damaged = texts.changed(text, draw), self.damaged + 1
+        words = [name, *random_words(draw), "/dev/stdin"]
+        got, wanted = (ran([program, *words], text) for program in (self.program, TOP / "reference/oracle.py"))
+        if got != wanted:
+            raise Difference(f"{got} and {wanted}", text=text, command=shlex.join(map(str, words)).encode())
+
+    def tried(self, count):
+        return f"{count} texts by both programs, {self.damaged} of them damaged"
+
+
+class Players:
+    """Events and calls of seats."""
+
+    def __init__(self, options):
+        self.programs = {"events.py": options.EVENTS, "seats.py": options.SEATS}
+
+    def case(self, draw):
+        seed = draw.randrange(2 ** 32)
+        for script, program in self.programs.items():
+            line = [TOP / "tests" / script, "--machines=40", f"--seed={seed}", program]
+            status, out, error = ran(line, None)
+            if status:
+                raise Difference(f"{script}: {(out + error).decode(errors='replace')[-2000:]}",
+                                 command=shlex.join(map(str, line)).encode())
+
+    def tried(self, count):
+        return f"{count} times 40 machines' events and 40 machines' calls of seats"
+
+
+PARTS = {"threads": Threads, "texts": Texts, "players": Players}
+
+
+def soaks(name, options, seconds):
+    """Whether the cases of a part made no difference for so long."""
+    part, count, until = PARTS[name](options), 0, time.monotonic() + seconds
+    while time.monotonic() < until:
+        count += 1
+        try:
+            part.case(random.Random(f"{options.seed} {name} {count}"))
+        except (Difference, subprocess.TimeoutExpired) as error:
+            for file, text in getattr(error, "files", {}).items():
+                (options.kept / f"{name}-{options.seed}-{count}.{file}").write_bytes(text)
+            print(f"{name}: case {count} of seed {options.seed}: {error}", flush=True)
+            return False
+    print(f"{name}: {part.tried(count)}, seed {options.seed}, no difference", flush=True)
+    return True
+
+
+def main():
+    parser = argparse.ArgumentParser(description=__doc__, formatter_class=argparse.RawDescriptionHelpFormatter)
+    parser.add_argument("HOURS", type=float)
+    parser.add_argument("PROGRAM")
+    parser.add_argument("EVENTS", nargs="?")
+    parser.add_argument("SEATS", nargs="?")
+    parser.add_argument("--part", action="append", choices=PARTS, help="only this part, or these (all)")
+    parser.add_argument("--seed", type=int, default=1, metavar="N", help="what opens the generators (1)")
+    parser.add_argument("--kept", type=Path, default=Path("soak"), metavar="FOLDER", help="where files are left (soak)")
+    options = parser.parse_args()
+    names = options.part or [name for name in PARTS if name != "players" or options.SEATS]
+    if "players" in names and not options.SEATS:
+        parser.error("players wants EVENTS and SEATS")
+    options.kept.mkdir(exist_ok=True)
+    return int(not all([soaks(name, options, options.HOURS * 3600 / len(names)) for name in names]))
+
+
+if __name__ == "__main__":
+    sys.exit(main())

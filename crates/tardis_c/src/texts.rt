@@ -82,6 +82,6 @@ pub extern "C" fn tardis_c_check_opened(
         (HasNoOpenedReport opening.now trace.now records.now)
         buffer.old buffer.new long.new result }
 {
-    let came = opened_report(alloc, opening, trace, records, complete != 0);
+    let came = opened_report(alloc, opening, trace, records, complete > 0);
     tell(&came, buffer, long)
 }

@@ -8,7 +8,7 @@ status 2.
     reference/oracle.py litmus [--schedule seed --seed N] [--runs N] [--fair] [--lease N] .. [--private-write] FILE
     reference/oracle.py ends [--states N] FILE
     reference/oracle.py trace [--records] [--schedule seed --seed N] [--fair] [--lease N] .. FILE
-    reference/oracle.py check [--complete] TRACE RECORDS
+    reference/oracle.py check [--complete] [--opening FILE] TRACE RECORDS
     reference/oracle.py --rows <ROWS
     reference/oracle.py --self-test
 
@@ -32,7 +32,7 @@ from reference.litmus_faults import LitmusFault  # noqa: E402
 from reference.order import check, first_lack  # noqa: E402
 from reference.reports import litmus_report, trace_report  # noqa: E402
 from reference.schedules import test_generator  # noqa: E402
-from reference.traces import Fault, Trace, read_records, record_line  # noqa: E402
+from reference.traces import Fault, Trace, read_opening, read_records, record_line  # noqa: E402
 from reference.worked import test_machine  # noqa: E402
 
 
@@ -84,6 +84,7 @@ def words():
     command.add_argument("FILE")
     command = commands.add_parser("check", allow_abbrev=False)
     command.add_argument("--complete", action="store_true")
+    command.add_argument("--opening", metavar="FILE")
     command.add_argument("TRACE")
     command.add_argument("RECORDS")
     return parser
@@ -108,6 +109,16 @@ def read_litmus(path):
 
 def read_trace(path):
     return Trace(contents(path))
+
+
+def opening_of(path):
+    """The opening of a file; zeros where none is named."""
+    if path is None:
+        return {}
+    try:
+        return read_opening(contents(path))
+    except Fault as fault:
+        raise Refused(2, f"tardis: opening: {fault}") from None
 
 
 def refuse_fair(options):
@@ -135,9 +146,10 @@ def run(options):
     """What is printed, and the status."""
     refuse_fair(options)
     if options.command == "check":
+        opening = opening_of(options.opening)
         issued = read_trace(options.TRACE).issued()
         records = read_records(contents(options.RECORDS))
-        verdict = check({}, issued, records)
+        verdict = check(opening, issued, records)
         if options.complete and verdict == "legal":
             verdict = first_lack(issued, records) or verdict
         return verdict + "\n", int(verdict != "legal")

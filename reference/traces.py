@@ -1,4 +1,4 @@
-"""The texts of traces and of records, as docs/TEXTS.md has them, with their faults; texts are bytes."""
+"""The texts of traces, of records and of openings, as docs/TEXTS.md has them, with their faults; texts are bytes."""
 import re
 
 from reference.machine import Record
@@ -6,9 +6,10 @@ from reference.schedules import ADVANCE
 
 
 LINES, BYTES = 16_777_216, 256
-KINDS = {3: "TooLong", 4: "BadCore", 5: "BadOperation", 6: "BadAddress", 7: "BadValue", 8: "ExtraWords", 9: "BadForm"}
+KINDS = {3: "TooLong", 4: "BadCore", 5: "BadOperation", 6: "BadAddress", 7: "BadValue", 8: "ExtraWords", 9: "BadForm",
+         10: "DoubleWord"}
 LETTERS = {b"R": "load", b"W": "store", b"S": "swap"}
-TOO_LONG, BAD_CORE, BAD_OPERATION, BAD_ADDRESS, BAD_VALUE, EXTRA_WORDS, BAD_FORM = KINDS
+TOO_LONG, BAD_CORE, BAD_OPERATION, BAD_ADDRESS, BAD_VALUE, EXTRA_WORDS, BAD_FORM, DOUBLE_WORD = KINDS
 
 
 class Fault(Exception):
@@ -134,6 +135,18 @@ def read_records(text):
         fields.end()
         records.append(Record(core, place, LETTERS[letter], word, value, received, time, number))
     return records
+
+
+def read_opening(text):
+    """The words, each with its value at first."""
+    opening = {}
+    for fields in lines_with_fields(text):
+        word, value = fields.word(), fields.value()
+        fields.end()
+        if word in opening:
+            fields.fault(DOUBLE_WORD)
+        opening[word] = value
+    return opening
 
 
 def record_line(record):

@@ -1,7 +1,7 @@
 #!/usr/bin/env python3
 """Checks an order of a history under total store order, as `tools/order.py --model tso` writes it.
 
-    reference/tso.py TRACE RECORDS
+    reference/tso.py [--opening FILE] TRACE RECORDS
 
 Each core's stores may take effect later than its loads behind them, in their order; a load sees its own core's last
 store before it even so. The order of the records, by time and number, is that in which loads and swaps are performed
@@ -10,7 +10,7 @@ and stores take effect. TRACE has docs/TEXTS.md's form, or a line `CORE F` for a
 - the records are numbered from 0, each once, and each operation of the trace has its record, by core and place;
 - an operation comes before those behind it in its program, but a store before later loads only across a fence or swap;
 - a read receives what was written last there: by its core's own store that hasn't taken effect, the last one before
-  it, if there is one; else by the last write before it in the order; else 0.
+  it, if there is one; else by the last write before it in the order; else the word's value at first, by FILE or 0.
 
 Nothing of this is proved, and each line printed says so. The status is 0 if the order is legal, 1 if it isn't, and 2
 if a text is refused, in one line on standard error.
@@ -22,7 +22,7 @@ from pathlib import Path
 sys.path.insert(0, str(Path(__file__).resolve().parent.parent))
 from reference.given import Bad, contents, tool  # noqa: E402
 from reference.order import arrange, operation  # noqa: E402
-from reference.traces import Fault, Trace, read_records  # noqa: E402
+from reference.traces import Fault, Trace, read_opening, read_records  # noqa: E402
 
 FENCE = re.compile(rb"[ \t]*([0-9]{1,2})[ \t]+F[ \t]*(?:#.*)?")
 NOT_PROVED = "(total store order, not proved)"
@@ -78,7 +78,7 @@ def fault_of_program(records, fences, at):
     return None
 
 
-def fault_of_values(arranged, at):
+def fault_of_values(arranged, at, opening):
     """The first record in the order that received another value than it must."""
     own = {}  # of each load, its core's last store of the word before it
     for record in sorted(arranged, key=lambda record: record.place):
@@ -86,7 +86,7 @@ def fault_of_values(arranged, at):
             own[record.number] = own.get((record.core, record.word, "last"))
         else:
             own[record.core, record.word, "last"] = record
-    memory = {}
+    memory = dict(opening)
     for record in arranged:
         wanted, waits = memory.get(record.word, 0), own.get(record.number)
         if waits is not None and at[waits.number] > at[record.number]:
@@ -98,7 +98,7 @@ def fault_of_values(arranged, at):
     return None
 
 
-def verdict(issued, fences, records):
+def verdict(issued, fences, records, opening=()):
     fault = fault_of_records(issued, records)
     if fault:
         return fault
@@ -109,18 +109,20 @@ def verdict(issued, fences, records):
         by_core.setdefault(record.core, []).append(record)
     for core, mine in sorted(by_core.items()):
         fault = fault or fault_of_program(mine, set(fences.get(core, ())), at)
-    return fault or fault_of_values(arranged, at) or "legal"
+    return fault or fault_of_values(arranged, at, opening) or "legal"
 
 
 def main(paths):
     if paths in (["-h"], ["--help"]):
         print(__doc__)
         return 0
+    named, paths = (paths[1:2], paths[2:]) if paths[:1] == ["--opening"] else ([], paths)
     if len(paths) != 2:
         raise Bad("a trace and records are needed (--help tells all)")
     try:
+        opening = read_opening(contents(named[0])) if named else {}
         issued, fences = read_trace(contents(paths[0]))
-        said = verdict(issued, fences, read_records(contents(paths[1])))
+        said = verdict(issued, fences, read_records(contents(paths[1])), opening)
     except Fault as fault:
         raise Bad(str(fault)) from None
     print(f"{said} {NOT_PROVED}")

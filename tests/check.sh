@@ -7,7 +7,7 @@
 # The parts that are run, each a function below; PARTS names others.
 case ${1-} in -h | --help) exec sed -n '2,/^[^#]/s/^# \{0,1\}//p' "$0" ;; esac
 parts=${PARTS:-litmus catalogue settings refusals seeds workers threads traces seeded_traces lines verdicts \
-complete trace_faults trace_refusals}
+complete opening trace_faults trace_refusals}
 
 top=$(CDPATH='' cd -- "$(dirname -- "$0")/.." && pwd) || exit 1
 tardis=${1:-$top/tardis}
@@ -614,6 +614,32 @@ verdicts() {
 
 complete() { table "$examples/complete.table" --complete; }
 
+# Each row's opening goes to a file; the rest of the row is as in verdicts.table.
+opening() {
+    while IFS='|' read -r verdict words behind; do
+        case $verdict in '#'*) continue ;; esac
+        printf '%b' "$words" >"$work/opening"
+        printf '%s|%s\n' "$verdict" "$behind" >"$work/row"
+        table "$work/row" --opening "$work/opening"
+    done <"$examples/opening.table"
+    many_words
+}
+
+# 40,000 words open with values of their own, the last one in a line without a line feed; then one opens twice.
+many_words() {
+    awk 'BEGIN { for (k = 0; k < 40000; k++) printf "%s0x%x %d", k ? "\n" : "", 8 * (k * 7919 % 40000), k }' \
+        >"$work/opening"
+    awk 'BEGIN { for (k = 0; k < 40000; k++) printf "0 R 0x%x\n", 8 * (k * 7919 % 40000) }' >"$work/steps"
+    awk 'BEGIN { for (k = 0; k < 40000; k++) printf "0 %d R 0x%x %d 0 %d\n", k, 8 * (k * 7919 % 40000), k, k }' \
+        >"$work/records"
+    echo legal >"$work/wanted"
+    told "40,000 words" 0 "$work/wanted" /dev/null \
+        check --opening "$work/opening" --complete "$work/steps" "$work/records"
+    { cat "$work/opening"; printf '\n0x8 0\n'; } >"$work/text"
+    refused "one of 40,000 words, opened twice" 2 'tardis: opening: line 40001: 10 DoubleWord' \
+        check --opening "$work/text" "$work/steps" "$work/records"
+}
+
 # 140,000 stores of one core, whose times fall as their numbers rise, so that the records must be sorted.
 falling_times() {
     awk 'BEGIN { for (k = 0; k < 140000; k++) printf "0 W 0x%x %d\n", 8 * k, k }' >"$work/steps"
@@ -639,63 +665,85 @@ many() {
     head -c "$1" /dev/zero | tr '\0' "$2"
 }
 
-# long_lines FIELDS WORDS..: lines of 256 and of 257 bytes, with their comments, and one line more than there may be.
+# long_lines SAID KIND FIELDS WORDS..: lines of 256 and of 257 bytes, with their comments, and one line more than there
+# may be. SAID is what each fault begins with, and KIND that of letters.
 long_lines() {
-    fields=$1
-    shift
+    said=$1 kind=$2 fields=$3
+    shift 3
     { echo '#'; printf '%s #' "$fields"; many $((255 - ${#fields})) x; printf '\n%s' "$fields"; } >"$work/text"
-    refused "fields and a comment of 257 bytes" 2 'tardis: line 2: 3 TooLong' "$@" "$work/text"
+    refused "fields and a comment of 257 bytes" 2 "$said 2: 3 TooLong" "$@" "$work/text"
     { echo '#'; printf '%s' "$fields"; many $((257 - ${#fields})) ' '; } >"$work/text"
-    refused "fields and blanks of 257 bytes" 2 'tardis: line 2: 3 TooLong' "$@" "$work/text"
+    refused "fields and blanks of 257 bytes" 2 "$said 2: 3 TooLong" "$@" "$work/text"
     { many 257 a; echo; } >"$work/text"
-    refused "257 letters" 2 'tardis: line 1: 3 TooLong' "$@" "$work/text"
+    refused "257 letters" 2 "$said 1: 3 TooLong" "$@" "$work/text"
     { echo; printf '#'; many 256 c; } >"$work/text"
-    refused "a comment of 257 bytes" 2 'tardis: line 2: 3 TooLong' "$@" "$work/text"
+    refused "a comment of 257 bytes" 2 "$said 2: 3 TooLong" "$@" "$work/text"
     { many 256 a; echo; } >"$work/text"
-    refused "256 letters" 2 'tardis: line 1: 4 BadCore' "$@" "$work/text"
+    refused "256 letters" 2 "$said 1: $kind" "$@" "$work/text"
     { many 16777216 '\n'; } >"$work/text"
     printf ' ' >>"$work/text"
-    refused "16,777,217 lines" 2 'tardis: line 16777217: 3 TooLong' "$@" "$work/text"
+    refused "16,777,217 lines" 2 "$said 16777217: 3 TooLong" "$@" "$work/text"
 }
 
 trace_faults() {
     faults "$bad/traces.table" trace
     faults "$bad/records.table" check "$examples/traces/EMPTY.trace"
+    faults "$bad/openings.table" check "$examples/traces/EMPTY.trace" "$examples/traces/EMPTY.trace" --opening
 }
 
-# Pipes. Who writes the records opens theirs once the trace is written, so the trace must be opened first. A fault is
-# told while its pipe stays open: no read follows the one that shows it.
+# Pipes. Who writes the records opens theirs once the trace is written, so the trace must be opened first, and an
+# opening before it. A fault is told while its pipe stays open: no read follows the one that shows it.
 pipes() {
-    mkfifo "$work/trace.pipe" "$work/records.pipe"
+    mkfifo "$work/opening.pipe" "$work/trace.pipe" "$work/records.pipe"
     { echo '0 R 0x0' >"$work/trace.pipe"; echo '0 0 R 0x0 0 0 0' >"$work/records.pipe"; } &
     writer=$!
     echo legal >"$work/wanted"
     told "pipes written one after the other" 0 "$work/wanted" /dev/null check "$work/trace.pipe" "$work/records.pipe"
     kill "$writer" 2>/dev/null
-    stays_open '0 X' trace "$work/trace.pipe"
-    stays_open '0 0 X' check "$examples/traces/EMPTY.trace" "$work/trace.pipe"
-    rm -f "$work/trace.pipe" "$work/records.pipe"
+    {
+        echo '0x0 5' >"$work/opening.pipe"
+        echo '0 R 0x0' >"$work/trace.pipe"
+        echo '0 0 R 0x0 5 0 0' >"$work/records.pipe"
+    } &
+    writer=$!
+    told "an opening's pipe written before them" 0 "$work/wanted" /dev/null \
+        check "$work/trace.pipe" "$work/records.pipe" --opening "$work/opening.pipe"
+    kill "$writer" 2>/dev/null
+    stays_open '0 X' "$fault" trace "$work/trace.pipe"
+    stays_open '0 0 X' "$fault" check "$some" "$work/trace.pipe"
+    stays_open '0x0 X' 'tardis: opening: line 1: 7 BadValue' check "$some" "$some" --opening "$work/trace.pipe"
+    rm -f "$work/opening.pipe" "$work/trace.pipe" "$work/records.pipe"
 }
 
 stays_open() {
     { echo "$1"; exec sleep 300; } >"$work/trace.pipe" &
     writer=$!
-    shift
-    refused "$1 of a pipe that stays open" 2 'tardis: line 1: 5 BadOperation' "$@"
+    line=$2
+    shift 2
+    refused "$line of a pipe that stays open" 2 "$line" "$@"
     kill "$writer" 2>/dev/null
 }
 
 trace_refusals() {
     some=$examples/traces/EMPTY.trace
-    long_lines '0 R 0x0' trace
-    long_lines '0 0 R 0x0 0 0 0' check "$some"
+    long_lines 'tardis: line' '4 BadCore' '0 R 0x0' trace
+    long_lines 'tardis: line' '4 BadCore' '0 0 R 0x0 0 0 0' check "$some"
+    long_lines 'tardis: opening: line' '6 BadAddress' '0x0 0' check "$some" "$some" --opening
     echo legal >"$work/legal"
     { printf '#'; many 255 c; echo; many 16777215 '\n'; } >"$work/text"
     told "16,777,216 lines, and one of 256 bytes" 0 "$work/legal" /dev/null check "$work/text" "$some"
+    told "the same of an opening" 0 "$work/legal" /dev/null check --opening "$work/text" "$some" "$some"
     echo '0 X' >"$work/text"
     fault='tardis: line 1: 5 BadOperation'
     refused "the trace's fault goes before the records'" 2 "$fault" check "$work/text" "$work/text"
     refused "the trace's fault goes before records that can't be read" 2 "$fault" check "$work/text" "$examples"
+    refused "the opening's fault goes before the trace's" 2 'tardis: opening: line 1: 6 BadAddress' \
+        check --opening "$work/text" "$work/text" "$some"
+    refused "an opening that is accepted, and the trace's fault" 2 "$fault" check --opening "$some" "$work/text" "$some"
+    refused "no opening, and a bad trace" 4 'tardis: read failed' check --opening "$bad/none" "$work/text" "$some"
+    refused "a bad opening, and no records" 4 'tardis: read failed' \
+        check --opening "$work/text" "$some" "$bad/none.records"
+    refused "a folder as an opening" 4 'tardis: read failed' check --opening "$examples" "$work/text" "$some"
     refused "an input refused, with a bad configuration" 2 "$fault" trace --lease 0 "$work/text"
     refused "lease 0" 3 'tardis: bad configuration' trace --lease 0 "$some"
     refused "no trace" 4 'tardis: read failed' trace "$bad/none.trace"

@@ -97,8 +97,8 @@ if command -v rustc >/dev/null; then
 else
     echo "embed.sh: no rustc, so the caller in Rust isn't tried" >&2
 fi
-PARTS='litmus settings seeds traces seeded_traces verdicts trace_faults' "$top/tests/check.sh" "$work/tardis" \
-    >"$work/said" || { cat "$work/said"; exit 1; }
+PARTS='litmus settings seeds traces seeded_traces verdicts complete opening trace_faults' "$top/tests/check.sh" \
+    "$work/tardis" >"$work/said" || { cat "$work/said"; exit 1; }
 EMBED_ARRAYS=1 PARTS=verdicts "$top/tests/check.sh" "$work/tardis" >"$work/said" || { cat "$work/said"; exit 1; }
 
 # A machine that has its own history checked: its verdict is that of the second program on its log. By effect a right

@@ -9,8 +9,8 @@ The options of an example are in its text: in a litmus test in the header line `
 line `# options= ..`. A .seeds is the report on the seeds 0 to 999. A .also is there for a test with a header line
 `also=..`: it is the report with these options. Every end state of the catalogue must be one that plain enumeration
 finds (sequential.py). Each trace's records must be legal. The tables (bad/traces.table, bad/records.table,
-lines.table, verdicts.table, complete.table) are written by hand: the script also reports a row that the oracle answers
-otherwise.
+bad/openings.table, lines.table, verdicts.table, complete.table, opening.table) are written by hand: the script also
+reports a row that the oracle answers otherwise.
 """
 import re
 import sys
@@ -21,7 +21,7 @@ from reference import oracle, sequential  # noqa: E402
 from reference.litmus import Test  # noqa: E402
 from reference.order import check, first_lack  # noqa: E402
 from reference.reports import trace_report  # noqa: E402
-from reference.traces import Fault, Trace, read_records  # noqa: E402
+from reference.traces import Fault, Trace, read_opening, read_records  # noqa: E402
 
 
 FOLDER = Path(__file__).resolve().parent.parent / "examples"
@@ -103,14 +103,17 @@ def differing_rows():
         said = verdict(trace, records)
         return said if said != "legal" else first_lack(Trace(trace).issued(), read_records(records)) or said
 
+    def opened(opening, trace, records):
+        return check(read_opening(opening), Trace(trace).issued(), read_records(records))
+
     for path in sorted(FOLDER.glob("traces/*.trace")):
         said = said_of(verdict, path.read_bytes(), path.with_suffix(".records").read_bytes())
         if said != "legal":
             yield f"{path.relative_to(FOLDER)} and its records: {said}"
     for name, reader in (("bad/traces.table", Trace), ("bad/records.table", read_records), ("verdicts.table", verdict),
-                         ("complete.table", complete)):
+                         ("complete.table", complete), ("opening.table", opened), ("bad/openings.table", read_opening)):
         for number, words, texts in rows(name):
-            said = said_of(reader, *texts)
+            said = f"{'opening: ' * name.endswith('openings.table')}{said_of(reader, *texts)}"
             if said != words:
                 yield f"{name}, line {number}: {words} wanted, {said} is said"
     for number, records, texts in rows("lines.table"):

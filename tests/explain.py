@@ -188,6 +188,18 @@ WARNED = [
     ("RISCV T\n{ 0:x6=x; }\n P0 ;\n sw x0,0(x6) ;\n lw x5,0(x6) ;\n sw x5,0(x6) ;\nexists (0:x5=1)\n", [])]
 
 
+# Over an opening: its text, and lines that must be told of two loads of 0x8, of which one received 5 and one 6.
+LOADS = "0 R 0x8\n1 R 0x8\n", "0 0 R 0x8 5 0 0\n1 0 R 0x8 6 0 1\n"
+OPENINGS = [
+    ("", ["wrong value 0", "received 5 instead of 0:", "which opens as 0", "No record wrote 5 there.",
+          "tools/order.py --opening OPENING RECORDS says why"]),
+    ("0x10 6\n\n0x8 5", ["wrong value 1", "received 6 instead of 5:", "which opens as 5", "No record wrote 6 there."]),
+    ("0x8 1\n# 0x8 2\n0x8 1\n", ["OPENING, line 3, `0x8 1`, ADDR: `0x8`", "10 DoubleWord", "one value at first"]),
+    ("8 5\n", ["OPENING, line 1, `8 5`, ADDR: `8`", "6 BadAddress", "`0x` and small letters"]),
+    ("0x8\n", ["line 1, `0x8`, VALUE is missing", "7 BadValue: VALUE"]),
+    ("0x8 5 # five\n0x0 5 6\n", ["line 2, `0x0 5 6`, a field too many: `6`", "8 ExtraWords"])]
+
+
 class Explainer(Tester):
     """Asks the script about texts, in files of a folder."""
 
@@ -195,12 +207,12 @@ class Explainer(Tester):
         super().__init__(str(TOP / "tools/explain.py"))
         self.folder = folder
 
-    def tells(self, wanted, *texts, names=("trace", "records"), is_good=False):
+    def tells(self, wanted, *texts, names=("trace", "records"), is_good=False, opening=None):
         """The script says these words, in this order."""
         paths = [Path(self.folder, name) for name, _ in zip(names, texts)]
         for path, text in zip(paths, texts):
             path.write_bytes(text)
-        lines, is_wrong = explain.explained(list(map(str, paths)))
+        lines, is_wrong = explain.explained(list(map(str, paths)), opening)
         out, at, good = "\n".join(lines), 0, is_wrong != is_good
         for words in wanted:
             found = out.find(words, at)
@@ -222,6 +234,11 @@ def verdicts(tester):
     tester.expect(out == "legal", f"all records are there: {out}")
     for records, wanted in SWAPS[1]:
         tester.tells(wanted, SWAPS[0].encode(), records.encode())
+    opening = Path(tester.folder, "opening")
+    for text, wanted in OPENINGS:
+        opening.write_text(text)
+        tester.tells([words.replace("OPENING", str(opening)) for words in wanted], *map(str.encode, LOADS),
+                     opening=str(opening))
     for line, record, wanted in RECORDS:
         records = [*GOOD[:line - 1], record, *GOOD[line:]]
         tester.tells(wanted, MP.encode(), "\n".join(records).encode())
@@ -229,7 +246,7 @@ def verdicts(tester):
 
 def told_fault(fault):
     """What the script must say of a fault `line 6: 8 BadInstruction`."""
-    line, kind = fault.split(": ")
+    line, kind = fault.removeprefix("opening: ").split(": ")
     return [f", {line}, ", f"  {kind}: "]
 
 
@@ -239,6 +256,12 @@ def faults(tester):
     for table, names in (("traces.table", ["text.trace"]), ("records.table", ["none.trace", "text.records"])):
         for fault, text in rows(TOP / "examples/bad" / table):
             tester.tells(told_fault(fault), *[b""] * (len(names) - 1), of_printf(text), names=names)
+
+
+    for fault, text in rows(TOP / "examples/bad/openings.table"):
+        path = Path(tester.folder, "text.opening")
+        path.write_bytes(of_printf(text))
+        tester.tells(told_fault(fault), b"", b"", opening=str(path))
 
 
 def causes(tester):
@@ -258,7 +281,7 @@ def causes(tester):
     tester.tells(["7 BadValue: PLACE: ", "32 bits: the operation's place"], b"", f"0 {2 ** 32} R 0x0 0 0 0\n".encode(),
                  names=["none.trace", "text.records"])
     for title, kinds in (("Litmus tests", explained_texts.TEST),
-                         ("Texts of traces and of records", explained_texts.LINES)):
+                         ("Texts of traces, of records and of openings", explained_texts.LINES)):
         for number, (_, _, often) in explained_texts.causes(title).items():
             meant = " ".join(dict.fromkeys(words for _, words in kinds.get(number, [])))
             tester.expect(often == meant, f"docs/TEXTS.md, {title}, {number}: {often}, and the script has {meant}")

@@ -417,7 +417,7 @@ def confirmations(tester):
             records.write_text(text)
             try:
                 with contextlib.redirect_stderr(io.StringIO()) as error:
-                    said = confirmed(argparse.Namespace(model=model), trace, records)
+                    said = confirmed(argparse.Namespace(model=model), {"trace": trace, "records": records})
             except SystemExit as ended:
                 said = ended.code
             tester.expect(said != 2 if is_good else said == 2 and error.getvalue().count("\n") == 1,
@@ -457,8 +457,19 @@ def told(tester):
     history.write_text("0: M[1] := 1\n0: M[2] == 7\n")
     opening.write_text("M[2] := 7\n")
     tester.run("--opening", opening, "--out", tester.folder, history)
-    trace = (tester.folder / "told.order.trace").read_text()
-    tester.expect(trace == "1 W 0x10 7\n0 W 0x8 1\n0 R 0x10\n", f"M[1] is at 0x8: {trace}")
+    wrote = [(tester.folder / f"told.order.{what}").read_text() for what in ("trace", "opening")]
+    tester.expect(wrote == ["0 W 0x8 1\n0 R 0x10\n", "0x10 7\n"], f"M[1] is at 0x8: {wrote}")
+    history.write_text("0 R 0x4 5\n0 W 0x1 2\n")
+    opening.write_text("0x1 0\n0x100 9\n0x4 5\n")
+    out = tester.run("--opening", opening, "--out", tester.folder, history)[1]
+    wrote = (tester.folder / "told.order.opening").read_text()
+    tester.expect(out.splitlines()[1:] == [str(tester.folder / f"told.order.{what}") for what in
+                                           ("trace", "records", "opening")] and wrote == "0x8 5\n",
+                  f"0x4 is the second of two addresses: {out} {wrote}")
+    history.write_text("".join(f"{core} R 0x8 5\n" for core in range(64)))
+    opening.write_text("0x8 5\n")
+    out = tester.run("--opening", opening, "--out", tester.folder, history)[1]
+    tester.expect(out.startswith("consistent: proved"), f"64 cores: {out}")
 
 
 def orders_of_buffers(tester):
@@ -480,6 +491,9 @@ def orders_of_buffers(tester):
             (b"0 W 0x8 1\n0 S 0x0 1\n", b"0 1 S 0x0 1 0 0 0\n0 0 W 0x8 1 0 1\n", "out of program order 0")):
         said = tso.verdict(*tso.read_trace(text), read_records(records))
         tester.expect(said == wanted, f"tso.py: {text} {records}: {said}, wanted {wanted}")
+    for value, wanted in ((5, "legal"), (0, "wrong value 0")):
+        said = tso.verdict([[("load", 1, None)]], {}, read_records(b"0 0 R 0x8 %d 0 0\n" % value), {1: 5})
+        tester.expect(said == wanted, f"tso.py, over an opening: {said}, wanted {wanted}")
 
 
 def drawn_text(count, cores, words, values, seed, wrong=0):
@@ -579,11 +593,15 @@ def numbers(tester):
                 (tester.folder / "timed.map").read_text() == mapped
         tester.expect(good, f"number.py: {text!r}: {status} {out} {error}, wanted {wanted}")
     opening = tester.folder / "opening"
-    opening.write_text("0x8 5\n0x0 0\n")
+    opening.write_text("8 5\n0x0 0\n")
     history.write_text("0 R 0x8 5 @ 7\n63 R 0x0 0 @ 8\n")
     ran = numberer.run("--opening", str(opening), "--out", str(tester.folder), str(history))
-    tester.expect(ran == (0, "legal\n", "") and (tester.folder / "timed.map").read_text() == "1 7 1\n2 8 2\n",
-                  f"number.py --opening: {ran}")
+    wrote = [(tester.folder / f"timed.{what}").read_text() for what in ("map", "opening")]
+    tester.expect((ran, wrote) == ((0, "legal\n", ""), ["0 7 1\n1 8 2\n", "0x8 5\n"]),
+                  f"number.py --opening: {ran} {wrote}")
+    history.write_text("0 R 0x8 0 @ 7\n")
+    ran = numberer.run("--opening", str(opening), "--out", str(tester.folder), str(history))
+    tester.expect(ran[0] == 1 and ran[1].startswith("wrong value 0\nat 7, line 1 "), f"another opening value: {ran}")
     opening.write_text("x 5\n")
     status, out, error = numberer.run("--opening", str(opening), "--out", str(tester.folder), str(history))
     tester.expect((status, out) == (2, "") and error.startswith(f"number.py: {opening}: line 1: "), f"opening: {error}")

@@ -244,7 +244,11 @@ def runs(is_proved):
     if [each.filename for each in told] != ([] if is_proved else [__file__]):
         fail(f"the place that a warning names: {told}")
     for told, wanted in ((tardis.check("0 W 0x0 1\n", "0 0 W 0x0 1 1 0\n"), "legal"),
-                         (tardis.check("0 W 0x0 1\n1 R 0x0\n", "0 0 W 0x0 1 1 0\n1 0 R 0x0 0 1 1\n"), "wrong value 1")):
+                         (tardis.check("0 W 0x0 1\n1 R 0x0\n", "0 0 W 0x0 1 1 0\n1 0 R 0x0 0 1 1\n"), "wrong value 1"),
+                         (tardis.check("0 R 0x8\n", "0 0 R 0x8 5 0 0\n", opening={16: 6, 8: 5}), "legal"),
+                         (tardis.check("0 R 0x8\n", "0 0 R 0x8 5 0 0\n", opening="0x8 6"), "wrong value 0"),
+                         (tardis.check("0 R 0x8\n", "", opening={}), "legal"),
+                         (tardis.check("0 R 0x8\n", "", complete=True), "no record of operation 0 of core 0")):
         if told != wanted:
             fail(f"a verdict: {told}, not {wanted}")
     faults(is_proved)
@@ -255,6 +259,8 @@ def faults(is_proved):
     for make, kind, line in ((lambda: tardis.litmus("RISCV\n"), tardis.BadText, 1),
                              (lambda: tardis.trace("0 R 0x0\n0 R 0x4\n"), tardis.BadText, 2),
                              (lambda: tardis.check("0 R 0x0\n", "0 R 0x0\n"), tardis.BadText, 1),
+                             (lambda: tardis.check("", "", opening="\n0x8 5\n0x8 5\n"), tardis.BadText, 3),
+                             (lambda: tardis.check("", "", opening={4: 5}), tardis.BadText, 1),
                              (lambda: tardis.trace("0 R 0x0\n", lease=0), tardis.BadConfiguration, None),
                              (lambda: tardis.trace("0 R 0x0\n", schedule="seed", fair=True), tardis.BadConfiguration,
                               None)):

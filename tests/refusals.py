@@ -173,7 +173,8 @@ def growths(tester):
 
 def without_runs(folder):
     """Commands that end without a run, each with its answer: the status, standard output and standard error."""
-    cut, late, wrong, loads, falling = (folder / name for name in ("cut", "late", "wrong", "loads", "falling"))
+    cut, late, wrong, loads, falling, opening, twice = (
+        folder / name for name in ("cut", "late", "wrong", "loads", "falling", "opening", "twice"))
     cut.write_text("RISCV A\n{ x=1;\n")
     late.write_text("0 R 0x0\n" * 40 + "0 R 0x4\n")
     trace = TRACES / "ADVANCES.trace"
@@ -181,7 +182,12 @@ def without_runs(folder):
     wrong.write_text("0 0 W 0x0 1 1 0\n")
     loads.write_text("0 R 0x0\n" * 40)
     falling.write_text("".join(f"0 {number} R 0x0 0 {40 - number} {number}\n" for number in range(40)))
+    opening.write_text("".join(f"{8 * word:#x} {word}\n" for word in range(40)))
+    twice.write_text(opening.read_text() + "0x0 0\n")
     yield "records, checked", ["check", trace, records], (0, "legal\n", "")
+    yield "no records over an opening", ["check", "--opening", opening, loads, "/dev/null"], (0, "legal\n", "")
+    yield "an opening with a fault", ["check", "--opening", twice, loads, "/dev/null"], (
+        2, "", "tardis: opening: line 41: 10 DoubleWord\n")
     yield "other records, checked", ["check", trace, wrong], (1, "out of program order 0\n", "")
     yield "records whose times fall", ["check", loads, falling], (1, "out of program order 39\n", "")
     yield "no records, all asked for", ["check", "--complete", loads, "/dev/null"], (
@@ -201,6 +207,10 @@ def commands(folder):
     """A command of each kind, with what it prints, and one whose text is read in many blocks."""
     many = Path(folder, "many.trace")
     many.write_text("0 R 0x0\n" * LOADS)
+    opening, loads, loaded = (Path(folder, name) for name in ("opening", "loads", "loaded"))
+    opening.write_text("0x0 5\n0x8 6\n")
+    loads.write_text("0 R 0x0\n")
+    loaded.write_text("0 0 R 0x0 5 0 0\n")
     text, trace = LITMUS / "SB.litmus", TRACES / "FALSE-SHARING.trace"
     options = options_of(trace)
     return [
@@ -209,6 +219,7 @@ def commands(folder):
         (["trace", *options, trace], trace.with_suffix(".report").read_text()),
         (["trace", "--records", *options, trace], trace.with_suffix(".records").read_text()),
         (["check", trace, trace.with_suffix(".records")], "legal\n"),
+        (["check", "--opening", opening, loads, loaded], "legal\n"),
         (["trace", many], MANY_LOADS),
     ]
 

@@ -144,14 +144,14 @@ def of_printf(text):
 
 def moved(fault, lines):
     """The fault's line in a text with this many lines in front."""
-    line, rest = fault.removeprefix("line ").split(":", 1)
-    return f"line {int(line) + lines}:{rest}"
+    front, line, rest = re.fullmatch(r"(.*line )(\d+)(:.*)", fault).groups()
+    return f"{front}{int(line) + lines}{rest}"
 
 
 def one_line_faults(table):
     for fault, text in rows(TOP / "examples/bad" / table):
         text = of_printf(text).removesuffix(b"\n")
-        if b"\n" not in text and fault.startswith("line 1:"):
+        if b"\n" not in text and fault.removeprefix("opening: ").startswith("line 1:"):
             yield fault, text
 
 
@@ -177,17 +177,21 @@ def places(tester):
     After a line with fields no line declares a form: a line that begins with `trace` has no core then.
     """
     with tempfile.NamedTemporaryFile(suffix=".trace") as some:
-        commands = {"traces.table": ("trace", "/dev/stdin"), "records.table": ("check", some.name, "/dev/stdin")}
-        good = {"traces.table": b"0 R 0x0\n", "records.table": b"0 0 R 0x0 0 0 0\n"}
-        for table, words in commands.items():
-            long_line = ("line 1: 3 TooLong", b"#" * 257)
+        # Of each table what its fault begins with, the command, and three good lines with one more.
+        tables = {"traces.table": ("", ("trace", "/dev/stdin"), b"0 R 0x0\n" * 3, b"0 R 0x0\n"),
+                  "records.table": ("", ("check", some.name, "/dev/stdin"), b"0 0 R 0x0 0 0 0\n" * 3,
+                                    b"0 0 R 0x0 0 0 0\n"),
+                  "openings.table": ("opening: ", ("check", "--opening", "/dev/stdin", some.name, some.name),
+                                     b"0x100 1\n0x108 1\n0x110 1\n", b"0x118 1\n")}
+        for table, (front, words, good, one) in tables.items():
+            long_line = (f"{front}line 1: 3 TooLong", b"#" * 257)
             for fault, text in [*one_line_faults(table), long_line]:
-                tester.refuses(fault, text + b"\n" + good[table] * 3, *words)
-                tester.refuses(moved(fault, 3), b"#\n \n\t# x\n" + text + b"\n" + good[table], *words)
+                tester.refuses(fault, text + b"\n" + good, *words)
+                tester.refuses(moved(fault, 3), b"#\n \n\t# x\n" + text + b"\n" + one, *words)
                 tester.refuses(moved(fault, 2), b"\n\n" + text, *words)
-                behind = "line 1: 4 BadCore" if text.split()[:1] == [b"trace"] else fault
-                tester.refuses(moved(behind, 3), good[table] * 3 + text + b"\n" + good[table], *words)
-                tester.refuses(moved(behind, 3), good[table] * 3 + text, *words)
+                behind = "line 1: 4 BadCore" if text.split()[:1] == [b"trace"] and not front else fault
+                tester.refuses(moved(behind, 3), good + text + b"\n" + one, *words)
+                tester.refuses(moved(behind, 3), good + text, *words)
     for fault, text in form_2_faults():
         front = b"trace 2\n"
         tester.refuses(fault, front + text + b"\n63 A\n", "trace", "/dev/stdin")

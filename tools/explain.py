@@ -1,8 +1,9 @@
 #!/usr/bin/env python3
 """Says why records aren't legal, why a text is refused, or why a run didn't end.
 
-    tools/explain.py TRACE RECORDS    the verdict of `check`, with the record, what was expected of it, and what lies
-                                        around it in the order by time and number
+    tools/explain.py [--opening FILE] TRACE RECORDS
+                                        the verdict of `check`, with the record, what was expected of it, and what lies
+                                        around it in the order by time and number; or the fault of a text
     tools/explain.py TEST|TRACE       the fault of a text, with its cell, its cause and what is often meant; of a test
                                         that has none, what can't be meant: names in the condition that no
                                         instruction changes, addresses that none uses, values that nothing sets
@@ -66,10 +67,11 @@ class Record:
 
 
 class History:
-    """Records in the order by time and number, and the trace that they are of."""
+    """Records in the order by time and number, the trace that they are of, and the values that words open with, by
+    byte address."""
 
-    def __init__(self, trace, records):
-        self.trace = trace
+    def __init__(self, trace, records, opening):
+        self.trace, self.opening = trace, {int(word, 16): int(value) for _, (word, value) in lines_with_fields(opening)}
         self.records = [Record(*line) for line in lines_with_fields(records)]
         self.records.sort(key=lambda record: record.key)
 
@@ -96,25 +98,27 @@ def wrong_value(history, at):
     of_word = [other for other in history.records if other.word == record.word]
     place = of_word.index(record)
     before = [other for other in of_word[:place] if other.written is not None]
-    wanted = before[-1].written if before else 0
+    opening = history.opening.get(record.word, 0)
+    wanted = before[-1].written if before else opening
     what = f"{LETTERS[record.letter]} of {record.word:#x}"
     yield f"Core {record.core}'s {what} received {record.received} instead of {wanted}:"
-    yield f"  {before[-1].told()} wrote that" if before else "  no record before it wrote the word, which opens as 0"
-    yield from source_of(record.received, of_word, place)
-    yield from seen(of_word, place)
+    yield f"  {before[-1].told()} wrote that" if before else \
+        f"  no record before it wrote the word, which opens as {opening}"
+    yield from source_of(record.received, of_word, place, opening)
+    yield from seen(of_word, place, opening)
     yield from around(f"The operations on {record.word:#x} around it, in order:", of_word, place)
 
 
-def source_of(value, of_word, place):
+def source_of(value, of_word, place, opening):
     """Where a wrong value may come from."""
-    if value == 0:
-        yield "0 is the word's opening value."
+    if value == opening:
+        yield f"{value} is the word's opening value."
     found = [at for at, other in enumerate(of_word) if other.written == value and at != place]
     for at in found[:AROUND]:
         behind = next((other for other in of_word[at + 1:] if other.written is not None), None)
         how = "comes later in the order" if at > place else f"is overwritten by line {behind.line}"
         yield f"{value} is what {of_word[at].told()} wrote; it {how}."
-    if not found and value:
+    if not found and value != opening:
         yield f"No record wrote {value} there."
 
 
@@ -184,18 +188,19 @@ def take(count, core):
     return count[core] >= 0
 
 
-def explained_records(paths, texts):
-    """The lines that explain the verdict."""
-    verdict = program.run("check", *paths).strip()
+def explained_records(paths, texts, opening):
+    """The lines that explain the verdict, over the opening of a file or zeros."""
+    verdict = program.run("check", *named(opening), *paths).strip()
+    whole = History(*texts, text_of(opening) if opening else b"")
     if verdict == "legal":
         yield verdict
-        yield from missing(History(*texts))
+        yield from missing(whole)
         return
     if not re.fullmatch(r"(bad number|wrong value|out of program order) \d+", verdict):
         fail(f"{program.program()} answers no verdict")
     what, _, number = verdict.rpartition(" ")
     yield verdict
-    history, number = History(*texts), int(number)
+    history, number = whole, int(number)
     if what == "bad number":
         yield from bad_number(history, number)
         return
@@ -204,30 +209,38 @@ def explained_records(paths, texts):
     yield from {"wrong value": wrong_value, "out of program order": out_of_order}[what](history, at)
     yield from around("The records around it, by time and number:", history.records, at)
     if what == "wrong value" and history.records[0].key[0] == history.records[-1].key[0]:
-        yield from another_order(history.records, at)
+        yield from another_order(history.records, at, history.opening, named(opening))
 
 
-def fault_of(path, is_test):
+def named(opening):
+    """The words that name the file of an opening, if there is one."""
+    return ["--opening", opening] if opening else []
+
+
+def fault_of(*words):
     """What the program says of a text: None, or the line and the kind, as `line 6: 8 BadInstruction`."""
     try:
-        program.run(*(["litmus", "--limit", "1", path] if is_test else ["check", path, "/dev/null"]))
+        program.run(*words)
     except Refused as refused:
-        return str(refused)
+        return str(refused).removeprefix("opening: ")
     return None
 
 
-def explained(paths):
+def explained(paths, opening=None):
     """The lines that explain the files, and whether something is wrong."""
     texts = [text_of(path) for path in paths]
+    fault = opening and fault_of("check", *named(opening), "/dev/null", "/dev/null")
+    if fault:
+        return explained_text(opening, text_of(opening), fault, "opening"), True
     is_test = len(paths) == 1 and (paths[0].endswith(".litmus") or b"{" in texts[0] and not paths[0].endswith(".trace"))
-    fault = fault_of(paths[0], is_test)
+    fault = fault_of(*(["litmus", "--limit", "1", paths[0]] if is_test else ["check", paths[0], "/dev/null"]))
     if fault:
         return explained_text(paths[0], texts[0], fault, "test" if is_test else "trace"), True
     if len(paths) == 1:
         warnings = litmus_hints.warnings(texts[0].decode("ascii")) if is_test else []
         return [f"{paths[0]}: nothing is wrong with this text", *(f"  but {one}" for one in warnings)], False
     try:
-        lines = list(explained_records(paths, texts))
+        lines = list(explained_records(paths, texts, opening))
     except Refused as refused:
         return explained_text(paths[1], texts[1], str(refused), "records"), True
     return lines, lines[0] != "legal"
@@ -238,11 +251,12 @@ def main(paths):
         print(__doc__)
         return 0
     if paths[:2] == ["--", "check"]:
-        paths = paths[2:]
+        paths = [path for path in paths[2:] if path != "--complete"]
     is_run = paths[:1] == ["--"]
-    if not is_run and (len(paths) not in (1, 2) or any(path.startswith("-") for path in paths)):
+    opening, paths = (paths[1], paths[2:]) if paths[:1] == ["--opening"] and len(paths) > 2 else (None, paths)
+    if not is_run and (len(paths) not in ((2,) if opening else (1, 2)) or any(path.startswith("-") for path in paths)):
         fail("one file is wanted, or a trace and records, or -- and a command line (--help tells all)")
-    lines, is_wrong = explained_run(paths[1:]) if is_run else explained(paths)
+    lines, is_wrong = explained_run(paths[1:]) if is_run else explained(paths, opening)
     print("\n".join(lines))
     return int(is_wrong)
 

@@ -8,13 +8,13 @@ SECONDS = 2
 KINDS = {b"R": LOAD, b"W": STORE, b"S": SWAP}
 
 
-def seen(of_word, place):
+def seen(of_word, place, opening):
     """Where the value received is an older one of the word: how many writes replaced it, and what the core did since.
-    `of_word` has the word's records in order."""
+    `of_word` has the word's records in order; the word opens with `opening`."""
     record = of_word[place]
     writes = [at for at in range(place) if of_word[at].written is not None]
     sources = [at for at in writes if of_word[at].written == record.received]
-    if not writes or not sources and record.received:
+    if not writes or not sources and record.received != opening:
         return
     source = sources[-1] if sources else -1
     replaced = sum(at > source for at in writes)
@@ -36,19 +36,21 @@ def operation_of(record):
     return Operation(record.line, record.core, KINDS[record.letter], record.word, record.written, record.received)
 
 
-def another_order(records, at):
-    """Whether another order explains the records around a place, behind those before them. All times are equal."""
+def another_order(records, at, values, named):
+    """Whether another order explains the records around a place, behind those before them and over these values, which
+    words name. All times are equal."""
+    command = " ".join(["tools/order.py", *named, "RECORDS"])
     first, last = max(0, at - WINDOW), min(len(records), at + WINDOW + 1)
-    opening = {record.word: record.written for record in records[:first] if record.written is not None}
+    opening = values | {record.word: record.written for record in records[:first] if record.written is not None}
     window = sorted(records[first:last], key=lambda record: record.place)
     found = answer([operation_of(record) for record in window], SECONDS, opening=opening)
     are_placed = all(placed == place for core in {record.core for record in records} for placed, place in
                      enumerate(sorted(record.place for record in records if record.core == core)))
     if len(window) == len(records) and found.is_known and are_placed:
         yield f"All times are equal, and {'no' if found.order is None else 'another'} order explains these records: " \
-              f"tools/order.py RECORDS {'says why' if found.order is None else 'writes it'}."
+              f"{command} {'says why' if found.order is None else 'writes it'}."
         return
-    yield "All times are equal, and this order doesn't explain it; another may: tools/order.py RECORDS looks for it."
+    yield f"All times are equal, and this order doesn't explain it; another may: {command} looks for it."
     lines = [record.line for record in window]
     around = f"the {len(window)} records around it, lines {min(lines)} to {max(lines)},"
     if found.order is not None:

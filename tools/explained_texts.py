@@ -75,6 +75,7 @@ LINES = {
         (None, "A store or swap has a value; a record ends in time and number.")],
     8: [(r"\r", CARRIAGE), (None, "A load has no value in a trace.")],
     9: [(None, "`trace 2` is the only form that has a name.")],
+    10: [(None, "Each word has one value at first.")],
 }
 
 
@@ -160,8 +161,11 @@ def cell_at_fault(text, number, kind):
     return None
 
 
-def names_of(fields, is_record):
-    """The names of the fields that a line needs, as far as its letter decides them."""
+def names_of(fields, what):
+    """The names of the fields that a line of such a text needs, as far as its letter decides them."""
+    if what == "opening":
+        return ["ADDR", "VALUE"]
+    is_record = what == "records"
     letter = (fields + [""] * 3)[2 if is_record else 1]
     names = ["CORE", *["PLACE"] * is_record, "the letter", *["ADDR"] * (letter != "A"), *["VALUE"] * (letter in "WS")]
     return names + (["RECEIVED"] * (letter in "RS") + ["TIME", "NUMBER"]) * is_record
@@ -171,18 +175,18 @@ def is_number(field, name):
     return re.fullmatch(r"[0-9]{1,20}", field) and int(field) < (2 ** 32 if name == "PLACE" else 2 ** 64)
 
 
-def field_at_fault(line, kind, is_record):
-    """The field of a trace's or a record's line that is at fault, in words."""
+def field_at_fault(line, kind, what):
+    """The field of a line that is at fault, in words; `what` the line is of: a trace, records or an opening."""
     fields = [field for field in re.split("[ \t]+", line.split("#")[0]) if field]
-    names = names_of(fields, is_record)
+    names = names_of(fields, what)
     if kind in (8, 9):
         at = 1 if fields[0] == "trace" and kind == 9 else 2 if fields[0] == "trace" else len(names)
         name = "what follows `trace`" if kind == 9 else "a field too many"
     elif kind == 7:
         at, name = next((at, name) for at, name in enumerate(names) if name in NUMBERS and (
             at >= len(fields) or not is_number(fields[at], name)))
-    elif kind in (4, 5, 6):
-        name = {4: "CORE", 5: "the letter", 6: "ADDR"}[kind]
+    elif kind in (4, 5, 6, 10):
+        name = {4: "CORE", 5: "the letter"}.get(kind, "ADDR")
         at = names.index(name)
     else:
         return None
@@ -211,21 +215,21 @@ def of_whole(text, what, number):
 
 
 def explained_text(path, text, fault, what):
-    """The lines that explain the fault of a test, a trace or records, given as `line 6: 8 BadInstruction`."""
+    """The lines that explain the fault of a test, a trace, records or an opening, as `line 6: 8 BadInstruction`."""
     found = re.fullmatch(r"line (\d+): (\d+) \w+", fault)
     if not found or found[1] == "0":
         fail(f"{path}: {fault}")
     number, kind = int(found[1]), int(found[2])
     whole, text = of_whole(text, what, number), text.decode("latin-1")
     line = next(islice(StringIO(text, "\n"), number - 1, None), "").removesuffix("\n")
-    title = "Litmus tests" if what == "test" else "Texts of traces and of records"
+    title = "Litmus tests" if what == "test" else "Texts of traces, of records and of openings"
     name, where, _ = causes(title)[kind]
     if what == "test":
         cell = cell_at_fault(text, number, kind)
         place = f"P{cell[0]}: {shown(cell[1])}" if cell else shown(line.strip(" \t\r"))
         meant = whole or meant_by_test(path, text, number, kind, cell and cell[1], line)
     else:
-        field = field_at_fault(line, kind, what == "records")
+        field = field_at_fault(line, kind, what)
         place = shown(line.strip(" \t")) + (f", {field}" if field else "")
         where = NUMBER_OF.get((field or "").split(":")[0].split(" ")[0], where) if kind == 7 else where
         meant = whole or often(LINES, kind, line, field or "")

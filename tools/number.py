@@ -7,8 +7,9 @@ HISTORY has one operation a line, each core's in program order, with the time at
 `0 R 0x8 5 @ 1042` (docs/ORDER.md, Histories without an order). Times are cycles with gaps, seconds with a fraction, or
 anything else that rises; equal times are ordered by line. The operation of the n-th time gets the number n - 1.
 
-NAME.trace, NAME.records and NAME.map are written to FOLDER. A line of the map has a record's number, its time and its
-line. Then `tardis check` is asked, and the verdict printed, with the time, the line and the operation that it means.
+NAME.trace, NAME.records and NAME.map are written to FOLDER, and NAME.opening if memory doesn't open with zeros. A line
+of the map has a record's number, its time and its line. Then `tardis check` is asked, and the verdict printed, with the
+time, the line and the operation that it means.
 
 The status is 0 if the history is legal, 1 if it isn't, and 2 if the text or a file is refused, in one line on standard
 error.
@@ -22,7 +23,7 @@ from reference.given import tool  # noqa: E402
 from tools import program  # noqa: E402
 from tools.order import read  # noqa: E402
 from tools.orders import witness  # noqa: E402
-from tools.orders.history import FENCE, MOST_CORE, Fault, read_history, read_opening, words_of  # noqa: E402
+from tools.orders.history import FENCE, Fault, read_history, read_values, words_of  # noqa: E402
 
 
 def words():
@@ -47,36 +48,35 @@ def numbered(operations):
     return sorted(nodes, key=lambda node: operations[node].start)
 
 
-def write(options, operations, order):
-    """The paths of the trace and the records."""
-    of_word, stem = words_of(operations), Path(options.HISTORY).stem
-    trace, records, mapped = paths = [options.out / f"{stem}.{ending}" for ending in ("trace", "records", "map")]
+def write(options, operations, order, opening):
+    """The paths of the trace, the records and perhaps the opening, by what they are."""
+    of_word, stem = words_of(operations), options.out / Path(options.HISTORY).stem
+    paths, mapped = witness.files(stem, opening), stem.with_name(f"{stem.name}.map")
     given = [Path(path).resolve() for path in (options.HISTORY, options.opening) if path]
-    for path in paths:
+    for path in (*paths.values(), mapped):
         if path.resolve() in given:
             program.fail(f"{path} would be overwritten; --out names another folder")
     try:
         options.out.mkdir(parents=True, exist_ok=True)
-        witness.write(trace, witness.trace_lines(operations, of_word, False))
-        witness.write(records, witness.record_lines(operations, of_word, order))
+        witness.write(paths["trace"], witness.trace_lines(operations, of_word, False))
+        witness.write(paths["records"], witness.record_lines(operations, of_word, order))
+        if opening:
+            witness.write(paths["opening"], witness.opening_lines(opening, of_word))
         witness.write(mapped, (f"{number} {operations[node].time} {operations[node].line}"
-                               for number, node in enumerate(order) if operations[node].line is not None))
+                               for number, node in enumerate(order)))
     except OSError as error:
         program.fail(f"{error.filename}: {error.strerror}")
-    return trace, records
+    return paths
 
 
 def main(given):
     options = words().parse_args(given)
     operations = read(options.HISTORY, read_history)
-    opening = read(options.opening, read_opening) if options.opening else {}
+    opening = read(options.opening, read_values) if options.opening else {}
     try:
-        whole = witness.with_opening(operations, numbered(operations), opening)
-        if whole is None:
-            raise program.Refused(f"all {MOST_CORE + 1} cores have operations, and one is to store the opening")
-        operations, order = whole
-        paths = write(options, operations, order)
-        verdict = program.run("check", "--complete", *paths).strip()
+        order = numbered(operations)
+        paths = write(options, operations, order, opening)
+        verdict = program.run(*witness.words_of_check(paths)).strip()
     except (Fault, program.Refused) as cause:
         program.fail(f"{options.HISTORY}: {cause}")
     print(verdict)

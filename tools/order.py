@@ -7,7 +7,8 @@ HISTORY has one operation a line, each core's in program order (docs/ORDER.md, H
 without times, such as `0 R 0x8 5`, or Axe's text, such as `0: M[1] == 5`. It may also have records with times and
 numbers (docs/TEXTS.md), which don't count then. The first line printed is one of
 
-    consistent: proved by tardis check    NAME.order.trace and NAME.order.records in FOLDER are the order found
+    consistent: proved by tardis check    NAME.order.trace and NAME.order.records in FOLDER are the order found, and
+                                          NAME.order.opening what memory opens with, if that isn't zeros
     not consistent: ..                    operations that no order joins, each with its line, and why
     not decided: ..                       the time is up, and how far the search came
 
@@ -25,11 +26,11 @@ from pathlib import Path
 sys.path.insert(0, str(Path(__file__).resolve().parent.parent))
 from reference import tso  # noqa: E402
 from reference.given import tool  # noqa: E402
-from reference.traces import read_records  # noqa: E402
+from reference.traces import read_opening, read_records  # noqa: E402
 from tools import program  # noqa: E402
 from tools.orders import witness  # noqa: E402
 from tools.orders.answer import answer  # noqa: E402
-from tools.orders.history import MOST_CORE, Fault, read_history, read_opening, words_of  # noqa: E402
+from tools.orders.history import Fault, read_history, read_values, words_of  # noqa: E402
 
 NOT_CONSISTENT, NOT_DECIDED = 1, 3
 
@@ -60,29 +61,32 @@ def read(path, reader):
         program.fail(f"{path}: {fault}")
 
 
-def write_order(options, operations, order):
-    """The paths of the trace and the records."""
-    stem, of_word = Path(options.HISTORY).stem, words_of(operations)
-    trace, records = (options.out / f"{stem}.order.{ending}" for ending in ("trace", "records"))
+def write_order(options, operations, order, opening):
+    """The paths of the trace, the records and perhaps the opening, by what they are."""
+    of_word = words_of(operations)
+    paths = witness.files(options.out / f"{Path(options.HISTORY).stem}.order", opening)
     try:
         options.out.mkdir(parents=True, exist_ok=True)
-        witness.write(trace, witness.trace_lines(operations, of_word, options.model == "tso"))
-        witness.write(records, witness.record_lines(operations, of_word, order))
+        witness.write(paths["trace"], witness.trace_lines(operations, of_word, options.model == "tso"))
+        witness.write(paths["records"], witness.record_lines(operations, of_word, order))
+        if opening:
+            witness.write(paths["opening"], witness.opening_lines(opening, of_word))
     except OSError as error:
         program.fail(f"{error.filename}: {error.strerror}")
-    return trace, records
+    return paths
 
 
-def confirmed(options, *paths):
+def confirmed(options, paths):
     """Who confirms the order, in words; the script ends if nobody does."""
-    trace, records = map(program.text_of, paths)
     if options.model == "tso":
-        said = tso.verdict(*tso.read_trace(trace), read_records(records))
+        texts = {what: program.text_of(path) for what, path in paths.items()}
+        said = tso.verdict(*tso.read_trace(texts["trace"]), read_records(texts["records"]),
+                           read_opening(texts.get("opening", b"")))
         if said != "legal":
             program.fail(f"reference/tso.py says of the order found: {said}")
         return "checked by reference/tso.py"
     try:
-        said = program.run("check", "--complete", *paths).strip()
+        said = program.run(*witness.words_of_check(paths)).strip()
     except program.Refused as refused:
         program.fail(str(refused))
     if said != "legal":
@@ -102,16 +106,13 @@ def main(given):
     if options.model == "tso" and options.real_time:
         program.fail("--real-time is of sequential consistency alone: when a delayed store ends isn't known")
     operations = read(options.HISTORY, read_history)
-    opening = read(options.opening, read_opening) if options.opening else {}
+    opening = read(options.opening, read_values) if options.opening else {}
     found = answer(operations, options.seconds, options.model, options.real_time, opening)
     if found.order is None:
         print("\n".join(marked(options, found.lines)))
         return NOT_CONSISTENT if found.is_known else NOT_DECIDED
-    whole = witness.with_opening(operations, found.order, opening)
-    if whole is None:
-        program.fail(f"{options.HISTORY}: all {MOST_CORE + 1} cores have operations, and one is to store the opening")
-    paths = write_order(options, *whole)
-    print("\n".join(marked(options, [f"consistent: {confirmed(options, *paths)}", *map(str, paths)])))
+    paths = write_order(options, operations, found.order, opening)
+    print("\n".join(marked(options, [f"consistent: {confirmed(options, paths)}", *map(str, paths.values())])))
     return 0
 
 

@@ -8,10 +8,10 @@
    malloc, realloc and free, and is given back before a call ends.
 
    Where a text goes out, *length says how long it is. It stands at the front of the buffer if all of it fits; otherwise
-   the buffer stays as it is. It is a report, or on TARDIS_NO_MEMORY, TARDIS_BAD_TEST, TARDIS_BAD_LINE and
-   TARDIS_BAD_MACHINE the line that the program writes to standard error. TARDIS_SHORT_BUFFER is answered for reports
-   alone: a line that doesn't fit keeps its number. So on those four, read the buffer only if *length is at most its
-   size. */
+   the buffer stays as it is. It is a report, or on TARDIS_NO_MEMORY, TARDIS_BAD_TEST, TARDIS_BAD_LINE,
+   TARDIS_BAD_MACHINE and TARDIS_BAD_OPENING the line that the program writes to standard error. TARDIS_SHORT_BUFFER is
+   answered for reports alone: a line that doesn't fit keeps its number. So on those five, read the buffer only if
+   *length is at most its size. */
 #ifndef TARDIS_H
 #define TARDIS_H
 
@@ -35,7 +35,8 @@ enum tardis_number {
     TARDIS_SHORT_BUFFER = 8, /* the report, whatever it says, doesn't fit into the buffer */
     TARDIS_NULL = 9,         /* a pointer is null: nothing was done, and nothing is written */
     TARDIS_BAD_OPERATION = 10, /* an operation of an array has a fault */
-    TARDIS_BAD_RECORD = 11     /* a record of an array has a fault, and no operation has one */
+    TARDIS_BAD_RECORD = 11,    /* a record of an array has a fault, and no operation has one */
+    TARDIS_BAD_OPENING = 12    /* the text is no opening */
 };
 
 /* The options of a run. Those named flags are set by any number but 0. */
@@ -105,6 +106,9 @@ uint32_t tardis_c_trace(const uint8_t *text, size_t text_length, const struct ta
                         uint8_t *buffer, size_t size, size_t *length);
 uint32_t tardis_c_check(const uint8_t *trace, size_t trace_length, const uint8_t *records, size_t records_length,
                         uint8_t *buffer, size_t size, size_t *length);
+uint32_t tardis_c_check_opened(const uint8_t *opening, size_t opening_length, const uint8_t *trace, size_t trace_length,
+                               const uint8_t *records, size_t records_length, uint32_t complete, uint8_t *buffer,
+                               size_t size, size_t *length);
 uint32_t tardis_c_check_arrays(const struct tardis_operation *operations, size_t operation_count,
                                const struct tardis_record *records, size_t record_count, struct tardis_told *told);
 
@@ -153,6 +157,20 @@ static inline int tardis_check(const char *trace, size_t trace_length, const cha
     *length = 0;
     return (int)tardis_c_check(tardis_text(trace), trace_length, tardis_text(records), records_length,
                                tardis_buffer(buffer), size, length);
+}
+
+/* Does so over the memory that an opening gives, as a text too: a line for each word with its value, and 0 for all
+   other words; the empty text gives zeros. Where `complete` isn't 0, legal records must be those of all operations.
+   The opening's fault, TARDIS_BAD_OPENING, takes precedence over the others. */
+static inline int tardis_check_opened(const char *opening, size_t opening_length, const char *trace,
+                                      size_t trace_length, const char *records, size_t records_length,
+                                      uint32_t complete, char *buffer, size_t size, size_t *length) {
+    if (tardis_is_null(opening, opening_length) || tardis_is_null(trace, trace_length)) return TARDIS_NULL;
+    if (tardis_is_null(records, records_length) || tardis_is_null(buffer, size) || !length) return TARDIS_NULL;
+    *length = 0;
+    return (int)tardis_c_check_opened(tardis_text(opening), opening_length, tardis_text(trace), trace_length,
+                                      tardis_text(records), records_length, complete, tardis_buffer(buffer), size,
+                                      length);
 }
 
 /* Checks records against what cores were issued, each core's operations in its order, over a memory of zeros. Look at

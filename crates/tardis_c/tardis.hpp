@@ -75,9 +75,13 @@ inline Report trace(std::string_view text, const tardis_options &options = defau
     });
 }
 
-inline Report check(std::string_view trace, std::string_view records) {
+// The verdict on records; over an opening, in which lines as `0x8 5` give words values; and, if that is asked for, on
+// whether each operation has its record.
+inline Report check(std::string_view trace, std::string_view records, std::string_view opening = {},
+                    bool complete = false) {
     return told(100, [&](char *buffer, size_t size, size_t *length) {
-        return tardis_check(trace.data(), trace.size(), records.data(), records.size(), buffer, size, length);
+        return tardis_check_opened(opening.data(), opening.size(), trace.data(), trace.size(), records.data(),
+                                   records.size(), complete, buffer, size, length);
     });
 }
 

@@ -70,7 +70,11 @@ static void types(void) {
                               struct tardis_told *) = tardis_c_check_arrays;
     uint32_t (*c_version)(void) = tardis_c_version;
     (void)run_litmus, (void)run_trace, (void)c_litmus, (void)c_trace, (void)checks_texts, (void)checks_bytes;
-    (void)checks_records, (void)checks_arrays, (void)c_version;
+    int (*checks_opened)(const char *, size_t, const char *, size_t, const char *, size_t, uint32_t, char *, size_t,
+                         size_t *) = tardis_check_opened;
+    uint32_t (*c_checks_opened)(const uint8_t *, size_t, const uint8_t *, size_t, const uint8_t *, size_t, uint32_t,
+                                uint8_t *, size_t, size_t *) = tardis_c_check_opened;
+    (void)checks_records, (void)checks_arrays, (void)checks_opened, (void)c_checks_opened, (void)c_version;
 }
 
 static const char TRACE[] = "0 W 0x0 1\n1 R 0x0\n";
@@ -79,6 +83,11 @@ static const char TEST[] = "RISCV ONE\n{ 0:x5=1; 0:x6=x; }\n P0 ;\n sw x5,0(x6) 
 
 static int check(const char *trace, const char *records, size_t size) {
     return tardis_check(trace, strlen(trace), records, strlen(records), buffer, size, &length);
+}
+
+static int opened(const char *opening, const char *trace, const char *records, uint32_t complete, size_t size) {
+    return tardis_check_opened(opening, strlen(opening), trace, strlen(trace), records, strlen(records), complete,
+                               buffer, size, &length);
 }
 
 static int litmus(const char *text, const struct tardis_options *options, size_t size) {
@@ -94,7 +103,7 @@ static void names(void) {
     MUST(TARDIS_VERSION == 100 && tardis_version() == 100);
     MUST(TARDIS_DONE == 0 && TARDIS_NO_MEMORY == 3 && TARDIS_BAD_TEST == 4 && TARDIS_BAD_LINE == 5);
     MUST(TARDIS_BAD_MACHINE == 6 && TARDIS_NOT_DONE == 7 && TARDIS_SHORT_BUFFER == 8 && TARDIS_NULL == 9);
-    MUST(TARDIS_BAD_OPERATION == 10 && TARDIS_BAD_RECORD == 11);
+    MUST(TARDIS_BAD_OPERATION == 10 && TARDIS_BAD_RECORD == 11 && TARDIS_BAD_OPENING == 12);
     MUST(TARDIS_LEGAL == 0 && TARDIS_MISSING_NUMBER == 1 && TARDIS_OUT_OF_PROGRAM_ORDER == 2);
     MUST(TARDIS_WRONG_VALUE == 3 && TARDIS_BAD_CORE == 4 && TARDIS_BAD_KIND == 5);
     MUST(TARDIS_BAD_ADDRESS == 6 && TARDIS_BAD_PLACE == 7);
@@ -121,6 +130,24 @@ static void checks(void) {
         options.records = 1;
         MUST(tardis_run_trace(NULL, 0, &options, NULL, 0, &length) == TARDIS_DONE && length == 0);
     }
+}
+
+static void openings(void) {
+    static const char load[] = "0 R 0x8\n", loaded[] = "0 0 R 0x8 5 0 0\n";
+    MUST(opened("0x8 5\n0x10 6\n", load, loaded, 0, 1000) == TARDIS_DONE && has("legal\n"));
+    MUST(opened("0x10 5\n", load, loaded, 0, 1000) == TARDIS_NOT_DONE && has("wrong value 0\n"));
+    MUST(opened("", load, loaded, 0, 1000) == TARDIS_NOT_DONE && has("wrong value 0\n"));
+    MUST(opened("0x8 5\n", load, "", 0, 1000) == TARDIS_DONE && has("legal\n"));
+    MUST(opened("0x8 5\n", load, "", 65536, 1000) == TARDIS_NOT_DONE && has("no record of operation 0 of core 0\n"));
+    MUST(opened("0x8 5\n", load, loaded, 1, 5) == TARDIS_SHORT_BUFFER && length == 6 && (length = 0, has("")));
+    MUST(opened("0x8 5\n0x8 5\n", "0 X\n", loaded, 1, 1000) == TARDIS_BAD_OPENING);
+    MUST(has("tardis: opening: line 2: 10 DoubleWord\n"));
+    MUST(opened("8 5\n", load, loaded, 0, 10) == TARDIS_BAD_OPENING && length == 38 && (length = 0, has("")));
+    MUST(opened("0x8 5\n", "0 X\n", "x", 0, 1000) == TARDIS_BAD_LINE && has("tardis: line 1: 5 BadOperation\n"));
+    MUST(opened("0x8 5\n", load, "\nx", 0, 1000) == TARDIS_BAD_LINE && has("tardis: line 2: 4 BadCore\n"));
+    MUST(tardis_check_opened("0x8 56", 5, load, 8, loaded, 16, 0, buffer, 1000, &length) == TARDIS_DONE);
+    MUST(has("legal\n"));
+    MUST(tardis_check_opened(NULL, 0, NULL, 0, NULL, 0, 1, buffer, 1000, &length) == TARDIS_DONE && has("legal\n"));
 }
 
 static void runs(void) {
@@ -197,6 +224,11 @@ static void nulls(void) {
     MUST(tardis_check(TRACE, 1, NULL, (size_t)1 << 32, buffer, 1000, &length) == TARDIS_NULL);
     MUST(tardis_check(TRACE, 1, RECORDS, 1, NULL, 1, &length) == TARDIS_NULL);
     MUST(tardis_check(TRACE, 1, RECORDS, 1, buffer, 1000, NULL) == TARDIS_NULL);
+    MUST(tardis_check_opened(NULL, 1, TRACE, 1, RECORDS, 1, 0, buffer, 1000, &length) == TARDIS_NULL);
+    MUST(tardis_check_opened("", 0, NULL, 1, RECORDS, 1, 0, buffer, 1000, &length) == TARDIS_NULL);
+    MUST(tardis_check_opened("", 0, TRACE, 1, NULL, 1, 0, buffer, 1000, &length) == TARDIS_NULL);
+    MUST(tardis_check_opened("", 0, TRACE, 1, RECORDS, 1, 0, NULL, 1, &length) == TARDIS_NULL);
+    MUST(tardis_check_opened("", 0, TRACE, 1, RECORDS, 1, 0, buffer, 1000, NULL) == TARDIS_NULL);
     MUST(tardis_run_litmus(NULL, 1, &options, buffer, 1000, &length) == TARDIS_NULL);
     MUST(tardis_run_litmus(TEST, 1, NULL, buffer, 1000, &length) == TARDIS_NULL);
     MUST(tardis_run_litmus(TEST, 1, &options, NULL, 1, &length) == TARDIS_NULL);
@@ -332,6 +364,13 @@ static void refusals(void) {
     tardis_defaults(&options);
     for (refused_at = 1;; refused_at++) {
         growths = 0;
+        number = opened("0x0 5\n0x8 6\n", TRACE, RECORDS, 1, 1000);
+        if (growths < refused_at) break;
+        MUST(number == TARDIS_NO_MEMORY && has("tardis: no memory\n"));
+    }
+    MUST(number == TARDIS_DONE && has("legal\n"));
+    for (refused_at = 1;; refused_at++) {
+        growths = 0;
         number = check(TRACE, RECORDS, 1000);
         if (growths < refused_at) break;
         MUST(number == TARDIS_NO_MEMORY && has("tardis: no memory\n"));
@@ -357,6 +396,7 @@ int main(void) {
     types();
     names();
     checks();
+    openings();
     runs();
     nulls();
     arrays();

@@ -38,8 +38,14 @@ std::string text_of(const std::string &name) {
     return text;
 }
 
+// What a check is asked beside its two files.
+struct Asked {
+    bool complete = false;
+    std::string opening;  // the text
+};
+
 // The options and the other words of a command line.
-std::vector<std::string> words_of(int count, char **words, tardis_options &options) {
+std::vector<std::string> words_of(int count, char **words, tardis_options &options, Asked &asked) {
     std::vector<std::string> others;
     for (int at = 2; at < count; at++) {
         const std::string word = words[at];
@@ -47,8 +53,10 @@ std::vector<std::string> words_of(int count, char **words, tardis_options &optio
         if (word == "--private-write") options.private_write = 1;
         else if (word == "--records") options.records = 1;
         else if (word == "--fair") options.fair = 1;
+        else if (word == "--complete") asked.complete = true;
         else if (word.rfind("--", 0) != 0) others.push_back(word);
         else if (++at == count) fail("bad command line", 3);
+        else if (word == "--opening") asked.opening = text_of(words[at]);
         else if (word == "--schedule") options.by_seed = words[at] == std::string("seed");
         else if (number != NUMBERS.end()) options.*number->second = std::strtoull(words[at], nullptr, 10);
         else fail("bad command line", 3);
@@ -63,7 +71,7 @@ int told(const tardis::Report &report) {
     if (std::fflush(out) != 0) fail("write failed", 4);
     switch (report.number) {
     case TARDIS_DONE: return 0;
-    case TARDIS_BAD_TEST: case TARDIS_BAD_LINE: return 2;
+    case TARDIS_BAD_TEST: case TARDIS_BAD_LINE: case TARDIS_BAD_OPENING: return 2;
     case TARDIS_BAD_MACHINE: return 3;
     default: return 1;
     }
@@ -115,12 +123,14 @@ int check_arrays(const std::string &trace, const std::string &text) {
 int main(int count, char **words) {
     tardis_options options = tardis::defaults();
     const std::string command = count > 1 ? words[1] : "";
-    const std::vector<std::string> files = words_of(count, words, options);
+    Asked asked;
+    const std::vector<std::string> files = words_of(count, words, options, asked);
     if (files.size() != (command == "check" ? 2 : 1)) fail("bad command line", 3);
     const std::string text = text_of(files[0]);
     if (command == "litmus") return told(tardis::litmus(text, options));
     if (command == "trace") return told(tardis::trace(text, options));
     if (command != "check") fail("bad command line", 3);
     const std::string records = text_of(files[1]);
-    return std::getenv("EMBED_ARRAYS") ? check_arrays(text, records) : told(tardis::check(text, records));
+    if (std::getenv("EMBED_ARRAYS")) return check_arrays(text, records);
+    return told(tardis::check(text, records, asked.opening, asked.complete));
 }

@@ -14,11 +14,11 @@ class BadConfiguration(TardisError):
 
 
 class BadText(TardisError):
-    """The text is no litmus test, no trace, or no list of records. `line` counts from 1; docs/TEXTS.md has the kinds.
-    """
+    """The text is no litmus test, no trace, no list of records or no opening. `line` counts from 1; docs/TEXTS.md has
+    the kinds."""
 
     def __init__(self, told: str) -> None:
         super().__init__(told)
-        place, _, kind = told.removeprefix("tardis: line ").partition(": ")
+        place, _, kind = told.removeprefix("tardis: ").removeprefix("opening: ").removeprefix("line ").partition(": ")
         self.line = int(place) if place.isdigit() else 0
         self.kind = kind

@@ -7,8 +7,9 @@ from tardis import found, version
 from tardis.errors import BadConfiguration, BadText, NoMemory, TardisError
 from tardis.options import MOST, Options
 
-NO_MEMORY, BAD_TEST, BAD_LINE, BAD_MACHINE, SHORT_BUFFER = 3, 4, 5, 6, 8
-ERRORS = {NO_MEMORY: NoMemory, BAD_TEST: BadText, BAD_LINE: BadText, BAD_MACHINE: BadConfiguration}
+NO_MEMORY, BAD_TEST, BAD_LINE, BAD_MACHINE, SHORT_BUFFER, BAD_OPENING = 3, 4, 5, 6, 8, 12
+ERRORS = {NO_MEMORY: NoMemory, BAD_TEST: BadText, BAD_LINE: BadText, BAD_MACHINE: BadConfiguration,
+          BAD_OPENING: BadText}
 FIELDS = ("lease", "time", "banks", "sets", "ways", "bank_sets", "bank_ways", "line_words", "messages", "private_write",
           "by_seed", "seed", "limit", "runs", "records", "fair")
 
@@ -32,7 +33,7 @@ def loaded() -> Any:
         raise TardisError(f"{path} is of another version: its options are others")
     if not hasattr(library, "tardis_c_version") or library.tardis_c_version() != version.number():
         raise TardisError(f"{path} is of another version than {version.VERSION}")
-    for name in ("tardis_c_litmus", "tardis_c_trace", "tardis_c_check"):
+    for name in ("tardis_c_litmus", "tardis_c_trace", "tardis_c_check_opened"):
         getattr(library, name).restype = ctypes.c_uint32
     return library
 
@@ -75,6 +76,7 @@ def run(kind: str, text: bytes, options: Options, records: bool = False) -> str:
     return told(call, room(text), *text_argument(text), ctypes.byref(options_of(options, records)))[1]
 
 
-def check(trace: bytes, records: bytes) -> str:
+def check(opening: bytes, trace: bytes, records: bytes, complete: bool) -> str:
     """The line of the verdict on records."""
-    return told(loaded().tardis_c_check, 100, *text_argument(trace), *text_argument(records))[1]
+    return told(loaded().tardis_c_check_opened, 100, *text_argument(opening), *text_argument(trace),
+                *text_argument(records), ctypes.c_uint32(complete))[1]

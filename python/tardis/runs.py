@@ -2,6 +2,7 @@
 import os
 import subprocess
 import tempfile
+from collections.abc import Mapping
 from typing import Any
 
 from tardis import found, library
@@ -15,7 +16,7 @@ def in_bytes(text: str | bytes) -> bytes:
 
 
 def by_second(words: list[str], *texts: bytes) -> str:
-    """What the second program prints of a command on these texts."""
+    """What the second program prints of a command on these texts, whose files are named behind the words."""
     command = found.second("oracle.py", "the shared library")
     with tempfile.TemporaryDirectory(prefix="tardis-") as folder:
         paths = [os.path.join(folder, str(number)) for number in range(len(texts))]
@@ -53,9 +54,15 @@ def trace(text: str | bytes, *, records: bool = False, **options: Any) -> TraceR
     return trace_report(*run("trace", text, Options(**options)))
 
 
-def check(trace: str | bytes, records: str | bytes) -> str:
-    """The checker's verdict on records of a trace's operations, over a memory of zeros: `legal`, or what is wrong and
-    the number of the record. Raises BadText or NoMemory."""
+def check(trace: str | bytes, records: str | bytes, *, opening: Mapping[int, int] | str | bytes = "",
+          complete: bool = False) -> str:
+    """The checker's verdict on records of a trace's operations: `legal`, or what is wrong and the number of the record.
+
+    `opening` has the values that words open with, by byte address or as a text; all others open with 0. With
+    `complete`, legal records that lack an operation's are told by its core and place. Raises BadText or NoMemory."""
+    if isinstance(opening, Mapping):
+        opening = "".join(f"{address:#x} {value}\n" for address, value in opening.items())
+    texts = in_bytes(opening), in_bytes(trace), in_bytes(records)
     if library.loaded():
-        return library.check(in_bytes(trace), in_bytes(records)).strip()
-    return by_second(["check"], in_bytes(trace), in_bytes(records)).strip()
+        return library.check(*texts, complete).strip()
+    return by_second(["check", *["--complete"] * complete, "--opening"], *texts).strip()

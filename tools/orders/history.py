@@ -166,8 +166,8 @@ def read_history(text):
     return list(by_places(operations, places)) if places else operations
 
 
-def read_opening(text):
-    """The value that each address of a text has at first. A line has both, as `0x8 5` or `M[1] := 5`."""
+def read_values(text):
+    """The values that the addresses of a text have at first, but for 0. A line has both, as `0x8 5` or `M[1] := 5`."""
     opening = {}
     for line, raw in enumerate(text.split(b"\n"), 1):
         said = raw.partition(b"#")[0].decode("ascii", "replace").strip()
@@ -181,7 +181,7 @@ def read_opening(text):
         if address in opening:
             raise Fault(line, f"{found[1]} is opened twice")
         opening[address] = number_of(line, found[2], MOST, "the value")
-    return opening
+    return {address: value for address, value in opening.items() if value}
 
 
 def words_of(operations):

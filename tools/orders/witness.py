@@ -1,18 +1,12 @@
 """An order as a trace and records (docs/TEXTS.md). Each record has time 0, so its number is its place in the order."""
-from tools.orders.history import FENCE, LOAD, MOST_CORE, STORE, Operation
+from tools.orders.history import FENCE, LOAD, STORE
 
 FORM_1_CORES = 16
 
 
-def with_opening(operations, order, opening):
-    """The operations and the order, with stores by a core that has no others before all: so the memory opens with
-    zeros. None if all cores have operations."""
-    core = next((core for core in range(MOST_CORE + 1) if all(one.core != core for one in operations)), None)
-    values = {address: value for address, value in opening.items() if value}
-    if core is None and values:
-        return None
-    stores = [Operation(None, core, STORE, address, value) for address, value in values.items()]
-    return stores + operations, [*range(len(stores)), *(node + len(stores) for node in order)]
+def opening_lines(opening, words):
+    """The values that words of the history open with, as the program takes them."""
+    yield from (f"{words[address]:#x} {value}" for address, value in opening.items() if address in words)
 
 
 def operation_text(operation, words, received):
@@ -51,8 +45,20 @@ def record_lines(operations, words, order):
     for number, node in enumerate(node for node in order if node in places):
         operation = operations[node]
         said = f"{operation.core} {places[node]} {operation_text(operation, words, True)} 0 {number}"
-        yield f"{said} # {'opening' if operation.line is None else f'line {operation.line}'}"
+        yield f"{said} # line {operation.line}"
 
 
 def write(path, lines):
     path.write_text("".join(f"{line}\n" for line in lines), encoding="ascii")
+
+
+def files(stem, opening):
+    """The paths of an order by what they are, in the order in which they are printed: a memory of zeros has no file."""
+    names = ["trace", "records", *["opening"] * bool(opening)]
+    return {what: stem.with_name(f"{stem.name}.{what}") for what in names}
+
+
+def words_of_check(paths):
+    """The words with which the program checks an order."""
+    named = ["--opening", paths["opening"]] if "opening" in paths else []
+    return ["check", "--complete", *named, paths["trace"], paths["records"]]

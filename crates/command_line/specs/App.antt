@@ -32,6 +32,10 @@ schedule_rule p = number_rule (codes "schedule") (codes "round") p
 abbrev pub flag_rule : Text → Rule
 flag_rule name = record (new_rule name) { long = Some name; action = Some SetTrue }
 
+-- --name FILE, without a default
+abbrev pub path_rule : Text → Rule
+path_rule name = record (new_rule name) { long = Some name; action = Some Set; value_names = 1 }
+
 -- a word in its place, which is required
 abbrev pub file_rule : Text → Rule
 file_rule name = record (new_rule name) { required = true }
@@ -85,12 +89,12 @@ ends_app =
 abbrev pub trace_app : ValueParser → App
 trace_app p = with_run_and_file (with_rule (new_app (codes "trace")) (flag_rule (codes "records"))) p
 
--- a check needs two files, and may ask for all records
+-- a check needs two files, may ask for all records, and may name a file with an opening
 abbrev pub check_app : App
 check_app =
-    with_rule
-    (with_rule (with_rule (new_app (codes "check")) (flag_rule (codes "complete"))) (file_rule (codes "TRACE")))
-    (file_rule (codes "RECORDS"))
+    with_rules (new_app (codes "check"))
+    (flag_rule (codes "complete") ∷ path_rule (codes "opening") ∷ file_rule (codes "TRACE")
+    ∷ file_rule (codes "RECORDS") ∷ [])
 
 -- what the two commands that run take as a schedule
 abbrev pub Parsers : Type 0

@@ -1,9 +1,9 @@
 -- What a job has of the words, and why words are refused.
-use Rattle.std.specs.Prelude.{◌≡◌, ◌⊎◌, ℕ, List, [], Some, None, codes, string_bytes}
+use Rattle.std.specs.Prelude.{◌≡◌, ◌⊎◌, ℕ, List, [], Some, None, codes, option_map, string_bytes}
 use Rattle.clap.specs.Words.{IsAmong, Row, Text, fault_of, subcommand_of}
 use Rattle.clap.specs.declared.error.kind.ErrorKind.{ErrorKind}
 use Rattle.command_line.specs.App.{NameSchedules, Parsers, tardis_app}
-use Rattle.command_line.specs.Options.{HasWord, IsFlag, IsOrder, TellsEnds, TellsLitmus, TellsTrace}
+use Rattle.command_line.specs.Options.{HasPath, HasWord, IsFlag, IsOrder, TellsEnds, TellsLitmus, TellsTrace}
 use Rattle.command_line.specs.declared.words.Job.{Job}
 use Rattle.command_line.specs.declared.words.Job.TheVariants.{Litmus, Ends, Trace, Check}
 use Rattle.command_line.specs.declared.words.WordsError.{WordsError}
@@ -17,8 +17,9 @@ GivesJob command rows (Ends options file) =
     (command ≡ codes "ends") × TellsEnds rows options × HasWord rows (codes "FILE") file.now
 GivesJob command rows (Trace options file) =
     (command ≡ codes "trace") × TellsTrace rows options × HasWord rows (codes "FILE") file.now
-GivesJob command rows (Check complete trace records) =
+GivesJob command rows (Check complete opening trace records) =
     (command ≡ codes "check") × IsFlag rows (codes "complete") complete
+    × HasPath rows (codes "opening") (option_map (λ path. path.now) opening)
     × HasWord rows (codes "TRACE") trace.now × HasWord rows (codes "RECORDS") records.now
 
 -- clap's rules find no fault in the words, which name a command and what it has

@@ -49,6 +49,10 @@ IsFlag rows name value = (one_of name rows ≡ Some (codes "true") → value ≡
 abbrev pub HasWord : List Row → Text → Text → Type 0
 HasWord rows name text = text ≡ unwrap_or (first_of name rows) []
 
+-- the path is the word that the option has, as it was written, if it has one
+abbrev pub HasPath : List Row → Text → Option Text → Type 0
+HasPath rows name path = path ≡ first_of name rows
+
 -- how the machine is built
 abbrev pub TellsMachine : List Row → MachineOptions → Type 0
 TellsMachine rows options =

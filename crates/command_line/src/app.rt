@@ -5,7 +5,8 @@ ghost use Rattle.clap.specs.Words.{App, Rule, app_of, new_app, with_rule, with_s
 ghost use Rattle.clap.specs.declared.builder.command.Command.TheViews.{out-Command as fields_of};
 ghost use Rattle.command_line.specs.Additions.{Adds, IsApp, IsArg};
 ghost use Rattle.command_line.specs.App.{NameSchedules, NamesSchedules, any_number, check_app, ends_app};
-ghost use Rattle.command_line.specs.App.{file_rule, flag_rule, litmus_app, machine_rules, number_rule, run_rules};
+ghost use Rattle.command_line.specs.App.{file_rule, flag_rule, litmus_app, machine_rules, number_rule, path_rule};
+ghost use Rattle.command_line.specs.App.{run_rules};
 ghost use Rattle.command_line.specs.App.{tardis_app, trace_app, wanting, with_rules, with_run_and_file};
 
 use clap::builder::ValueParser;
@@ -64,6 +65,8 @@ const RECORDS: &str = "Writes the records of the completed operations in place o
 
 const COMPLETE: &str = "Asks for a record of each operation of the trace";
 
+const OPENING: &str = "The file with the values that words open with; all others open with 0";
+
 const STATES: &str = "How many states may be kept at once, 1 to 4294967295";
 
 const LITMUS_FILE: &str = "The file with the text of the litmus test";
@@ -104,6 +107,17 @@ fn flag<'a>(alloc: Global, name: &'a str, help: &'a str) -> Arg<'a>
     Arg::new(alloc, name)
         .long(name)
         .action(ArgAction::SetTrue)
+        .help(help)
+}
+
+/// An option whose value is the path of a file.
+fn path<'a>(alloc: Global, name: &'a str, help: &'a str) -> Arg<'a>
+    ensures { IsArg result (path_rule name.entry.now) }
+{
+    Arg::new(alloc, name)
+        .long(name)
+        .action(ArgAction::Set)
+        .value_name("FILE")
         .help(help)
 }
 
@@ -235,10 +249,11 @@ fn trace_command<'a>(alloc: Global) -> Result<Command<'a>, AllocError>
 fn check_command<'a>(alloc: Global) -> Result<Command<'a>, AllocError>
     ensures { IfOk result (IsApp check_app) }
 {
-    let about = "Says whether records are a legal history of a trace over a memory of zeros";
+    let about = "Says whether records are a legal history of a trace";
     let named = empty(alloc, "check", about);
     let whole = with(named, flag(alloc, "complete", COMPLETE));
-    let traced = with(whole, file(alloc, "TRACE", TRACE_FILE));
+    let opened = with(whole, path(alloc, "opening", OPENING));
+    let traced = with(opened, file(alloc, "TRACE", TRACE_FILE));
     with(traced, file(alloc, "RECORDS", RECORDS_FILE))
 }
 

@@ -1,9 +1,10 @@
 //! What the options of a run say.
 
-ghost use Rattle.std.specs.Prelude.{◌≡◌, IfSome, None};
+ghost use Rattle.std.specs.Prelude.{◌≡◌, IfSome, None, option_map};
 ghost use Rattle.clap.specs.Words.{found_of, rows_of};
-ghost use Rattle.command_line.specs.Options.{HasWord, HasAnyNumber, IsFlag, HasNumber, IsOrder, IsSchedule};
-ghost use Rattle.command_line.specs.Options.{TellsEnds, TellsLitmus, TellsMachine, TellsRun, TellsTrace, fairly};
+ghost use Rattle.command_line.specs.Options.{HasPath, HasWord, HasAnyNumber, IsFlag, HasNumber, IsOrder};
+ghost use Rattle.command_line.specs.Options.{IsSchedule, TellsEnds, TellsLitmus, TellsMachine, TellsRun};
+ghost use Rattle.command_line.specs.Options.{TellsTrace, fairly};
 
 use clap::ArgMatches;
 use run_options::{EndsOptions, LitmusOptions, MachineOptions, RunOptions, Schedule, TraceOptions};
@@ -38,6 +39,14 @@ pub(crate) fn word_of<'a>(matches: &ArgMatches<'a>, name: &str) -> &'a str
     ensures { HasWord (rows_of (found_of matches.now)) name.now result.now }
 {
     matches.get_str(name).unwrap_or("")
+}
+
+/// The path that an option has, if the words have the option.
+pub(crate) fn path_of<'a>(matches: &ArgMatches<'a>, name: &str) -> Option<&'a str>
+    ensures { HasPath (rows_of (found_of matches.now)) name.now
+        (option_map (λ path. path.now) result) }
+{
+    matches.get_str(name)
 }
 
 /// The schedule that an option's word names.

@@ -7,7 +7,7 @@ ghost use Rattle.command_line.specs.Job.{words_number};
 ghost use Rattle.command_line.specs.Options.{IsOrder};
 
 use crate::app::command;
-use crate::options::{ends_options, flag, litmus_options, trace_options, word_of};
+use crate::options::{ends_options, flag, litmus_options, path_of, trace_options, word_of};
 use clap::error::ErrorKind;
 use clap::{ArgMatches, Error};
 use run_options::{EndsOptions, LitmusOptions, TraceOptions};
@@ -22,9 +22,9 @@ pub enum Job<'a> {
     Ends(EndsOptions, &'a str),
     /// To run the trace of the file that has this path.
     Trace(TraceOptions, &'a str),
-    /// To check the records of the file at the second path against the trace of the file at the first, and whether each
-    /// operation has its record, if that is asked for.
-    Check(bool, &'a str, &'a str),
+    /// To check the records of the file at the last path against the trace of the file before it, over the opening of
+    /// the first file, if one is named; and whether each operation has its record, if that is asked for.
+    Check(bool, Option<&'a str>, &'a str, &'a str),
 }
 
 /// Why words are no job.
@@ -90,6 +90,7 @@ fn job_of<'a>(name: &str, matches: &ArgMatches<'a>) -> Option<Job<'a>>
         }
         _ => Some(Job::Check(
             flag(matches, "complete"),
+            path_of(matches, "opening"),
             word_of(matches, "TRACE"),
             word_of(matches, "RECORDS"),
         )),

@@ -5,6 +5,7 @@ use Rattle.run_results.specs.declared.results.RunError.TheVariants.{Trace}
 use Rattle.trace_lines.specs.declared.errors.Kind.{Kind}
 use Rattle.trace_lines.specs.declared.errors.Kind.TheVariants.{Read, NoMemory, TooLong, BadCore, BadOperation}
 use Rattle.trace_lines.specs.declared.errors.Kind.TheVariants.{BadAddress, BadValue, ExtraWords, BadForm}
+use Rattle.trace_lines.specs.declared.errors.Kind.TheVariants.{DoubleWord}
 use Rattle.trace_lines.specs.declared.errors.TraceError.{TraceError}
 use Rattle.trace_reader.specs.Outcomes.{IsCaused, IsOfLine, Refused, WantsMemory, whole}
 use Rattle.report.specs.Refusals.{IsFault, IsUnread, refusal, refusal_of}
@@ -20,6 +21,7 @@ fault_told BadAddress e read memory = refl
 fault_told BadValue e read memory = refl
 fault_told ExtraWords e read memory = refl
 fault_told BadForm e read memory = refl
+fault_told DoubleWord e read memory = refl
 
 module _ {X Y : Type 0} (Says : List ℕ → X → Type 0) (Cause : List ℕ → Kind → ℕ → Type 0) (read : List (List ℕ)
     → Result (List Y) TraceError) (e : TraceError) where

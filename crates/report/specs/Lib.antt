@@ -8,3 +8,4 @@ pub mod Runs
 pub mod Refusals
 pub mod Reports
 pub mod Verdicts
+pub mod Openings

@@ -9,6 +9,7 @@ ghost use Rattle.litmus_reader.specs.TestViews.{test_of};
 ghost use Rattle.machine_table.specs.SetUp.{is_good};
 ghost use Rattle.physiological_order.specs.Order.{flat};
 ghost use Rattle.report.specs.Litmus.{HasNoReportInMemory, IsLitmusReport, turns};
+ghost use Rattle.report.specs.Openings.{HasNoOpenedReport, IsOpenedReport};
 ghost use Rattle.report.specs.Reports.{HasNoRun, HasNoTraceReport, IsTraceReport, TellsTraceRun};
 ghost use Rattle.report.specs.Verdicts.{HasNoVerdict, IsCheckReport};
 ghost use Rattle.worker_driver.specs.Outcomes.{HasOutcome};
@@ -17,6 +18,7 @@ ghost use Rattle.worker_driver.specs.SetUp.{FollowsPolicy, driver_of};
 
 use crate::checks::verdict_on;
 use crate::litmus::{are_all_done, test_in};
+use crate::openings::opening_of;
 use crate::outputs::Report;
 use crate::reports::told_by_policy;
 use crate::texts::trace_of;
@@ -160,4 +162,28 @@ pub fn check_report(alloc: Global, trace: &[u8], records: &[u8]) -> Result<Repor
     let mut records = InMemory { rest: records };
     let zeros = Memory::new(alloc);
     verdict_on(alloc, &mut trace, &mut records, &zeros, false)
+}
+
+/// The line of the verdict on records for what a trace issues, over the memory that an opening gives, all three as
+/// texts; with `complete`, as `check_history` has it. The opening's fault takes precedence over the trace's, and that
+/// over the records'.
+pub fn opened_report(
+    alloc: Global,
+    opening: &[u8],
+    trace: &[u8],
+    records: &[u8],
+    complete: bool,
+) -> Result<Report, RunError>
+    ensures report { IfOk result (λ report. IsOpenedReport complete
+        opening.now trace.now records.now report.all_done report.text.items) }
+    ensures refused { IfErr result (HasNoOpenedReport opening.now trace.now records.now) }
+{
+    let mut opening = InMemory { rest: opening };
+    let memory = match opening_of(alloc, &mut opening) {
+        Ok(memory) => memory,
+        Err(error) => return Err(error),
+    };
+    let mut trace = InMemory { rest: trace };
+    let mut records = InMemory { rest: records };
+    verdict_on(alloc, &mut trace, &mut records, &memory, complete)
 }

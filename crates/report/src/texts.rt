@@ -14,8 +14,8 @@ use std::alloc::Global;
 use trace_lines::{Kind, TraceError};
 use trace_reader::{Trace, read, read_records};
 
-// Why a text is refused: a failed call and want of memory are no faults of it.
-fn refusal(error: TraceError) -> RunError
+/// Why a text is refused: a failed call and lack of memory are no faults of it.
+pub(crate) fn refusal(error: TraceError) -> RunError
     ensures { result ≡ refusal error }
 {
     match error.kind {

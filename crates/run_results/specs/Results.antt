@@ -3,7 +3,7 @@ use Rattle.std.specs.Prelude.{ℕ, Result, Ok, Err, if◌then◌else◌}
 use Rattle.run_results.specs.declared.results.Done.{Done}
 use Rattle.run_results.specs.declared.results.RunError.{RunError}
 use Rattle.run_results.specs.declared.results.RunError.TheVariants.{Read, Write, NoMemory, Litmus, Trace, BadConfig}
-use Rattle.run_results.specs.declared.results.RunError.TheVariants.{TooManyStates}
+use Rattle.run_results.specs.declared.results.RunError.TheVariants.{TooManyStates, Opening}
 
 abbrev pub run_number : RunError → ℕ
 run_number Read = 1
@@ -13,6 +13,7 @@ run_number (Litmus fault) = 4
 run_number (Trace fault) = 5
 run_number BadConfig = 6
 run_number (TooManyStates most) = 7
+run_number (Opening fault) = 12
 
 -- 0 if all runs are all done; 1 if one isn't, an allocation failed, or there are too many states; 2 if the text is
 -- refused; 3 if the configuration is; 4 if reading or writing failed
@@ -22,6 +23,7 @@ status_of (Err NoMemory) = 1
 status_of (Err (TooManyStates most)) = 1
 status_of (Err (Litmus fault)) = 2
 status_of (Err (Trace fault)) = 2
+status_of (Err (Opening fault)) = 2
 status_of (Err BadConfig) = 3
 status_of (Err Read) = 4
 status_of (Err Write) = 4

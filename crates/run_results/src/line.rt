@@ -28,13 +28,16 @@ fn line_of(bytes: &[u8]) -> ErrorLine
     line
 }
 
-// The line of a text's fault: where it is, and its kind by number and name.
-fn fault_line(place: usize, number: u8, name: &str) -> ErrorLine
-    requires { length name.now ≤ 14 }
-    ensures { result.items ≡ fault_line place number name.now }
+// The line of a text's fault: which text it is, if that is said, where in it, and its kind by number and name.
+fn fault_line(text: &[u8], place: usize, number: u8, name: &str) -> ErrorLine
+    requires text { length text.now ≤ 9 }
+    requires name { length name.now ≤ 14 }
+    ensures { result.items ≡ fault_line text.now place number name.now }
 {
     let mut digits = Buffer::new();
-    let mut line = line_of(b"tardis: line ");
+    let mut line = line_of(b"tardis: ");
+    put(&mut line, text);
+    put(&mut line, b"line ");
     put(&mut line, digits.format(place).as_bytes());
     put(&mut line, b": ");
     put(&mut line, digits.format(number).as_bytes());
@@ -63,8 +66,9 @@ pub fn error_line(error: &RunError) -> ErrorLine
         RunError::Read => line_of(b"tardis: read failed\n"),
         RunError::Write => line_of(b"tardis: write failed\n"),
         RunError::NoMemory => line_of(b"tardis: no memory\n"),
-        RunError::Litmus(e) => fault_line(e.line, e.kind.number(), e.kind.name()),
-        RunError::Trace(e) => fault_line(e.line, e.kind.number(), e.kind.name()),
+        RunError::Litmus(e) => fault_line(b"", e.line, e.kind.number(), e.kind.name()),
+        RunError::Trace(e) => fault_line(b"", e.line, e.kind.number(), e.kind.name()),
+        RunError::Opening(e) => fault_line(b"opening: ", e.line, e.kind.number(), e.kind.name()),
         RunError::BadConfig => line_of(b"tardis: bad configuration\n"),
         RunError::TooManyStates(most) => states_line(*most),
     }

@@ -32,6 +32,9 @@ pub enum RunError {
     /// The text is no trace, or its records are none: its first fault.
     #[error("line {line}: {kind:?}", line = .0.line, kind = .0.kind)]
     Trace(TraceError),
+    /// The text is no opening: its first fault.
+    #[error("opening: line {line}: {kind:?}", line = .0.line, kind = .0.kind)]
+    Opening(TraceError),
     /// A value of the machine's configuration is out of its range.
     #[error("bad configuration")]
     BadConfig,
@@ -42,7 +45,7 @@ pub enum RunError {
 
 impl RunError {
     /// Its number: 1 reading, 2 writing, 3 no memory, 4 a litmus text, 5 a text of a trace or of records, 6 a
-    /// configuration, 7 too many states.
+    /// configuration, 7 too many states, 12 a text of an opening; `tardis.h` has those between.
     pub fn number(&self) -> u8
         ensures { result ≡ run_number self.now }
     {
@@ -54,6 +57,7 @@ impl RunError {
             RunError::Trace(_) => 5,
             RunError::BadConfig => 6,
             RunError::TooManyStates(_) => 7,
+            RunError::Opening(_) => 12,
         }
     }
 }
@@ -70,6 +74,7 @@ pub fn exit_status(came: &Result<Done, RunError>) -> u8
         Err(RunError::TooManyStates(_)) => 1,
         Err(RunError::Litmus(_)) => 2,
         Err(RunError::Trace(_)) => 2,
+        Err(RunError::Opening(_)) => 2,
         Err(RunError::BadConfig) => 3,
         Err(RunError::Read) => 4,
         Err(RunError::Write) => 4,

@@ -1,6 +1,9 @@
 -- What the program answers.
-use Rattle.std.specs.Prelude.{◌≡◌, ◌<◌, ◌⊎◌, ℕ, Bool, List, [], Option, Result, Ok, Err, codes, string_bytes}
-use Rattle.std.specs.FinMap.{empty}
+use Rattle.std.specs.Prelude.{◌≡◌, ◌<◌, ◌⊎◌, ℕ, Bool, List, [], Option, Some, None, Result, Ok, Err, codes}
+use Rattle.std.specs.Prelude.{string_bytes}
+use Rattle.std.specs.Borrow.{Bor}
+use Rattle.std.specs.FinMap.{FinMap, empty}
+use Rattle.std.specs.Ordering.{nat_cmp}
 use Rattle.byte_streams.specs.Device.{Grows}
 use Rattle.byte_streams.specs.Whole.{GrowsByFront}
 use Rattle.command_line.specs.declared.words.Job.{Job}
@@ -10,7 +13,7 @@ use Rattle.command_line.specs.declared.words.WordsError.{WordsError}
 use Rattle.command_line.specs.declared.words.WordsError.TheVariants.{Refused as RefusedWords}
 use Rattle.command_line.specs.declared.words.WordsError.TheVariants.{NoMemory as NoMemoryForWords}
 use Rattle.byte_streams.specs.declared.device.DeviceError.{DeviceError}
-use Rattle.physiological_order.specs.Order.{flat}
+use Rattle.physiological_order.specs.Order.{Memory, flat}
 use Rattle.report.specs.Bytes.{OfBytes}
 use Rattle.report.specs.Answers.{FailuresAreCounted, IsCutOff, IsReported}
 use Rattle.report.specs.Ends.{HasNoEnds, IsEndsReport}
@@ -23,6 +26,7 @@ use Rattle.run_results.specs.declared.results.Done.{Done}
 use Rattle.run_results.specs.declared.results.RunError.{RunError}
 use Rattle.run_results.specs.declared.results.RunError.TheVariants.{Read, Write}
 use Rattle.programs.specs.declared.steps.Step.{Step}
+use Rattle.report.specs.Openings.{HasNoOpening, IsOpened}
 use Rattle.report.specs.Refusals.{IsRead}
 use Rattle.report.specs.Reports.{HasNoTraceReport, IsTraceReport}
 use Rattle.report.specs.Verdicts.{HasNoVerdict, IsCheckReport, ReadsCounted, WritesCounted}
@@ -111,24 +115,54 @@ abbrev pub OnFile : {F K : Type 0} → Devices F K → (Option (List ℕ) → K 
 OnFile {F} d Runs (Ok file) old new came = (left : F) × RunsOn d Runs file left old new came
 OnFile d Runs (Err error) old new came = (came ≡ Err Read) × (new ≡ old)
 
--- the records of the second file were checked against the trace of the first over a memory of zeros; they were read
--- only after a trace that was accepted, and not at all if reading the trace failed
-abbrev pub ChecksOn : {F K : Type 0} → Devices F K → (complete : Bool) → (trace records trace' records' : F) → K → K →
-    Result Done RunError → Type 0
-ChecksOn d complete trace records trace' records' old new came =
-    Came d (IsCheckReport (flat empty) complete (d.remaining trace) (d.remaining records))
+-- the records of the second file were checked against the trace of the first over a memory; they were read only after a
+-- trace that was accepted, and not at all if reading the trace failed
+abbrev pub ChecksOn : {F K : Type 0} → Devices F K → Memory → (complete : Bool) → (trace records trace' records' : F) →
+    K → K → Result Done RunError → Type 0
+ChecksOn d opening complete trace records trace' records' old new came =
+    Came d (IsCheckReport opening complete (d.remaining trace) (d.remaining records))
     (HasNoVerdict (d.remaining trace) (d.remaining records)) old new came
     × ((records' ≡ records) ⊎ ((lanes : List (List Step)) × IsRead (d.remaining trace) lanes))
     × (d.unread trace < d.unread trace' → records' ≡ records)
     × ReadsCounted came (d.unread trace) (d.unread trace') (d.unread records) (d.unread records')
     × WritesCounted came (d.unwritten old) (d.unwritten new)
 
--- both files could be opened; if one couldn't, that is reported as a failed read, and nothing was written
-abbrev pub OnFiles : {F K : Type 0} → Devices F K → (complete : Bool) → (trace records : Result F DeviceError) → K → K →
+-- the same of any state in which that left the files
+abbrev pub Checks : {F K : Type 0} → Devices F K → Memory → (complete : Bool) → (trace records : F) → K → K →
     Result Done RunError → Type 0
-OnFiles {F} d complete (Ok trace) (Ok records) old new came =
-    (trace' records' : F) × ChecksOn d complete trace records trace' records' old new came
-OnFiles d complete trace records old new came = (came ≡ Err Read) × (new ≡ old)
+Checks {F} d opening complete trace records old new came =
+    (trace' records' : F) × ChecksOn d opening complete trace records trace' records' old new came
+
+-- the opening was read first: the check was over the memory that it gives; or it was refused, and nothing else was done
+abbrev pub ChecksOver : {F K : Type 0} → Devices F K → (complete : Bool) → (opening trace records : F) → K → K →
+    Result Done RunError → Type 0
+ChecksOver {F} d complete opening trace records old new came = (left : F)
+    × (((words : FinMap nat_cmp ℕ) × IsOpened (d.remaining opening) words × (d.unread left ≡ d.unread opening)
+    × Checks d (flat words) complete trace records old new came)
+    ⊎ ((e : RunError) × HasNoOpening (d.remaining opening) (d.unread opening) (d.unread left) e
+    × (came ≡ Err e) × (new ≡ old)))
+
+-- no opening was named, and memory opens with zeros; or its file could be opened; or it couldn't, which is reported as
+-- a failed read, and nothing was written
+abbrev pub OnOpening : {F K : Type 0} → Devices F K → (complete : Bool) → Option (Result F DeviceError) →
+    (trace records : F) → K → K → Result Done RunError → Type 0
+OnOpening d complete None trace records old new came = Checks d (flat empty) complete trace records old new came
+OnOpening d complete (Some (Ok opening)) trace records old new came =
+    ChecksOver d complete opening trace records old new came
+OnOpening d complete (Some (Err error)) trace records old new came = (came ≡ Err Read) × (new ≡ old)
+
+-- the same of the other two files
+abbrev pub OnFiles : {F K : Type 0} → Devices F K → (complete : Bool) → (opening : Option (Result F DeviceError)) →
+    (trace records : Result F DeviceError) → K → K → Result Done RunError → Type 0
+OnFiles d complete opening (Ok trace) (Ok records) old new came =
+    OnOpening d complete opening trace records old new came
+OnFiles d complete opening trace records old new came = (came ≡ Err Read) × (new ≡ old)
+
+-- a file that is named was opened, and none if none is
+abbrev pub OpensNamed : {F : Type 0} → (List ℕ → Result F DeviceError → Type 0) → Option (Bor (List ℕ)) →
+    Option (Result F DeviceError) → Type 0
+OpensNamed opens None opened = opened ≡ None
+OpensNamed {F} opens (Some name) opened = (file : Result F DeviceError) × opens name.now file × (opened ≡ Some file)
 
 -- the job was done on the files that have its names, given what opening each name may answer
 abbrev pub Does : {F K : Type 0} → Devices F K → (List ℕ → Result F DeviceError → Type 0) → Job → K → K →
@@ -139,5 +173,6 @@ Does {F} d opens (EndsJob options name) old new came = (opened : Result F Device
     × OnFile d (ListsEndsOf d options) opened old new came
 Does {F} d opens (TraceJob options name) old new came = (opened : Result F DeviceError) × opens name.now opened
     × OnFile d (RunsTrace d options) opened old new came
-Does {F} d opens (CheckJob complete trace records) old new came = (opened opened' : Result F DeviceError)
-    × opens trace.now opened × opens records.now opened' × OnFiles d complete opened opened' old new came
+Does {F} d opens (CheckJob complete opening trace records) old new came = (first : Option (Result F DeviceError))
+    × OpensNamed opens opening first × (opened opened' : Result F DeviceError)
+    × opens trace.now opened × opens records.now opened' × OnFiles d complete first opened opened' old new came

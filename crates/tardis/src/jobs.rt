@@ -1,14 +1,15 @@
 //! The jobs that words ask for, each done on its files.
 
 ghost use Rattle.std.specs.Prelude.{◌≡◌};
-ghost use Rattle.tardis.specs.Answers.{ChecksOn, Does, ListsEndsOf, OnFile, OnFiles};
+ghost use Rattle.physiological_order.specs.Order.{flat};
+ghost use Rattle.tardis.specs.Answers.{Checks, ChecksOver, Does, ListsEndsOf, OnFile, OnFiles, OnOpening, OpensNamed};
 ghost use Rattle.tardis.specs.Answers.{RunsLitmus, RunsOn, RunsTrace, devices};
 
 use crate::files::Files;
 use byte_streams::{DeviceError, Sink, Source};
 use command_line::Job;
 use physiological_order::Memory;
-use report::{check_history, run_ends, run_litmus, run_trace};
+use report::{check_history, opening_of, run_ends, run_litmus, run_trace};
 use run_options::{EndsOptions, LitmusOptions, TraceOptions};
 use run_results::{Done, RunError};
 use std::alloc::Global;
@@ -29,10 +30,11 @@ pub(crate) fn run_job<R: Threads + Sync, F: Files, K: Sink>(
         Job::Litmus(options, name) => litmus_of(rt, alloc, files.open(name), options, out),
         Job::Ends(options, name) => ends_of(alloc, files.open(name), options, out),
         Job::Trace(options, name) => trace_of(rt, alloc, files.open(name), options, out),
-        Job::Check(complete, trace, records) => {
+        Job::Check(complete, opening, trace, records) => {
+            let opening = open_named(files, *opening);
             let trace = files.open(trace);
             let records = files.open(records);
-            check_of(alloc, *complete, trace, records, out)
+            check_of(alloc, *complete, opening, trace, records, out)
         }
     }
 }
@@ -134,36 +136,88 @@ fn trace_on<R: Threads + Sync, S: Source + Drop, K: Sink>(
     run_trace(rt, alloc, &mut source, out, options)
 }
 
-// Checks the records of a file against the trace of another, where both were opened.
+// The file that has a name, if there is a name.
+fn open_named<F: Files>(files: &F, name: Option<&str>) -> Option<Result<F::File, DeviceError>>
+    ensures { OpensNamed (F.opens files.now) name.entry result }
+{
+    match name {
+        None => None,
+        Some(name) => Some(files.open(name)),
+    }
+}
+
+// Checks the records of a file against the trace of another, where all were opened, over the memory that a third one
+// gives if it is there.
 fn check_of<S: Source + Drop, K: Sink>(
     alloc: Global,
     complete: bool,
+    opening: Option<Result<S, DeviceError>>,
     trace: Result<S, DeviceError>,
     records: Result<S, DeviceError>,
     out: &mut K,
 ) -> Result<Done, RunError>
-    ensures { OnFiles (devices S.remaining S.failures K.contents K.failures) complete trace records
-        out.old out.new result }
+    ensures { OnFiles (devices S.remaining S.failures K.contents K.failures) complete opening
+        trace records out.old out.new result }
 {
     match (trace, records) {
-        (Ok(trace), Ok(records)) => check_on(alloc, complete, trace, records, out),
+        (Ok(trace), Ok(records)) => { check_opened(alloc, complete, opening, trace, records, out) }
         _ => Err(RunError::Read),
+    }
+}
+
+// The same where the other two were opened.
+fn check_opened<S: Source + Drop, K: Sink>(
+    alloc: Global,
+    complete: bool,
+    opening: Option<Result<S, DeviceError>>,
+    trace: S,
+    records: S,
+    out: &mut K,
+) -> Result<Done, RunError>
+    ensures { OnOpening (devices S.remaining S.failures K.contents K.failures) complete opening
+        trace records out.old out.new result }
+{
+    match opening {
+        None => {
+            let zeros = Memory::new(alloc);
+            check_on(alloc, complete, &zeros, trace, records, out)
+        }
+        Some(Ok(opening)) => check_over(alloc, complete, opening, trace, records, out),
+        Some(Err(DeviceError)) => Err(RunError::Read),
+    }
+}
+
+// Reads an opening, and then checks over its memory.
+fn check_over<S: Source + Drop, K: Sink>(
+    alloc: Global,
+    complete: bool,
+    opening: S,
+    trace: S,
+    records: S,
+    out: &mut K,
+) -> Result<Done, RunError>
+    ensures { ChecksOver (devices S.remaining S.failures K.contents K.failures) complete
+        opening trace records out.old out.new result }
+{
+    let mut source = opening;
+    match opening_of(alloc, &mut source) {
+        Ok(memory) => check_on(alloc, complete, &memory, trace, records, out),
+        Err(error) => Err(error),
     }
 }
 
 fn check_on<S: Source + Drop, K: Sink>(
     alloc: Global,
     complete: bool,
+    opening: &Memory,
     trace: S,
     records: S,
     out: &mut K,
 ) -> Result<Done, RunError>
-    ensures { (trace' records' : S) ×
-        ChecksOn (devices S.remaining S.failures K.contents K.failures) complete
-        trace records trace' records' out.old out.new result }
+    ensures { Checks (devices S.remaining S.failures K.contents K.failures) (flat opening.now)
+        complete trace records out.old out.new result }
 {
     let mut first = trace;
     let mut second = records;
-    let zeros = Memory::new(alloc);
-    check_history(alloc, &mut first, &mut second, out, &zeros, complete)
+    check_history(alloc, &mut first, &mut second, out, opening, complete)
 }

@@ -16,6 +16,7 @@ const KINDS: &[(Kind, &str)] = &[
     (Kind::BadValue, "a bad value"),
     (Kind::ExtraWords, "words that are too many"),
     (Kind::BadForm, "a bad form"),
+    (Kind::DoubleWord, "a word that has its value already"),
 ];
 
 fn is_called(alloc: Global, line: usize, kind: Kind, told: &str) -> Result<bool, Fail> {
@@ -101,6 +102,13 @@ const ERRORS: &[(RunError, &str)] = &[
         }),
         "line 4294967299: BadCore",
     ),
+    (
+        RunError::Opening(TraceError {
+            line: 4_294_967_299,
+            kind: Kind::DoubleWord,
+        }),
+        "opening: line 4294967299: DoubleWord",
+    ),
 ];
 
 fn is_said(alloc: Global, error: &RunError, told: &str) -> Result<bool, Fail> {
@@ -134,8 +142,9 @@ fn errors_have_these_numbers(rt: HostRuntime) {
         RunError::Trace(fault).number(),
         RunError::BadConfig.number(),
         RunError::TooManyStates(7).number(),
+        RunError::Opening(fault).number(),
     ];
-    assert_eq!(rt; numbers, [1, 2, 3, 4, 5, 6, 7]);
+    assert_eq!(rt; numbers, [1, 2, 3, 4, 5, 6, 7, 12]);
 }
 
 // No report names these kinds.

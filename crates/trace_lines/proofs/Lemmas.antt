@@ -4,3 +4,4 @@
 pub use Rattle.trace_lines.proofs.TraceLines.{trace-told, trace-only, trace-nothing}
 pub use Rattle.trace_lines.proofs.RecordLines.{record-told, record-only, record-nothing}
 pub use Rattle.trace_lines.proofs.FormLines.{form-told, form-only, form-nothing}
+pub use Rattle.trace_lines.proofs.OpeningLines.{opening-told, opening-only, opening-nothing}

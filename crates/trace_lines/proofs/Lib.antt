@@ -7,4 +7,5 @@ mod FieldKinds
 mod TraceLines
 mod RecordLines
 mod FormLines
+mod OpeningLines
 pub mod Lemmas

@@ -34,7 +34,7 @@ CompletionJudged core place fields (Ok r) =
     IsCompletion fields r.op r.received r.ts r.number × (r.core ≡ core) × (r.place ≡ place)
 CompletionJudged core place fields (Err kind) = CompletionCause kind fields
 
-ended-judged : {X : Type 0} (P : List (List ℕ) → Result X Kind → Type 0) (x : X) (fields : List (List ℕ)) →
+pub ended-judged : {X : Type 0} (P : List (List ℕ) → Result X Kind → Type 0) (x : X) (fields : List (List ℕ)) →
     P [] (Ok x) → ((extra : List ℕ) (left : List (List ℕ)) → P (extra ∷ left) (Err ExtraWords)) →
     P fields (ended x fields)
 unfolding ended
@@ -200,7 +200,7 @@ record-told fields r e = subst (LineJudged fields) (sym e) (line-judged fields)
 
 -- ---- what stands is read
 
-value-read : {Y : Type 0} (field : List ℕ) (fields : List (List ℕ)) (value : ℕ)
+pub value-read : {Y : Type 0} (field : List ℕ) (fields : List (List ℕ)) (value : ℕ)
     (f : ℕ × List (List ℕ) → Result Y Kind) (y : Result Y Kind) → IsValue field value → f (value, fields) ≡ y →
     (number_field_at (field ∷ fields) >>= f) ≡ y
 unfolding number_field_at

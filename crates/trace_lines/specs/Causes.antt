@@ -8,6 +8,7 @@ use Rattle.trace_lines.specs.declared.steps.Form.{Form}
 use Rattle.trace_lines.specs.declared.steps.Form.TheVariants.{One, Two}
 use Rattle.programs.specs.declared.steps.Step.{Step}
 use Rattle.trace_lines.specs.Grammar.{IsNumber, IsCoreNumber, IsValue, IsAddress, IsStep, IsCompletion}
+use Rattle.trace_lines.specs.Grammar.{IsOpeningLine}
 use Rattle.trace_lines.specs.Spelling.{most_cores_named}
 
 -- the next field is missing, or is not of this kind
@@ -88,6 +89,13 @@ RecordCause BadCore fields = Missing (HasCoreNumber 64) fields
 RecordCause BadValue fields = Behind (HasCoreNumber 64) (Missing HasPlaceNumber) fields
     ⊎ Behind (HasCoreNumber 64) (Behind HasPlaceNumber (CompletionCause BadValue)) fields
 RecordCause kind fields = Behind (HasCoreNumber 64) (Behind HasPlaceNumber (CompletionCause kind)) fields
+
+-- what is wrong with an opening's line
+abbrev pub OpeningCause : Kind → List (List ℕ) → Type 0
+OpeningCause BadAddress fields = Missing HasAddress fields
+OpeningCause BadValue fields = Behind HasAddress (Missing HasValue) fields
+OpeningCause ExtraWords fields = FollowsWhole (λ front. (told : ℕ × ℕ) × IsOpeningLine front told) fields
+OpeningCause kind fields = ⊥
 
 -- what is wrong with a form line, which begins with trace
 abbrev pub FormCause : Kind → List (List ℕ) → Type 0

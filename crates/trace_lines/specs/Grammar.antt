@@ -1,4 +1,4 @@
--- What the lines of a trace and of records are: relations between fields and what they say.
+-- What the lines of a trace, of records and of an opening are: relations between fields and what they say.
 use Rattle.std.specs.Prelude.{◌≡◌, ◌≢◌, ℕ, ◌*◌, ◌^◌, ◌<◌, true, List, [], ◌∷◌, ◌++◌, codes, Option, Some, None}
 use Rattle.physiological_order.specs.declared.operation.Op.{Op}
 use Rattle.physiological_order.specs.declared.operation.Op.TheVariants.{Load, Store, Swap}
@@ -62,6 +62,11 @@ abbrev pub IsRecordLine : List (List ℕ) → Record → Type 0
 IsRecordLine (first ∷ second ∷ fields) r = IsCoreNumber 64 first r.core × IsNumber 20 (2 ^ 32) second r.place
     × IsCompletion fields r.op r.received r.ts r.number
 IsRecordLine fields r = ⊥
+
+-- ADDR VALUE: a word, and the value that it opens with
+abbrev pub IsOpeningLine : List (List ℕ) → ℕ × ℕ → Type 0
+IsOpeningLine (address ∷ value ∷ []) told = IsAddress address told.0 × IsValue value told.1
+IsOpeningLine fields told = ⊥
 
 -- trace 2 for form 2, and for form 1 any line that does not begin with trace
 abbrev pub IsFormLine : List (List ℕ) → Form → Type 0

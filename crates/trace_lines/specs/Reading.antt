@@ -135,6 +135,18 @@ unfoldable pub record_line_at : List (List ℕ) → Result (Option Record) Kind
 record_line_at [] = Ok None
 record_line_at (field ∷ fields) = record_fields_at (field ∷ fields) >>= (λ told. Ok (Some told))
 
+-- a word and its value, and no more fields
+unfoldable pub opening_at : List (List ℕ) → Result (ℕ × ℕ) Kind
+opening_at fields = do
+  word ← address_at fields
+  value ← number_field_at word.1
+  ended (word.0, value.0) value.1
+
+-- what a line of an opening says; nothing if it has no fields
+unfoldable pub opening_line_at : List (List ℕ) → Result (Option (ℕ × ℕ)) Kind
+opening_line_at [] = Ok None
+opening_line_at (field ∷ fields) = opening_at (field ∷ fields) >>= (λ told. Ok (Some told))
+
 -- the form that trace, 2 and nothing else name
 abbrev pub form_named : List (List ℕ) → Result (Option Form) Kind
 form_named [] = Err BadForm

@@ -4,7 +4,7 @@ ghost use Rattle.std.specs.Prelude.{◌≡◌, ◌≤◌, length};
 
 use thiserror::Error;
 
-/// What is wrong with a line of a trace or of records (docs/TEXTS.md).
+/// What is wrong with a line of a trace, of records or of an opening (docs/TEXTS.md).
 #[derive(Clone, Copy, Debug, PartialEq, Eq, Error)]
 pub enum Kind {
     /// Reading failed. No line is refused for it.
@@ -34,12 +34,15 @@ pub enum Kind {
     /// The form line names no form.
     #[error("a bad form")]
     BadForm,
+    /// A word that an earlier line has. No line is refused for it here.
+    #[error("a word that has its value already")]
+    DoubleWord,
 }
 
 impl Kind {
     ghost use Rattle.trace_lines.specs.Kinds.{number_of_trace_kind, name_of_trace_kind};
 
-    /// The kind's number, 1 to 9.
+    /// The kind's number, 1 to 10.
     pub fn number(self) -> u8
         ensures { result ≡ number_of_trace_kind self }
     {
@@ -53,6 +56,7 @@ impl Kind {
             Kind::BadValue => 7,
             Kind::ExtraWords => 8,
             Kind::BadForm => 9,
+            Kind::DoubleWord => 10,
         }
     }
 
@@ -71,6 +75,7 @@ impl Kind {
             Kind::BadValue => "BadValue",
             Kind::ExtraWords => "ExtraWords",
             Kind::BadForm => "BadForm",
+            Kind::DoubleWord => "DoubleWord",
         }
     }
 }

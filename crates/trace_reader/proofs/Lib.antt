@@ -4,7 +4,9 @@ pub mod Lemmas
 mod OnLines
 mod Inverses
 mod LinesRead
+mod LinesMeant
+mod TextAnswers
 mod StepsMeant
-mod TraceAnswers
 mod RecordsMeant
 mod RecordAnswers
+mod OpeningsMeant

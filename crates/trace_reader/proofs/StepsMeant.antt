@@ -1,26 +1,22 @@
--- What is read of a trace is what its text says, both ways, and a fault has its cause.
-use Rattle.std.proofs.Common.{◌≡◌, ◌≢◌, ℕ, suc, ◌+◌, ◌≤◌, ◌<◌, List, [], ◌∷◌, ◌++◌, length}
-use Rattle.std.proofs.Common.{Option, Some, None, refl, sym, ap, subst, ◌∙◌, arith, inl, inr, ◌⊎◌}
+-- What a line of a trace says, behind lines that declared a form or none, and why it is refused.
+use Rattle.std.proofs.Common.{◌≡◌, ◌≢◌, ℕ, List, [], ◌∷◌, ◌++◌}
+use Rattle.std.proofs.Common.{Option, Some, None, refl, sym, subst, inl, inr, ◌⊎◌}
 use Rattle.std.specs.Prelude.{Ok, Err, MatchOption}
 use Rattle.trace_lines.specs.declared.errors.Kind.{Kind}
 use Rattle.trace_lines.specs.declared.errors.Kind.TheVariants.{Read, NoMemory}
-use Rattle.trace_lines.specs.declared.errors.TraceError.{TraceError}
 use Rattle.trace_lines.specs.declared.steps.Form.{Form}
 use Rattle.trace_lines.specs.declared.steps.Form.TheVariants.{One, Two}
 use Rattle.programs.specs.declared.steps.Step.{Step}
 use Rattle.trace_lines.specs.Causes.{TraceCause}
-use Rattle.trace_lines.specs.Fields.{fields_of}
 use Rattle.trace_lines.specs.Grammar.{IsTraceLine, IsFormLine}
 use Rattle.trace_lines.specs.Reading.{trace_line_at, form_line_at}
 use Rattle.trace_lines.proofs.Lemmas.{trace-told, trace-only, trace-nothing, form-told, form-only, form-nothing}
-use Rattle.trace_reader.specs.declared.limits.TheConstants.{MOST_LINES}
-use Rattle.trace_reader.specs.Lines.{with_fields, worded}
-use Rattle.trace_reader.specs.Grammar.{AreShort, TellSteps, TellTrace}
-use Rattle.trace_reader.specs.Causes.{FieldsCause, StepLineCause, StandsAtLine, IsTooLong}
-use Rattle.trace_reader.specs.Outcomes.{IsOfLine}
-use Rattle.trace_reader.specs.Reading.{behind, list_of_option, step_said, form_said, said_at, steps_in, read_from}
-use Rattle.trace_reader.proofs.Inverses.{ok-pair, bind-ok, bind-err, behind-ok, behind-err, fitted-ok, fitted-err}
-use Rattle.trace_reader.proofs.LinesRead.{line-said, lines-end}
+use Rattle.trace_reader.specs.Lines.{with_fields}
+use Rattle.trace_reader.specs.Grammar.{TellSteps, TellTrace}
+use Rattle.trace_reader.specs.Causes.{FieldsCause}
+use Rattle.trace_reader.specs.Reading.{list_of_option, step_said, form_said, said_at}
+use Rattle.trace_reader.proofs.Inverses.{ok-pair, bind-ok, bind-err}
+use Rattle.trace_reader.proofs.LinesMeant.{Means, Parts}
 
 -- ---- one line
 
@@ -86,7 +82,7 @@ form-refused fields None kind h e = absurd cc
 form-refused fields (Some One) kind h e = let r = step-refused One fields kind e in (r.0, inr (h, r.1))
 form-refused fields (Some Two) kind h e = absurd cc
 
-pub said-refused : (form : Option Form) (fields : List (List ℕ)) (kind : Kind) → said_at form fields ≡ Err kind →
+said-refused : (form : Option Form) (fields : List (List ℕ)) (kind : Kind) → said_at form fields ≡ Err kind →
     (fields ≢ []) × FieldsCause form [] kind fields
 unfolding said_at
 said-refused (Some form) fields kind e = step-refused form fields kind e
@@ -101,12 +97,9 @@ said-refused None fields kind e =
 
 -- ---- all lines
 
-abbrev SaysFrom : Option Form → List (List (List ℕ)) → List (ℕ × Step) → Type 0
+abbrev pub SaysFrom : Option Form → List (List (List ℕ)) → List (ℕ × Step) → Type 0
 SaysFrom (Some form) lines told = TellSteps form lines told
 SaysFrom None lines told = TellTrace lines told
-
-abbrev FitsFrom : ℕ → List (List ℕ) → Type 0
-FitsFrom number lines = (number + length lines ≤ suc MOST_LINES) × AreShort lines
 
 says-more : (form next : Option Form) (said : Option (ℕ × Step)) (fields : List (List ℕ)) (lines : List (List (List
     ℕ)))
@@ -131,50 +124,20 @@ says-more None next said (field ∷ fields) lines later (inr (inr m)) s =
     let h : SaysFrom (Some Two) lines later = subst (λ (o : Option Form). SaysFrom o lines later) m.1 s in
     rw m.2 (inr (m.0, h))
 
-says-none : (form : Option Form) → SaysFrom form (worded []) []
-unfolding TellSteps worded
+says-none : (form : Option Form) → SaysFrom form [] []
+unfolding TellSteps
 says-none None = refl
 says-none (Some form) = tt
 
--- what is read stands
-found-from : (lines : List (List ℕ)) (number : ℕ) (form : Option Form) (told : List (ℕ × Step)) →
-    number ≤ suc MOST_LINES → read_from said_at number form lines ≡ Ok told →
-    FitsFrom number lines × SaysFrom form (worded lines) told
-unfolding read_from AreShort worded
-found-from [] number form told few e =
-    let same : [] ≡ told = cc in
-    ((omega arith, tt), subst (λ (w : List (ℕ × Step)). SaysFrom form (worded []) w) same (says-none form))
-found-from (line ∷ lines) number form told few e =
-    let o = fitted-ok number line (said_at form (fields_of line))
-    (λ said. behind (list_of_option said.1) (read_from said_at (suc number) said.0 lines)) told e in
-    let next = o.1.0.0 in
-    let said = o.1.0.1 in
-    let b = behind-ok (list_of_option said) (read_from said_at (suc number) next lines) told o.1.2 in
-    let r = found-from lines (suc number) next b.0 (omega (arith, o.0.1)) b.1 in (
-      (omega (arith, r.0.0), (o.0.0, r.0.1)),
-      subst (λ (w : List (ℕ × Step)). SaysFrom form (with_fields (fields_of line) (worded lines)) w) b.2
-          (says-more form next said (fields_of line) (worded lines) b.0
-          (said-meant form (fields_of line) next said o.1.1) r.1),
-    )
-
-pub steps-found : (lines : List (List ℕ)) (told : List (ℕ × Step)) → steps_in lines ≡ Ok told →
-    ((length lines ≤ MOST_LINES) × AreShort lines) × TellTrace (worded lines) told
-steps-found lines told e =
-    let r = found-from lines 1 None told (omega arith) e in ((omega (arith, r.0.0), r.0.1), r.1)
-
 -- ---- what stands is read
-
--- fields and what lines behind them mean, from what all of them mean
-abbrev Parts : Option Form → List (List ℕ) → List (List (List ℕ)) → List (ℕ × Step) → Type 0
-Parts form fields lines told = (next : Option Form) × (said : Option (ℕ × Step)) × (later : List (ℕ × Step))
-    × (list_of_option said ++ later ≡ told) × (said_at form fields ≡ Ok (next, said)) × SaysFrom next lines later
 
 step-again : (form : Form) (fields : List (List ℕ)) (said : Option (ℕ × Step)) →
     trace_line_at form fields ≡ Ok said → step_said form fields ≡ Ok (Some form, said)
 step-again form fields said e = rw e refl
 
 parts-form : (form : Form) (fields : List (List ℕ)) (lines : List (List (List ℕ))) (told : List (ℕ × Step)) →
-    TellSteps form (with_fields fields lines) told → Parts (Some form) fields lines told
+    TellSteps form (with_fields fields lines) told →
+    Parts said_at SaysFrom FieldsCause (Some form) fields lines told
 unfolding TellSteps said_at
 parts-form form [] lines told s =
     (Some form, None, told, refl, step-again form [] None (trace-nothing form [] refl), s)
@@ -189,7 +152,8 @@ parts-form form (field ∷ fields) lines (first ∷ later) s = (
 )
 
 parts-none : (fields : List (List ℕ)) (lines : List (List (List ℕ))) (told : List (ℕ × Step)) →
-    TellTrace (with_fields fields lines) told → Parts None fields lines told
+    TellTrace (with_fields fields lines) told →
+    Parts said_at SaysFrom FieldsCause None fields lines told
 unfolding TellSteps said_at
 parts-none [] lines told s =
     (None, None, told, refl, rw (form-nothing [] refl) refl, s)
@@ -206,29 +170,16 @@ parts-none (field ∷ fields) lines told (inr s) =
     (Some Two, None, told, refl, rw (form-only (field ∷ fields) Two s.0) refl, s.1)
 
 parts : (form : Option Form) (fields : List (List ℕ)) (lines : List (List (List ℕ))) (told : List (ℕ × Step)) →
-    SaysFrom form (with_fields fields lines) told → Parts form fields lines told
+    SaysFrom form (with_fields fields lines) told →
+    Parts said_at SaysFrom FieldsCause form fields lines told
 parts None fields lines told s = parts-none fields lines told s
 parts (Some form) fields lines told s = parts-form form fields lines told s
 
-says-nothing : (form : Option Form) (told : List (ℕ × Step)) → SaysFrom form (worded []) told → told ≡ []
-unfolding TellSteps worded
+says-nothing : (form : Option Form) (told : List (ℕ × Step)) → SaysFrom form [] told → told ≡ []
+unfolding TellSteps
 says-nothing None told s = s
 says-nothing (Some form) [] s = refl
 says-nothing (Some form) (first ∷ later) s = absurd s
-
-only-from : (lines : List (List ℕ)) (number : ℕ) (form : Option Form) (told : List (ℕ × Step)) →
-    FitsFrom number lines → SaysFrom form (worded lines) told → read_from said_at number form lines ≡ Ok told
-unfolding AreShort worded
-only-from [] number form told fits s = lines-end said_at number form ∙ ap Ok (sym (says-nothing form told s))
-only-from (line ∷ lines) number form told fits s =
-    let p = parts form (fields_of line) (worded lines) told s in
-    line-said said_at number form p.0 line lines p.1 fits.1.0 (omega (arith, fits.0)) p.4
-    ∙ ap (behind (list_of_option p.1)) (only-from lines (suc number) p.0 p.2 (omega (arith, fits.0), fits.1.1) p.5)
-    ∙ ap Ok p.3
-
-pub steps-only : (lines : List (List ℕ)) (told : List (ℕ × Step)) → (length lines ≤ MOST_LINES) × AreShort lines →
-    TellTrace (worded lines) told → steps_in lines ≡ Ok told
-steps-only lines told fits s = only-from lines 1 None told (omega (arith, fits.0), fits.1) s
 
 -- ---- a fault has its cause
 
@@ -247,58 +198,6 @@ cause-more None next said [] lines kind at (inr (inr m)) s = absurd m.0
 cause-more None next said (field ∷ fields) lines kind at (inr (inr m)) s =
     let h : FieldsCause (Some Two) lines kind at =
     subst (λ (o : Option Form). FieldsCause o lines kind at) m.1 s in (Two, m.0, h)
-
-line-cause-more : (form next : Option Form) (said : Option (ℕ × Step)) (line : List ℕ) (before : List (List ℕ))
-    (kind : Kind) (number : ℕ) (at : List ℕ) → Meant form (fields_of line) next said →
-    StepLineCause next before kind number at → StepLineCause form (line ∷ before) kind number at
-unfolding worded
-line-cause-more form next said line before kind number at m (inl s) = inl s
-line-cause-more form next said line before kind number at m (inr s) =
-    inr (s.0, cause-more form next said (fields_of line) (worded before) kind (fields_of at) m s.1)
-
-none-before : (form : Option Form) (kind : Kind) (fields : List (List ℕ)) → FieldsCause form [] kind fields →
-    FieldsCause form (worded []) kind fields
-unfolding worded
-none-before form kind fields h = h
-
-fault-from : (lines : List (List ℕ)) (number : ℕ) (form : Option Form) (fault : TraceError) →
-    number ≤ suc MOST_LINES → read_from said_at number form lines ≡ Err fault →
-    StandsAtLine number lines fault.line (λ before line. StepLineCause form before fault.kind fault.line line)
-unfolding read_from
-fault-from [] number form fault few e = absurd cc
-fault-from (line ∷ lines) number form fault few e =
-    elim (fitted-err number line (said_at form (fields_of line))
-    (λ said. behind (list_of_option said.1) (read_from said_at (suc number) said.0 lines)) fault few e) [
-      | inl t ↦ (
-        [],
-        line,
-        lines,
-        refl,
-        omega (arith, t.0),
-        inl (
-          t.1,
-          subst (λ (k : ℕ). IsTooLong k line) (sym t.0)
-              t.2,
-        ),
-      )
-      | inr (inl t) ↦ let r = said-refused form (fields_of line) fault.kind t.1 in
-          ([], line, lines, refl, omega (arith, t.0), inr (r.0, none-before form fault.kind (fields_of line) r.1))
-      | inr (inr t) ↦ let next = t.1.0.0 in let said = t.1.0.1 in
-          let m = said-meant form (fields_of line) next said t.1.1 in
-          let r = fault-from lines (suc number) next fault (omega (arith, t.0))
-          (behind-err (list_of_option said) (read_from said_at (suc number) next lines) fault t.1.2) in (
-            line ∷ r.0,
-            r.1,
-            r.2,
-            ap (λ (w : List (List ℕ)). line ∷ w) r.3,
-            omega (arith, r.4),
-            line-cause-more form next said line r.0 fault.kind fault.line r.1 m r.5,
-          )
-    ]
-
-pub steps-fault : (lines : List (List ℕ)) (fault : TraceError) → steps_in lines ≡ Err fault →
-    StandsAtLine 1 lines fault.line (λ before line. StepLineCause None before fault.kind fault.line line)
-steps-fault lines fault e = fault-from lines 1 None fault (omega arith) e
 
 -- ---- no line is refused for what befalls the whole text
 
@@ -320,11 +219,16 @@ cause-no-memory (Some form) fields h = trace-no-memory form fields h
 cause-no-memory None fields (inl h) = h
 cause-no-memory None fields (inr h) = trace-no-memory One fields h.1
 
-pub refused-of-line : (form : Option Form) (fields : List (List ℕ)) (fault : TraceError) → 0 < fault.line →
-    said_at form fields ≡ Err fault.kind → IsOfLine fault
-refused-of-line form fields fault some e =
-    let h = (said-refused form fields fault.kind e).1 in (
-      some,
-      λ k. cause-no-read form fields (subst (λ (w : Kind). FieldsCause form [] w fields) k h),
-      λ k. cause-no-memory form fields (subst (λ (w : Kind). FieldsCause form [] w fields) k h),
-    )
+pub steps-meant : Means said_at SaysFrom FieldsCause
+steps-meant = record {
+  none = says-none;
+  nothing = says-nothing;
+  more = λ form next said fields lines later e. says-more form next said fields lines later
+      (said-meant form fields next said e);
+  parts = parts;
+  refused = said-refused;
+  later = λ form next said fields lines kind at e. cause-more form next said fields lines kind at
+      (said-meant form fields next said e);
+  no_read = cause-no-read;
+  no_memory = cause-no-memory;
+}

@@ -1,4 +1,5 @@
 pub mod Lines
+pub mod Openings
 pub mod Steps
 pub mod Grammar
 pub mod Causes

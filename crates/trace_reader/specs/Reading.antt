@@ -1,16 +1,18 @@
 -- Reading the lines of a text from its front, up to the first fault.
 use Rattle.std.specs.Prelude.{ℕ, suc, ◌||◌, nat_lt, if◌then◌else◌, List, [], ◌∷◌, ◌++◌, length}
 use Rattle.std.specs.Prelude.{Option, Some, None, Result, Ok, Err}
+use Rattle.std.specs.FinMap.{FinMap, empty, get, insert}
+use Rattle.std.specs.Ordering.{nat_cmp}
 use Rattle.physiological_order.specs.declared.operation.Record.{Record}
 use Rattle.trace_lines.specs.declared.errors.Kind.{Kind}
-use Rattle.trace_lines.specs.declared.errors.Kind.TheVariants.{TooLong}
+use Rattle.trace_lines.specs.declared.errors.Kind.TheVariants.{TooLong, DoubleWord}
 use Rattle.trace_lines.specs.declared.errors.TraceError.{TraceError}
 use Rattle.trace_lines.specs.declared.steps.Form.{Form}
 use Rattle.trace_lines.specs.declared.steps.Form.TheVariants.{One, Two}
 use Rattle.programs.specs.declared.steps.Step.{Step}
 use Rattle.trace_lines.specs.Fields.{fields_of}
 use Rattle.text_lines.specs.Reading.{◌>>=◌}
-use Rattle.trace_lines.specs.Reading.{trace_line_at, record_line_at, form_line_at}
+use Rattle.trace_lines.specs.Reading.{trace_line_at, record_line_at, form_line_at, opening_line_at}
 use Rattle.trace_reader.specs.declared.limits.TheConstants.{MOST_BYTES, MOST_LINES}
 use Rattle.text_lines.specs.Lines.{lines_of}
 
@@ -72,3 +74,23 @@ records_in lines = read_from record_said 1 tt lines
 
 abbrev pub records_at : List ℕ → Result (List Record) TraceError
 records_at bytes = records_in (lines_of bytes)
+
+-- a word that isn't among these, which it joins; a word opens once
+abbrev pub opened_once : FinMap nat_cmp ℕ → ℕ × ℕ → Option ℕ → Result (FinMap nat_cmp ℕ × Option (ℕ × ℕ)) Kind
+opened_once words told None = Ok (insert words told.0 told.1, Some told)
+opened_once words told (Some value) = Err DoubleWord
+
+abbrev pub joined : FinMap nat_cmp ℕ → Option (ℕ × ℕ) → Result (FinMap nat_cmp ℕ × Option (ℕ × ℕ)) Kind
+joined words None = Ok (words, None)
+joined words (Some told) = opened_once words told (get words told.0)
+
+-- what a line of an opening says, after lines that opened these words: the words from there on, and its own
+abbrev pub opening_said : FinMap nat_cmp ℕ → List (List ℕ) → Result (FinMap nat_cmp ℕ × Option (ℕ × ℕ)) Kind
+opening_said words fields = opening_line_at fields >>= joined words
+
+-- the words of lines in their order with their values, and of a text
+abbrev pub opening_in : List (List ℕ) → Result (List (ℕ × ℕ)) TraceError
+opening_in lines = read_from opening_said 1 empty lines
+
+abbrev pub opening_read : List ℕ → Result (List (ℕ × ℕ)) TraceError
+opening_read bytes = opening_in (lines_of bytes)

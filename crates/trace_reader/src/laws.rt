@@ -2,12 +2,14 @@
 //! the law.
 
 ghost use Rattle.std.specs.Prelude.{◌≡◌, ℕ, List, [], ◌∷◌, codes};
+ghost use Rattle.std.specs.FinMap.{FinMap};
 ghost use Rattle.std.specs.List.{filter, range_with_len};
+ghost use Rattle.std.specs.Ordering.{nat_cmp};
 ghost use Rattle.physiological_order.specs.declared.operation.Record.{Record};
 ghost use Rattle.trace_lines.specs.Fields.{is_blank};
 ghost use Rattle.trace_lines.specs.Spelling.{is_digit, is_hex_digit};
 ghost use Rattle.programs.specs.declared.steps.Step.{Step};
-ghost use Rattle.trace_reader.specs.Grammar.{AreRecords, IsTrace};
+ghost use Rattle.trace_reader.specs.Grammar.{AreRecords, IsOpening, IsTrace};
 ghost use Rattle.trace_reader.specs.declared.limits.TheConstants as limit;
 
 /// A line has at most 256 bytes, and a text 16,777,216 lines.
@@ -23,10 +25,12 @@ pub fn bytes_are_of_these_kinds()
     ensures hexadecimal { filter is_hex_digit (range_with_len 0 256) ≡ codes "0123456789abcdef" }
 {}
 
-/// A text is that of one trace at most, and of one list of records at most.
+/// A text is that of one trace at most, of one list of records at most, and of one opening at most.
 pub fn one_text_tells_one_list()
     ensures trace { (bytes : List ℕ) (one other : List (List Step)) →
         IsTrace bytes one → IsTrace bytes other → one ≡ other }
     ensures records { (bytes : List ℕ) (one other : List Record) →
         AreRecords bytes one → AreRecords bytes other → one ≡ other }
+    ensures opening { (bytes : List ℕ) (one other : FinMap nat_cmp ℕ) →
+        IsOpening bytes one → IsOpening bytes other → one ≡ other }
 {}

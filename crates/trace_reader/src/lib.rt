@@ -1,16 +1,18 @@
-//! Reads the texts of traces and of records from a source of bytes.
+//! Reads the texts of traces, of records and of openings from a source of bytes.
 #![tactic(auto)]
 
 mod blocks;
 pub mod laws;
 mod limits;
 mod next_lines;
+mod opening_texts;
 mod record_texts;
 mod trace_texts;
 mod traces;
 
 pub use byte_streams::{FromRead, Source};
 pub use limits::{MOST_BYTES, MOST_LINES};
+pub use opening_texts::read_opening;
 pub use record_texts::read_records;
 pub use trace_lines::{Form, Kind, Step, TraceError};
 pub use trace_texts::read;

@@ -11,6 +11,8 @@ returns-in-Trace g c = rw c.in-Trace.is (c.open-in-Trace.result, c.open-in-Trace
 
 pub returns-in-Check : goal.returns-in-Check
 returns-in-Check g c = rw c.in-Check.is (
+  c.open_named-opening.result,
+  c.open_named-opening.ensures,
   c.open-trace.result,
   c.open-records.result,
   c.open-trace.ensures,

@@ -8,7 +8,8 @@ use Rattle.trace_reader.specs.Outcomes.{Refused}
 use Rattle.trace_reader.specs.Reading.{record_said, records_in}
 use Rattle.trace_reader.proofs.LinesRead.{all-read, at-start, long-of-line, one-wanted, read-on}
 use Rattle.trace_reader.proofs.LinesRead.{refused-long, refused-said}
-use Rattle.trace_reader.proofs.RecordsMeant.{record-of-line}
+use Rattle.trace_reader.proofs.LinesMeant.{fault-of-line}
+use Rattle.trace_reader.proofs.RecordsMeant.{Cause, Tells, records-meant}
 use Rattle.trace_reader.proofs.record_texts.read_whole.Goals as goal
 
 pub returns-in_err-length-clause-fault : goal.returns-in_err-length-clause-fault
@@ -54,7 +55,8 @@ returns-in_err-add_line-clause-fault g c =
       | inr f ↦ inr (
         l.ensures.none_failed ∙ i.counted,
         inr (
-          record-of-line (fields_of c.front.result.now) fault (omega (arith, f.0)) f.1,
+          fault-of-line record_said Tells Cause records-meant tt (fields_of c.front.result.now) fault
+              (omega (arith, f.0)) (ap (λ r. r >>= (λ told. Ok (tt, told))) f.1),
           refused-said record_said _ _ _ _ tt tt _ c.lines.number i.read (ahead c.next_line.new.block) l.field-0
               l.ensures.next c.front.result.now c.in-Some.length c.in-Some.is short c.front.ensures fault f.0
               (ap (λ r. r >>= (λ told. Ok (tt, told))) f.1),

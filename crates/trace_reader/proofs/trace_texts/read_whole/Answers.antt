@@ -2,12 +2,14 @@ use Rattle.std.proofs.Common.{◌++◌, [], None, refl, suc, inl, inr, ap, sym, 
 use Rattle.std.proofs.lemmas.Result.{err_from_is_err_and}
 use Rattle.trace_lines.specs.Fields.{fields_of}
 use Rattle.trace_reader.specs.Ahead.{ahead}
+use Rattle.trace_reader.specs.Causes.{FieldsCause}
 use Rattle.trace_reader.specs.Outcomes.{Refused}
 use Rattle.trace_reader.specs.Reading.{list_of_option, said_at, steps_in}
 use Rattle.trace_reader.specs.Steps.{IsByCore}
 use Rattle.trace_reader.proofs.LinesRead.{all-read, at-start, if-some, long-of-line, one-wanted, read-on}
 use Rattle.trace_reader.proofs.LinesRead.{refused-long, refused-said}
-use Rattle.trace_reader.proofs.StepsMeant.{refused-of-line}
+use Rattle.trace_reader.proofs.LinesMeant.{fault-of-line}
+use Rattle.trace_reader.proofs.StepsMeant.{SaysFrom, steps-meant}
 use Rattle.trace_reader.proofs.trace_texts.read_whole.Goals as goal
 
 pub returns-in_err-length-clause-fault : goal.returns-in_err-length-clause-fault
@@ -53,7 +55,8 @@ returns-in_err-form-clause-fault g c =
       | inr f ↦ inr (
         l.ensures.none_failed ∙ i.counted,
         inr (
-          refused-of-line c.lines.form (fields_of c.front.result.now) fault (omega (arith, f.0)) f.1,
+          fault-of-line said_at SaysFrom FieldsCause steps-meant c.lines.form (fields_of c.front.result.now) fault
+              (omega (arith, f.0)) f.1,
           refused-said said_at _ _ _ _ None c.lines.form i.told c.lines.number i.read (ahead c.next_line.new.block)
               l.field-0 l.ensures.next c.front.result.now c.in-Some.length c.in-Some.is short c.front.ensures
               fault f.0 f.1,

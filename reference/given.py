@@ -55,7 +55,7 @@ class Words(argparse.ArgumentParser):
         self.add_argument("--schedule", choices=["round", "seed"], default="round", help="as in docs/SCHEDULES.md")
         for name, (usual, says) in NUMBERS.items():
             self.add_argument("--" + name, type=int, default=usual, metavar="N", help=f"{says} ({usual})")
-        self.add_argument("--fair", action="store_true", help="with --schedule round, the older request goes first")
+        self.add_argument("--fair", action="store_true", help="with --schedule round, fair rounds")
         self.add_argument("--private-write", action="store_true", help="an owner's further stores take no later time")
         self.core_option()
 

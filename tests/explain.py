@@ -108,7 +108,7 @@ RUNS = [
 ]
 NO_RUNS = [("check none b", "none: No such file or directory"), ("trace none", "none: No such file or directory"),
            ("litmus tests", "tests: Is a directory"),
-           ("trace --schedule threads examples/traces/PAST.trace", "a run by rounds or by a seed is wanted"),
+           ("trace --schedule threads examples/traces/PAST.trace", "runs by threads can't be made again"),
            ("trace --fair --schedule seed none", "'--fair' needs '--schedule round' or '--schedule threads'"),
            ("trace --limit 0 examples/traces/PAST.trace", "'--limit <limit>': 0 is not in 1..=4294967295")]
 # Options out of range, each with its range; and texts of another kind.

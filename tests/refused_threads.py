@@ -263,6 +263,7 @@ def refused_threads(tester):
         for runs in (1, 3):
             are_started(tester, "litmus", "--schedule", "threads", *end, "--runs", runs, LITMUS, runs=runs)
     are_started(tester, "trace", "--schedule", "threads", TRACE)
+    are_started(tester, "trace", "--schedule", "threads", "--fair", TRACE)
     are_started(tester, "trace", "--schedule", "threads", "--time", LAST_TIME, TRACE)
     with tempfile.TemporaryDirectory() as folder:
         yields_where_due(tester, folder)

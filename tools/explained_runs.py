@@ -198,8 +198,10 @@ def explained_run(words):
     try:
         options = oracle.words().parse_args(words)
         oracle.refuse_fair(options)
-        if options.command == "check" or getattr(options, "schedule", None) == "threads":
-            fail("a run by rounds or by a seed is wanted, of litmus or trace: others can't be made again")
+        if getattr(options, "schedule", None) == "threads":
+            fail("runs by threads can't be made again: docs/SCHEDULES.md (Threads) says what to try at their limit")
+        if options.command == "check":
+            fail("a run of litmus or trace is wanted")
         text = text_of(options.FILE)
         read = oracle.read_trace(options.FILE) if options.command == "trace" else oracle.read_litmus(options.FILE)
     except (Fault, LitmusFault) as fault:

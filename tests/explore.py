@@ -183,6 +183,7 @@ COMPARED = [
     ("0 W 0x0 1\n0 W 0x0 2\n", {"evict": "any", "messages": 2}, []),
     ("trace 2\n0 S 0x0 1\n0 A\n0 R 0x0\n1 R 0x0\n", {"advances": 1, "lease": 1, "ways": 2}, []),
     ("0 W 0x0 1\n0 W 0x0 2\n1 R 0x0\n", {"private_write": True, "messages": 3}, []),
+    ("0 W 0x0 1\n1 W 0x8 1\n", {"messages": 2}, []),
     ("0 W 0x0 1\n1 S 0x8 2\n", {"line_words": 8}, []), ("0 W 0x0 1\n1 R 0x8\n", {"banks": 2, "evict": "any"}, []),
     ("0 R 0x0\n0 W 0x0 1\n", {"time": 2 ** 64 - 11}, []),
     *((text, given, changes) for _, kind, most, text, given, changes in WRONG if most < 16)]

@@ -16,8 +16,7 @@ from tools.explored.frozen import Elsewhere, Numbered, Unread, frozen, thawed
 KNOWN = {"o", "cores", "mts", "bank_sets", "dram", "flight", "sent", "records", "counts", "stopped"}
 # What a core has beside its fields: its sets, and the operations that it was issued, which only grow.
 NOT_FIELDS = ("sets", "issued")
-# What numbers of messages, records and the like begin with, where a step is made twice: no rule can tell a sum or a
-# remainder of both alike.
+# What numbers of messages, records and the like begin with, where a step is made twice.
 NUMBERS = (0, 2 ** 61 - 1)
 
 
@@ -26,6 +25,8 @@ class Number(int):
 
     def __add__(self, other):
         return Number(int(self) + other)
+
+    __radd__ = __add__
 
     def look(self, *_):
         raise Numbered("a rule reads a number of messages")

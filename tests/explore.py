@@ -183,6 +183,7 @@ COMPARED = [
     ("0 W 0x0 1\n0 W 0x0 2\n", {"evict": "any", "messages": 2}, []),
     ("trace 2\n0 S 0x0 1\n0 A\n0 R 0x0\n1 R 0x0\n", {"advances": 1, "lease": 1, "ways": 2}, []),
     ("0 W 0x0 1\n0 W 0x0 2\n1 R 0x0\n", {"private_write": True, "messages": 3}, []),
+    ("0 W 0x0 1\n1 W 0x8 1\n", {"messages": 2}, []),
     ("0 W 0x0 1\n1 S 0x8 2\n", {"line_words": 8}, []), ("0 W 0x0 1\n1 R 0x8\n", {"banks": 2, "evict": "any"}, []),
     ("0 R 0x0\n0 W 0x0 1\n", {"time": 2 ** 64 - 11}, []),
     *((text, given, changes) for _, kind, most, text, given, changes in WRONG if most < 16)]
@@ -193,14 +194,40 @@ LONG = [(SB, {"evict": "any"}, []), *((text, given, changes) for _, _, _, text, 
 def counts(folder):
     """Faults in searches whose states can be counted by hand. One store on caches that have room goes through 9 states
     one after the other, two messages at most in flight: the request and what it waits for. Two on two banks go through
-    each pair of them."""
+    each pair of them. If the core's time advances once, before the store or behind it, the first 8 states are twice
+    there, and its end with time 1, and then 2 if it advances there. A second store to the line completes at once."""
     module, _ = module_of(folder, [])
     for text, given, wanted in [("0 W 0x0 1\n", {}, (9, 8, 8, 1, 2)),
+                                ("0 W 0x0 1\n", {"advances": 1}, (19, 25, 9, 3, 2)),
+                                ("0 W 0x0 1\n0 W 0x0 2\n", {}, (11, 10, 10, 1, 2)),
                                 ("0 W 0x0 1\n1 W 0x8 2\n", {"banks": 2}, (81, 144, 16, 1, 4))]:
         search, _ = searched(module, text, given)
         came = len(search.states), search.made, search.depth, len(search.done), search.most
         if came != wanted:
             yield f"{text!r}: {came}, not {wanted}"
+    yield from coverage(module)
+
+
+# What two stores of one core to a line meet, and the answers that only one line gives.
+STORES_MEET = {"write none: Requested", "ExRep: Delivered", "write Exclusive: Completed", "absent request: Started",
+               "Loading request: Held", "Loading DramLdRep: Delivered", "Shared ExReq: ExRep", "DramLd: Delivered"}
+STORES_ANSWER = {"Issued": True, "Completed": True, "Waiting": True, "Requested": True, "Idle": False, "NoRoom": False,
+                 "Pinned": False, "Dropped": False, "Recalled": False, "Advanced": False}
+
+
+def coverage(module):
+    """Faults in what a search says it met, of rows and of lines."""
+    system = searched(module, "0 W 0x0 1\n0 W 0x0 2\n", {})[0].system
+    rows = {(section, words) for section, words, key in ROWS if key not in STORES_MEET}
+    if set(system.rows.never()) != rows or system.rows.count() != len(ROWS) - len(rows):
+        yield f"two stores don't meet {system.rows.never()}"
+    never = system.maker.lines.never(module)
+    lines = Path(module.__file__).read_text(encoding="utf-8").splitlines()
+    for answer, is_met in STORES_ANSWER.items():
+        at = [number for number, line in enumerate(lines, 1) if f'return "{answer}"' in line or
+              f'Refusal("{answer}")' in line]
+        if [number in never for number in at] != [not is_met]:
+            yield f"two stores and lines {at}, of {answer}: {never} never ran"
 
 
 def by_processes(folder):
@@ -311,6 +338,10 @@ def command_line(folder, player):
     both = ran("--jobs", 2, test, stuck)
     if both.returncode or both.stdout.count("explored all") != 2 or "ends 3 of 3 in a seq" not in both.stdout:
         yield f"two files: {both}"
+    good = Path(folder, "good.trace")
+    good.write_text("0 W 0x0 1\n")
+    if ran("--small", "--evict", "any", "--messages", 2, stuck, good).returncode != 1:
+        yield "of two files the first is wrong, and the status is another"
     all_played = ran("--small", "--evict", "any", "--player", player, test)
     # 5,457 states: the ways to 6 of them, and as many walks.
     if all_played.returncode or not re.search(r"^player 12 examples, \d+ answers$", all_played.stdout, re.M):
@@ -354,6 +385,8 @@ def kept_in_files(folder, test):
             yield f"a search that was saved ends otherwise, with {words}"
     if ran("--resume", kept, test).returncode != 2:
         yield "a search goes on with other words"
+    if ran("--whole", "--resume", kept, TOP / "examples/litmus/MP.litmus").returncode != 2:
+        yield "a search goes on with another file"
 
 
 def refused(folder, test):
@@ -371,14 +404,18 @@ def refused(folder, test):
 
 def copied(folder):
     """Faults in a changed copy, as docs/CHANGING-A-RULE.md makes one: in what it finds, which its own player plays;
-    and in how it refuses a rule that reads how many messages were sent."""
+    and in how it refuses a rule that reads how many messages were sent, or what a core was issued. Another machine's
+    search isn't gone on with."""
     mine, trace = Path(folder, "mine"), Path(folder, "stores.trace")
     for name in ("reference", "tools"):
         shutil.copytree(TOP / name, mine / name, ignore=shutil.ignore_patterns("__pycache__"))
     trace.write_text(TWO_STORES)
+    test = TOP / "examples/litmus/SB.litmus"
+    ran("--small", "--states", 300, "--save", mine / "kept", test)
     name, _, most, _, _, changes = WRONG[0]
     for changes, status, says in [(changes, 1, f"fault two owners of line 0, after {most} events"),
-                                  ([("        if core.out:\n", "        if core.out and self.sent > 500:\n")], 2, "")]:
+                                  ([("        if core.out:\n", "        if core.out and self.sent > 500:\n")], 2, ""),
+                                  ([("        if core.out:\n", "        if core.out and core.issued[-1]:\n")], 2, "")]:
         text = MACHINE.read_text(encoding="utf-8")
         for old, new in changes:
             text = text.replace(old, new)
@@ -389,6 +426,9 @@ def copied(folder):
             yield f"{name}, in a copy: {done}"
         if status == 2:
             continue
+        if subprocess.run([mine / "tools/explore.py", "--small", "--resume", mine / "kept", test], check=False,
+                          capture_output=True, timeout=120).returncode != 2:
+            yield "a search goes on with another machine"
         played, page = (subprocess.run(words, capture_output=True, text=True, check=False) for words in (
             [mine / "reference/play.py", mine / "found"],
             [mine / "tools/page.py", mine / "found"]))

@@ -104,6 +104,14 @@ WIDE = [
 NUMBERED = [
     ("how many messages were sent", [("        if core.out:\n", "        if core.out and self.sent > 500:\n")]),
     ("whether it is even", [("        if core.out:\n", "        if core.out or self.sent % 2 == 0:\n")]),
+    ("what it leaves, divided by ten", [("        if core.out:\n", "        if core.out or self.sent % 10 == 5:\n")]),
+    ("which message was sent before", [
+        ("        answer = self.take_in(self.flight[number])\n",
+         "        answer = self.take_in(self.flight[number]) if number - 1 not in self.flight else 'Held'\n")]),
+    ("which was sent first of those that go one way", [
+        ("        answer = self.take_in(self.flight[number])\n",
+         "        way = [n for n, m in self.flight.items() if self.nodes(m) == self.nodes(self.flight[number])]\n"
+         "        answer = self.take_in(self.flight[number]) if way[0] == number else 'Held'\n")]),
     ("how many operations a core was issued", [
         ("        if self.cores[number].op:\n",
          "        if self.cores[number].op or len(self.cores[number].issued) > 0:\n")]),

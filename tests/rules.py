@@ -14,6 +14,7 @@ import tempfile
 from concurrent.futures import ThreadPoolExecutor
 from os import cpu_count
 from pathlib import Path
+from types import SimpleNamespace
 
 TOP = Path(__file__).resolve().parent.parent
 sys.path.insert(0, str(TOP))
@@ -173,6 +174,10 @@ def draws():
             yield f"drawn trials don't have each of {values} for {name}"
     if any(trial.options.messages <= len(trial.steps) for trial in trials):
         yield "a drawn machine has no place more than cores"
+    # A message that found no place excuses a round without progress, if that was in the last rounds.
+    full, rounds = [(None, "NetworkFull")], [(None, "Held")] * try_rule.ROUNDS
+    if [trials[0].is_at_fault(SimpleNamespace(made=made)) for made in (full + rounds, rounds + full)] != [True, False]:
+        yield "a message that found no place long ago excuses a round"
     few = [try_rule.trial_of(number, [], True) for number in range(300)]
     if {trial.options.messages - len(trial.steps) for trial in few} - set(range(4090, 4096)) != {-1, 0, 1, 2}:
         yield "--stuck doesn't draw fewer places"

@@ -16,9 +16,23 @@ from tools.explored.frozen import Elsewhere, Numbered, Unread, frozen, thawed
 KNOWN = {"o", "cores", "mts", "bank_sets", "dram", "flight", "sent", "records", "counts", "stopped"}
 # What a core has beside its fields: its sets, and the operations that it was issued, which only grow.
 NOT_FIELDS = ("sets", "issued")
-# What numbers of messages, records and the like begin with, where a step is made twice: no rule can tell a sum or a
-# remainder of both alike.
+# What numbers of messages, records and the like begin with, where a step is made twice.
 NUMBERS = (0, 2 ** 61 - 1)
+
+
+class Number(int):
+    """A message's number, or how many were sent. A rule may only count on, and find a message by it."""
+
+    def __add__(self, other):
+        return Number(int(self) + other)
+
+    __radd__ = __add__
+
+    def look(self, *_):
+        raise Numbered("a rule reads a number of messages")
+
+    __lt__ = __le__ = __gt__ = __ge__ = __bool__ = look
+    __sub__ = __rsub__ = __mul__ = __floordiv__ = __mod__ = __divmod__ = __and__ = __rshift__ = look
 
 
 class Only:
@@ -92,7 +106,10 @@ class Flight(dict):
     def look(self, *_):
         raise Elsewhere("a rule looks at other messages")
 
-    __iter__ = keys = values = items = get = look
+    def __contains__(self, number):
+        return super().__contains__(number) or self.look()
+
+    __iter__ = __missing__ = keys = values = items = get = look
 
 
 def failure(error, module):
@@ -182,7 +199,7 @@ class Maker:
         """`part` is ("core", number), ("bank", number) or ("dram",). A delivered message has number `first`."""
         machine, o = object.__new__(self.module.Machine), self.options
         kind, *at = part
-        machine.o, machine.stopped, machine.sent = o, False, first + 1
+        machine.o, machine.stopped, machine.sent = o, False, Number(first + 1)
         machine.cores, machine.mts, machine.bank_sets = Only(o.cores), Only(o.banks), Only(o.banks)
         machine.dram = Nowhere()
         if kind == "core":
@@ -193,7 +210,7 @@ class Maker:
         else:
             machine.dram = thawed(value)
         machine.flight = Flight({} if message is None else {first: self.shapes.held(message)}, count)
-        machine.records, machine.counts = Added(first), dict.fromkeys(self.module.COUNTED, first)
+        machine.records, machine.counts = Added(first), dict.fromkeys(self.module.COUNTED, Number(first))
         return machine
 
     def value_of(self, part, machine):
@@ -217,14 +234,14 @@ class Maker:
         self.made += first == 0
         answer, failed = None, None
         try:
-            answer = self.lines.traced(machine.step, (*event, first) if event[0] == "Deliver" else event)
+            answer = self.lines.traced(machine.step, (*event, Number(first)) if event[0] == "Deliver" else event)
         except (Unread, Elsewhere):
             raise
         except Exception as error:
             failed = failure(error, self.module)
         if set(vars(machine)) != KNOWN:
             raise Elsewhere("the machine has more than cores, banks, DRAM and messages")
-        left = machine.flight.all()
+        left = {int(number): m for number, m in machine.flight.all().items()}
         self.rows.met(row, answer, [m.kind for number, m in left.items() if number > first], failed)
         sent = tuple(self.shapes.message(m) for number, m in left.items() if number > first)
         records = tuple(tuple(record)[:-1] for record in machine.records.new)

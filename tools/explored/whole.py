@@ -4,9 +4,9 @@ It is for rules that look at more than one part, at a tenth of the speed; and te
 it. A state has every value of every part, all records in the order in which they were completed, and the messages in
 flight as a bag.
 """
-from tools.explored.frozen import Numbered, Shapes, frozen, thawed
+from tools.explored.frozen import Elsewhere, Numbered, Shapes, frozen, thawed
 from tools.explored.history import with_record
-from tools.explored.local import KNOWN, NUMBERS, Maker, Tables, failure
+from tools.explored.local import KNOWN, NUMBERS, Maker, Number, Tables, failure
 from tools.explored.parts import OWNING
 from tools.explored.programs import end_of, programs_of
 from tools.explored.rows import Rows
@@ -40,7 +40,7 @@ class Whole(Saved):
 
     def machine(self, state, first=0):
         """The machine, its programs and its own advances, to be changed. Numbers that states don't have begin with
-        `first`."""
+        `first`. From another one than 0 messages have them in the other order, too."""
         cores, banks, dram, flight, records, programs, advances, stopped, more = state
         machine = object.__new__(self.module.Machine)
         machine.o, machine.stopped = self.options, stopped
@@ -48,7 +48,8 @@ class Whole(Saved):
         machine.mts = [thawed(mts) for mts, _ in banks]
         machine.bank_sets = [self.maker.sets_of(sets) for _, sets in banks]
         machine.dram = thawed(dram)
-        machine.flight, machine.sent = dict(enumerate(map(self.shapes.held, flight), first)), first + len(flight)
+        messages = map(self.shapes.held, reversed(flight) if first else flight)
+        machine.flight, machine.sent = dict(enumerate(messages, first)), Number(first + len(flight))
         machine.records = [self.module.Record(*record) for record in records]
         machine.counts = dict.fromkeys(self.module.COUNTED, first)
         for name, value in more:
@@ -104,7 +105,8 @@ class Whole(Saved):
         """An event, the state after it or None, and a fault or 0."""
         machine, programs, advances = self.machine(state, first)
         name = self.event_id(event, state[3])
-        failed = self.made(machine, ("Deliver", first + event[1]) if event[0] == "Deliver" else event)
+        at = first + (len(state[3]) - 1 - event[1] if first else event[1]) if event[0] == "Deliver" else 0
+        failed = self.made(machine, ("Deliver", Number(at)) if event[0] == "Deliver" else event)
         if failed:
             return name, None, self.fault(*failed)
         self.after(machine, event, programs, advances, len(state[4]))
@@ -118,12 +120,14 @@ class Whole(Saved):
     def made(self, machine, event):
         """Makes an event: a failure, or None."""
         row = self.rows.look(machine, event, event[1])
-        sent = machine.sent
+        sent = int(machine.sent)
         try:
             answer = self.maker.lines.traced(machine.step, event[:2] if event[0] == "Advance" else event)
+        except Elsewhere:
+            raise
         except Exception as error:
             return "fails", failure(error, self.module)
-        self.rows.met(row, answer, [m.kind for number, m in machine.flight.items() if number >= sent], None)
+        self.rows.met(row, answer, [m.kind for number, m in machine.flight.items() if int(number) >= sent], None)
         machine.answer = answer
         return ("exhausted", "") if answer == "Exhausted" else None
 

@@ -32,6 +32,9 @@ RINGS = {"CoRR": ["Rfe PosRR Fre"], "CoRW": ["Rfe PosRW Wse"], "CoWR": ["PosWR F
          "MP+swaps": ["PodWW Rfe PodRR Fre"],
          "MP+fences": ["PodWW Rfe PodRR Fre"],
          "2+2W+swaps": ["PodWR Fre PodWR Fre"], "LOCK+release": ["PodWW Rfe PodRR Fre"]}
+# Names of the family that no test of examples/litmus or tests/herd has.
+NAMED = {"WWC": "Rfe PodRW Rfe PodRW Wse", "WRW+WR": "Rfe PodRW Wse PodWR Fre", "WRR+2W": "Rfe PodRR Fre PodWW Wse",
+         "IRRWIW": "Rfe PodRR Fre Rfe PodRW Wse", "IRWIW": "Rfe PodRW Wse Rfe PodRW Wse"}
 SENTENCES = {
     "SB": "P0 stores x before it loads y; P0's load of y is before P1's store, which it misses; P1 stores y before it "
           "loads x; P1's load of x is before P0's store, which it misses: a ring, so no order has it.",
@@ -103,6 +106,9 @@ def known(tester):
             status, out, error = tester.run(*words)
             good = (status, error) == (0, "") and from_brace(out) == from_brace(typed)
             tester.expect(good and f"RISCV {name}\n" in out, f"{name}: {status} {out} {error}")
+    for name, edges in NAMED.items():
+        came = cycles.name_of(tuple(edges.split()))
+        tester.expect(came == name, f"{edges}: {came}, wanted {name}")
     for path in sorted((TOP / "examples/litmus").glob("*.litmus")):
         wanted = [cycles.NAMES[path.stem]] if path.stem in cycles.NAMES else RINGS.get(path.stem)
         if wanted:
@@ -126,6 +132,9 @@ def others(tester):
     status, out, error = tester.run("--why", str(folder / "SB.litmus"), str(folder / "SB+forall.litmus"))
     is_good = (status, error) == (0, "") and out.count("PodWR Fre PodWR Fre") == 2
     tester.expect(is_good, f"--why: {status} {out} {error}")
+    status, out, error = tester.run("--why", str(folder / "SB.litmus"), str(folder / "SB+yes.litmus"))
+    is_good = (status, error) == (1, "") and "PodWR Fre PodWR Fre" in out and "some order ends so" in out
+    tester.expect(is_good, f"--why of two: {status} {out} {error}")
     for name, said in (("SB+yes", "some order ends so"), ("STALE", "some order ends so"),
                        ("RENEW", "no values end otherwise")):
         status, out, error = tester.run("--why", str(folder / f"{name}.litmus"))

@@ -119,6 +119,26 @@ def beyond_a_million(tester):
     tester.expect((status, error, out.splitlines()[:1] + out.splitlines()[1::2]) == (0, "", lines), f"{out} {error}")
 
 
+# A program whose runs all stall.
+STALLED = """#!/bin/sh
+printf '%s\\n' 'test T' 'stalled 5' 'limit 0' 'exhausted 0' 'memory 0' 'held 0'
+"""
+
+
+def stalled(tester):
+    """Runs that stall have a row."""
+    kept = os.environ["TARDIS"]
+    with tempfile.TemporaryDirectory() as folder:
+        program = Path(folder, "program")
+        program.write_text(STALLED)
+        program.chmod(0o755)
+        os.environ["TARDIS"] = str(program)
+        status, out, error = tester.run("--seeds", "5", SB)
+    os.environ["TARDIS"] = kept
+    good = "T: 5 seeds from 0, 1 ends\n  stalled: 5 of 5, first by seed 0\n" in out
+    tester.expect((status, error) == (0, "") and good, f"stalled: {status} {out} {error}")
+
+
 def main(program):
     os.environ["TARDIS"] = os.path.abspath(program)
     os.chdir(TOP)
@@ -128,6 +148,7 @@ def main(program):
     refusals(tester)
     a_dash(tester)
     beyond_a_million(tester)
+    stalled(tester)
     print(f"{tester.tried} tried, {tester.wrong} wrong")
     return int(tester.wrong > 0)
 

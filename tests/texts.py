@@ -7,6 +7,7 @@ from the same page (reference/oracle.py). The second program must find the same 
 """
 import os
 import random
+import re
 import subprocess
 import sys
 import tempfile

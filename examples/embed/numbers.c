@@ -366,7 +366,8 @@ static void refusals(void) {
         growths = 0;
         number = opened("0x0 5\n0x8 6\n", TRACE, RECORDS, 1, 1000);
         if (growths < refused_at) break;
-        MUST(number == TARDIS_NO_MEMORY && has("tardis: no memory\n"));
+        /* a call that can do without what was refused goes on */
+        MUST(number == TARDIS_NO_MEMORY ? has("tardis: no memory\n") : number == TARDIS_DONE && has("legal\n"));
     }
     MUST(number == TARDIS_DONE && has("legal\n"));
     for (refused_at = 1;; refused_at++) {

@@ -27,7 +27,7 @@ use std::thread::Threads;
 use thread_driver::laws::closed_machines_are_consistent;
 use trace_reader::Trace;
 use trace_texts::{TraceEnd, legal_trace_text, records_text};
-use worker_driver::{Finished, thread_run};
+use worker_driver::{Finished, run_seats};
 
 /// The machine on which a trace was run, and how the run ended.
 #[derive(Drop)]
@@ -87,7 +87,7 @@ pub(crate) fn run_by_threads<R: Threads + Sync>(
     let _few = trace.cores();
     let memory = Memory::new(alloc);
     let programs = programs_of(alloc, trace)?;
-    let ran = thread_run(
+    let ran = run_seats(
         rt, alloc, config, memory, programs, workers, limit, fair, &Free,
     )?;
     // Its contract says that they rise by number.

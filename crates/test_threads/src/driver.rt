@@ -10,7 +10,7 @@ use programs::{End, Program, Step};
 use std::alloc::{AllocError, Global};
 use std::thread::Threads;
 use thread_driver::ThreadRun;
-use worker_driver::thread_run;
+use worker_driver::run_seats;
 
 /// One core and one bank, with a lease of 10, from time 0 on, and lines of one word.
 pub(crate) const ONE: Config = Config {
@@ -103,7 +103,7 @@ pub(crate) fn end_of<R: Threads + Sync>(
     }
     let memory = Memory::new(alloc);
     let (limit, fair) = (case.turn_limit, case.fair);
-    match thread_run(
+    match run_seats(
         rt, alloc, config, memory, scripts, workers, limit, fair, gate,
     ) {
         Ok(ThreadRun { end, .. }) => Some(end),

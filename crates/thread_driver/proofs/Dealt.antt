@@ -75,7 +75,8 @@ module _ {P : Type 0} (acts : Acts P) (m : Machine) (n : ℕ) where
     first_hand = let z : 0 + i ≡ i = omega arith in ap (λ z. z % n) z ∙ mod-eq_of_lt within
 
     -- what is at a place of a share
-    in_share : {X : Type 0} → (items : Worker P → List X) (xs : List X) → IsDealtInTurn xs 0 n (map items ws) → (k : ℕ) →
+    in_share : {X : Type 0} → (items : Worker P → List X) (xs : List X) → IsDealtInTurn xs 0 n (map items ws) →
+        (k : ℕ) →
         slice_get (items w) k ≡ slice_get xs (n * k + i)
     in_share items xs turns k =
         ap (λ l. slice_get l k) (sym (value_of items ws i w [] at))

@@ -19,7 +19,8 @@ module _ {P : Type 0} (acts : Acts P) where
       subst (λ (o : Option Op). IfSome o (λ op. acts.next program ≡ Some (step.Op op))) (sym e) tt
 
   -- nothing is opened or completed
-  pub plays_not : (p q : CoreSeat) (program : P) → IsAhead acts p program → SameWork p q → Plays acts p program q program
+  pub plays_not : (p q : CoreSeat) (program : P) → IsAhead acts p program → SameWork p q →
+      Plays acts p program q program
   plays_not p q program a s =
       record {
         number = s.number;

@@ -217,7 +217,8 @@ module _ {P : Type 0} (acts : Acts P) where
           omega arith))
           (cases_lt (last_look v.signaler).finished rota.programs)
 
-      pub all_used : AllGave acts m rota.fair (Exactly rota.turns) ws vs ⊎ (rota.programs ≤ finished_by (signalers_of vs))
+      pub all_used : AllGave acts m rota.fair (Exactly rota.turns) ws vs ⊎
+          (rota.programs ≤ finished_by (signalers_of vs))
       all_used =
           ⊎_elim
           (λ each. inl (record { long = work.long; each = each }))

@@ -43,7 +43,8 @@ module _ {P : Type 0} (acts : Acts P) (m : Machine) (signals : Signals) where
     pub ahead : AreAhead acts l.cores.items l.programs.items
     pub few : (length l.cores.items ≤ 72) × (length l.banks.items ≤ 72)
     pub number : number_of l.signaler ≡ number_of w.signaler
-    pub given : SeatsCounted acts m rota.fair passes rota.turns cores_have banks_have w.cores.items w.banks.items w.programs.items
+    pub given : SeatsCounted acts m rota.fair passes rota.turns cores_have banks_have w.cores.items w.banks.items
+        w.programs.items
         l.told l.cores.items l.banks.items l.programs.items
     pub goes : ends_all l.told ≡ false
     pub silent : l.signaler.said.stops ≡ false
@@ -131,7 +132,8 @@ module _ {P : Type 0} (acts : Acts P) (m : Machine) (signals : Signals) where
         }
 
     module _ (w u v : Worker P) (told both : Told) (was : Working rota passes cores_have banks_have w u)
-        (passed : SeatsPassed acts m rota.fair u.cores.items u.banks.items u.programs.items told v.cores.items v.banks.items
+        (passed : SeatsPassed acts m rota.fair u.cores.items u.banks.items u.programs.items told v.cores.items
+            v.banks.items
         v.programs.items) {core_counts bank_counts : List ℕ}
         (counts : HasCounts acts rota.turns cores_have banks_have core_counts bank_counts passed)
         (is : both ≡ told_by_both u.told told) where

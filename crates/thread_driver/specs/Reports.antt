@@ -48,7 +48,8 @@ module _ {X : Type 0} {Turn : X → Told → X → Type 0} (Is : (x : X) (told :
   OneOfAll (one_more many given rest) = OneOf given ⊎ OneOfAll rest
 
 -- what the seat's own turn answered in a bank's turn, fair or not
-abbrev pub moved_in : (fair : Bool) (m : Machine) (p : BankSeat) (told : Told) (q : BankSeat) → BankHad fair m p told q →
+abbrev pub moved_in : (fair : Bool) (m : Machine) (p : BankSeat) (told : Told) (q : BankSeat) →
+    BankHad fair m p told q →
     Result Turn Refusal
 moved_in false m p told q turn = turn.moved
 moved_in true m p told q turn = turn.moved

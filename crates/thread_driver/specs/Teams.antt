@@ -37,8 +37,8 @@ is_followed told = told.has_progressed && not (ends_all told)
 abbrev pub row_end : ℕ → ℕ → ℕ
 row_end limit n = min (n + 16) limit
 
--- Turns of a seat in a row: it had n before, and has had m. It has none if it had as many as there may be, and else one;
--- after each that is followed it has another, until it has had as many as there may be.
+-- Turns of a seat in a row: it had n before, and has had m. It has none if it had as many as there may be, and else
+-- one; after each that is followed it has another, until it has had as many as there may be.
 pub data InARow {X : Type 0} (Turn : X → Told → X → Type 0) (most : ℕ) : ℕ → X → ℕ → Told → X → Type 0 where
   is_used : {n : ℕ} {x : X} → most ≤ n → InARow Turn most n x n quiet x
   stops : {n : ℕ} {told : Told} {x y : X} → n < most → Turn x told y → is_followed told ≡ false →

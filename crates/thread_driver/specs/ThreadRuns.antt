@@ -68,7 +68,8 @@ module _ {P : Type 0} (acts : Acts P) where
     pub turns_used : e ≡ end.TurnsUsed → is_one_stopped run ≡ false
 
   -- the same of the machine that the closed one shows
-  pub record IsThreadRun (fair : Bool) (limit : ℕ) (before : List P) (m : Machine) (after : List P) (e : End) : Type 0 where
+  pub record IsThreadRun (fair : Bool) (limit : ℕ) (before : List P) (m : Machine) (after : List P)
+      (e : End) : Type 0 where
     pub run : Run
     pub is_run : IsRunFrom fair limit before run after e
     pub shows : machine_of run is_run.parts ≡ m

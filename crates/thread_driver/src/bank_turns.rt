@@ -20,8 +20,8 @@ pub fn bank_turn(machine: &Machine, begun: &Begun, seat: &mut BankSeat) -> Told
     any_bank_turn(machine, begun, seat, false)
 }
 
-/// A fair turn of a bank's seat, which has begun at a gate. The seat puts, serves and takes messages. If nothing was put
-/// or served, and a held request waits for room, the turn then evicts the line that makes room for it.
+/// A fair turn of a bank's seat, which has begun at a gate. The seat puts, serves and takes messages. If nothing was
+/// put or served, and a held request waits for room, the turn then evicts the line that makes room for it.
 pub fn fair_bank_turn(machine: &Machine, begun: &Begun, seat: &mut BankSeat) -> Told
     requires begun { begun.now.seat ≡ seat.old.mail.number }
     requires seat { IsBankSeat machine.now seat.old }

@@ -72,8 +72,8 @@ pub fn drive_threads<R: Threads + Sync, P: Program + Send + Drop, G: Gate + Sync
     )
 }
 
-/// Gives the seats turns as `drive_threads` does, but each turn of a bank is a fair one (`fair_bank_turn`).
-pub fn drive_fair_threads<R: Threads + Sync, P: Program + Send + Drop, G: Gate + Sync>(
+/// Gives the seats turns as `drive_threads` does; with `fair` each turn of a bank is a fair one (`fair_bank_turn`).
+pub fn drive_seats<R: Threads + Sync, P: Program + Send + Drop, G: Gate + Sync>(
     rt: &R,
     alloc: Global,
     machine: &Machine,
@@ -82,37 +82,6 @@ pub fn drive_fair_threads<R: Threads + Sync, P: Program + Send + Drop, G: Gate +
     programs: Vec<P>,
     workers: u32,
     turn_limit: u32,
-    gate: &G,
-) -> Shift<P>
-    requires cores { AreCoresInOrder machine.now cores.items × NoneOpen cores.items }
-    requires banks { AreBanksInOrder machine.now banks.items }
-    requires programs { length programs.items ≡ length cores.items }
-    requires workers { (0 < workers) × (workers ≤ 16) }
-    ensures cores { AreCoresInOrder machine.now result.cores.items }
-    ensures banks { AreBanksInOrder machine.now result.banks.items }
-    ensures whole { AreAll machine.now result.cores.items result.banks.items }
-    ensures served { AreServed P.acts cores.items programs.items result.cores.items
-        result.programs.items }
-    ensures ended { RefusedAtOnce cores.items banks.items programs.items
-        result.cores.items result.banks.items result.programs.items result.end
-        ⊎ Ran P.acts machine.now true turn_limit cores.items banks.items programs.items
-        result.cores.items result.banks.items result.programs.items result.end }
-{
-    drive_seats(
-        rt, alloc, machine, cores, banks, programs, workers, turn_limit, true, gate,
-    )
-}
-
-/// Gives the seats turns, fair or not.
-pub(crate) fn drive_seats<R: Threads + Sync, P: Program + Send + Drop, G: Gate + Sync>(
-    rt: &R,
-    alloc: Global,
-    machine: &Machine,
-    cores: Vec<CoreSeat>,
-    banks: Vec<BankSeat>,
-    programs: Vec<P>,
-    workers: u32,
-    limit: u32,
     fair: bool,
     gate: &G,
 ) -> Shift<P>
@@ -127,7 +96,7 @@ pub(crate) fn drive_seats<R: Threads + Sync, P: Program + Send + Drop, G: Gate +
         result.programs.items }
     ensures ended { RefusedAtOnce cores.items banks.items programs.items
         result.cores.items result.banks.items result.programs.items result.end
-        ⊎ Ran P.acts machine.now fair limit cores.items banks.items programs.items
+        ⊎ Ran P.acts machine.now fair turn_limit cores.items banks.items programs.items
         result.cores.items result.banks.items result.programs.items result.end }
 {
     records_of_seats_are_counted();
@@ -138,7 +107,9 @@ pub(crate) fn drive_seats<R: Threads + Sync, P: Program + Send + Drop, G: Gate +
         banks,
         programs,
     };
-    match drive_shift(rt, alloc, machine, &mut shift, workers, limit, fair, gate) {
+    match drive_shift(
+        rt, alloc, machine, &mut shift, workers, turn_limit, fair, gate,
+    ) {
         Err(AllocError) => {
             shift.end = End::NoMemory;
             shift

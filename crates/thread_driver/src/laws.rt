@@ -96,8 +96,8 @@ pub fn no_bank_has_a_turn_after_one_that_ends_all<P: Program>()
 {}
 
 /// How long a seat goes on before the next one has its turns: it has another turn exactly after one that made progress
-/// and ended nothing, at most sixteen in a row, and no more than the limit in all. It has at least one, unless it had as
-/// many as there may be.
+/// and ended nothing, at most sixteen in a row, and no more than the limit in all. It has at least one, unless it had
+/// as many as there may be.
 pub fn seats_have_turns_in_a_row<P: Program>()
     ensures followed { (told : Told) → (is_followed told ≡ true) ↔
         ((told.has_progressed ≡ true) × (told.no_memory ≡ false) × (told.is_exhausted ≡ false)) }

@@ -18,7 +18,7 @@ mod worker;
 
 pub use bank_turns::{bank_turn, fair_bank_turn};
 pub use core_turns::{core_turn, is_over};
-pub use drive::{drive_fair_threads, drive_threads};
-pub use run::{ThreadRun, run_fair_threads, run_threads};
+pub use drive::{drive_seats, drive_threads};
+pub use run::{ThreadRun, run_seats, run_threads};
 pub use shift::Shift;
 pub use told::Told;

@@ -52,8 +52,8 @@ pub fn run_threads<R: Threads + Sync, P: Program + Send + Drop, G: Gate + Sync>(
     )
 }
 
-/// Runs as `run_threads` does, but each turn of a bank is a fair one (`fair_bank_turn`).
-pub fn run_fair_threads<R: Threads + Sync, P: Program + Send + Drop, G: Gate + Sync>(
+/// Runs as `run_threads` does; with `fair` each turn of a bank is a fair one (`fair_bank_turn`).
+pub fn run_seats<R: Threads + Sync, P: Program + Send + Drop, G: Gate + Sync>(
     rt: &R,
     alloc: Global,
     config: Config,
@@ -61,30 +61,6 @@ pub fn run_fair_threads<R: Threads + Sync, P: Program + Send + Drop, G: Gate + S
     programs: Vec<P>,
     workers: u32,
     turn_limit: u32,
-    gate: &G,
-) -> Result<ThreadRun<P>, AllocError>
-    requires good { is_good config ≡ true }
-    requires programs { length programs.items ≡ config.cores }
-    requires workers { (0 < workers) × (workers ≤ 16) }
-    ensures set_up { IfOk result (λ r. (r.run.set_up.config ≡ config) ×
-        (r.run.set_up.memory ≡ memory)) }
-    ensures run { IfOk result (λ r.
-        IsRunFrom P.acts true turn_limit programs.items r.run r.programs.items r.end) }
-{
-    run_seats(
-        rt, alloc, config, memory, programs, workers, turn_limit, true, gate,
-    )
-}
-
-// A run, with fair turns of banks or not.
-fn run_seats<R: Threads + Sync, P: Program + Send + Drop, G: Gate + Sync>(
-    rt: &R,
-    alloc: Global,
-    config: Config,
-    memory: Memory,
-    programs: Vec<P>,
-    workers: u32,
-    limit: u32,
     fair: bool,
     gate: &G,
 ) -> Result<ThreadRun<P>, AllocError>
@@ -94,7 +70,7 @@ fn run_seats<R: Threads + Sync, P: Program + Send + Drop, G: Gate + Sync>(
     ensures set_up { IfOk result (λ r. (r.run.set_up.config ≡ config) ×
         (r.run.set_up.memory ≡ memory)) }
     ensures run { IfOk result (λ r.
-        IsRunFrom P.acts fair limit programs.items r.run r.programs.items r.end) }
+        IsRunFrom P.acts fair turn_limit programs.items r.run r.programs.items r.end) }
 {
     new_seats_can_be_driven();
     closed_machines_are_consistent();
@@ -107,7 +83,7 @@ fn run_seats<R: Threads + Sync, P: Program + Send + Drop, G: Gate + Sync>(
         banks,
         programs,
     } = drive_seats(
-        rt, alloc, &machine, cores, banks, programs, workers, limit, fair, gate,
+        rt, alloc, &machine, cores, banks, programs, workers, turn_limit, fair, gate,
     );
     let run = machine.close(alloc, cores, banks)?;
     Ok(ThreadRun { end, run, programs })

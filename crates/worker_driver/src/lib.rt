@@ -1,5 +1,5 @@
-//! Runs a litmus test on the machine that options ask for, by rounds, by seeds or by threads. It gives out the names of all
-//! drivers.
+//! Runs a litmus test on the machine that options ask for, by rounds, by seeds or by threads. It gives out the names of
+//! all drivers.
 #![tactic(auto)]
 
 mod batches;
@@ -18,7 +18,5 @@ pub use report_text::RunEnd;
 pub use schedules::{Driven, Policy, drive_fair_round, drive_round, drive_seed, run_to_end};
 pub use set_up::{Driver, config_of, driver_of, limit_of, workers_of};
 pub use shared_jobs::{Free, Gate};
-pub use thread_driver::{
-    Shift, ThreadRun, drive_fair_threads, drive_threads, run_fair_threads, run_threads,
-};
-pub use threads::{thread_run, threaded_runs};
+pub use thread_driver::{Shift, ThreadRun, drive_seats, drive_threads, run_seats, run_threads};
+pub use threads::threaded_runs;

@@ -20,12 +20,13 @@ use shared_jobs::Gate;
 use std::alloc::{AllocError, Global};
 use std::thread::Threads;
 use thread_driver::laws::closed_machines_are_consistent;
-use thread_driver::{ThreadRun, run_fair_threads, run_threads};
+use thread_driver::run_seats;
 
 /// `count` runs of the test, one after the other, each on a new machine with a core for each thread. 1 to 16 workers,
-/// each a thread, drive the machine of a run, and give each of its cores and banks at most `limit` turns. Those of banks
-/// are fair, or not. They pass the gate before and after each turn. The end state of a run that is all done is an outcome of the sequential
-/// machine. AllocError if memory for the list, for a machine or for the result of a run can't be allocated.
+/// each a thread, drive the machine of a run, and give each of its cores and banks at most `limit` turns. With `fair`
+/// those of banks are fair ones. They pass the gate before and after each turn. The end state of a run that is all done
+/// is an outcome of the sequential machine. AllocError if memory for the list, for a machine or for the result of a run
+/// can't be allocated.
 pub fn threaded_runs<R: Threads + Sync, G: Gate + Sync>(
     rt: &R,
     alloc: Global,
@@ -53,33 +54,6 @@ pub fn threaded_runs<R: Threads + Sync, G: Gate + Sync>(
     Ok(runs)
 }
 
-/// A run by threads of a machine that opens with this memory, and of these programs: `run_fair_threads` if banks have
-/// fair turns, and else `run_threads`. AllocError as in these.
-pub fn thread_run<R: Threads + Sync, P: Program + Send + Drop, G: Gate + Sync>(
-    rt: &R,
-    alloc: Global,
-    config: Config,
-    memory: Memory,
-    programs: Vec<P>,
-    workers: u32,
-    limit: u32,
-    fair: bool,
-    gate: &G,
-) -> Result<ThreadRun<P>, AllocError>
-    requires good { is_good config ≡ true }
-    requires programs { length programs.items ≡ config.cores }
-    requires workers { (0 < workers) × (workers ≤ 16) }
-    ensures set_up { IfOk result (λ r. (r.run.set_up.config ≡ config) ×
-        (r.run.set_up.memory ≡ memory)) }
-    ensures run { IfOk result (λ r.
-        IsRunFrom P.acts fair limit programs.items r.run r.programs.items r.end) }
-{
-    if fair {
-        return run_fair_threads(rt, alloc, config, memory, programs, workers, limit, gate);
-    }
-    run_threads(rt, alloc, config, memory, programs, workers, limit, gate)
-}
-
 // A run of the test by threads.
 fn threaded_run<R: Threads + Sync, G: Gate + Sync>(
     rt: &R,
@@ -102,7 +76,7 @@ fn threaded_run<R: Threads + Sync, G: Gate + Sync>(
     performed_histories_are_sequential();
     let memory = test.opening()?;
     let threads = start_threads(alloc, test)?;
-    let ran = thread_run(
+    let ran = run_seats(
         rt, alloc, config, memory, threads, workers, limit, fair, gate,
     )?;
     told(alloc, test, ran.end, &ran.programs, &ran.run)

@@ -13,8 +13,8 @@ use Rattle.report.proofs.CoreCounts.{programs_count}
 use Rattle.report.proofs.InTrace.{is_run}
 use Rattle.report.proofs.one_run.run_by_threads.Goals as goal
 
-pub thread_run-requires-clause-programs : goal.thread_run-requires-clause-programs
-thread_run-requires-clause-programs g c κs bounds =
+pub run_seats-requires-clause-programs : goal.run_seats-requires-clause-programs
+run_seats-requires-clause-programs g c κs bounds =
     ap length c.in_ok-programs.ensures ∙ programs_count c.args.trace.now (trace_cores c.args.trace.now)
     ∙ sym c.requires.cores
 
@@ -27,7 +27,8 @@ returns g c =
     let m : Machine = machine_of ran.run is.parts in
     let config_is : m.config ≡ config = c.in_ok-ran.ensures.set_up.0 in
     let opened : m.opening ≡ empty = c.in_ok-ran.ensures.set_up.1 ∙ c.new-memory.ensures in
-    let run = subst (λ (ts : List (List Step)). IsThreadRun step_acts c.args.fair c.args.limit ts m ran.programs.items ran.end)
+    let run = subst (λ (ts : List (List Step)).
+        IsThreadRun step_acts c.args.fair c.args.limit ts m ran.programs.items ran.end)
     c.in_ok-programs.ensures (record { run = ran.run; is_run = is; shows = refl }) in
     let served = subst (λ ws. AreServed step_acts (at_start config ws) m (programs_below lanes (trace_cores lanes))
     ran.programs.items) opened

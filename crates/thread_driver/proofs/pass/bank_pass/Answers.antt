@@ -11,7 +11,8 @@ loop-i-init g c = (ends, refl, refl)
 
 pub bank_row-has-requires : goal.bank_row-has-requires
 bank_row-has-requires g c =
-    next_bank c.args.fair c.args.machine.now c.args.banks.now.items c.loop-i.banks.items c.args.limit c.loop-i.i c.args.had.now
+    next_bank c.args.fair c.args.machine.now c.args.banks.now.items c.loop-i.banks.items c.args.limit c.loop-i.i
+        c.args.had.now
     c.loop-i.had c.loop-i.all c.requires.seats c.loop-i.invariant.0 (omega arith) c.index_mut.result.now
     c.index_mut.ensures.value
 
@@ -25,9 +26,11 @@ loop-i-preserved g c =
     let before = read_there c.loop-i.had i 0 (let a = lengths.1 in let b = lengths.2 in omega arith) in
     let passed = bank_had_row c.args.fair c.args.machine.now c.args.banks.now.items c.loop-i.banks.items c.args.limit i
     c.args.had.now c.loop-i.had c.loop-i.all c.requires.seats lengths.0 (omega arith) c.index_mut.result.now
-    c.index_mut.ensures.value (sym c.if-ends_all.ensures) (slice_index_or c.loop-i.had i 0) has before c.bank_row-has.result.0 q
+    c.index_mut.ensures.value (sym c.if-ends_all.ensures)
+        (slice_index_or c.loop-i.had i 0) has before c.bank_row-has.result.0 q
     c.bank_row-has.ensures in (
-      subst (λ t. PassGiven (IsBankTurn c.args.fair c.args.machine.now) c.args.limit (i + 1) c.args.had.now c.args.banks.now.items
+      subst (λ t. PassGiven (IsBankTurn c.args.fair c.args.machine.now) c.args.limit
+          (i + 1) c.args.had.now c.args.banks.now.items
           t (slice_set c.loop-i.had i has) (slice_set c.loop-i.banks.items i q)) (sym c.both-all.ensures) passed,
       length-set c.loop-i.banks.items i q ∙ lengths.1,
       length-set c.loop-i.had i has ∙ lengths.2,
@@ -45,8 +48,10 @@ returns-then-ends_all-clause-turns g c = (
 
 pub returns-after-loop-i-clause-seats : goal.returns-after-loop-i-clause-seats
 returns-after-loop-i-clause-seats g c =
-    banks_passed c.args.fair c.args.machine.now c.args.banks.now.items c.loop-i.banks.items c.requires.seats c.loop-i.invariant.0
+    banks_passed c.args.fair c.args.machine.now c.args.banks.now.items c.loop-i.banks.items c.requires.seats
+        c.loop-i.invariant.0
 
 pub returns-then-ends_all-clause-seats : goal.returns-then-ends_all-clause-seats
 returns-then-ends_all-clause-seats g c =
-    banks_passed c.args.fair c.args.machine.now c.args.banks.now.items c.loop-i.banks.items c.requires.seats c.loop-i.invariant.0
+    banks_passed c.args.fair c.args.machine.now c.args.banks.now.items c.loop-i.banks.items c.requires.seats
+        c.loop-i.invariant.0

@@ -10,7 +10,8 @@ loop-turn-init g c = (c.requires, refl, λ m told z row. row)
 pub returns-then-not-is_followed : goal.returns-then-not-is_followed
 returns-then-not-is_followed g c =
     let turn = c.any_bank_turn-told.ensures in
-    subst (λ t. InARow (IsBankTurn c.args.fair c.args.machine.now) (row_end c.args.limit c.args.had) c.args.had c.args.seat.now
+    subst (λ t. InARow (IsBankTurn c.args.fair c.args.machine.now)
+        (row_end c.args.limit c.args.had) c.args.had c.args.seat.now
     (c.loop-turn.turn + 1) t c.any_bank_turn-told.new.seat) (sym c.both-all.ensures)
     (row_stops c.loop-turn.all c.loop-turn.invariant.2 (let most = c.row_end-most.ensures in omega arith)
     (record { seat = turn.seat.0; number = turn.seat.1; turn = turn.turn }) (sym c.if-not-is_followed.ensures))
@@ -20,7 +21,8 @@ loop-turn-preserved g c =
     let turn = c.any_bank_turn-told.ensures in (
       turn.seat.0,
       refl,
-      subst (λ t. RowSoFar (IsBankTurn c.args.fair c.args.machine.now) (row_end c.args.limit c.args.had) c.args.had c.args.seat.now t
+      subst (λ t. RowSoFar (IsBankTurn c.args.fair c.args.machine.now)
+          (row_end c.args.limit c.args.had) c.args.had c.args.seat.now t
           (c.loop-turn.turn + 1) c.any_bank_turn-told.new.seat) (sym c.both-all.ensures)
           (row_goes c.loop-turn.all c.loop-turn.invariant.2 (let most = c.row_end-most.ensures in omega arith)
           (record { seat = turn.seat.0; number = turn.seat.1; turn = turn.turn }) (sym c.if-not-is_followed.ensures)),
@@ -29,5 +31,6 @@ loop-turn-preserved g c =
 pub returns : goal.returns
 returns g c =
     let most = c.row_end-most.ensures in
-    subst (λ k. InARow (IsBankTurn c.args.fair c.args.machine.now) (row_end c.args.limit c.args.had) c.args.had c.args.seat.now k
+    subst (λ k. InARow (IsBankTurn c.args.fair c.args.machine.now)
+        (row_end c.args.limit c.args.had) c.args.had c.args.seat.now k
     c.loop-turn.all c.loop-turn.seat) (sym c.loop-turn.invariant.1) (row_used c.loop-turn.invariant.2 (omega arith))

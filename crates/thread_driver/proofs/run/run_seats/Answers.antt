@@ -79,8 +79,10 @@ returns-clause-run g c =
           c.drive_seats-end.ensures.ended;
       over = over_is_done acts m run parts ended after order all told left c.args.fair limit cores banks banks' before e
           c.drive_seats-end.ensures.ended;
-      exhausted = exhausted_is_stopped acts m run parts ended after order all told left c.args.fair limit cores banks banks'
+      exhausted = exhausted_is_stopped acts m run parts ended after order all told left c.args.fair limit cores banks
+          banks'
           before e c.drive_seats-end.ensures.ended opened c.drive_seats-end.ensures.banks c.in_ok-run.ensures.banks;
-      turns_used = used_is_not_stopped acts m run parts ended after order all told left c.args.fair limit cores banks banks'
+      turns_used = used_is_not_stopped acts m run parts ended after order all told left c.args.fair limit cores banks
+          banks'
           before e c.drive_seats-end.ensures.ended opened c.drive_seats-end.ensures.banks c.in_ok-run.ensures.banks;
     }

@@ -15,8 +15,8 @@ use Rattle.worker_driver.proofs.Rows.{threads_count}
 use Rattle.worker_driver.proofs.Sequential.{has_outcome}
 use Rattle.worker_driver.proofs.threads.threaded_run.Goals as goal
 
-pub thread_run-requires-clause-programs : goal.thread_run-requires-clause-programs
-thread_run-requires-clause-programs g c κs bounds =
+pub run_seats-requires-clause-programs : goal.run_seats-requires-clause-programs
+run_seats-requires-clause-programs g c κs bounds =
     ap length c.in_ok-threads.ensures ∙ threads_count (test_of c.args.test.now) 0 (test_of c.args.test.now).threads
     ∙ sym c.requires.cores
 
@@ -31,7 +31,8 @@ returns-clause-run g c =
     let ran = c.in_ok-ran.ran in
     let is = c.in_ok-ran.ensures.run in
     let m : Machine = machine_of ran.run is.parts in
-    let run_is = subst (λ (ts : List Thread). IsThreadRun thread_acts c.args.fair c.args.limit ts m ran.programs.items ran.end)
+    let run_is = subst (λ (ts : List Thread).
+        IsThreadRun thread_acts c.args.fair c.args.limit ts m ran.programs.items ran.end)
     c.in_ok-threads.ensures (record { run = ran.run; is_run = is; shows = refl }) in
     IfOk-weaker c.told.result _ _ (λ run told. record {
       machine = m;
@@ -39,7 +40,8 @@ returns-clause-run g c =
       led = (
         c.in_ok-ran.ensures.set_up.0,
         c.in_ok-ran.ensures.set_up.1 ∙ c.in_ok-memory.ensures.memory,
-        subst (λ e. IsThreadRun thread_acts c.args.fair c.args.limit (threads_from test 0 test.threads) m ran.programs.items e)
+        subst (λ e. IsThreadRun thread_acts c.args.fair c.args.limit
+            (threads_from test 0 test.threads) m ran.programs.items e)
             (sym told.0) run_is,
       );
       told = subst (λ (ts : List Thread). Tells test m ts run) c.deref.ensures.value (told.1 m (is.parts, refl));
@@ -60,7 +62,8 @@ returns-clause-outcome g c =
     c.in_ok-threads.ensures is.served) in
     IfOk-weaker c.told.result _ _ (λ run told text text_is.
     has_outcome c.performed_histories_are_sequential.ensures test m.config m ran.programs.items
-    (ap (λ (k : Config). k.cores) config_is ∙ c.requires.cores) opened (c.closed_machines_are_consistent.ensures ran.run is.parts) served text
+    (ap (λ (k : Config). k.cores) config_is ∙ c.requires.cores) opened
+        (c.closed_machines_are_consistent.ensures ran.run is.parts) served text
     text_is run.end (λ done. is.done (sym told.0 ∙ done)) run.state
     (subst (λ (ts : List Thread). Tells test m ts run) c.deref.ensures.value (told.1 m (is.parts, refl))).state)
     c.told.ensures

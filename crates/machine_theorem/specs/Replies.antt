@@ -33,8 +33,8 @@ IsAside core (Attempt c) = c ≢ core
 IsAside core (Advance c) = c ≢ core
 IsAside core _ = Unit {0}
 
--- the core's next attempt completes its operation, or stops the machine, since its time doesn't fit, whatever events
--- come before that are no attempt or advance of the core
+-- whatever events come that are no attempt or advance of the core, its next attempt completes its operation; or the
+-- machine is stopped then, since a time of the attempt, or of one of these events, doesn't fit
 abbrev pub IsAnswered : ℕ → Op → Machine → Type 0
 IsAnswered core op m =
     (events : List Event) → AllByRecursion (IsAside core) events →

@@ -117,11 +117,12 @@ pub fn rounds_move_many_messages()
         MovesOn m ⊎ (length m.mail.messages ≤ config.cores) }
 {}
 
-/// A reply completes its core's operation. Take any list of events, refused ones included, of a machine that opened with
-/// a good set-up and hasn't stopped, where cores advanced only between operations. If a reply to a core is in flight,
-/// the core has an operation open, and a delivery of the reply is answered Delivered. After it, the core's next attempt
-/// completes that operation, or stops the machine, since its time doesn't fit. Any events may come between them, as other
-/// deliveries, recalls and evictions, but attempts and advances of the core.
+/// A reply completes its core's operation. Take any list of events, refused ones included, of a machine that opened
+/// with a good set-up and hasn't stopped, where cores advanced only between operations. If a reply to a core is in
+/// flight, the core has an operation open, and a delivery of the reply is answered Delivered. Any events may come after
+/// it, as other deliveries, recalls and evictions, but attempts and advances of the core. The core's next attempt then
+/// completes that operation, or the machine is stopped: a time of the attempt, or of an event since the delivery,
+/// doesn't fit.
 pub fn replies_complete()
     ensures { (config : Config) (opening : FinMap nat_cmp ℕ) (events : List Event) → is_good config ≡ true →
         AdvancesBetween (at_start config opening) events →

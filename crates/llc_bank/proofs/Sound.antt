@@ -89,24 +89,6 @@ sound-drop_line banks table new set line sound is e =
           sound.own_sets;
     })
 
--- a table without entries
-empty_at : (n i : ℕ) → set_at {X = Entry} (replicate n []) i ≡ []
-empty_at zero i = refl
-empty_at (suc n) zero = refl
-empty_at (suc n) (suc i) = empty_at n i
-
-pub sound-empty :
-    (banks : ℕ) (new : Sets Entry) (sets ways : ℕ) → 0 < banks → 0 < sets → 0 < ways → new ≡ empty_sets sets ways →
-    IsSound banks new
-sound-empty banks new sets ways b s w e =
-    rw e (record {
-      some_banks = b;
-      some_sets = rw (length-replicate {A = List (ℕ × Entry)} sets []) s;
-      some_ways = w;
-      own_sets = λ k j there. absurd (let z : false ≡ true =
-          sym (ap (λ (ps : List (ℕ × Entry)). is_there ps j) (empty_at sets k)) ∙ there in cc);
-    })
-
 -- the set that the code works out
 pub home_set :
     (banks : ℕ) (table : Sets Entry) (bank : BankState) (set line number : ℕ) → banks ≡ bank.banks →

@@ -90,22 +90,6 @@ sound-drop_line cache new set line sound is e =
           sound.own_sets;
     })
 
--- a cache without copies
-empty_at : (n i : ℕ) → set_at {X = LineCopy} (replicate n []) i ≡ []
-empty_at zero i = refl
-empty_at (suc n) zero = refl
-empty_at (suc n) (suc i) = empty_at n i
-
-pub sound-empty :
-    (new : Sets LineCopy) (sets ways : ℕ) → 0 < sets → 0 < ways → new ≡ empty_sets sets ways → IsSound new
-sound-empty new sets ways s w e =
-    rw e (record {
-      some_sets = rw (length-replicate {A = List (ℕ × LineCopy)} sets []) s;
-      some_ways = w;
-      own_sets = λ k j there. absurd (let z : false ≡ true =
-          sym (ap (λ (ps : List (ℕ × LineCopy)). is_there ps j) (empty_at sets k)) ∙ there in cc);
-    })
-
 -- the first line of a set is there
 first-there : (ps : List (ℕ × LineCopy)) (line : ℕ) → first_line ps ≡ Some line → is_there ps line ≡ true
 first-there [] line e = cc

@@ -1,5 +1,5 @@
 -- What follows from what reading gives, from the result back to its parts.
-use Rattle.std.proofs.Common.{◌≡◌, ℕ, suc, ◌≤◌, ◌<◌, Bool, true, false, cond, List, [], ◌∷◌, ◌++◌, length}
+use Rattle.std.proofs.Common.{◌≡◌, ℕ, suc, ◌≤◌, ◌<◌, Bool, true, false, cond, List, ◌++◌, length}
 use Rattle.std.proofs.Common.{refl, ap, arith, inl, inr, ◌⊎◌}
 use Rattle.std.specs.Prelude.{Result, Ok, Err, ◌||◌, nat_lt}
 use Rattle.std.proofs.lemmas.Bool.{cases_lt}
@@ -35,13 +35,6 @@ pub behind-err : {X : Type 0} (xs : List X) (r : Result (List X) TraceError) (fa
     behind xs r ≡ Err fault → r ≡ Err fault
 behind-err xs (Ok ys) fault e = absurd cc
 behind-err xs (Err k) fault e = e
-
--- something in front is not nothing
-pub behind-some : {X : Type 0} (xs : List X) (x : X) (r : Result (List X) TraceError) →
-    behind (xs ++ x ∷ []) r ≡ Ok [] → ⊥
-behind-some [] x (Ok ys) e = absurd cc
-behind-some (y ∷ xs) x (Ok ys) e = absurd cc
-behind-some xs x (Err k) e = absurd cc
 
 line-ok : {X Y : Type 0} (number : ℕ) (b : Bool) (r : Result X Kind) (f : X → Result Y TraceError) (y : Y) →
     at_line number (cond b (Err TooLong) r) f ≡ Ok y → (b ≡ false) × ((x : X) × (r ≡ Ok x) × (f x ≡ Ok y))

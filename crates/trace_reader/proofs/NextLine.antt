@@ -105,10 +105,6 @@ next-last n bytes coming e f some none =
 
 -- ---- bytes that are known
 
-pub both-start : (a : Option (List ℕ)) (x : List ℕ) → Both a a (λ before after. x ++ before ≡ x ++ after)
-both-start None x = tt
-both-start (Some before) x = refl
-
 -- bytes that came stand behind those in front
 pub both-more : (a b c : Option (List ℕ)) (x y z came : List ℕ) → Both a b (λ before after. x ++ before ≡ y ++ after) →
     Loses b c came → z ≡ y ++ came → Both a c (λ before after. x ++ before ≡ z ++ after)

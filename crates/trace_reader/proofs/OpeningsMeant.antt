@@ -1,5 +1,5 @@
 -- What a line of an opening says, behind lines that opened words, and why it is refused.
-use Rattle.std.proofs.Common.{◌≡◌, ◌≢◌, ℕ, List, [], ◌∷◌, ◌++◌, Option, Some, None, refl, sym, ap, subst, ◌∙◌}
+use Rattle.std.proofs.Common.{◌≡◌, ◌≢◌, ◌<◌, ℕ, List, [], ◌∷◌, ◌++◌, Option, Some, None, refl, sym, ap, subst, ◌∙◌, arith}
 use Rattle.std.proofs.Common.{inl, inr, ◌⊎◌}
 use Rattle.std.specs.Prelude.{Ok, Err, IsSome, MatchOption}
 use Rattle.std.specs.FinMap.{FinMap, empty, get, insert}
@@ -16,10 +16,10 @@ use Rattle.trace_reader.specs.Lines.{with_fields}
 use Rattle.trace_reader.specs.Grammar.{TellOpening}
 use Rattle.trace_reader.specs.Causes.{OpeningFieldsCause}
 use Rattle.trace_reader.specs.Openings.{AreOpened, opened}
-use Rattle.trace_reader.specs.Outcomes.{whole}
+use Rattle.trace_reader.specs.Outcomes.{whole, IsOfLine}
 use Rattle.trace_reader.specs.Reading.{joined, list_of_option, opened_once, opening_said}
 use Rattle.trace_reader.proofs.Inverses.{bind-err, bind-ok, ok-pair}
-use Rattle.trace_reader.proofs.LinesMeant.{Means, Parts}
+use Rattle.trace_reader.proofs.LinesMeant.{Means, Parts, fault-of-line}
 
 abbrev Words : Type 0
 Words = FinMap nat_cmp ℕ
@@ -95,23 +95,13 @@ says-more words next (Some told) (field ∷ fields) lines later m t =
 
 -- ---- what stands is read
 
-said-none : (words : Words) (fields : List (List ℕ)) → opening_line_at fields ≡ Ok None →
+pub said-none : (words : Words) (fields : List (List ℕ)) → opening_line_at fields ≡ Ok None →
     opening_said words fields ≡ Ok (words, None)
 said-none words fields e = rw e refl
 
 said-some : (words : Words) (fields : List (List ℕ)) (told : ℕ × ℕ) → opening_line_at fields ≡ Ok (Some told) →
     get words told.0 ≡ None → opening_said words fields ≡ Ok (insert words told.0 told.1, Some told)
 said-some words fields told e g = rw (e, g) refl
-
--- why a word that a line says isn't kept
-pub word-fault : (words : Words) (fields : List (List ℕ)) (number : ℕ) (told : ℕ × ℕ) (e : TraceError) →
-    opening_line_at fields ≡ Ok (Some told) → ((e ≡ whole NoMemory) × (get words told.0 ≡ None))
-    ⊎ ((e.line ≡ number) × (opened_once words told (get words told.0) ≡ Err e.kind)) →
-    ((e ≡ whole NoMemory) × ((next : Words) × (one : ℕ × ℕ) × (opening_said words fields ≡ Ok (next, Some one))))
-    ⊎ ((e.line ≡ number) × (opening_said words fields ≡ Err e.kind))
-word-fault words fields number told e said (inl f) =
-    inl (f.0, (insert words told.0 told.1, told, said-some words fields told said f.1))
-word-fault words fields number told e said (inr f) = inr (f.0, ap (λ r. r >>= joined words) said ∙ f.1)
 
 parts : (words : Words) (fields : List (List ℕ)) (lines : List (List (List ℕ))) (told : List (ℕ × ℕ)) →
     TellOpening words (with_fields fields lines) told →
@@ -200,3 +190,16 @@ opening-meant = record {
   no_read = λ words fields h. h;
   no_memory = λ words fields h. h;
 }
+
+-- why a word that a line says isn't kept
+pub word-fault : (words : Words) (fields : List (List ℕ)) (number : ℕ) (told : ℕ × ℕ) (e : TraceError) → 0 < number →
+    opening_line_at fields ≡ Ok (Some told) → ((e ≡ whole NoMemory) × (get words told.0 ≡ None))
+    ⊎ ((e.line ≡ number) × (opened_once words told (get words told.0) ≡ Err e.kind)) →
+    ((e ≡ whole NoMemory) × ((next : Words) × (one : ℕ × ℕ) × (opening_said words fields ≡ Ok (next, Some one))))
+    ⊎ (IsOfLine e × (e.line ≡ number) × (opening_said words fields ≡ Err e.kind))
+word-fault words fields number told e some said (inl f) =
+    inl (f.0, (insert words told.0 told.1, told, said-some words fields told said f.1))
+word-fault words fields number told e some said (inr f) =
+    let refused = ap (λ r. r >>= joined words) said ∙ f.1 in
+    let of_line = fault-of-line opening_said TellOpening OpeningFieldsCause opening-meant words fields e
+    (omega (arith, some, f.0)) refused in inr (of_line, f.0, refused)

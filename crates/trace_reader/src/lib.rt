@@ -9,6 +9,7 @@ mod opening_texts;
 mod record_texts;
 mod trace_texts;
 mod traces;
+mod whole_texts;
 
 pub use byte_streams::{FromRead, Source};
 pub use limits::{MOST_BYTES, MOST_LINES};

@@ -13,81 +13,81 @@ ghost use Rattle.trace_reader.specs.Openings.{AreOpened};
 ghost use Rattle.trace_reader.specs.Outcomes.{whole, Refused, AnswersUnlessFailed, IsCaused};
 ghost use Rattle.trace_reader.specs.Reading.{opened_once, opening_in, opening_read, opening_said};
 
-use crate::blocks::Block;
-use crate::next_lines::next_line;
+use crate::whole_texts::{FromLines, read_lines};
 use byte_streams::Source;
 use number_map::NumberMap;
 use physiological_order::{Memory, WordAddr};
 use std::alloc::{AllocError, Global};
 use trace_lines::{Kind, TraceError, opening_line};
 
-/// Opens a word, here and in the memory.
-fn open_word(
-    words: &mut NumberMap<u64>,
-    memory: &mut Memory,
-    addr: WordAddr,
-    value: u64,
-) -> Result<(), AllocError>
-    requires { words.old ≡ memory.old }
-    ensures opened { OnOk result (memory.new ≡ insert memory.old addr value) }
-    ensures same { OnOk result (words.new ≡ memory.new) }
-{
-    words.insert(addr.word(), value)?;
-    memory.set(addr, value)
+// The words that were opened so far, and the memory that they stand in.
+#[derive(Drop)]
+struct Opened {
+    words: NumberMap<u64>,
+    memory: Memory,
 }
 
-/// Opens the word of the line with this number, unless an earlier line opened it.
-fn add_word(
-    words: &mut NumberMap<u64>,
-    memory: &mut Memory,
-    number: usize,
-    addr: WordAddr,
-    value: u64,
-) -> Result<(), TraceError>
-    requires { words.old ≡ memory.old }
-    ensures added { OnOk result (opened_once memory.old (addr, value) (get memory.old addr)
-        ≡ Ok (memory.new, Some (addr, value))) }
-    ensures same { OnOk result (words.new ≡ memory.new) }
-    ensures fault { IfErr result (λ e. ((e ≡ whole NoMemory) × (get memory.old addr ≡ None))
-        ⊎ ((e.line ≡ number)
-        × (opened_once memory.old (addr, value) (get memory.old addr) ≡ Err e.kind))) }
-{
-    match words.get(addr.word()) {
-        Some(_) => Err(TraceError {
-            line: number,
-            kind: Kind::DoubleWord,
-        }),
-        None => match open_word(words, memory, addr, value) {
-            Ok(()) => Ok(()),
-            Err(AllocError) => Err(TraceError {
-                line: 0,
-                kind: Kind::NoMemory,
+impl Opened {
+    // Opens a word, here and in the memory.
+    fn open(&mut self, addr: WordAddr, value: u64) -> Result<(), AllocError>
+        requires { self.old.words ≡ self.old.memory }
+        ensures opened { OnOk result (self.new.memory ≡ insert self.old.memory addr value) }
+        ensures same { OnOk result (self.new.words ≡ self.new.memory) }
+    {
+        self.words.insert(addr.word(), value)?;
+        self.memory.set(addr, value)
+    }
+
+    // Opens the word of the line with this number, unless an earlier line opened it.
+    fn add(&mut self, number: usize, addr: WordAddr, value: u64) -> Result<(), TraceError>
+        requires { self.old.words ≡ self.old.memory }
+        ensures added { OnOk result ((opened_once self.old.memory (addr, value)
+            (get self.old.memory addr) ≡ Ok (self.new.memory, Some (addr, value)))
+            × (self.new.words ≡ self.new.memory)) }
+        ensures fault { IfErr result (λ e.
+            ((e ≡ whole NoMemory) × (get self.old.memory addr ≡ None)) ⊎ ((e.line ≡ number)
+            × (opened_once self.old.memory (addr, value) (get self.old.memory addr) ≡ Err e.kind))) }
+    {
+        match self.words.get(addr.word()) {
+            Some(_) => Err(TraceError {
+                line: number,
+                kind: Kind::DoubleWord,
             }),
-        },
+            None => match self.open(addr, value) {
+                Ok(()) => Ok(()),
+                Err(AllocError) => Err(TraceError {
+                    line: 0,
+                    kind: Kind::NoMemory,
+                }),
+            },
+        }
     }
 }
 
-/// Opens the word of the line with this number, if it has one.
-fn add_line(
-    words: &mut NumberMap<u64>,
-    memory: &mut Memory,
-    number: usize,
-    line: &[u8],
-) -> Result<(), TraceError>
-    requires { words.old ≡ memory.old }
-    ensures added { OnOk result ((told : Option (ℕ × ℕ))
-        × (opening_said memory.old (fields_of line.now) ≡ Ok (memory.new, told))) }
-    ensures same { OnOk result (words.new ≡ memory.new) }
-    ensures fault { IfErr result (λ e. ((e ≡ whole NoMemory)
-        × ((next : FinMap nat_cmp ℕ) × (told : ℕ × ℕ)
-        × (opening_said memory.old (fields_of line.now) ≡ Ok (next, Some told))))
-        ⊎ ((e.line ≡ number)
-        × (opening_said memory.old (fields_of line.now) ≡ Err e.kind))) }
-{
-    match opening_line(line) {
-        Err(kind) => Err(TraceError { line: number, kind }),
-        Ok(None) => Ok(()),
-        Ok(Some((addr, value))) => add_word(words, memory, number, addr, value),
+impl FromLines for Opened {
+    ghost use Rattle.std.specs.Prelude.{◌≡◌, ℕ};
+    ghost use Rattle.std.specs.FinMap.{FinMap, empty};
+    ghost use Rattle.std.specs.Ordering.{nat_cmp};
+    ghost use Rattle.trace_reader.specs.Openings.{AreOpened};
+    ghost use Rattle.trace_reader.specs.Reading.{opening_said};
+
+    ghost State = { FinMap nat_cmp ℕ };
+
+    ghost Item = { ℕ × ℕ };
+
+    ghost says = { opening_said };
+
+    ghost first = { empty };
+
+    ghost holds = { λ opened told words.
+        AreOpened told words × (opened.words ≡ words) × (opened.memory ≡ words) };
+
+    fn add_line(&mut self, number: usize, line: &[u8]) -> Result<(), TraceError> {
+        match opening_line(line) {
+            Err(kind) => Err(TraceError { line: number, kind }),
+            Ok(None) => Ok(()),
+            Ok(Some((addr, value))) => self.add(number, addr, value),
+        }
     }
 }
 
@@ -100,16 +100,12 @@ fn read_whole<S: Source>(alloc: Global, source: &mut S) -> Result<Memory, TraceE
     ensures fault { IfErr result (Refused opening_in (S.failures source.old)
         (S.failures source.new) (S.remaining source.old)) }
 {
-    let mut words = NumberMap::new(alloc);
-    let mut memory = Memory::new(alloc);
-    let mut block = Block::new();
-    let mut number = 0;
-    'lines: while let Some(length) = next_line(&mut block, source, number)? {
-        number += 1;
-        add_line(&mut words, &mut memory, number, block.front(length))?;
-        block.pass(length);
-    }
-    Ok(memory)
+    let mut opened = Opened {
+        words: NumberMap::new(alloc),
+        memory: Memory::new(alloc),
+    };
+    read_lines(source, &mut opened)?;
+    Ok(opened.memory)
 }
 
 /// Reads all that a source has as the text of an opening, at most 16,777,216 lines of at most 256 bytes: a memory of

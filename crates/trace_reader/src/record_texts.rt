@@ -11,34 +11,47 @@ ghost use Rattle.trace_reader.specs.Grammar.{AreRecords};
 ghost use Rattle.trace_reader.specs.Outcomes.{whole, Refused, GivesList, IsCaused};
 ghost use Rattle.trace_reader.specs.Reading.{list_of_option, records_at, records_in};
 
-use crate::blocks::Block;
-use crate::next_lines::next_line;
+use crate::whole_texts::{FromLines, read_lines};
 use byte_streams::Source;
 use physiological_order::{Op, Record};
 use std::alloc::Global;
 use trace_lines::{Kind, TraceError, record_line};
 
-/// Adds the record of the line with this number, if it has one.
-fn add_line(records: &mut Vec<Record>, number: usize, line: &[u8]) -> Result<(), TraceError>
-    ensures added { OnOk result ((told : Option Record)
-        × (record_line_at (fields_of line.now) ≡ Ok told)
-        × (records.new.items ≡ records.old.items ++ list_of_option told)) }
-    ensures fault { IfErr result (λ e. ((e ≡ whole NoMemory)
-        × ((told : Record) × (record_line_at (fields_of line.now) ≡ Ok (Some told))))
-        ⊎ ((e.line ≡ number) × (record_line_at (fields_of line.now) ≡ Err e.kind))) }
-{
-    // The check finds what a record holds only where the function names its type.
-    let _inside: Option<Op> = None;
-    match record_line(line) {
-        Err(kind) => Err(TraceError { line: number, kind }),
-        Ok(None) => Ok(()),
-        Ok(Some(record)) => match records.push(record) {
-            Ok(()) => Ok(()),
-            Err(_) => Err(TraceError {
-                line: 0,
-                kind: Kind::NoMemory,
-            }),
-        },
+// The records so far.
+#[derive(Drop)]
+struct Records {
+    records: Vec<Record>,
+}
+
+impl FromLines for Records {
+    ghost use Rattle.std.specs.Prelude.{◌≡◌};
+    ghost use Rattle.physiological_order.specs.declared.operation.Record.{Record};
+    ghost use Rattle.trace_reader.specs.Reading.{record_said};
+
+    ghost State = { Unit {0} };
+
+    ghost Item = { Record };
+
+    ghost says = { record_said };
+
+    ghost first = { tt };
+
+    ghost holds = { λ kept told none. kept.records.items ≡ told };
+
+    fn add_line(&mut self, number: usize, line: &[u8]) -> Result<(), TraceError> {
+        // The check finds what a record holds only where the function names its type.
+        let _inside: Option<Op> = None;
+        match record_line(line) {
+            Err(kind) => Err(TraceError { line: number, kind }),
+            Ok(None) => Ok(()),
+            Ok(Some(record)) => match self.records.push(record) {
+                Ok(()) => Ok(()),
+                Err(_) => Err(TraceError {
+                    line: 0,
+                    kind: Kind::NoMemory,
+                }),
+            },
+        }
     }
 }
 
@@ -51,15 +64,11 @@ fn read_whole<S: Source>(alloc: Global, source: &mut S) -> Result<Vec<Record>, T
     ensures fault { IfErr result (Refused records_in (S.failures source.old)
         (S.failures source.new) (S.remaining source.old)) }
 {
-    let mut records = Vec::new(alloc);
-    let mut block = Block::new();
-    let mut number = 0;
-    'lines: while let Some(length) = next_line(&mut block, source, number)? {
-        number += 1;
-        add_line(&mut records, number, block.front(length))?;
-        block.pass(length);
-    }
-    Ok(records)
+    let mut kept = Records {
+        records: Vec::new(alloc),
+    };
+    read_lines(source, &mut kept)?;
+    Ok(kept.records)
 }
 
 /// Reads all that a source has as the text of records, at most 16,777,216 lines of at most 256 bytes, and gives them

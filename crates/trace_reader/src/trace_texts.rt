@@ -14,9 +14,8 @@ ghost use Rattle.trace_reader.specs.Outcomes.{whole, Refused, AnswersUnlessFaile
 ghost use Rattle.trace_reader.specs.Reading.{list_of_option, step_said, form_said, said_at, steps_in, steps_read};
 ghost use Rattle.trace_reader.specs.Steps.{IsByCore};
 
-use crate::blocks::Block;
-use crate::next_lines::next_line;
 use crate::traces::Trace;
+use crate::whole_texts::{FromLines, read_lines};
 use byte_streams::Source;
 use std::alloc::Global;
 use trace_lines::{Form, Kind, Step, TraceError, form_line, trace_line};
@@ -48,32 +47,47 @@ fn said(form: Option<Form>, line: &[u8]) -> Result<Said, Kind>
     }
 }
 
-/// Adds the step of the line with this number, if it has one: the form from there on.
-fn add_line(
-    trace: &mut Trace,
+// The steps of a trace so far, and the form that its lines declared.
+#[derive(Drop)]
+struct Steps {
+    trace: Trace,
     form: Option<Form>,
-    number: usize,
-    line: &[u8],
-) -> Result<Option<Form>, TraceError>
-    ensures added { IfOk result (λ next. (told : Option (ℕ × Step))
-        × (said_at form (fields_of line.now) ≡ Ok (next, told))
-        × ((before : List (ℕ × Step)) → IsByCore before trace.old →
-        IsByCore (before ++ list_of_option told) trace.new)) }
-    ensures fault { IfErr result (λ e. ((e ≡ whole NoMemory)
-        × ((next : Option Form) × (told : ℕ × Step)
-        × (said_at form (fields_of line.now) ≡ Ok (next, Some told))))
-        ⊎ ((e.line ≡ number) × (said_at form (fields_of line.now) ≡ Err e.kind))) }
-{
-    match said(form, line) {
-        Err(kind) => Err(TraceError { line: number, kind }),
-        Ok((form, None)) => Ok(form),
-        Ok((form, Some((core, step)))) => match trace.push(core, step) {
-            Ok(()) => Ok(form),
-            Err(_) => Err(TraceError {
-                line: 0,
-                kind: Kind::NoMemory,
-            }),
-        },
+}
+
+impl FromLines for Steps {
+    ghost use Rattle.std.specs.Prelude.{◌≡◌, ℕ, Option, None};
+    ghost use Rattle.trace_lines.specs.declared.steps.Form.{Form};
+    ghost use Rattle.programs.specs.declared.steps.Step.{Step};
+    ghost use Rattle.trace_reader.specs.Reading.{said_at};
+    ghost use Rattle.trace_reader.specs.Steps.{IsByCore};
+
+    ghost State = { Option Form };
+
+    ghost Item = { ℕ × Step };
+
+    ghost says = { said_at };
+
+    ghost first = { None };
+
+    ghost holds = { λ steps told form. IsByCore told steps.trace × (steps.form ≡ form) };
+
+    fn add_line(&mut self, number: usize, line: &[u8]) -> Result<(), TraceError> {
+        match said(self.form, line) {
+            Err(kind) => Err(TraceError { line: number, kind }),
+            Ok((form, told)) => {
+                self.form = form;
+                match told {
+                    None => Ok(()),
+                    Some((core, step)) => match self.trace.push(core, step) {
+                        Ok(()) => Ok(()),
+                        Err(_) => Err(TraceError {
+                            line: 0,
+                            kind: Kind::NoMemory,
+                        }),
+                    },
+                }
+            }
+        }
     }
 }
 
@@ -86,16 +100,12 @@ fn read_whole<S: Source>(alloc: Global, source: &mut S) -> Result<Trace, TraceEr
     ensures fault { IfErr result (Refused steps_in (S.failures source.old)
         (S.failures source.new) (S.remaining source.old)) }
 {
-    let mut trace = Trace::new(alloc);
-    let mut block = Block::new();
-    let mut form = None;
-    let mut number = 0;
-    'lines: while let Some(length) = next_line(&mut block, source, number)? {
-        number += 1;
-        form = add_line(&mut trace, form, number, block.front(length))?;
-        block.pass(length);
-    }
-    Ok(trace)
+    let mut steps = Steps {
+        trace: Trace::new(alloc),
+        form: None,
+    };
+    read_lines(source, &mut steps)?;
+    Ok(steps.trace)
 }
 
 /// Reads all that a source has as the text of a trace of at most 16,777,216 lines of at most 256 bytes; its first line

@@ -1,6 +1,8 @@
 -- A part that has changed, put back among the others.
-use Rattle.std.proofs.Common.{◌≡◌, ℕ, zero, suc, ◌||◌, Bool, true, false, cond, List, [], ◌∷◌, length, set}
-use Rattle.std.proofs.Common.{Option, Some, None, IsSome, refl, sym, ap, ◌∙◌}
+use Rattle.std.proofs.Common.{◌≡◌, ℕ, zero, suc, ◌||◌, Bool, true, false, List, [], ◌∷◌, length, set, Option, Some}
+use Rattle.std.proofs.Common.{None, IsSome, refl, sym, ap, ◌∙◌, arith}
+use Rattle.std.proofs.lemmas.Bool.Decides.{nat_tests}
+use Rattle.std.proofs.lemmas.Grind.{common_steps}
 use Rattle.std.specs.List.{slice_get}
 use Rattle.std.specs.Ordering.{nat_cmp}
 use Rattle.std.specs.FinMap.{FinMap}
@@ -17,11 +19,11 @@ use Rattle.machine_table.specs.declared.event.Answer.{Answer}
 use Rattle.machine_table.specs.declared.event.Answer.TheVariants as answer
 use Rattle.machine_table.specs.declared.event.Refusal.TheVariants as refusal
 use Rattle.machine_table.specs.Machine.{Machine}
-use Rattle.machine_table.specs.Posted.{can_post, left, posted}
+use Rattle.machine_table.specs.Posted.{left}
 use Rattle.machine_table.specs.Step as step
 use Rattle.machine_table.specs.Step.{Step, Tried}
 use Rattle.machine_table.proofs.Lemmas.{Fits, FitsTried}
-use Rattle.machine_table.specs.Transition.{changed, deliver_to, gets, if_there, refused, tried}
+use Rattle.machine_table.specs.Transition.{changed, deliver_to, gets, if_there, tried}
 use Rattle.machine_theorem.specs.Cases.{has_case_at, takes}
 use Rattle.interleaving_core.specs.PartChanges.{applied, applied_attempt, stops, with_record}
 use Rattle.interleaving_core.proofs.Only.{IsPlain, kept_plain, made_plain}
@@ -78,12 +80,7 @@ module _ {S : Type 0} {m : Machine} {to : Node} {parts : List S} {k : ℕ} {has_
 
   made_so : (why : Answer) → IsPlain why → (new : S) (mail : Mail) → after (why, new, mail) ≡
       (why, record (put new) { mail = mail })
-  made_so why plain new mail =
-      ap (λ (rs : List Record). (
-        why,
-        record (put new) { mail = mail; records = rs; is_stopped = stops why || m.is_stopped },
-      )) (plain.0 m.records)
-      ∙ ap (λ (b : Bool). (why, record (put new) { mail = mail; is_stopped = b || m.is_stopped })) plain.1
+  made_so why plain new mail = grind (arith, nat_tests)
 
   kept_so : (mail : Mail) (records : List Record) (b : Bool) (answer : Answer) →
       ◌≡◌ {A = Answer × Machine} (answer, record (put part) { mail = mail; records = records; is_stopped = b })
@@ -95,39 +92,21 @@ module _ {S : Type 0} {m : Machine} {to : Node} {parts : List S} {k : ℕ} {has_
       after (applied m.config.messages part m.mail n s) ≡ changed m put n s
   is_changed n step.Exhausts fits = kept_so m.mail m.records true (answer.Refused refusal.Exhausted)
   is_changed n (step.Keeps why) fits =
-      let plain = kept_plain why fits in
-      kept_so m.mail (with_record m.records why) (stops why || m.is_stopped) why
-      ∙ ap (λ (rs : List Record). (why, record m { records = rs; is_stopped = stops why || m.is_stopped }))
-      (plain.0 m.records)
-      ∙ ap (λ (b : Bool). (why, record m { is_stopped = b || m.is_stopped })) plain.1
+      let q0 = kept_plain why fits in
+      let q1 = kept_so m.mail (with_record m.records why) (stops why || m.is_stopped) why in
+      grind (arith, nat_tests, q0, q1)
   is_changed n step.Drops fits = kept_so (left m.mail n) m.records m.is_stopped answer.Dropped
-  is_changed n (step.Makes why consumes sends new) fits = by_test (can_post m.config.messages m.mail consumes sends)
-    where
-      by_test : (b : Bool) → after (cond b (why, new, posted m.mail n consumes sends)
-          (answer.Refused refusal.NetworkFull, part, m.mail)) ≡ cond b
-          (why, record (put new) { mail = posted m.mail n consumes sends }) (refused m refusal.NetworkFull)
-      by_test true = made_so why (made_plain why fits) new (posted m.mail n consumes sends)
-      by_test false = kept_so m.mail m.records m.is_stopped (answer.Refused refusal.NetworkFull)
+  is_changed n (step.Makes why consumes sends new) fits =
+      let q0 = made_plain why fits in
+      let q1 = kept_so m.mail m.records m.is_stopped (answer.Refused refusal.NetworkFull) in
+      grind (arith, nat_tests, q0, q1)
 
   -- the machine after an event that makes this of the part and the messages in flight
   pub put_so : (x : Answer × S × Mail) (y : Answer × Machine) → after x ≡ y →
       (answer : Answer) (new : S) (mail : Mail) (records : List Record) (stopped : Bool) →
       (answer, new, mail) ≡ x → records ≡ with_record m.records answer → stopped ≡ (stops answer || m.is_stopped) →
       (answer, record (put new) { mail = mail; records = records; is_stopped = stopped }) ≡ y
-  put_so x y leads answer new mail records stopped is recorded stop =
-      ap (λ (rs : List Record). (answer, record (put new) { mail = mail; records = rs; is_stopped = stopped }))
-      recorded
-      ∙ ap (λ (b : Bool). (
-        answer,
-        record (put new) {
-          mail = mail;
-          records =
-              with_record m.records answer;
-          is_stopped = b;
-        },
-      )) stop
-      ∙ ap after is
-      ∙ leads
+  put_so x y leads answer new mail records stopped is recorded stop = grind (arith, nat_tests)
 
   -- a step adds no record
   not_recorded : (n : Option ℕ) (s : Step S) → Fits s →
@@ -135,20 +114,14 @@ module _ {S : Type 0} {m : Machine} {to : Node} {parts : List S} {k : ℕ} {has_
   not_recorded n step.Exhausts fits = refl
   not_recorded n (step.Keeps why) fits = sym ((kept_plain why fits).0 m.records)
   not_recorded n step.Drops fits = refl
-  not_recorded n (step.Makes why consumes sends new) fits = by_test (can_post m.config.messages m.mail consumes sends)
-    where
-      by_test : (b : Bool) → m.records ≡ with_record m.records (cond {A = Answer × S × Mail} b
-          (why, new, posted m.mail n consumes sends) (answer.Refused refusal.NetworkFull, part, m.mail)).0
-      by_test true = sym ((made_plain why fits).0 m.records)
-      by_test false = refl
+  not_recorded n (step.Makes why consumes sends new) fits =
+      let q0 = made_plain why fits in grind (arith, nat_tests, q0)
 
   pub made_without : (n : Option ℕ) (s : Step S) → Fits s → (answer : Answer) (new : S) (mail : Mail) (stopped : Bool) →
       (answer, new, mail) ≡ applied m.config.messages part m.mail n s → stopped ≡ (stops answer || m.is_stopped) →
       (answer, record (put new) { mail = mail; is_stopped = stopped }) ≡ changed m put n s
   made_without n s fits answer new mail stopped is stop =
-      put_so (applied m.config.messages part m.mail n s) (changed m put n s) (is_changed n s fits) answer new mail
-      m.records stopped is
-      (not_recorded n s fits ∙ ap (λ (x : Answer × S × Mail). with_record m.records x.0) (sym is)) stop
+      grind (arith, nat_tests, common_steps, is_changed, not_recorded, put_so)
 
   -- an event of the part: what the table makes of the machine is the step, with messages of this capacity. The machine
   -- is seen as a model.

@@ -1,5 +1,7 @@
 -- What a step of the machine in memory keeps.
-use Rattle.std.proofs.Common.{◌≡◌, ◌≢◌, inl, inr, ℕ, IsSome, true, sym, ap, ◌∙◌, subst}
+use Rattle.std.proofs.Common.{◌≡◌, ◌≢◌, inl, inr, ℕ, IsSome, true, sym, ◌∙◌, subst, arith}
+use Rattle.std.proofs.lemmas.Bool.Decides.{nat_tests}
+use Rattle.std.proofs.lemmas.Grind.{common_steps}
 use Rattle.network.specs.NumberedMessages.{at_number}
 use Rattle.machine_table.specs.declared.event.Event.{Event}
 use Rattle.machine_table.specs.declared.event.Event.TheVariants.{Deliver}
@@ -7,7 +9,6 @@ use Rattle.machine_table.specs.declared.event.Answer.{Answer}
 use Rattle.machine_table.specs.declared.event.Answer.TheVariants.{Refused}
 use Rattle.machine_table.specs.declared.event.Refusal.TheVariants.{NoSuch}
 use Rattle.machine_table.specs.Machine.{Machine}
-use Rattle.machine_table.specs.Transition.{transition}
 use Rattle.machine_table.specs.SetUp.{SetUpAs, is_good}
 use Rattle.machine_theorem.specs.Kept.{Invariant}
 use Rattle.machine_theorem.proofs.Lemmas.{any_transition, delivery_found, messages_find_cases, set_up_same}
@@ -33,19 +34,15 @@ step_set_up m event answer after (inr none) = subst (SetUpAs m) (sym none.1) (se
 pub step_keeps : (m : Machine) (event : Event) (answer : Answer) (after : Machine) →
     (is_good m.config ≡ true) × Invariant m × AreNumbered 0 m.records → Stepped m event answer after →
     (is_good after.config ≡ true) × Invariant after × AreNumbered 0 after.records
-step_keeps m event answer after kept stepped = (
-  ap is_good (step_set_up m event answer after stepped).config ∙ kept.0,
-  step_invariant m event answer after kept.1 stepped,
-  step_numbers m event answer after kept.2 stepped,
-)
+step_keeps m event answer after kept stepped =
+    let q0 = step_set_up m event answer after stepped in let q1 = step_invariant m event answer after kept.1 stepped in
+    let q2 = step_numbers m event answer after kept.2 stepped in grind (arith, nat_tests, q0, q1, q2)
 
 -- the delivery of a message in flight finds its part, and its case there
 pub step_found : (m : Machine) (event : Event) (answer : Answer) (after : Machine) → Invariant m →
     Stepped m event answer after →
     (number : ℕ) → event ≡ Deliver number → IsSome (at_number number m.mail.messages) → answer ≢ Refused NoSuch
 step_found m event answer after invariant (inl is) number delivers there none =
-    let message = had (at_number number m.mail.messages) there in
-    delivery_found m number (messages_find_cases m invariant) message.0 message.1
-    (sym (ap (λ (e : Event). (transition m e).0) delivers) ∙ sym (ap (λ (x : Answer × Machine). x.0) is) ∙ none)
+    grind (arith, nat_tests, common_steps, delivery_found, had, messages_find_cases)
 step_found m event answer after invariant (inr refused) number delivers there none =
     absurd (let z = sym refused.0 ∙ none in cc)

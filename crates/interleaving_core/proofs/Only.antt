@@ -1,26 +1,22 @@
 -- What the steps of each event answer, and what parts they make.
 use Rattle.std.proofs.Common.{◌≡◌, ℕ, ◌+◌, Bool, true, false, cond, List, [], ◌∷◌, length, length-append, Option}
-use Rattle.std.proofs.Common.{Some, None, Ok, Err, refl, ap, ◌∙◌, arith}
+use Rattle.std.proofs.Common.{Some, None, refl, ap, arith}
 use Rattle.std.proofs.lemmas.Bool.{cond_both}
+use Rattle.std.proofs.lemmas.Bool.Decides.{nat_tests}
+use Rattle.std.proofs.lemmas.Grind.{common_steps}
 use Rattle.physiological_order.specs.declared.operation.Op.{Op}
 use Rattle.physiological_order.specs.declared.operation.Record.{Record}
 use Rattle.network.specs.declared.message.Message.{Message}
 use Rattle.network.specs.Mail.{Mail, has_capacity}
 use Rattle.private_cache.specs.declared.cache.CacheError.TheVariants as not_left
-use Rattle.private_cache.specs.declared.line_copy.LineCopy.{LineCopy}
-use Rattle.private_cache.specs.CopyTable.{copy_of, without_copy, is_pinned, evicted as left_cache}
 use Rattle.timestamp_manager.specs.Lease.{fits}
 use Rattle.core_pts.specs.declared.attempt.Attempt.{Attempt}
 use Rattle.core_pts.specs.declared.attempt.Attempt.TheVariants as attempted
-use Rattle.core_pts.specs.OnCopy.{at_core}
-use Rattle.core_pts.specs.declared.decision.CoreReaction.{CoreReaction}
-use Rattle.core_pts.specs.declared.decision.CoreReaction.TheVariants.{Arrives, Grants, Returns}
 use Rattle.core_pts.specs.CoreTable as core_table
-use Rattle.core_pts.specs.CoreTable.{CoreState, core_table, pinned_line, sent_back}
+use Rattle.core_pts.specs.CoreTable.{CoreState, core_table}
 use Rattle.machine_table.specs.declared.event.Answer.{Answer}
 use Rattle.machine_table.specs.declared.event.Answer.TheVariants as answer
 use Rattle.machine_table.specs.declared.event.Refusal.TheVariants as refusal
-use Rattle.machine_table.specs.Posted.{can_post, posted}
 use Rattle.machine_table.specs.Step as step
 use Rattle.machine_table.specs.Step.{Step, Tried, record_of}
 use Rattle.machine_table.proofs.Lemmas.{FitsTried, Keeping, Making, waits, requests}
@@ -73,14 +69,7 @@ module _ (core : CoreState) where
       ap (λ (rs : List Record). length rs + owed_for core.open_op) ((kept_plain why fits).0 records)
   balanced c number capacity mail records (step.Does step.Drops) fits only = refl
   balanced c number capacity mail records (step.Does (step.Makes why consumes sends after)) fits only =
-      by_test (can_post capacity mail consumes sends)
-    where
-      by_test : (b : Bool) → let x : Answer × CoreState × Mail = cond b
-          (why, after, posted mail None consumes sends) (answer.Refused refusal.NetworkFull, core, mail) in
-          length (with_record records x.0) + owed_for x.1.open_op ≡ length records + owed_for core.open_op
-      by_test true = ap (λ (rs : List Record). length rs + owed_for after.open_op) ((made_plain why fits).0 records)
-          ∙ ap (λ (o : Option Op). length records + owed_for o) only
-      by_test false = refl
+      let q0 = made_plain why fits in grind (arith, nat_tests, q0)
 
   attempted_only : (op : Op) → core.open_op ≡ Some op → (tries : Option Attempt × CoreState) → Closes tries →
       OnlyTried (step.attempted core op tries)
@@ -92,11 +81,7 @@ module _ (core : CoreState) where
   attempted_only op opens (Some _, after) closes = tt
 
   pub attempt_only : OnlyTried (step.attempt_open core core.open_op)
-  attempt_only = by_open core.open_op refl
-    where
-      by_open : (o : Option Op) → core.open_op ≡ o → OnlyTried (step.attempt_open core o)
-      by_open None opens = tt
-      by_open (Some op) opens = attempted_only op opens (core_table.attempt core) (attempt_closes core)
+  attempt_only = grind (arith, nat_tests, common_steps, attempt_closes, attempted_only)
 
   -- after an attempt the core stands as its answer says
   abbrev Stands : Answer × CoreState × Mail → Type 0
@@ -120,19 +105,13 @@ module _ (core : CoreState) where
     attempted_stands op (Some _, after) closes = refl
 
     pub attempt_stands : Stands (applied_attempt c number capacity mail core (step.attempt_open core core.open_op))
-    attempt_stands = by_open core.open_op
-      where
-        by_open : (o : Option Op) → Stands (applied_attempt c number capacity mail core (step.attempt_open core o))
-        by_open None = refl
-        by_open (Some op) = attempted_stands op (core_table.attempt core) (attempt_closes core)
+    attempt_stands = grind (arith, nat_tests, common_steps, attempt_closes, attempted_stands)
 
   -- what holds of the core and of each core that a step makes
   pub kept : (made : CoreState → Type 0) → made core → (capacity : ℕ) (mail : Mail) (n : Option ℕ)
       (s : Step CoreState) → Only made s → made (applied capacity core mail n s).1
   kept made same capacity mail n (step.Makes why consumes sends after) only =
-      cond_both {A = Answer × CoreState × Mail} (can_post capacity mail consumes sends)
-      (why, after, posted mail n consumes sends) (answer.Refused refusal.NetworkFull, core, mail)
-      (λ x. made x.1) (λ t. only) (λ t. same)
+      grind (arith, nat_tests, common_steps, cond_both)
   kept made same capacity mail n step.Exhausts only = same
   kept made same capacity mail n _ only = same
 
@@ -143,25 +122,8 @@ module _ (core : CoreState) where
 
   -- a copy leaves the core's cache
   pub evict_only : (line : ℕ) → Only SameStatus (step.copy_evicted (core_table.evict core line))
-  evict_only line = by_copy (copy_of core.cache line)
-    where
-      by_pin : (copy : LineCopy) (b : Bool) → Only SameStatus (step.copy_evicted
-          (sent_back core line (cond b (Err not_left.Pinned, core.cache) (Ok copy, without_copy core.cache line))))
-      by_pin copy true = tt
-      by_pin copy false = (refl, refl)
-
-      by_copy : (o : Option LineCopy) → Only SameStatus
-          (step.copy_evicted (sent_back core line (left_cache core.cache line (pinned_line core) o)))
-      by_copy None = tt
-      by_copy (Some copy) = by_pin copy (is_pinned (pinned_line core) line)
+  evict_only line = grind (arith, nat_tests)
 
   -- a message reaches the core
   pub core_only : (message : Message) → Only SameOpen (step.reacted (core_table core message))
-  core_only message = by_reaction (at_core core.lease (is_pinned (pinned_line core) message.line)
-      (copy_of core.cache message.line) message.body)
-    where
-      by_reaction : (r : CoreReaction) → Only SameOpen (step.reacted (core_table.after_reaction core message.line r))
-      by_reaction (Arrives copy) = refl
-      by_reaction (Grants copy) = refl
-      by_reaction (Returns copy back) = refl
-      by_reaction _ = tt
+  core_only message = grind (arith, nat_tests)

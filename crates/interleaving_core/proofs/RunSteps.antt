@@ -1,5 +1,6 @@
 -- A run goes on by one step.
-use Rattle.std.proofs.Common.{◌∙◌, List, [], ◌∷◌, ◌++◌, refl, subst}
+use Rattle.std.proofs.Common.{List, [], ◌∷◌, ◌++◌, refl, subst, arith}
+use Rattle.std.proofs.lemmas.Bool.Decides.{nat_tests}
 use Rattle.machine_table.specs.Machine.{Machine}
 use Rattle.machine_table.specs.declared.event.Event.{Event}
 use Rattle.machine_table.specs.declared.event.Answer.{Answer}
@@ -15,9 +16,4 @@ ran_more [] (y ∷ answers) old mid new e a never step = absurd never
 ran_more (x ∷ es) [] old mid new e a never step = absurd never
 
 pub set_up_on : (m n k : Machine) → SetUpAs m n → SetUpAs n k → SetUpAs m k
-set_up_on m n k first second = record {
-  config = second.config ∙ first.config;
-  opening = second.opening
-      ∙ first.opening;
-  cores = second.cores ∙ first.cores;
-}
+set_up_on m n k first second = grind (arith, nat_tests)

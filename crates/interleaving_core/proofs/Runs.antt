@@ -1,9 +1,10 @@
 -- What a list of events issues and sends.
-use Rattle.std.proofs.Common.{◌≡◌, inl, inr, ℕ, ◌+◌, ◌++◌, get_or, replicate, length, Bool, cond, List, [], ◌∷◌}
-use Rattle.std.proofs.Common.{refl, sym, ap, ◌∙◌}
-use Rattle.std.proofs.Common.{subst, arith}
-use Rattle.std.proofs.lemmas.Bool.{cases_lt, le-ltb, lt-ltb}
+use Rattle.std.proofs.Common.{◌≡◌, inl, inr, ℕ, ◌+◌, ◌++◌, get_or, replicate, Bool, cond, List, [], ◌∷◌, refl, sym, ap}
+use Rattle.std.proofs.Common.{◌∙◌, subst, arith}
+use Rattle.std.proofs.lemmas.Bool.{cases_lt}
 use Rattle.std.proofs.lemmas.List.{append-nil, append_assoc, get_or-replicate, get_or_past, length-replicate}
+use Rattle.std.proofs.lemmas.Bool.Decides.{nat_tests}
+use Rattle.std.proofs.lemmas.Grind.{common_steps}
 use Rattle.physiological_order.specs.declared.operation.Op.{Op}
 use Rattle.network.specs.declared.counts.Counts.{Counts}
 use Rattle.network.specs.declared.message.Body.{Body}
@@ -16,8 +17,7 @@ use Rattle.machine_table.specs.Machine.{Machine}
 use Rattle.machine_theorem.specs.Kept.{Invariant}
 use Rattle.interleaving_core.specs.IssuedOps.{issued_at_event, issued_in}
 use Rattle.interleaving_core.specs.SentMessages.{last_of, newly_sent, all_sent, AreNext, AreCounted, how_many}
-use Rattle.interleaving_core.specs.SentMessages.{is_renewal}
-use Rattle.interleaving_core.specs.SentMessages.{is_upgrade, is_flush, is_write_back}
+use Rattle.interleaving_core.specs.SentMessages.{is_renewal, is_upgrade, is_flush, is_write_back}
 use Rattle.interleaving_core.specs.StepAnswers.{Ran}
 use Rattle.interleaving_core.proofs.Coherence.{step_invariant}
 use Rattle.interleaving_core.proofs.Told.{SendsOne, step_told}
@@ -27,12 +27,7 @@ no_ops = []
 
 -- of lists that are all empty each is, also one past the last
 pub none_at : (n i : ℕ) → get_or (replicate n no_ops) i no_ops ≡ no_ops
-none_at n i =
-    let count : length (replicate n no_ops) ≡ n = length-replicate n no_ops in
-    elim (cases_lt i n) [
-      | inl below ↦ get_or-replicate n i no_ops no_ops below
-      | inr past ↦ get_or_past (replicate n no_ops) i no_ops (omega arith)
-    ]
+none_at n i = grind (arith, nat_tests, common_steps, cases_lt, get_or-replicate, get_or_past, length-replicate)
 
 pub run_issues : (events : List Event) (answers : List Answer) (m after : Machine) → Invariant m →
     Ran m events answers after → (core : ℕ) →
@@ -60,16 +55,7 @@ pub record AreSent (mail : Mail) (messages : List (ℕ × Message)) (after : Mai
   pub counts : AreCounted mail.counts messages after.counts
 
 none_sent : (mail after : Mail) → after.next ≡ mail.next → after.counts ≡ mail.counts → AreSent mail [] after
-none_sent mail after next counts = record {
-  next = next;
-  counts = subst (AreCounted mail.counts []) (sym counts) (record {
-    renewals = omega arith;
-    upgrades =
-        omega arith;
-    flushes = omega arith;
-    write_backs = omega arith;
-  });
-}
+none_sent mail after next counts = grind (arith, nat_tests)
 
 -- one more message is one more of its kind, if that is counted
 rises : (counts : Counts) (body : Body) →
@@ -86,29 +72,12 @@ rises counts _ = (omega arith, omega arith, omega arith, omega arith)
 -- the last message of those in flight after one was sent
 one_sent : (mail before : Mail) (message : Message) → before.next ≡ mail.next → before.counts ≡ mail.counts →
     AreSent mail (last_of (sent before message).messages) (sent before message)
-one_sent mail before message next counts =
-    subst (λ messages. AreSent mail messages (sent before message))
-    (sym (last_added before.messages (before.next, message)))
-    (let rise = rises before.counts message.body in
-    record {
-      next = (next, ap (λ n. n + 1) next);
-      counts = subst (λ before_it. AreCounted before_it ((before.next, message) ∷ [])
-          (counted before.counts message.body)) counts (record {
-            renewals = omega (arith, rise.0);
-            upgrades = omega (arith, rise.1);
-            flushes = omega (arith, rise.2);
-            write_backs = omega (arith, rise.3);
-          });
-    })
+one_sent mail before message next counts = grind (arith, nat_tests, common_steps, last_added, rises)
 
 newly : (mail after : Mail) → SendsOne mail after → AreSent mail (newly_sent mail after) after
-newly mail after (inl (next, counts)) =
-    subst (λ (b : Bool). AreSent mail (cond b (last_of after.messages) []) after)
-    (sym (le-ltb mail.next after.next (omega (arith, next)))) (none_sent mail after next counts)
+newly mail after (inl (next, counts)) = let q0 = none_sent mail after next counts in grind (arith, nat_tests, q0)
 newly mail after (inr (before, message, next, counts, is)) =
-    subst (λ (n : Mail). AreSent mail (newly_sent mail n) n) (sym is)
-    (subst (λ (b : Bool). AreSent mail (cond b (last_of (sent before message).messages) []) (sent before message))
-    (sym (lt-ltb mail.next (before.next + 1) (omega (arith, next)))) (one_sent mail before message next counts))
+    let q0 = one_sent mail before message next counts in grind (arith, nat_tests, q0)
 
 -- one list after another
 next_joined : (xs ys : List (ℕ × Message)) (n k l : ℕ) → AreNext n xs k → AreNext k ys l → AreNext n (xs ++ ys) l
@@ -122,18 +91,7 @@ many_joined is (x ∷ xs) ys = let rest = many_joined is xs ys in omega arith
 
 joined : (first second third : Mail) (xs ys : List (ℕ × Message)) → AreSent first xs second →
     AreSent second ys third → AreSent first (xs ++ ys) third
-joined first second third xs ys a b = record {
-  next = next_joined xs ys first.next second.next third.next a.next b.next;
-  counts =
-      let before = a.counts in
-      let after = b.counts in
-      record {
-        renewals = omega (arith, before.renewals, after.renewals, many_joined is_renewal xs ys);
-        upgrades = omega (arith, before.upgrades, after.upgrades, many_joined is_upgrade xs ys);
-        flushes = omega (arith, before.flushes, after.flushes, many_joined is_flush xs ys);
-        write_backs = omega (arith, before.write_backs, after.write_backs, many_joined is_write_back xs ys);
-      };
-}
+joined first second third xs ys a b = grind (arith, nat_tests, common_steps, many_joined, next_joined)
 
 pub run_sends : (events : List Event) (answers : List Answer) (m after : Machine) (ran : Ran m events answers after) →
     AreSent m.mail (all_sent m events answers after ran) after.mail

@@ -1,9 +1,10 @@
 -- What an event issues and sends, by the machine's table.
 use Rattle.std.proofs.Common.{◌≡◌, ◌⊎◌, inl, inr, ⊎_elim, ℕ, ◌++◌, get_or, set, Bool, true, false, cond, eqb}
 use Rattle.std.proofs.Common.{[], ◌∷◌, length, Option, Some, None, refl, sym, ap, ◌∙◌, subst, arith}
+use Rattle.std.proofs.lemmas.Bool.Decides.{nat_tests, eqb_tells}
+use Rattle.std.proofs.lemmas.Grind.{common_steps}
 use Rattle.std.specs.List.{slice_get}
 use Rattle.std.proofs.lemmas.Bool.{cond_both}
-use Rattle.std.proofs.lemmas.Bool.Decides.{eqb_tells}
 use Rattle.std.proofs.lemmas.List.{append-nil, get_or-set_same, get_or-set_other}
 use Rattle.std.proofs.lemmas.Option.{slice_get_within}
 use Rattle.physiological_order.specs.declared.operation.Op.{Op}
@@ -17,10 +18,10 @@ use Rattle.machine_table.specs.declared.event.Answer.TheVariants.{Refused}
 use Rattle.machine_table.specs.declared.event.Refusal.{Refusal}
 use Rattle.machine_table.specs.declared.event.Refusal.TheVariants as refusal
 use Rattle.machine_table.specs.Machine.{Machine, with_core, with_bank, with_dram}
-use Rattle.machine_table.specs.Posted.{can_post, left, posted}
+use Rattle.machine_table.specs.Posted.{left, posted}
 use Rattle.machine_table.specs.Step as step
 use Rattle.machine_table.specs.Step.{Step}
-use Rattle.machine_table.specs.Transition.{refused, changed, transition}
+use Rattle.machine_table.specs.Transition.{changed, transition}
 use Rattle.machine_table.proofs.Lemmas.{Outcome, refuses, issues, completes, core_steps, bank_steps, dram_steps}
 use Rattle.machine_table.proofs.Lemmas.{transition_outcome, Fits, Keeping, Making, waits, requests}
 use Rattle.interleaving_core.specs.IssuedOps.{issued_at_event}
@@ -55,9 +56,7 @@ module _ (m : Machine) where
   steps put keeps n (step.Keeps why) = same
   steps put keeps n step.Drops = (refl, inl (refl, refl))
   steps put keeps n (step.Makes why consumes sends part) =
-      cond_both (can_post m.config.messages m.mail consumes sends)
-      (why, record (put part) { mail = posted m.mail n consumes sends }) (refused m refusal.NetworkFull)
-      (λ x. Stays m x.1) (λ t. (keeps part, posted_one m.mail n consumes sends)) (λ t. same)
+      grind (arith, nat_tests, common_steps, cond_both, posted_one, same)
 
   -- what an event issues and sends
   pub record Told (event : Event) (outcome : Answer × Machine) : Type 0 where
@@ -77,16 +76,12 @@ module _ (m : Machine) where
   module _ (c : ℕ) (op : Op) (core : CoreState) (here : slice_get m.cores c ≡ Some core) where
     added : (k : ℕ) → length m.issued ≡ length m.cores → get_or (set m.issued c (get_or m.issued c [] ++ op ∷ [])) k
         [] ≡ get_or m.issued k [] ++ cond (eqb c k) (op ∷ []) []
-    added k long = ⊎_elim
-        (λ is. ap (λ i. get_or (set m.issued c (get_or m.issued c [] ++ op ∷ [])) i []) (sym is.1)
-        ∙ get_or-set_same m.issued c (get_or m.issued c [] ++ op ∷ []) [] (let within =
-        slice_get_within m.cores c core here in omega arith)
-        ∙ ap (λ i. get_or m.issued i [] ++ op ∷ []) is.1
-        ∙ ap (λ (b : Bool). get_or m.issued k [] ++ cond b (op ∷ []) []) (sym is.0))
-        (λ other. get_or-set_other m.issued c k (get_or m.issued c [] ++ op ∷ []) [] (λ e. other.1 (sym e))
-        ∙ sym (append-nil (get_or m.issued k []))
-        ∙ ap (λ (b : Bool). get_or m.issued k [] ++ cond b (op ∷ []) []) (sym other.0))
-        (eqb_tells c k)
+    added k long =
+        let q0 = get_or m.issued c in let q1 = get_or-set_same m.issued c (get_or m.issued c [] ++ op ∷ []) in
+        let q2 = slice_get_within m.cores c core here in let q3 = get_or m.issued k in
+        let q4 = get_or-set_other m.issued c k (get_or m.issued c [] ++ op ∷ []) in
+        let q5 = append-nil (get_or m.issued k []) in let q6 = eqb_tells c k in
+        grind (arith, nat_tests, q0, q1, q2, q3, q4, q5, q6)
 
   -- a refused event issues nothing
   refused_issues : (event : Event) (why : Refusal) (core : ℕ) → issued_at_event core event (Refused why) ≡ []
@@ -112,10 +107,7 @@ module _ (m : Machine) where
   step_issues (Issue c op) put n step.Drops fits core = refl
   step_issues _ put n step.Drops fits core = refl
   step_issues event put n (step.Makes why consumes sends part) fits core =
-      cond_both (can_post m.config.messages m.mail consumes sends)
-      (why, record (put part) { mail = posted m.mail n consumes sends }) (refused m refusal.NetworkFull)
-      (λ x. issued_at_event core event x.0 ≡ []) (λ t. made_issues event why fits core)
-      (λ t. refused_issues event refusal.NetworkFull core)
+      grind (arith, nat_tests, common_steps, cond_both, made_issues, refused_issues)
 
   outcome_told : (event : Event) (o : Answer × Machine) → Outcome m event o → Told event o
   outcome_told event o (refuses why so) = stayed event _ (refused_issues event why) same
@@ -136,7 +128,4 @@ module _ (m : Machine) where
   pub step_told : (event : Event) (answer : Answer) (after : Machine) → Stepped m event answer after →
       Told event (answer, after)
   step_told event answer after (inl is) = subst (Told event) (sym is) (transition_told event)
-  step_told event answer after (inr none) =
-      subst (λ (x : Answer). Told event (x, after)) (sym none.0)
-      (subst (λ (n : Machine). Told event (Refused refusal.NoMemory, n)) (sym none.1)
-      (stayed event _ (refused_issues event refusal.NoMemory) same))
+  step_told event answer after (inr none) = grind (arith, nat_tests, common_steps, refused_issues, same)

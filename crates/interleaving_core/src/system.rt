@@ -418,8 +418,9 @@ impl System {
         self.state.flight.nth(at)
     }
 
-    /// The same, for a message that is to be delivered next. The machine notes where it lies, and gives back the room of
-    /// messages that were delivered. So its delivery, and then that of those sent after it, one by one, needs no search.
+    /// The same, for a message that is to be delivered next. The machine notes where it lies, and gives back the room
+    /// of messages that were delivered. So its delivery, and then that of those sent after it, one by one, needs no
+    /// search.
     pub fn seek_message(&mut self, at: u32) -> Option<MsgNo>
         ensures number { result ≡ slice_get (map (λ m. m.0) self.old.mail.messages) at }
         ensures same { self.new ≡ self.old }

@@ -2,8 +2,10 @@
 use Rattle.std.proofs.Common.{◌≡◌, ℕ, zero, suc, ◌+◌, ◌-◌, ◌*◌, ◌<◌, ◌==◌, ◌||◌, Bool, true, false, List, [], ◌∷◌, ◌++◌}
 use Rattle.std.proofs.Common.{refl, sym, ap, ◌∙◌, arith, length, get_or, set, replicate, eqb-true}
 use Rattle.std.proofs.Common.{eq-eqb, ne_eqb}
+use Rattle.std.proofs.lemmas.Bool.Decides.{nat_tests}
+use Rattle.std.proofs.lemmas.Grind.{common_steps}
 use Rattle.std.specs.List.{list_any}
-use Rattle.std.proofs.lemmas.Bool.{and_parts, eqb-false, ltb-true, leb-true, false≢true}
+use Rattle.std.proofs.lemmas.Bool.{eqb-false, false≢true}
 use Rattle.std.proofs.lemmas.List.{get_or-set_same, get_or-set_other}
 use Rattle.std.proofs.lemmas.List.Folds.{list_any-append}
 use Rattle.network.specs.declared.message.Node.{Node}
@@ -41,10 +43,7 @@ module _ (cores banks number : ℕ) where
       unmarked (suc n) (suc i) = unmarked n i
 
   one_kind : (c d : ℕ) → leads (Core c) → leads (Bank d) → ⊥
-  one_kind c d a b =
-      let low = leb-true cores number (and_parts _ _ a).0 in
-      let high = ltb-true number cores (and_parts _ _ b).0 in
-      absurd (omega (arith, low, high))
+  one_kind c d a b = grind (arith, nat_tests)
 
   same_ends : (a b : Node) → leads a → leads b → links a ≡ links b → end_of a ≡ end_of b
   same_ends (Core c) (Core d) a b is =
@@ -67,9 +66,7 @@ module _ (cores banks number : ℕ) where
 
   one_more : (to : Node) (found : List ℕ) (l : ℕ) (b : Bool) → (l == links to) ≡ b →
       among to (found ++ l ∷ []) ≡ (among to found || b)
-  one_more to found l b is =
-      list_any-append (λ k. k == links to) found (l ∷ [])
-      ∙ ap (λ c. among to found || c) (or_false (l == links to) ∙ is)
+  one_more to found l b is = grind (arith, nat_tests, common_steps, list_any-append, or_false)
 
   -- one more is marked
   pub marked_more : (full : List Bool) (found : List ℕ) (to : Node) (l e : ℕ) → l ≡ links to → e ≡ end_of to →

@@ -1,10 +1,8 @@
 -- What a list has read backwards, and what is known of seats that were joined.
-use Rattle.std.proofs.Common.{◌≡◌, ℕ, zero, suc, ◌+◌, ◌<◌, ◌≤◌, List, [], ◌∷◌, ◌++◌, length}
-use Rattle.std.proofs.Common.{length-append, append_assoc, Option, Some, option_to_list}
-use Rattle.std.proofs.Common.{sym, refl, ap, ◌∙◌, arith}
-use Rattle.std.specs.Prelude.{map, reverse}
+use Rattle.std.proofs.Common.{◌≡◌, ℕ, zero, suc, ◌+◌, ◌<◌, ◌≤◌, List, [], ◌∷◌, ◌++◌, length, length-append}
+use Rattle.std.proofs.Common.{append_assoc, Option, Some, option_to_list, sym, refl, ap, ◌∙◌, arith}
+use Rattle.std.specs.Prelude.{map, reverse, slice_get}
 use Rattle.std.proofs.lemmas.List.{reverse-append}
-use Rattle.std.specs.Prelude.{slice_get}
 use mathlib.Core.Option.{some, some-ne-none}
 use lib.ListN.{get_elem?}
 use Rattle.seat_views.proofs.Lemmas.{some_is}

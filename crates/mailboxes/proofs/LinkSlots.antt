@@ -1,13 +1,12 @@
 -- Looks at the slots of the links of messages, one message after the other, are looks at all slots of these links.
-use Rattle.std.proofs.Common.{◌≡◌, ℕ, ◌+◌, ◌-◌, ◌*◌, ◌/◌, ◌%◌, ◌<◌, Bool, true, false, cond, ltb, zero, suc}
-use Rattle.std.proofs.Common.{sym, refl, ap, ◌∙◌, subst, arith, lt-ltb, le-ltb}
-use Rattle.std.proofs.Common.{List, [], ◌∷◌, ◌++◌, Some}
+use Rattle.std.proofs.Common.{◌≡◌, ℕ, ◌+◌, ◌-◌, ◌*◌, ◌/◌, ◌%◌, ◌<◌, Bool, true, false, cond, ltb, zero, suc, sym, refl}
+use Rattle.std.proofs.Common.{ap, ◌∙◌, arith, le-ltb, List, [], ◌∷◌, ◌++◌, Some}
+use Rattle.std.proofs.lemmas.Bool.Decides.{nat_tests}
+use Rattle.std.proofs.lemmas.Grind.{common_steps}
 use Rattle.std.specs.Prelude.{flat_map, option_map, slice_get}
 use Rattle.std.proofs.lemmas.Option.{slice_get-map}
-use Rattle.std.proofs.lemmas.Nat.{div-add-mod', mod_below}
-use Rattle.std.proofs.lemmas.Bool.{ltb-false}
+use Rattle.std.proofs.lemmas.Nat.{div-add-mod'}
 use Rattle.network.specs.declared.message.Node.{Node}
-use Rattle.network.specs.declared.message.Node.TheVariants.{Core, Bank}
 use Rattle.network.specs.declared.message.Message.{Message}
 use Rattle.seat_views.proofs.Lemmas.{some_is}
 use Rattle.seat_rule.specs.declared.views.SetUp.{SetUp}
@@ -24,29 +23,8 @@ module _ (z : SetUp) (number l : ℕ) (to : Node) (some_cores : 0 < z.config.cor
       ((l - z.config.cores * z.config.banks) % z.config.cores)) ≡ to →
       link_to z.config.cores z.config.banks number to ≡ l
   unfolding node_of
-  one_link true is from node =
-      let cores : ℕ = z.config.cores in
-      let banks : ℕ = z.config.banks in
-      let b : ℕ = l % banks in
-      let t = le-ltb (cores + b) cores (omega arith) in
-      let back : cores + b - cores ≡ b = omega arith in
-      let bank : Bank (cores + b - cores) ≡ to =
-      subst (λ e. cond e (Core (cores + b)) (Bank (cores + b - cores)) ≡ to) t node in
-      let here : Bank b ≡ to = ap Bank (sym back) ∙ bank in
-      subst (λ n. link_to cores banks number n ≡ l) here
-      (ap (λ k. k * banks + b) (sym from) ∙ div-add-mod' l banks)
-  one_link false is from node =
-      let cores : ℕ = z.config.cores in
-      let banks : ℕ = z.config.banks in
-      let p : ℕ = cores * banks in
-      let far = ltb-false l p is in
-      let c : ℕ = (l - p) % cores in
-      let t = lt-ltb c cores (mod_below (l - p) cores some_cores) in
-      let here : Core c ≡ to = subst (λ e. cond e (Core c) (Bank (c - cores)) ≡ to) t node in
-      let row : number - cores ≡ (l - p) / cores = omega (arith, from) in
-      let whole : (number - cores) * cores + c ≡ l - p =
-      ap (λ k. k * cores + c) row ∙ div-add-mod' (l - p) cores in
-      subst (λ n. link_to cores banks number n ≡ l) here (ap (λ k. p + k) whole ∙ omega (arith, far))
+  one_link true is from node = grind (arith, nat_tests, common_steps, div-add-mod', le-ltb)
+  one_link false is from node = grind (arith, nat_tests)
 
 linked : (z : SetUp) (number l : ℕ) (to : Node) → 0 < z.config.cores → source z l ≡ number →
     to ≡ node_of z (target z l) → link_to z.config.cores z.config.banks number to ≡ l

@@ -1,6 +1,8 @@
 -- Each number of a list once, where it comes first.
-use Rattle.std.proofs.Common.{◌≡◌, ℕ, suc, zero, ◌==◌, ◌||◌, Bool, true, false, cond, not, List, [], ◌∷◌, ◌++◌, Some}
-use Rattle.std.proofs.Common.{refl, sym, ap, ◌∙◌, subst, arith, append-nil, eqb-true, eq-eqb, ◌≢◌, ◌<◌, ◌+◌, ◌*◌}
+use Rattle.std.proofs.Common.{◌≡◌, ℕ, suc, zero, ◌==◌, Bool, true, false, cond, not, List, [], ◌∷◌, ◌++◌, Some}
+use Rattle.std.proofs.Common.{refl, ap, ◌∙◌, arith, append-nil, eqb-true, eq-eqb, ◌≢◌, ◌<◌, ◌+◌, ◌*◌}
+use Rattle.std.proofs.lemmas.Bool.Decides.{nat_tests}
+use Rattle.std.proofs.lemmas.Grind.{common_steps}
 use Rattle.std.specs.Prelude.{All, AllPairs, filter, flat_map, slice_get, slice_index_or}
 use Rattle.std.specs.List.{list_any}
 use Rattle.std.proofs.lemmas.List.Elements.{All-cons, All-nil, filter-append, filter_passes}
@@ -17,11 +19,7 @@ one_more false x l ys at = at
 in_filter : (test : ℕ → Bool) (xs : List ℕ) (i l : ℕ) → slice_get xs i ≡ Some l → test l ≡ true →
     (k : ℕ) × (slice_get (filter test xs) k ≡ Some l)
 in_filter test [] i l is passes = let none = is in cc
-in_filter test (x ∷ xs) zero l is passes = (
-  0,
-  subst (λ b. slice_get (cond b (x ∷ filter test xs) (filter test xs)) 0 ≡ Some l)
-      (sym (ap test (some_is is) ∙ passes)) is,
-)
+in_filter test (x ∷ xs) zero l is passes = let q0 = some_is is in grind (arith, nat_tests, q0)
 in_filter test (x ∷ xs) (suc i) l is passes =
     one_more (test x) x l (filter test xs) (in_filter test xs i l is passes)
 
@@ -49,29 +47,13 @@ at_end x l ys b is =
 -- a number that isn't there comes last
 pub once_more : (xs : List ℕ) (l : ℕ) → list_any (λ y. y == l) xs ≡ false → once (xs ++ l ∷ []) ≡ once xs ++ l ∷ []
 once_more [] l h = refl
-once_more (x ∷ xs) l h = by (once_more xs l) (x == l) (list_any (λ y. y == l) xs) refl refl h
-  where
-    by : (list_any (λ y. y == l) xs ≡ false → once (xs ++ l ∷ []) ≡ once xs ++ l ∷ []) →
-        (a b : Bool) → (x == l) ≡ a → list_any (λ y. y == l) xs ≡ b → (a || b) ≡ false →
-        once (x ∷ xs ++ l ∷ []) ≡ once (x ∷ xs) ++ l ∷ []
-    by more false false other none n =
-        ap (λ ys. x ∷ but x ys) (more none) ∙ ap (λ ys. x ∷ ys) (at_end x l (once xs) false other)
-    by more false true other none n = let e = n in cc
-    by more true b other none n = let e = n in cc
+once_more (x ∷ xs) l h = let q0 = once_more xs l in grind (arith, nat_tests, common_steps, q0, at_end)
 
 -- one that is there already adds nothing
 pub once_same : (xs : List ℕ) (l : ℕ) → list_any (λ y. y == l) xs ≡ true → once (xs ++ l ∷ []) ≡ once xs
 once_same [] l h = let e = h in cc
-once_same (x ∷ xs) l h = by (once_same xs l) (x == l) (list_any (λ y. y == l) xs) refl refl h
-  where
-    by : (list_any (λ y. y == l) xs ≡ true → once (xs ++ l ∷ []) ≡ once xs) →
-        (a b : Bool) → (x == l) ≡ a → list_any (λ y. y == l) xs ≡ b → (a || b) ≡ true →
-        once (x ∷ xs ++ l ∷ []) ≡ once (x ∷ xs)
-    by same a true is there y = ap (λ ys. x ∷ but x ys) (same there)
-    by same true false is none y =
-        ap (λ ys. x ∷ but x ys) (once_more xs l none) ∙ ap (λ ys. x ∷ ys) (at_end x l (once xs) true is)
-        ∙ ap (λ ys. x ∷ ys) (append-nil (but x (once xs)))
-    by same false false is none y = let e = y in cc
+once_same (x ∷ xs) l h =
+    let q0 = once_same xs l in grind (arith, nat_tests, common_steps, q0, append-nil, at_end, once_more)
 
 -- none comes twice
 differ : (xs : List ℕ) → AllPairs (λ x y. x ≢ y) (once xs)

@@ -1,6 +1,5 @@
 -- What a seat holds is what it stores, before a change and after it.
-use Rattle.std.proofs.Common.{◌≡◌, ℕ, Bool, true, false, Result, refl, sym, ap, ◌∙◌, true≢false}
-use Rattle.std.proofs.Common.{List, Option}
+use Rattle.std.proofs.Common.{◌≡◌, ℕ, Bool, true, false, Result, refl, sym, ap, ◌∙◌, true≢false, List, Option}
 use Rattle.std.specs.Prelude.{is_some}
 use Rattle.physiological_order.specs.declared.operation.Op.{Op}
 use Rattle.physiological_order.specs.declared.operation.Record.{Record}

@@ -1,13 +1,13 @@
 -- One more message that was not put, or was, after others that were not.
-use Rattle.std.proofs.Common.{◌≡◌, ℕ, ◌+◌, ◌*◌, List, [], ◌∷◌, ◌++◌, append_assoc, append-nil, take}
-use Rattle.std.proofs.Common.{Some, refl, sym, ap, ◌∙◌, subst, arith, ◌==◌, ◌<◌, zero, suc, Bool, true, false}
-use Rattle.std.proofs.Common.{get_or, eq-eqb}
-use Rattle.std.specs.Prelude.{flat_map, option_map, slice_get, remove, ◌≢◌}
+use Rattle.std.proofs.Common.{◌≡◌, ℕ, ◌+◌, List, [], ◌∷◌, ◌++◌, append_assoc, append-nil, take, Some, refl, sym, ap}
+use Rattle.std.proofs.Common.{◌∙◌, arith, ◌==◌, ◌<◌, zero, suc, Bool, true, false, get_or, eq-eqb}
+use Rattle.std.proofs.lemmas.Bool.Decides.{nat_tests}
+use Rattle.std.proofs.lemmas.Grind.{common_steps, flat_map-append}
+use Rattle.std.specs.Prelude.{flat_map, option_map, slice_get, ◌≢◌}
 use Rattle.std.proofs.lemmas.Bool.{false≢true}
 use Rattle.std.proofs.lemmas.List.Folds.{list_any_at}
 use Rattle.std.specs.List.{list_any}
 use Rattle.std.proofs.lemmas.List.{map-append, take_more}
-use Rattle.std.proofs.lemmas.Grind.{flat_map-append}
 use Rattle.std.proofs.lemmas.Option.{get_or_from_slice_get, slice_get-map, slice_get_within}
 use Rattle.network.specs.declared.message.Message.{Message}
 use Rattle.seat_rule.specs.Plays.{ones}
@@ -22,13 +22,7 @@ use Rattle.mailboxes.proofs.Once.{once_more, once_same}
 use Rattle.mailboxes.specs.BoxMoves.{hold, IsAt, Stands, Stays, SameIncoming, PutInto, PutNothing}
 
 incoming_on : (p q r : Mailbox) → SameIncoming p q → SameIncoming q r → SameIncoming p r
-incoming_on p q r s t =
-    record {
-      hand = t.hand ∙ s.hand;
-      held = t.held ∙ s.held;
-      taken = t.taken ∙ s.taken;
-      cursor = t.cursor ∙ s.cursor;
-    }
+incoming_on p q r s t = grind (arith, nat_tests)
 
 -- the links of a seat that stays are the same
 pub link_on : (p q : Mailbox) → Stays p q → (m : Message) →
@@ -75,24 +69,13 @@ module _ (p : Mailbox) (ms : List Message) (i : ℕ) (m : Message) (here : slice
   pub swept_same : (q : Mailbox) (xs : List Message) → list_any (λ l. l == to_go) (links i) ≡ true →
       PutNothing (swept i) p ms q xs → PutNothing (swept (i + 1)) p ms q xs
   swept_same q xs there n =
-      let same : swept i ≡ swept (i + 1) =
-      sym (ap (λ ls. flat_map (λ l. ones l 4) (once ls)) (links_more p.cores p.banks p.number ms i m here)
-      ∙ ap (λ ls. flat_map (λ l. ones l 4) ls) (once_same (links i) to_go there)) in
-      (n.0 ∙ ap (λ zs. (hold p).looks ++ zs) same, n.1, n.2, n.3)
+      let q0 = links_more p.cores p.banks p.number ms i m here in let q1 = once_same (links i) to_go there in
+      grind (arith, nat_tests, q0, q1)
 
 -- a message was put after looks that found nothing free
 pub put_more : (p q r : Mailbox) (ms xs ys : List Message) (looks : List (ℕ × ℕ)) (i s link own : ℕ) (m : Message) →
     link ≡ own → PutNothing looks p ms q xs → PutInto link [] i s m q xs r ys → PutInto own looks i s m p ms r ys
-put_more p q r ms xs ys looks i s link own m is n t =
-    subst (λ l. PutInto l looks i s m p ms r ys) is (
-      t.0,
-      ap (λ zs. slice_get zs i) (sym n.1) ∙ t.1,
-      t.2 ∙ ap (λ zs. remove zs i) n.1,
-      t.3 ∙ ap (λ zs. zs ++ (4 * link + s, m) ∷ []) n.2,
-      t.4 ∙ ap (λ zs. zs ++ (ones link s ++ (4 * link + s, 0) ∷ [])) n.0
-          ∙ append_assoc (hold p).looks looks (ones link s ++ (4 * link + s, 0) ∷ []),
-      incoming_on p q r n.3 t.5,
-    )
+put_more p q r ms xs ys looks i s link own m is n t = grind (arith, nat_tests, common_steps, append_assoc, incoming_on)
 
 -- nothing was put of the messages so far: the slots of their links were found full
 abbrev pub SweptTo : Machine → Mailbox → Queue Message → ℕ → Mailbox → Queue Message → Type 0
@@ -106,10 +89,7 @@ pub own_mark : (p q : Mailbox) (full : List Bool) (links : List ℕ) (e : ℕ) (
     has_link_to q.cores q.banks q.number to ≡ true → Marks p.cores p.banks p.number full links →
     (has_link_to p.cores p.banks p.number to ≡ true)
     × (get_or full e false ≡ list_any (λ l. l == link_to p.cores p.banks p.number to) links)
-own_mark p q full links e to s at lead marks =
-    let there : has_link_to p.cores p.banks p.number to ≡ true =
-    sym (λ i. has_link_to (s.cores i) (s.banks i) (s.number i) to) ∙ lead in
-    (there, ap (λ n. get_or full n false) at ∙ marks to there)
+own_mark p q full links e to s at lead marks = grind (arith, nat_tests)
 
 taken : {X : Type 0} (xs : List X) (i j : ℕ) → j < i → slice_get (take i xs) j ≡ slice_get xs j
 taken xs zero j less = absurd (omega (arith, less))

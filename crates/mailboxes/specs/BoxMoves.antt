@@ -92,8 +92,8 @@ TakenNothing looks p q =
     ((hold q).looks ≡ (hold p).looks ++ looks) × (q.inbox.hand ≡ p.inbox.hand) × ((hold q).taken ≡ (hold p).taken)
     × (q.cursor ≡ p.cursor) × SameOutgoing p q
 
--- of this many slots that come in, from a place on and going round, f.0 is the first that was found full: the k before it
--- were empty. Its message is out with the seat, and f.1 is the place after it
+-- of this many slots that come in, from a place on and going round, f.0 is the first that was found full: the k before
+-- it were empty. Its message is out with the seat, and f.1 is the place after it
 abbrev pub FindsFull : SetUp → ℕ → ℕ → ℕ → ℕ × ℕ → SeatState → SeatState → Type 0
 FindsFull z number start slots f s t =
     let cores = z.config.cores in

@@ -1,5 +1,6 @@
 //! The end: all seats are joined, and leave what they stored.
-ghost use Rattle.std.specs.Prelude.{◌≡◌, ℕ, List, ◌+◌, ◌<◌, ◌≤◌, false, [], ◌∷◌, ◌++◌, length, map, IfOk, Some, slice_get, vec_capacity};
+ghost use Rattle.std.specs.Prelude.{◌≡◌, ℕ, List, ◌+◌, ◌<◌, ◌≤◌, false, [], ◌∷◌, ◌++◌, length, map, IfOk};
+ghost use Rattle.std.specs.Prelude.{Some, slice_get, vec_capacity};
 ghost use Rattle.physiological_order.specs.declared.operation.Record.{Record};
 ghost use Rattle.machine_table.specs.SetUp.{is_good};
 ghost use Rattle.closed_machine.specs.PartsOfState.{PartsOfState};

@@ -19,8 +19,8 @@ use seat_rule::laws::completions_keep_the_rule;
 use seat_views::View;
 use std::marker::{Brand, PhantomData};
 
-/// How the machine was set up, the operation that is completed, what it receives and when, and the core afterwards. Each
-/// call picks them.
+/// How the machine was set up, the operation that is completed, what it receives and when, and the core afterwards.
+/// Each call picks them.
 pub trait End {
     ghost use Rattle.std.specs.Prelude.{ℕ, Option};
     ghost use Rattle.physiological_order.specs.declared.operation.Op.{Op};

@@ -1,4 +1,6 @@
-use Rattle.std.proofs.Common.{Bool, ◌≡◌, ◌≢◌, ℕ, ◌+◌, true, false, Option, Some, None, refl, sym, ◌∙◌, subst, arith}
+use Rattle.std.proofs.Common.{Bool, ◌≡◌, ◌≢◌, ℕ, ◌+◌, true, false, Option, Some, None, refl, sym, subst, arith}
+use Rattle.std.proofs.lemmas.Bool.Decides.{nat_tests}
+use Rattle.std.proofs.lemmas.Grind.{common_steps}
 use Rattle.physiological_order.specs.declared.operation.Op.{Op}
 use Rattle.physiological_order.specs.declared.operation.Op.TheVariants.{Load}
 use Rattle.physiological_order.specs.Order.{address}
@@ -7,7 +9,6 @@ use Rattle.protocol.specs.Machine.{LineTransition, evict_shared, evict_exclusive
 use Rattle.protocol.specs.Machine.{shared, exclusive, renews, upgrades, Asks, to_read, to_write, Transition, issue}
 use Rattle.protocol.specs.Machine.{advance, ask, answer, complete, line_changes, Reachable, at_first, goes_on}
 use Rattle.protocol.proofs.Lines.{with_at_same, with_at_other, with_at_cases}
-use Rattle.protocol.proofs.Cores.{Some_injective}
 
 -- a core with a request out can't use what it has, and one without an operation has none out
 pub record BlockedOk (f : Config) (cores : ℕ → Core) (lines : ℕ → Line) : Type 0 where
@@ -56,13 +57,7 @@ core_changes : {f : Config} {cores : ℕ → Core} {lines : ℕ → Line} → Bl
     ((o : Op) → core.open_op ≡ Some o → core.out ≡ true →
     CannotUse o core.pts ((new (line_of f (address o))).copies c)) →
     ((d : ℕ) → d ≢ c → (l : ℕ) → (lines l).copies d ≡ (new l).copies d) → BlockedOk f (with_at cores c core) new
-core_changes {f} {cores} {lines} k c core new idle blocked same =
-    record {
-      idle = with_at_cases (λ d (x : Core). x.open_op ≡ None → x.out ≡ false) cores c core idle (λ d ne. k.idle d);
-      blocked = with_at_cases (λ d (x : Core). (o : Op) → x.open_op ≡ Some o → x.out ≡ true →
-          CannotUse o x.pts ((new (line_of f (address o))).copies d)) cores c core blocked
-          (λ d ne o e q. subst (CannotUse o (cores d).pts) (same d ne (line_of f (address o))) (k.blocked d o e q));
-    }
+core_changes {f} {cores} {lines} k c core new idle blocked same = grind (arith, nat_tests, common_steps, with_at_cases)
 
 -- and so they do where one line changes
 copies_stay : (lines : ℕ → Line) (l : ℕ) (y : Line) (d : ℕ) → y.copies d ≡ (lines l).copies d → (i : ℕ) →
@@ -72,27 +67,14 @@ copies_stay lines l y d same =
 
 transition_blocked : (f : Config) (m n : Machine) → Transition f m n → BlockedOk f m.cores m.lines →
     BlockedOk f n.cores n.lines
-transition_blocked f m n (issue c op none) k =
-    core_changes k c (record (m.cores c) { open_op = Some op }) m.lines (λ e. k.idle c none)
-    (λ o e q. absurd (let z : false ≡ true = sym (k.idle c none) ∙ q in cc)) (λ d ne l. refl)
-transition_blocked f m n (advance c) k =
-    core_changes k c (record (m.cores c) { pts = (m.cores c).pts + 1 }) m.lines (k.idle c)
-    (λ o e q. blocked_later o _ _ (k.blocked c o e q)) (λ d ne l. refl)
+transition_blocked f m n (issue c op none) k = grind (arith, nat_tests)
+transition_blocked f m n (advance c) k = grind (arith, nat_tests)
 transition_blocked f m n (ask c op y opens quiet a) k =
-    core_changes k c (record (m.cores c) { out = true }) (with_at m.lines (line_of f (address op)) y)
-    (λ e. absurd (let z : Some op ≡ None = sym opens ∙ e in cc))
-    (λ o e q. let same : op ≡ o = Some_injective op o (sym opens ∙ e) in
-    rw (← same, with_at_same m.lines (line_of f (address op)) y) (asks_blocked a))
-    (λ d ne. copies_stay m.lines (line_of f (address op)) y d (asks_copies a d))
+    grind (arith, nat_tests, common_steps, asks_blocked, asks_copies, copies_stay, core_changes, with_at_same)
 transition_blocked f m n (answer c l y a) k =
     core_changes k c (record (m.cores c) { out = false }) (with_at m.lines l y) (λ e. refl) (λ o e q. absurd (cc))
     (λ d ne. copies_stay m.lines l y d (answers_copies a d ne))
-transition_blocked f m n (complete c op copy new received ts opens quiet is used) k =
-    let l = line_of f (address op) in
-    let y : Line = record (m.lines l) { copies = with_at ((m.lines l).copies) c (Some new) } in
-    core_changes k c (record { pts = ts; open_op = None; out = false }) (with_at m.lines l y) (λ e. refl)
-    (λ o e q. absurd (cc))
-    (λ d ne. copies_stay m.lines l y d (with_at_other ((m.lines l).copies) c (Some new) d ne))
+transition_blocked f m n (complete c op copy new received ts opens quiet is used) k = grind (arith, nat_tests)
 transition_blocked f m n (line_changes l t y mv) k =
     record {
       idle = k.idle;

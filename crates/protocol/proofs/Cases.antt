@@ -1,12 +1,10 @@
-use Rattle.std.proofs.Common.{◌≡◌, ℕ, ◌<◌, ◌≤◌, Bool, true, false, cond, eqb, List, [], ◌∷◌, Option, Some, None, refl}
-use Rattle.std.proofs.Common.{sym, ◌∙◌, subst, arith}
+use Rattle.std.proofs.Common.{◌≡◌, ℕ, ◌<◌, ◌≤◌, List, [], ◌∷◌, Option, sym, ◌∙◌, subst, arith}
+use Rattle.std.proofs.lemmas.Bool.Decides.{nat_tests}
 use Rattle.std.specs.List.{AllByRecursion as Each}
-use Rattle.std.proofs.lemmas.Bool.{eqb-true}
-use Rattle.physiological_order.specs.declared.operation.Op.{Op}
-use Rattle.physiological_order.specs.Order.{Memory, address}
+use Rattle.physiological_order.specs.Order.{Memory}
 use Rattle.protocol.specs.Machine.{Config, Timed, Copy, Entry, Exclusive, Recalling, Message, ShRep, ExRep, RenewRep}
-use Rattle.protocol.specs.Machine.{UpgradeRep, FlushRep, WbRep, DramLdRep, DramStRep, Machine, Reachable, line_of}
-use Rattle.protocol.specs.Machine.{waits, WaitsFor, IsShared, IsGranted, HasCase, tally}
+use Rattle.protocol.specs.Machine.{UpgradeRep, FlushRep, WbRep, DramLdRep, DramStRep, Machine, Reachable}
+use Rattle.protocol.specs.Machine.{WaitsFor, IsShared, IsGranted, HasCase, tally}
 use Rattle.protocol.proofs.Lines.{Holder, Bank, Flying, flying, right, load, store, about, about_itself, loading}
 use Rattle.protocol.proofs.Lines.{storing, HasShared, MessageOk, EntryOk, LineOk}
 use Rattle.protocol.proofs.LineChanges.{flying_one, at_most_one, loading_one, loads_at_most_one, storing_one}
@@ -15,17 +13,7 @@ use Rattle.protocol.proofs.Headline.{reachable_ok, busy}
 
 -- who has something to come waits for it
 waiting : (f : Config) (m : Machine) (l c : ℕ) → 1 ≤ busy f m.cores l c → WaitsFor f m l c
-waiting f m l c le = go (m.cores c).out (m.cores c).open_op refl refl le
-  where
-    go : (o : Bool) (p : Option Op) → (m.cores c).out ≡ o → (m.cores c).open_op ≡ p →
-        1 ≤ waits f l o p → WaitsFor f m l c
-    go true None e q h = absurd (omega arith)
-    go true (Some op) e q h = (e, (op, q, on (eqb (line_of f (address op)) l) refl h))
-      where
-        on : (b : Bool) → eqb (line_of f (address op)) l ≡ b → 1 ≤ cond b 1 0 → line_of f (address op) ≡ l
-        on true t w = eqb-true _ _ t
-        on false t w = absurd (omega arith)
-    go false p e q h = absurd (omega arith)
+waiting f m l c le = grind (arith, nat_tests)
 
 granted : (s : Timed) (b : Holder) (t : ℕ) (d : List ℕ) (e : Entry) → EntryOk s b t d e → b ≡ Flying → IsGranted e
 granted s b t d (Exclusive o) k fl = tt

@@ -1,6 +1,8 @@
-use Rattle.std.proofs.Common.{◌≡◌, ◌≢◌, ℕ, ◌+◌, ◌*◌, ◌/◌, ◌%◌, ◌<◌, ◌≤◌, max, Bool, true, false, ◌&&◌, cond, List, []}
+use Rattle.std.proofs.Common.{◌≡◌, ◌≢◌, ℕ, ◌+◌, ◌%◌, ◌<◌, ◌≤◌, max, true, List, []}
 use Rattle.std.proofs.Common.{◌∷◌, ◌++◌, set, get_or, Option, Some, None, inl, inr, refl, sym, ap, ◌∙◌, subst, arith}
 use Rattle.std.proofs.Common.{le_trans, le_refl, lt_of_le_of_lt, ⊎_elim, length-set, get_or-set_same, get_or-set_other}
+use Rattle.std.proofs.lemmas.Bool.Decides.{nat_tests}
+use Rattle.std.proofs.lemmas.Grind.{common_steps}
 use Rattle.std.specs.Prelude.{slice_set}
 use Rattle.std.proofs.Math.Nat.{mod-lt, div-add-mod}
 use Rattle.std.specs.List.{AllByRecursion as Each}
@@ -11,7 +13,7 @@ use Rattle.physiological_order.specs.declared.operation.Op.TheVariants.{Load, St
 use Rattle.physiological_order.specs.declared.operation.Record.{Record}
 use Rattle.physiological_order.specs.Order.{Memory, address, flat_received, flat_after}
 use Rattle.physiological_order.proofs.Lemmas.{Sorted, memory_at-placed_before, memory_at-placed_keeps}
-use Rattle.physiological_order.proofs.Lemmas.{memory_at-placed_writes, Keeps-load, Keeps-other, Keeps, each_weaker}
+use Rattle.physiological_order.proofs.Lemmas.{memory_at-placed_writes, each_weaker}
 use Rattle.physiological_order.proofs.Lemmas.{arranged-push, each_push, each_arranged}
 use Rattle.protocol.specs.Machine.{Config, Timed, Copy, Line, line_of, word_at, with_at, write_time, Uses, load_hit}
 use Rattle.protocol.specs.Machine.{load_own, store_own, swap_own, tally}
@@ -105,9 +107,7 @@ module _ (f : Config) (h g : ℕ → Memory) (l : ℕ) (records : List Record) (
   -- two words of a line are at two places
   apart : (a b : ℕ) → 0 < f.line_words → line_of f a ≡ l → line_of f b ≡ l → b ≢ a →
       b % f.line_words ≢ a % f.line_words
-  apart a b good on_a on_b ne e =
-      ne (sym (div-add-mod b f.line_words) ∙ ap (λ (n : ℕ). f.line_words * n + b % f.line_words) (on_b ∙ sym on_a)
-      ∙ ap (λ (n : ℕ). f.line_words * (a / f.line_words) + n) e ∙ div-add-mod a f.line_words)
+  apart a b good on_a on_b ne e = grind (arith, nat_tests, common_steps, div-add-mod)
 
   -- what stands is written, above all that came before
   Current-write : (s : Timed) (a v : ℕ) → 0 < f.line_words → line_of f a ≡ l → s.rts ≤ r.ts → address r.op ≡ a →
@@ -142,21 +142,14 @@ values f records t = memory_at f.opening (arranged records) t
 module _ (f : Config) (records : List Record) (r : Record) where
   -- what a load changes
   pub values-load : (b : ℕ) → r.op ≡ Load b → (t a : ℕ) → values f (records ++ r ∷ []) t a ≡ values f records t a
-  values-load b is t a =
-      ap (λ (rs : List Record). memory_at f.opening rs t a) (arranged-push records r)
-      ∙ memory_at-placed_keeps f.opening r (arranged records) t a
-      (subst (λ (o : Op). Keeps o a) (sym is) (Keeps-load b a))
+  values-load b is t a = grind (arith, nat_tests, common_steps, arranged-push, memory_at-placed_keeps)
 
   -- and any operation elsewhere
   pub values-other : (t a : ℕ) → a ≢ address r.op → values f (records ++ r ∷ []) t a ≡ values f records t a
-  values-other t a ne =
-      ap (λ (rs : List Record). memory_at f.opening rs t a) (arranged-push records r)
-      ∙ memory_at-placed_keeps f.opening r (arranged records) t a (Keeps-other r.op a (λ e. ne (sym e)))
+  values-other t a ne = grind (arith, nat_tests, common_steps, arranged-push, memory_at-placed_keeps)
 
   pub values-before : (t a : ℕ) → t < r.ts → values f (records ++ r ∷ []) t a ≡ values f records t a
-  values-before t a lt =
-      ap (λ (rs : List Record). memory_at f.opening rs t a) (arranged-push records r)
-      ∙ ap (λ (n : Memory). n a) (memory_at-placed_before f.opening r (arranged records) t lt)
+  values-before t a lt = grind (arith, nat_tests, common_steps, arranged-push, memory_at-placed_before)
 
   pub values-written : (t a v : ℕ) → Sorted (arranged records) → Each (λ s. address s.op ≡ a → s.ts ≤ r.ts) records →
       ((n : Memory) → flat_after n r.op a ≡ v) → r.ts ≤ t → values f (records ++ r ∷ []) t a ≡ v
@@ -187,17 +180,7 @@ module _ (f : Config) (good : 0 < f.line_words) (records : List Record) (sorted 
   write_late : (copy : Copy) → (copy.line.rts ≤ write_time f pts copy) × (pts ≤ write_time f pts copy) ×
       ((top : ℕ) → top ≤ copy.line.rts → copy.line.wts ≤ copy.line.rts → (copy.written ≡ true → top < copy.line.wts) →
       top < write_time f pts copy)
-  write_late copy = go f.private_write copy.written refl
-    where
-      go : (o w : Bool) → copy.written ≡ w →
-          (copy.line.rts ≤ cond (o && w) (max pts copy.line.rts) (max pts (copy.line.rts + 1))) ×
-          (pts ≤ cond (o && w) (max pts copy.line.rts) (max pts (copy.line.rts + 1)))
-          × ((top : ℕ) → top ≤ copy.line.rts → copy.line.wts ≤ copy.line.rts →
-          (copy.written ≡ true → top < copy.line.wts) → top < cond (o && w) (max pts copy.line.rts)
-          (max pts (copy.line.rts + 1)))
-      go true true e = (omega arith, omega arith, λ top le order below. let lt = below e in omega arith)
-      go true false e = (omega arith, omega arith, λ top le order below. omega arith)
-      go false w e = (omega arith, omega arith, λ top le order below. omega arith)
+  write_late copy = grind (arith, nat_tests)
 
   writes_ok : (a v : ℕ) (op : Op) (received : Option ℕ) (copy : Copy) → address op ≡ a →
       ((n : Memory) → flat_after n op a ≡ v) →

@@ -1,17 +1,18 @@
 use Rattle.std.proofs.Common.{◌≡◌, ◌≢◌, ℕ, ◌+◌, ◌≤◌, true, false, eqb, List, ◌∷◌, Option, Some, None, IfSome, inl, refl}
 use Rattle.std.proofs.Common.{sym, ap, ◌∙◌, subst, arith, le_refl}
+use Rattle.std.proofs.lemmas.Bool.Decides.{nat_tests}
+use Rattle.std.proofs.lemmas.Grind.{common_steps}
 use Rattle.std.specs.List.Sorted.{IsPermutation}
 use Rattle.std.proofs.lemmas.Bool.{ne_eqb}
 use Rattle.physiological_order.specs.declared.operation.Op.{Op}
-use Rattle.physiological_order.specs.declared.operation.Op.TheVariants.{Load}
 use Rattle.physiological_order.specs.declared.operation.Record.{Record}
 use Rattle.physiological_order.specs.Order.{Memory}
-use Rattle.protocol.specs.Machine.{Config, Timed, Copy, Message, ShReq, ExReq, ShRep, ExRep, RenewRep, UpgradeRep, Line}
+use Rattle.protocol.specs.Machine.{Config, Timed, Copy, Message, ShRep, ExRep, RenewRep, UpgradeRep, Line}
 use Rattle.protocol.specs.Machine.{with_at, version_of, CannotUse, Answers, shared, exclusive, renews, upgrades, Asks}
 use Rattle.protocol.specs.Machine.{to_read, to_write, NotOwned, tally}
 use Rattle.protocol.proofs.Lease.{Leased}
 use Rattle.protocol.proofs.Lines.{Holder, Bank, At, Flying, right, load, store, about, one_if, about_itself, HasShared}
-use Rattle.protocol.proofs.Lines.{MessageOk, CopyOk, LineOk, with_at_same, with_at_other, with_at_cases, with_bag}
+use Rattle.protocol.proofs.Lines.{MessageOk, CopyOk, LineOk, with_at_same, with_at_other, with_at_cases}
 use Rattle.protocol.proofs.Lines.{copy_keeps, flying, loading, storing}
 use Rattle.protocol.proofs.LineChanges.{At≢Bank, At_injective, flying_one, at_most_one, owned, keep, lost, Goes}
 use Rattle.protocol.proofs.LineChanges.{ok_shuffled}
@@ -167,24 +168,12 @@ module _ (f : Config) (h : ℕ → Memory) (l : ℕ) (records : List Record) whe
       right m ≡ 0 → load m ≡ 0 → store m ≡ 0 → about c m ≡ 1 → ((d : ℕ) → d ≢ c → about d m ≡ 0) →
       ((top : ℕ) → MessageOk f h l top s x.copies x.dram m) → LineOk f h l records busy t x s b →
       LineOk f h l records (with_at busy c 1) t (record x { messages = m ∷ x.messages }) s b
-  ok_asks busy t x s b c m free rm dm wm am others fine k =
-      with_bag f h l k x.entry (m ∷ x.messages) x.dram (fine k.top, k.messages) (let q = k.owner_count in omega arith)
-      (let q = k.loads in omega arith) (let q = k.stores in omega arith)
-      (with_at_cases (λ d n. about d m + tally (about d) x.messages ≡ n) busy c 1 (let q = k.asks c in omega arith)
-      (λ d ne. let z = others d ne in let r = k.asks d in omega arith)) k.entry
+  ok_asks busy t x s b c m free rm dm wm am others fine k = grind (arith, nat_tests)
 
   -- every request keeps the line
   pub asks_keep : (busy : ℕ → ℕ) (t c pts : ℕ) (op : Op) → busy c ≡ 0 → (x y : Line) → Asks c pts op x y →
       Goes f h l records busy t x → Goes f h l records (with_at busy c 1) t y
-  asks_keep busy t c pts op free x y (to_read a w) k = (
-    k.0,
-    k.1,
-    ok_asks busy t x k.0 k.1 c (ShReq c pts (version_of (x.copies c))) free refl refl refl
-        (about_itself c) (about_other c) (λ n. wants_shared (Load a) pts (x.copies c) w) k.2,
-  )
-  asks_keep busy t c pts op free x y (to_write w) k = (
-    k.0,
-    k.1,
-    ok_asks busy t x k.0 k.1 c (ExReq c (version_of (x.copies c))) free refl refl refl (about_itself c)
-        (about_other c) (λ n. (wants_shared op pts (x.copies c) w).1) k.2,
-  )
+  asks_keep busy t c pts op free x y (to_read a w) k =
+      grind (arith, nat_tests, common_steps, about_itself, about_other, ok_asks, wants_shared)
+  asks_keep busy t c pts op free x y (to_write w) k =
+      grind (arith, nat_tests, common_steps, about_itself, about_other, ok_asks, wants_shared)

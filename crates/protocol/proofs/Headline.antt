@@ -1,12 +1,14 @@
-use Rattle.std.proofs.Common.{◌≡◌, ◌≢◌, ℕ, ◌+◌, ◌%◌, ◌<◌, ◌≤◌, Bool, true, false, cond, eqb, List, [], ◌∷◌, ◌++◌}
+use Rattle.std.proofs.Common.{◌≡◌, ◌≢◌, ℕ, ◌+◌, ◌%◌, ◌<◌, ◌≤◌, Bool, true, false, eqb, List, [], ◌∷◌, ◌++◌}
 use Rattle.std.proofs.Common.{length, Option, Some, None, refl, sym, ap, ◌∙◌, subst, arith, le_trans, le_refl, ⊎_elim}
 use Rattle.std.proofs.Common.{append-nil, length-append}
+use Rattle.std.proofs.lemmas.Bool.Decides.{nat_tests}
+use Rattle.std.proofs.lemmas.Grind.{common_steps}
 use Rattle.std.specs.Prelude.{slice_get}
 use Rattle.std.proofs.Math.Seq.{get_or-append_seam}
 use Rattle.std.proofs.lemmas.Option.{slice_get-get_or}
 use Rattle.std.proofs.lemmas.List.Elements.{filter-append}
 use Rattle.std.specs.List.{AllByRecursion as Each}
-use Rattle.std.proofs.lemmas.Bool.{cases_eq, ne_eqb, cond-true, cond-false, eq-eqb}
+use Rattle.std.proofs.lemmas.Bool.{ne_eqb, cond-true, cond-false, eq-eqb}
 use Rattle.physiological_order.specs.declared.operation.Op.{Op}
 use Rattle.physiological_order.specs.declared.operation.Record.{Record}
 use Rattle.physiological_order.specs.Order.{Memory, address, of_core, Legal}
@@ -46,9 +48,7 @@ pub record MachineOk (f : Config) (m : Machine) : Type 0 where
 with_at_both : {X Y : Type 0} (P : ℕ → X → Y → Type 0) (g : ℕ → X) (k : ℕ → Y) (i : ℕ) (x : X) (y : Y) → P i x y →
     ((j : ℕ) → j ≢ i → P j (g j) (k j)) → (j : ℕ) → P j (with_at g i x j) (with_at k i y j)
 with_at_both P g k i x y here there j =
-    with_at_cases (λ j' z. P j' (with_at g i x j') z) k i y
-    (subst (λ z. P i z y) (sym (with_at_same g i x)) here)
-    (λ j' ne. subst (λ z. P j' z (k j')) (sym (with_at_other g i x j' ne)) (there j' ne)) j
+    grind (arith, nat_tests, common_steps, with_at_cases, with_at_other, with_at_same)
 
 -- what cores wait for
 waits_none : (f : Config) (l : ℕ) (out : Bool) (op : Option Op) → out ≡ false → waits f l out op ≡ 0
@@ -76,23 +76,13 @@ waits_unpinned f l false p h = refl
 waits_elsewhere : (f : Config) (l k : ℕ) (out : Bool) (p : Option Op) → waits f l out p ≡ 1 → k ≢ l →
     waits f k out p ≡ 0
 waits_elsewhere f l k true None h ne = refl
-waits_elsewhere f l k true (Some op) h ne =
-    ⊎_elim
-    (λ (e : line_of f (address op) ≡ l). waits_there f k op (λ q. ne (q ∙ e)))
-    (λ (d : line_of f (address op) ≡ l → ⊥). absurd (let z : waits f l true (Some op) ≡ 0 =
-    waits_there f l op (λ q. d (sym q)) in omega arith))
-    (cases_eq (line_of f (address op)) l)
+waits_elsewhere f l k true (Some op) h ne = grind (arith, nat_tests)
 waits_elsewhere f l k false p h ne = refl
 
 -- a line under the same waits, and at a later time of its bank
 busy_same : {f : Config} {h : ℕ → Memory} {l : ℕ} {records : List Record} {p q : ℕ → ℕ} {t : ℕ} {x : Line} →
     ((c : ℕ) → p c ≡ q c) → Goes f h l records p t x → Goes f h l records q t x
-busy_same {f} {h} {l} {records} {p} {q} {t} {x} same k = (
-  k.0,
-  k.1,
-  with_bag f h l k.2 x.entry x.messages x.dram k.2.messages k.2.owner_count k.2.loads k.2.stores
-      (λ c. k.2.asks c ∙ same c) k.2.entry,
-)
+busy_same {f} {h} {l} {records} {p} {q} {t} {x} same k = grind (arith, nat_tests, common_steps, with_bag)
 
 entry_later : (s : Timed) (b : Holder) (t u : ℕ) (d : List ℕ) (e : Entry) → t ≤ u →
     EntryOk s b t d e → EntryOk s b u d e
@@ -103,12 +93,7 @@ entry_later s b t u d _ le k = k
 
 goes_later : {f : Config} {h : ℕ → Memory} {l : ℕ} {records : List Record} {p : ℕ → ℕ} {t u : ℕ} {x : Line} → t ≤ u →
     Goes f h l records p t x → Goes f h l records p u x
-goes_later {f} {h} {l} {records} {p} {t} {u} {x} le k = (
-  k.0,
-  k.1,
-  with_bag f h l k.2 x.entry x.messages x.dram k.2.messages k.2.owner_count k.2.loads k.2.stores k.2.asks
-      (entry_later k.0 k.1 t u x.dram x.entry le k.2.entry),
-)
+goes_later {f} {h} {l} {records} {p} {t} {u} {x} le k = grind (arith, nat_tests, common_steps, entry_later, with_bag)
 
 -- a reply comes only to a core that waits for it
 answers_busy : {f : Config} {h : ℕ → Memory} {l : ℕ} {records : List Record} {p : ℕ → ℕ} {t c : ℕ} {x y : Line} →
@@ -304,15 +289,11 @@ move_ok f m l t y mv k =
 -- one more record, of this core or of another
 pub of_core-own : (c : ℕ) (records : List Record) (r : Record) → r.core ≡ c → of_core c (records ++ r ∷ []) ≡ of_core
     c records ++ r ∷ []
-of_core-own c records r e =
-    filter-append (λ (q : Record). eqb q.core c) records (r ∷ []) ∙ ap (λ (b : Bool). of_core c records
-    ++ cond b (r ∷ []) []) (eq-eqb r.core c e)
+of_core-own c records r e = grind (arith, nat_tests, common_steps, eq-eqb, filter-append)
 
 pub of_core-other : (c : ℕ) (records : List Record) (r : Record) → r.core ≢ c →
     of_core c (records ++ r ∷ []) ≡ of_core c records
-of_core-other c records r ne =
-    filter-append (λ (q : Record). eqb q.core c) records (r ∷ []) ∙ ap (λ (b : Bool). of_core c records
-    ++ cond b (r ∷ []) []) (ne_eqb r.core c ne) ∙ append-nil (of_core c records)
+of_core-other c records r ne = grind (arith, nat_tests, common_steps, append-nil, filter-append, ne_eqb)
 
 complete_ok : (f : Config) → 0 < f.line_words → (m : Machine) (c : ℕ) (op : Op) (copy new : Copy)
     (received : Option ℕ) (ts : ℕ) → (m.cores c).open_op ≡ Some op → (m.cores c).out ≡ false →

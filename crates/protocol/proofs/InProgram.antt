@@ -1,6 +1,8 @@
 -- The records of a core, as they complete, are of the operations that it was issued, in their order.
 use Rattle.std.proofs.Common.{◌≡◌, ℕ, zero, suc, ◌+◌, ◌<◌, List, [], ◌∷◌, ◌++◌, length, map, drop, Option, Some, None}
 use Rattle.std.proofs.Common.{refl, sym, ap, ◌∙◌, subst, arith, ⊎_elim}
+use Rattle.std.proofs.lemmas.Bool.Decides.{nat_tests}
+use Rattle.std.proofs.lemmas.Grind.{common_steps}
 use Rattle.std.specs.Prelude.{slice_get}
 use Rattle.std.proofs.lemmas.Bool.{cases_eq}
 use Rattle.std.proofs.Math.Seq.{drop-length}
@@ -67,10 +69,7 @@ drop_all xs k is = subst (λ (n : ℕ). drop n xs ≡ []) is (drop-length xs)
 from_place : (rs : List Record) (k : ℕ) (ops : List Op) (o : Option Op) → Follows k ops rs →
     Opened ops (k + length rs) o → drop k ops ≡ map (λ r. r.op) rs ++ listed o
 from_place [] k ops None follows is = drop_all ops k (is ∙ omega arith)
-from_place [] k ops (Some op) follows is =
-    let here : k + 0 ≡ k = omega arith in
-    drop_from ops k op (subst (λ (n : ℕ). slice_get ops n ≡ Some op) here is.1)
-    ∙ ap (λ (xs : List Op). op ∷ xs) (drop_all ops (suc k) (is.0 ∙ omega arith))
+from_place [] k ops (Some op) follows is = grind (arith, nat_tests, common_steps, drop_all, drop_from)
 from_place (r ∷ rs) k ops o follows is =
     let next : k + 1 ≡ suc k = omega arith in
     let count : k + length (r ∷ rs) ≡ k + 1 + length rs = omega arith in
@@ -87,10 +86,4 @@ issued_is rs ops o follows is =
 
 pub what_is_issued : (f : Config) → 0 < f.line_words → (m : Machine) → Reachable f m → (core : ℕ) →
     IsIssued (m.issued core) (of_core core m.records) (m.cores core).open_op
-what_is_issued f some m reached core =
-    let follows = in_program f some m reached core in
-    record {
-      in_order = follows;
-      all = issued_is (of_core core m.records) (m.issued core) (m.cores core).open_op
-          follows ((reachable_ok f some m reached).cores core).opened;
-    }
+what_is_issued f some m reached core = grind (arith, nat_tests, common_steps, in_program, issued_is, reachable_ok)

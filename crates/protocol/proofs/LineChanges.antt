@@ -1,5 +1,6 @@
 use Rattle.std.proofs.Common.{◌≡◌, ◌≢◌, ℕ, ◌+◌, ◌≤◌, max, Bool, true, false, List, ◌∷◌, Option, Some, None, ◌⊎◌, inl}
 use Rattle.std.proofs.Common.{inr, refl, sym, ap, ◌∙◌, subst, arith, le_trans, le_refl, ⊎_elim}
+use Rattle.std.proofs.lemmas.Bool.Decides.{nat_tests}
 use Rattle.std.specs.List.{AllByRecursion as Each}
 use Rattle.std.specs.List.Sorted.{IsPermutation}
 use Rattle.std.proofs.lemmas.Bool.{cases_eq}
@@ -121,10 +122,7 @@ module _ (f : Config) (h : ℕ → Memory) (l : ℕ) (records : List Record) (bu
   ok_without : {t : ℕ} (x : Line) {s : Timed} {b : Holder} (m : Message) (rest : List Message) → right m ≡ 0 →
       load m ≡ 0 → store m ≡ 0 → ((c : ℕ) → about c m ≡ 0) → Has t x m rest s b →
       Ok t (record x { messages = rest }) s b
-  ok_without {t} x {s} {b} m rest r d w a k =
-      with_bag f h l k x.entry rest x.dram k.messages.1 (let q = k.owner_count in omega arith)
-      (let q = k.loads in omega arith) (let q = k.stores in omega arith)
-      (λ c. let q = k.asks c in let z = a c in omega arith) k.entry
+  ok_without {t} x {s} {b} m rest r d w a k = grind (arith, nat_tests)
 
   -- the owner sends the line back, as it stands or leased longer
   ok_evict_exclusive : {t : ℕ} (x : Line) {s : Timed} {b : Holder} (c : ℕ) (copy : Copy) → busy c ≡ 0 →
@@ -208,18 +206,11 @@ module _ (f : Config) (h : ℕ → Memory) (l : ℕ) (records : List Record) (bu
       ((top : ℕ) → MessageOk f h l top s x.copies x.dram m) → right m ≡ 0 → load m ≡ 0 → store m ≡ 0 →
       ((c : ℕ) → about c m ≡ 0) → Ok t x s b → Ok t (record x { entry = Recalling owner; messages = m ∷ x.messages })
       s b
-  ok_recalls {t} x {s} {b} owner m is fine r d w a k =
-      with_bag f h l k (Recalling owner) (m ∷ x.messages) x.dram (fine k.top, k.messages)
-      (let q = k.owner_count in omega arith) (let q = k.loads ∙ ap loading is in omega arith)
-      (let q = k.stores ∙ ap storing is in omega arith) (λ c. let q = k.asks c in let z = a c in omega arith)
-      (subst (EntryOk s b t x.dram) is k.entry)
+  ok_recalls {t} x {s} {b} owner m is fine r d w a k = grind (arith, nat_tests)
 
   ok_load_starts : {t : ℕ} (x : Line) {s : Timed} {b : Holder} → x.entry ≡ Absent → Ok t x s b →
       Ok t (record x { entry = Loading; messages = DramLd ∷ x.messages }) s b
-  ok_load_starts {t} x {s} {b} is k =
-      with_bag f h l k Loading (DramLd ∷ x.messages) x.dram (tt, k.messages) (zero_more _ _ k.owner_count)
-      (let q = k.loads ∙ ap loading is in omega arith) (let q = k.stores ∙ ap storing is in omega arith)
-      (λ c. zero_more _ _ (k.asks c)) (subst (EntryOk s b t x.dram) is k.entry)
+  ok_load_starts {t} x {s} {b} is k = grind (arith, nat_tests)
 
   -- at the bank, no core has the right
   at_bank : (s : Timed) (b : Holder) → b ≡ Bank → (c : ℕ) → b ≡ At c → ⊥
@@ -352,42 +343,19 @@ module _ (f : Config) (h : ℕ → Memory) (l : ℕ) (records : List Record) (bu
 
   ok_stored : {t : ℕ} (x : Line) {s : Timed} {b : Holder} (rest : List Message) → Has t x DramStRep rest s b →
       Ok t (record x { entry = Absent; messages = rest }) s b
-  ok_stored {t} x {s} {b} rest k =
-      let one = stores_at_most_one x.entry in
-      let all : 1 + tally store rest ≡ storing x.entry = k.stores in
-      let is = storing_one x.entry (omega arith) in
-      let e : EntryOk s b t x.dram Storing = subst (EntryOk s b t x.dram) is k.entry in
-      with_bag f h l k Absent rest x.dram k.messages.1 (let q = k.owner_count in omega arith)
-      (let q = k.loads ∙ ap loading is in omega arith) (omega arith) (λ c. let q = k.asks c in omega arith)
-      (e.0, e.1, k.messages.0)
+  ok_stored {t} x {s} {b} rest k = let q0 = stores_at_most_one x.entry in grind (arith, nat_tests, q0)
 
   ok_evict_clean : {t : ℕ} (x : Line) {s : Timed} {b : Holder} (line : Timed) → x.entry ≡ Shared false line →
       Ok t x s b → Ok (max t line.rts) (record x { entry = Absent }) s b
-  ok_evict_clean {t} x {s} {b} line is k =
-      let e : EntryOk s b t x.dram (Shared false line) = subst (EntryOk s b t x.dram) is k.entry in
-      let r : line.rts ≡ s.rts = ap (λ (y : Timed). y.rts) e.1 in
-      with_bag f h l k Absent x.messages x.dram k.messages k.owner_count (k.loads ∙ ap loading is)
-      (k.stores ∙ ap storing is) k.asks (e.0, omega arith, e.2 refl)
+  ok_evict_clean {t} x {s} {b} line is k = grind (arith, nat_tests)
 
   ok_evict_dirty : {t : ℕ} (x : Line) {s : Timed} {b : Holder} (line : Timed) → x.entry ≡ Shared true line →
       Ok t x s b → Ok (max t line.rts) (record x { entry = Storing; messages = DramSt line.words ∷ x.messages }) s b
-  ok_evict_dirty {t} x {s} {b} line is k =
-      let e : EntryOk s b t x.dram (Shared true line) = subst (EntryOk s b t x.dram) is k.entry in
-      let r : line.rts ≡ s.rts = ap (λ (y : Timed). y.rts) e.1 in
-      with_bag f h l k Storing (DramSt line.words ∷ x.messages) x.dram
-      (ap (λ (y : Timed). y.words) e.1, k.messages) (zero_more _ _ k.owner_count)
-      (zero_more _ _ (k.loads ∙ ap loading is)) (let q = k.stores ∙ ap storing is in omega arith)
-      (λ c. zero_more _ _ (k.asks c)) (e.0, omega arith)
+  ok_evict_dirty {t} x {s} {b} line is k = grind (arith, nat_tests)
 
   ok_dram_loads : {t : ℕ} (x : Line) {s : Timed} {b : Holder} (rest : List Message) → Has t x DramLd rest s b →
       Ok t (record x { messages = DramLdRep x.dram ∷ rest }) s b
-  ok_dram_loads {t} x {s} {b} rest k =
-      let one = loads_at_most_one x.entry in
-      let all : 1 + tally load rest ≡ loading x.entry = k.loads in
-      let is = loading_one x.entry (omega arith) in
-      let e : EntryOk s b t x.dram Loading = subst (EntryOk s b t x.dram) is k.entry in
-      with_bag f h l k x.entry (DramLdRep x.dram ∷ rest) x.dram (e.2, k.messages.1) k.owner_count k.loads k.stores
-      k.asks k.entry
+  ok_dram_loads {t} x {s} {b} rest k = let q0 = loads_at_most_one x.entry in grind (arith, nat_tests, q0)
 
   ok_dram_stores : {t : ℕ} (x : Line) {s : Timed} {b : Holder} (words : List ℕ) (rest : List Message) →
       Has t x (DramSt words) rest s b → Ok t (record x { dram = words; messages = DramStRep ∷ rest }) s b

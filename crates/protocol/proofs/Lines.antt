@@ -1,7 +1,8 @@
 use Rattle.std.proofs.Common.{cond, ◌≡◌, ◌≢◌, ℕ, ◌+◌, ◌<◌, ◌≤◌, Bool, true, false, eqb, List, [], ◌∷◌, Option, Some}
 use Rattle.std.proofs.Common.{IfSome, ◌⊎◌, inl, inr, refl, sym, ap, ◌∙◌, subst, arith, ⊎_elim}
+use Rattle.std.proofs.lemmas.Bool.Decides.{nat_tests}
 use Rattle.std.specs.List.{AllByRecursion as Each}
-use Rattle.std.proofs.lemmas.Bool.{cases_eq, cond-true, cond-false, eq-eqb, ne_eqb}
+use Rattle.std.proofs.lemmas.Bool.{cond-true, cond-false, eq-eqb, ne_eqb}
 use Rattle.physiological_order.specs.declared.operation.Record.{Record}
 use Rattle.physiological_order.specs.Order.{Memory}
 use Rattle.protocol.specs.Machine.{Config, Timed, Copy, Entry, Absent, Loading, Shared, Exclusive, Recalling, Storing}
@@ -119,19 +120,7 @@ module _ (f : Config) (h : ℕ → Memory) (l : ℕ) where
       Each (MessageOk k.top s x.copies d) ms → tally right ms ≡ flying b → tally load ms ≡ loading e →
       tally store ms ≡ storing e → ((c : ℕ) → tally (about c) ms ≡ q c) → EntryOk s b u d e →
       LineOk records q u (record x { entry = e; messages = ms; dram = d }) s b
-  with_bag k e ms d each rights loads stores asks entry = record {
-    current = k.current;
-    top = k.top;
-    within = k.within;
-    copies = k.copies;
-    held = k.held;
-    messages = each;
-    owner_count = rights;
-    loads = loads;
-    stores = stores;
-    asks = asks;
-    entry = entry;
-  }
+  with_bag k e ms d each rights loads stores asks entry = grind (arith, nat_tests)
 
 -- a table changed at one place
 pub with_at_same : {X : Type 0} (g : ℕ → X) (i : ℕ) (x : X) → with_at g i x i ≡ x
@@ -142,11 +131,7 @@ with_at_other g i x j ne = cond-false (eqb j i) x (g j) (ne_eqb j i ne)
 
 pub with_at_cases : {X : Type 0} (P : ℕ → X → Type 0) (g : ℕ → X) (i : ℕ) (x : X) → P i x →
     ((j : ℕ) → j ≢ i → P j (g j)) → (j : ℕ) → P j (with_at g i x j)
-with_at_cases P g i x here there j =
-    ⊎_elim
-    (λ (e : j ≡ i). subst (λ (k : ℕ). P k (with_at g i x k)) (sym e) (subst (P i) (sym (with_at_same g i x)) here))
-    (λ (ne : j ≡ i → ⊥). subst (P j) (sym (with_at_other g i x j ne)) (there j ne))
-    (cases_eq j i)
+with_at_cases P g i x here there j = grind (arith, nat_tests)
 
 -- either nothing of a kind is in a bag, or P: so for its first member, and for the rest
 part : {P : Type 0} (a b : ℕ) → ((a + b ≡ 0) ⊎ P) → (a ≡ 1 → P) × ((b ≡ 0) ⊎ P)
@@ -169,13 +154,7 @@ module _ (f : Config) (h g : ℕ → Memory) (l top top' : ℕ) (s u : Timed) (x
   message_keeps (ShRep c x) r d w b k =
       (subst NotOwned (b c (about_itself c)) k.0, Leased-keeps f h g l top top' x same bound k.1)
   message_keeps (ExRep c x) r d w b k = k ∙ r refl
-  message_keeps (RenewRep c n) r d w b k = (
-    k.0,
-    sym (b c (about_itself c)) ∙ k.1,
-    k.2,
-    Leased-keeps f h g l top top'
-        (record (k.0.line) { rts = n }) same bound k.3,
-  )
+  message_keeps (RenewRep c n) r d w b k = let q0 = about_itself c in grind (arith, nat_tests, q0)
   message_keeps (UpgradeRep c n) r d w b k = (k.0, sym (b c (about_itself c)) ∙ k.1, k.2, k.3 ∙ r refl)
   message_keeps (FlushRep c x) r d w b k = k ∙ r refl
   message_keeps (WbRep c x) r d w b k = k ∙ r refl
@@ -203,12 +182,4 @@ module _ (f : Config) (h g : ℕ → Memory) (l top top' : ℕ) (s u : Timed) (x
       CopyOk f h l top s a c copy → CopyOk f g l top' u b c copy
   copy_keeps a b c copy (inl never) k =
       (λ e. absurd (never (k.0 e).0), λ e. Leased-keeps f h g l top top' copy.line same bound (k.1 e))
-  copy_keeps a b c copy (inr e) k = (
-    λ x. (
-      sym e.1 ∙ (k.0 x).0,
-      (k.0 x).1 ∙ e.0,
-      λ w. subst (λ (y : Timed). top' < y.wts) e.0 (let z =
-          (k.0 x).2 w in let q = e.2 in omega arith),
-    ),
-    λ x. Leased-keeps f h g l top top' copy.line same bound (k.1 x),
-  )
+  copy_keeps a b c copy (inr e) k = grind (arith, nat_tests)

@@ -1,23 +1,24 @@
 use Rattle.std.proofs.Common.{◌%◌, ◌≡◌, ◌≢◌, ℕ, ◌+◌, ◌<◌, ◌≤◌, Bool, true, false, cond, eqb, List, [], ◌∷◌, Option}
 use Rattle.std.proofs.Common.{◌⊎◌, Some, None, inl, inr, refl, sym, ap, ◌∙◌, subst, arith, le_trans, le_refl, ⊎_elim}
+use Rattle.std.proofs.lemmas.Bool.Decides.{nat_tests}
+use Rattle.std.proofs.lemmas.Grind.{common_steps}
 use Rattle.std.specs.List.Sorted.{IsPermutation}
-use Rattle.std.proofs.lemmas.Bool.{true_from_ne_false, cases_eq, cond-true, cond-false, eq-eqb, ne_eqb}
+use Rattle.std.proofs.lemmas.Bool.{cases_eq, cond-true, cond-false, eq-eqb, ne_eqb}
 use Rattle.physiological_order.specs.declared.operation.Op.{Op}
 use Rattle.physiological_order.specs.declared.operation.Record.{Record}
 use Rattle.physiological_order.specs.Order.{Memory, address}
 use Rattle.protocol.specs.Machine.{Config, Timed, Copy, Entry, Shared, Exclusive, Recalling, Message, ShRep, ExRep}
-use Rattle.protocol.specs.Machine.{RenewRep}
-use Rattle.protocol.specs.Machine.{UpgradeRep, FlushReq, WbReq, FlushRep, WbRep, DramLd, DramLdRep, DramSt, DramStRep}
-use Rattle.protocol.specs.Machine.{Line, with_at, tally, owns, LineTransition, evict_shared, evict_exclusive, dropped}
-use Rattle.protocol.specs.Machine.{wb_dropped, flushed, written_back, upgraded, granted, wb_starts, flush_starts}
-use Rattle.protocol.specs.Machine.{shuffled, dram_loads, dram_stores, NotOwned, Answers, shared, exclusive, renews}
-use Rattle.protocol.specs.Machine.{upgrades, Asks, to_read, to_write, Uses, load_hit, load_own, store_own, swap_own}
-use Rattle.protocol.specs.Machine.{Machine, Transition, issue, advance, ask, answer, complete, line_changes, Reachable}
-use Rattle.protocol.specs.Machine.{at_first, goes_on, line_of, IsPinned}
+use Rattle.protocol.specs.Machine.{RenewRep, UpgradeRep, FlushReq, WbReq, FlushRep, WbRep, DramLd, DramLdRep, DramSt}
+use Rattle.protocol.specs.Machine.{DramStRep, Line, with_at, tally, owns, LineTransition, evict_shared}
+use Rattle.protocol.specs.Machine.{evict_exclusive, dropped, wb_dropped, flushed, written_back, upgraded, granted}
+use Rattle.protocol.specs.Machine.{wb_starts, flush_starts, shuffled, dram_loads, dram_stores, NotOwned, Answers}
+use Rattle.protocol.specs.Machine.{shared, exclusive, renews, upgrades, Asks, to_read, to_write, Uses, load_hit}
+use Rattle.protocol.specs.Machine.{load_own, store_own, swap_own, Machine, Transition, issue, advance, ask, answer}
+use Rattle.protocol.specs.Machine.{complete, line_changes, Reachable, at_first, goes_on, line_of, IsPinned}
 use Rattle.protocol.specs.Recalls.{recall_to, grant_to, return_of, OwnsOrWill, OwnerAnswers}
 use Rattle.protocol.proofs.Bags.{tally-taken}
 use Rattle.protocol.proofs.Lines.{one_at_most, Holder, Bank, At, flying, right, about, one_if, EntryOk, LineOk}
-use Rattle.protocol.proofs.Lines.{with_at_same, with_at_other, with_at_cases}
+use Rattle.protocol.proofs.Lines.{with_at_same, with_at_cases}
 use Rattle.protocol.proofs.LineChanges.{Goes, At_injective, at_most_one, ok_shuffled}
 use Rattle.protocol.proofs.Cores.{Some_injective}
 use Rattle.protocol.proofs.Headline.{MachineOk, reachable_ok, waits_unpinned, busy}
@@ -43,12 +44,7 @@ rights c o _ = omega arith
 
 -- a grant is one core's alone
 one_of : (c o d : ℕ) → o ≢ c → cond (eqb d c) 1 0 + cond (eqb d o) 1 0 ≤ 1
-one_of c o d ne = ⊎_elim
-    (λ (e : d ≡ c). let z : ◌≡◌ {A = ℕ} (cond (eqb d o) 1 0) 0 =
-    cond-false (eqb d o) 1 0 (ne_eqb d o (λ q. ne (sym q ∙ e))) in
-    let y = one_at_most (eqb d c) in omega (arith, z, y))
-    (λ (n : d ≡ c → ⊥). let z : ◌≡◌ {A = ℕ} (cond (eqb d c) 1 0) 0 = cond-false (eqb d c) 1 0 (ne_eqb d c n) in
-    let y = one_at_most (eqb d o) in omega (arith, z, y)) (cases_eq d c)
+one_of c o d ne = grind (arith, nat_tests)
 
 apart : (c o : ℕ) → o ≢ c → (m : Message) → grant_to c m + grant_to o m ≤ right m
 apart c o ne (ExRep d x) = one_of c o d ne
@@ -69,12 +65,7 @@ own c = cond-true (eqb c c) 1 0 (eq-eqb c c refl)
 
 pub owns_some : (y : Option Copy) → owns y ≡ 1 → (copy : Copy) × (y ≡ Some copy) × (copy.exclusive ≡ true)
 owns_some None e = absurd (omega arith)
-owns_some (Some copy) e = (
-  copy,
-  refl,
-  true_from_ne_false copy.exclusive
-      (λ is. let z : owns (Some copy) ≡ 0 = cond-false copy.exclusive 1 0 is in omega arith),
-)
+owns_some (Some copy) e = grind (arith, nat_tests)
 
 owns_one : (y : Option Copy) (copy : Copy) → y ≡ Some copy → copy.exclusive ≡ true → owns y ≡ 1
 owns_one y copy is ex = ap owns is ∙ cond-true copy.exclusive 1 0 ex
@@ -86,11 +77,7 @@ owns_not (Some copy) free = cond-false copy.exclusive 1 0 (free copy refl)
 -- a copy that takes another's place and has the right exactly if that one had
 owns_same : (copies : ℕ → Option Copy) (c : ℕ) (y : Option Copy) → owns y ≡ owns (copies c) → (d : ℕ) →
     owns (with_at copies c y d) ≡ owns (copies d)
-owns_same copies c y e d =
-    ⊎_elim
-    (λ (q : d ≡ c). subst (λ (i : ℕ). owns (with_at copies c y i) ≡ owns (copies i)) (sym q)
-    (ap owns (with_at_same copies c y) ∙ e))
-    (λ (n : d ≡ c → ⊥). ap owns (with_at_other copies c y d n)) (cases_eq d c)
+owns_same copies c y e d = grind (arith, nat_tests)
 
 -- nothing that an owner's answer rests on goes
 record Stays (x y : Line) : Type 0 where
@@ -153,12 +140,7 @@ module _ (f : Config) (h : ℕ → Memory) (l : ℕ) (records : List Record) (bu
 
   -- a bag with one message more, and with one exchanged for another
   more : (m : Message) (e : Entry) → Stays x (record x { entry = e; messages = m ∷ x.messages })
-  more m e = record {
-    owners = λ c. refl;
-    grants = λ c. omega arith;
-    returns = λ c. omega arith;
-    recalls = λ c. omega arith;
-  }
+  more m e = grind (arith, nat_tests)
 
   exchanged : (m n : Message) (rest : List Message) (d : List ℕ) → IsPermutation x.messages (m ∷ rest) →
       ((c : ℕ) → grant_to c m ≡ 0) → ((c : ℕ) → return_of c m ≡ 0) → ((c : ℕ) → recall_to c m ≡ 0) →
@@ -200,24 +182,14 @@ module _ (f : Config) (h : ℕ → Memory) (l : ℕ) (records : List Record) (bu
   -- a recall starts
   recalled : (owner : ℕ) (m : Message) → x.entry ≡ Exclusive owner → recall_to owner m ≡ 1 → OwnerAnswers x x.entry →
       OwnerAnswers (record x { entry = Recalling owner; messages = m ∷ x.messages }) (Recalling owner)
-  recalled owner m is one q = go (subst (OwnerAnswers x) is q)
-    where
-      go : OwnerAnswers x (Exclusive owner) →
-          OwnerAnswers (record x { entry = Recalling owner; messages = m ∷ x.messages }) (Recalling owner)
-      go (inl z) = inl (omega arith)
-      go (inr z) = inr (omega arith, owns_or_will x _ (more m (Recalling owner)) owner z)
+  recalled owner m is one q = let q0 = more m (Recalling owner) in grind (arith, nat_tests, q0)
 
   module _ (q : OwnerAnswers x x.entry) where
     -- every move of one line keeps what the entry says of the owner
     pub moves_answer : {lease : ℕ} {pinned : ℕ → Type 0} → ((c : ℕ) → (pinned c → ⊥) → busy c ≡ 0) →
         {u : ℕ} {y : Line} → LineTransition lease false pinned t x u y → OwnerAnswers y y.entry
     moves_answer free {y = y} (evict_shared c copy un is sh) =
-        answers_stay x y (record {
-          owners = owns_same x.copies c None (sym (owns_not (x.copies c) (not_exclusive (x.copies c) copy is sh)));
-          grants = λ d. le_refl _;
-          returns = λ d. le_refl _;
-          recalls = λ d. le_refl _;
-        }) x.entry q
+        grind (arith, nat_tests, common_steps, answers_stay, le_refl, not_exclusive, owns_not, owns_same)
     moves_answer free {y = y} (evict_exclusive c copy un is ex) =
         named c copy is ex x.entry q y (let i = own c in omega arith)
     moves_answer free (dropped c rest p may) =
@@ -234,13 +206,7 @@ module _ (f : Config) (h : ℕ → Memory) (l : ℕ) (records : List Record) (bu
     moves_answer free (granted c version dirty line rest is p) = inr (inr (let i = own c in omega arith))
     moves_answer free (wb_starts owner until is) = recalled owner (WbReq owner until) is (own owner) q
     moves_answer free (flush_starts owner is) = recalled owner (FlushReq owner) is (own owner) q
-    moves_answer free {y = y} (shuffled ms p) =
-        answers_stay x y (record {
-          owners = λ c. refl;
-          grants = λ c. let e = tally-taken (grant_to c) x.messages ms p in omega arith;
-          returns = λ c. let e = tally-taken (return_of c) x.messages ms p in omega arith;
-          recalls = λ c. let e = tally-taken (recall_to c) x.messages ms p in omega arith;
-        }) x.entry q
+    moves_answer free {y = y} (shuffled ms p) = grind (arith, nat_tests, common_steps, answers_stay, tally-taken)
     moves_answer free {y = y} (dram_loads rest p) =
         answers_stay x y (exchanged DramLd (DramLdRep x.dram) rest x.dram p (λ c. refl) (λ c. refl) (λ c. refl))
         x.entry q
@@ -338,12 +304,7 @@ module _ (f : Config) (h : ℕ → Memory) (l : ℕ) (records : List Record) (bu
         Uses f pts copy op received ts new →
         OwnerAnswers (record x { copies = with_at x.copies c (Some new) }) x.entry
     uses_answer pts ts c copy new op received is used =
-        answers_stay x (record x { copies = with_at x.copies c (Some new) }) (record {
-          owners = owns_same x.copies c (Some new) (uses_owns used ∙ ap owns (sym is));
-          grants = λ d. le_refl _;
-          returns = λ d. le_refl _;
-          recalls = λ d. le_refl _;
-        }) x.entry q
+        grind (arith, nat_tests, common_steps, answers_stay, le_refl, owns_same, uses_owns)
 
 -- a machine whose line answers
 abbrev Answer : Machine → Type 0

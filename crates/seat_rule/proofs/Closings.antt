@@ -1,9 +1,10 @@
 -- What the last state of the table tells of all seats and slots.
 use Rattle.std.proofs.Common.{◌≡◌, ℕ, zero, suc, ◌+◌, ◌-◌, ◌*◌, ◌/◌, ◌<◌, ◌≤◌, Bool, true, false, cond, eqb, List, []}
-use Rattle.std.proofs.Common.{◌∷◌, get_or, Option, Some, None, sym, refl, ap, ◌∙◌, subst, arith, eq-eqb, ne_eqb}
+use Rattle.std.proofs.Common.{◌∷◌, get_or, Option, sym, refl, ap, ◌∙◌, subst, arith}
+use Rattle.std.proofs.lemmas.Bool.Decides.{nat_tests}
+use Rattle.std.proofs.lemmas.Grind.{common_steps}
 use mathlib.Core.Option.{some, some-injective, some-ne-none}
-use mathlib.Core.Logic.{dite}
-use native.Mathlib.Decide.{ℕ_discrete, dec_lt}
+use native.Mathlib.Decide.{ℕ_discrete}
 use lib.ListN.{get_elem?}
 use Rattle.atomic_table.specs.Table.{State, Final, Seen}
 use Rattle.physiological_order.specs.declared.operation.Record.{Record}
@@ -17,9 +18,8 @@ use Rattle.seat_rule.specs.declared.views.SetUp.{SetUp}
 use Rattle.seat_rule.specs.declared.views.Stage.TheVariants.{Idle}
 use Rattle.seat_rule.specs.declared.views.Hold.{Hold}
 use Rattle.seat_rule.specs.StateLaws.{StateLaws}
-use Rattle.seat_rule.specs.Rule.{Phase, free, writing, full, reading, content, InPhase, Busy, RuleIsKept, Holds}
-use Rattle.seat_rule.specs.Rule.{from_of}
-use Rattle.seat_rule.specs.Rule.{to_of, seat_count, slot_count, state_of, in_flight}
+use Rattle.seat_rule.specs.Rule.{Phase, free, content, RuleIsKept, Holds, from_of, to_of, seat_count, slot_count}
+use Rattle.seat_rule.specs.Rule.{state_of, in_flight}
 use Rattle.seat_rule.specs.Ended.{Whole, on_link, lies, Agrees, AllIdle, Closes, IsNotOut}
 use Rattle.seat_rule.proofs.Phases.{idle_writing, idle_reading}
 
@@ -33,30 +33,15 @@ module _ {A : Type 0} where
 module _ (z : SetUp) (n : ℕ) (from to : ℕ → ℕ) (slots : ℕ) (s : State (Option Message) (View Hold))
     (r : RuleIsKept z n from to slots s) (idle : (j : ℕ) → j < n → (r.seats j).stage ≡ Idle) where
   all_idle : (j : ℕ) → (r.seats j).stage ≡ Idle
-  all_idle j =
-      dite (dec_lt j n) (λ l. idle j l)
-      (λ no. ap (λ (h : Hold). h.stage) (r.shown.later j (let f = r.shown.few in omega arith)))
+  all_idle j = grind (arith, nat_tests)
 
   slot_lies : (xs : List (Option Message)) →
       ((k : ℕ) (y : Option Message) → get_elem? s.homes k ≡ some (some y) → get_elem? xs k ≡ some y) →
       (k : ℕ) → k < slots → get_elem? xs k ≡ some (lies (r.phases k))
-  slot_lies xs final k l = by (r.phases k) (r.each_slot k l) (r.busy k l)
-    where
-      by : (phase : Phase) → InPhase (get_or s.words k 0) s.homes k phase →
-          Busy from to (λ j. (r.seats j).stage) k phase → get_elem? xs k ≡ some (lies phase)
-      by free p b = final k None p.1
-      by writing p b = idle_writing (sym (all_idle (from k)) ∙ b)
-      by (full m) p b = final k (Some m) p.1
-      by (reading m) p b = idle_reading (sym (all_idle (to k)) ∙ b)
+  slot_lies xs final k l = grind (arith, nat_tests, common_steps, all_idle, get_or, idle_reading, idle_writing)
 
   slot_home : (k : ℕ) → k < slots → IsNotOut (r.phases k)
-  slot_home k l = by (r.phases k) (r.busy k l)
-    where
-      by : (phase : Phase) → Busy from to (λ j. (r.seats j).stage) k phase → IsNotOut phase
-      by free b = refl
-      by writing b = idle_writing (sym (all_idle (from k)) ∙ b)
-      by (full m) b = refl
-      by (reading m) b = idle_reading (sym (all_idle (to k)) ∙ b)
+  slot_home k l = grind (arith, nat_tests, common_steps, all_idle, idle_reading, idle_writing)
 
 pub ends : (laws : StateLaws) (z : SetUp) (id : ℕ) (w : View Hold) (words : List ℕ) (xs : List (Option Message))
     (n : ℕ) → is_good z.config ≡ true → w.spent ≡ false → Final (Seen (Holds z) id w) words xs →
@@ -109,17 +94,7 @@ at_most_four : (link n : ℕ) (w : ℕ → ℕ) → ((k : ℕ) → w k ≤ 1) �
     (over n (λ k. cond (eqb (k / 4) link) (w k) 0) ≤ n - 4 * link) ×
     (over n (λ k. cond (eqb (k / 4) link) (w k) 0) ≤ 4)
 at_most_four link zero w b = (omega arith, omega arith)
-at_most_four link (suc n) w b =
-    let i = at_most_four link n w b in
-    dite (ℕ_discrete (n / 4) link)
-    (λ e.
-    let t : cond (eqb (n / 4) link) (w n) 0 ≡ w n = rw (eq-eqb (n / 4) link e) in
-    let c = b n in
-    let d : 4 * (n / 4) ≡ 4 * link = ap (λ q. 4 * q) e in
-    (omega arith, omega arith))
-    (λ ne.
-    let t : cond (eqb (n / 4) link) (w n) 0 ≡ 0 = rw (ne_eqb (n / 4) link ne) in
-    (omega arith, omega arith))
+at_most_four link (suc n) w b = let q0 = at_most_four link n w b in grind (arith, nat_tests, q0)
 
 at_most_one : (phase : Phase) → weigh (λ m. 1) (content phase) ≤ 1
 at_most_one free = omega arith

@@ -1,8 +1,10 @@
 -- The steps on the last word keep the rule: a change by the seat alone, and a completion. So do the making and the
 -- joining of seats.
-use Rattle.std.proofs.Common.{◌≡◌, ◌≢◌, ℕ, zero, suc, ◌+◌, ◌*◌, ◌%◌, ◌^◌, ◌<◌, ◌≤◌, true, false, cond, eqb, List, []}
+use Rattle.std.proofs.Common.{◌≡◌, ◌≢◌, ℕ, zero, suc, ◌+◌, ◌*◌, ◌%◌, ◌^◌, ◌<◌, ◌≤◌, true, false, List, []}
 use Rattle.std.proofs.Common.{◌∷◌, ◌++◌, length, get_or, Option, Some, sym, refl, ap, ◌∙◌, subst, arith, length-append}
 use Rattle.std.proofs.Common.{rules, append_assoc, append-nil, mod-eq_of_lt, eq-eqb, ne_eqb}
+use Rattle.std.proofs.lemmas.Bool.Decides.{nat_tests}
+use Rattle.std.proofs.lemmas.Grind.{common_steps}
 use Rattle.std.specs.Prelude.{slice_get}
 use mathlib.Core.Option.{some}
 use Rattle.std.proofs.lemmas.List.Elements.{filter-append}
@@ -21,8 +23,7 @@ use Rattle.machine_table.specs.SetUp.{is_good}
 use Rattle.machine_table.specs.Step.{record_of}
 use Rattle.seat_views.specs.declared.views.View.{View}
 use Rattle.seat_views.specs.Seated.{over, with_value_at, Shown, seat_view, with_hold, one_more, spent_view, knows}
-use Rattle.seat_views.proofs.Lemmas.{put_here, at_put}
-use Rattle.seat_views.proofs.Lemmas.{within, shown_split, shown_join}
+use Rattle.seat_views.proofs.Lemmas.{put_here, at_put, within, shown_split, shown_join}
 use Rattle.seat_rule.specs.declared.views.SetUp.{SetUp}
 use Rattle.seat_rule.specs.declared.views.Hold.{Hold}
 use Rattle.seat_rule.specs.StateLaws.{StateLaws}
@@ -38,14 +39,10 @@ Sets = State (Option Message) (View Hold)
 
 of_core_more : (j : ℕ) (xs : List Record) (r : Record) → r.core ≡ j →
     of_core j (xs ++ r ∷ []) ≡ of_core j xs ++ r ∷ []
-of_core_more j xs r e =
-    filter-append (λ (q : Record). eqb q.core j) xs (r ∷ [])
-    ∙ ap (λ b. of_core j xs ++ cond b (r ∷ []) []) (eq-eqb r.core j e)
+of_core_more j xs r e = grind (arith, nat_tests, common_steps, eq-eqb, filter-append)
 
 of_core_same : (j : ℕ) (xs : List Record) (r : Record) → r.core ≢ j → of_core j (xs ++ r ∷ []) ≡ of_core j xs
-of_core_same j xs r ne =
-    filter-append (λ (q : Record). eqb q.core j) xs (r ∷ [])
-    ∙ ap (λ b. of_core j xs ++ cond b (r ∷ []) []) (ne_eqb r.core j ne) ∙ append-nil (of_core j xs)
+of_core_same j xs r ne = grind (arith, nat_tests, common_steps, append-nil, filter-append, ne_eqb)
 
 prefix_longer : (xs ys : List Record) (r : Record) → IsPrefix xs ys → IsPrefix xs (ys ++ r ∷ [])
 prefix_longer xs ys r p = (p.0 ++ r ∷ [], ap (λ y. y ++ r ∷ []) p.1 ∙ append_assoc xs p.0 (r ∷ []))
@@ -160,13 +157,7 @@ module _ (z : SetUp) (n : ℕ) (from to : ℕ → ℕ) (slots : ℕ) where
     own = of_core_more id r.log new named ∙ ap (λ y. y ++ new ∷ []) own_before
 
     next : (x + 1) % 2 ^ 64 ≡ length log
-    next =
-        let few_all = few_records n r.seats r.bounded in
-        let t = r.total in
-        let c : x ≡ length r.log = r.count in
-        let more = length-append r.log (new ∷ []) in
-        let e : (x + 1) % 2 ^ 64 ≡ x + 1 = mod-eq_of_lt (omega arith) in
-        e ∙ omega arith
+    next = grind (arith, nat_tests, common_steps, few_records, length-append, mod-eq_of_lt)
 
     kept : K (stepped s slots ((x + 1) % 2 ^ 64) id me.1 (with_hold v h) keeps)
     kept =

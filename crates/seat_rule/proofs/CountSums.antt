@@ -1,5 +1,7 @@
 -- What seats count together, when one of them counts a message.
 use Rattle.std.proofs.Common.{◌≡◌, ℕ, ◌+◌, ◌<◌, Option, Some, None, sym, refl, ap, ◌∙◌, arith}
+use Rattle.std.proofs.lemmas.Bool.Decides.{nat_tests}
+use Rattle.std.proofs.lemmas.Grind.{common_steps}
 use Rattle.network.specs.declared.message.Body.{Body}
 use Rattle.network.specs.declared.message.Body.TheVariants.{RenewRep, UpgradeRep, FlushRep, WbRep}
 use Rattle.network.specs.declared.message.Message.{Message}
@@ -50,9 +52,7 @@ module _ (n : ℕ) (seats : ℕ → Hold) (id : ℕ) (h : Hold) (l : id < n) whe
 
   pub sums_count : (sent : Option Message) → h.counts ≡ counted_if (seats id).counts sent →
       counted_if (counts_of n (λ j. (seats j).counts)) sent ≡ counts_of n (λ j. (with_value_at seats id h j).counts)
-  sums_count None e =
-      none n (λ j. (seats j).counts) id l
-      ∙ ap (λ y. counts_of n (with_value_at (λ j. (seats j).counts) id y)) (sym e) ∙ ap (counts_of n) counts_put
+  sums_count None e = grind (arith, nat_tests, common_steps, counts_put, none)
   sums_count (Some m) e =
       counted_sum n (λ j. (seats j).counts) id l m.body
       ∙ ap (λ y. counts_of n (with_value_at (λ j. (seats j).counts) id y)) (sym e) ∙ ap (counts_of n) counts_put

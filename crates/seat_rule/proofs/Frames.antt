@@ -1,6 +1,8 @@
 -- What stays of the rule when one seat moves.
 use Rattle.std.proofs.Common.{◌≡◌, ◌≢◌, ℕ, ◌+◌, ◌/◌, ◌<◌, ◌^◌, false, List, ◌++◌, length, get_or, set, Option}
 use Rattle.std.proofs.Common.{rules, sym, refl, ap, ◌∙◌, subst, arith, length-set, get_or-set_other, get_or-set_same}
+use Rattle.std.proofs.lemmas.Bool.Decides.{nat_tests}
+use Rattle.std.proofs.lemmas.Grind.{common_steps}
 use mathlib.Core.Option.{some}
 use lib.ListN.{get_elem?}
 use Rattle.atomic_table.specs.Table.{State}
@@ -11,8 +13,7 @@ use Rattle.machine_theorem.specs.Bags.{weigh, SameBag}
 use Rattle.machine_theorem.specs.Moves.{same}
 use Rattle.seat_views.specs.declared.views.View.{View}
 use Rattle.seat_views.specs.Seated.{over, with_value_at, with_hold}
-use Rattle.seat_views.proofs.Lemmas.{at_put, over_put, over_put_by, put_here}
-use Rattle.seat_views.proofs.Lemmas.{within, shown_set}
+use Rattle.seat_views.proofs.Lemmas.{at_put, over_put, over_put_by, put_here, within, shown_set}
 use Rattle.seat_rule.specs.declared.views.SetUp.{SetUp}
 use Rattle.seat_rule.specs.declared.views.Stage.{Stage}
 use Rattle.seat_rule.specs.declared.views.Hold.{Hold}
@@ -69,10 +70,7 @@ module _ (z : SetUp) (n : ℕ) (from to : ℕ → ℕ) (slots : ℕ) (s : State 
   -- a sum over seats, after this one holds h
   sum_moves : (w : Hold → ℕ) (h : Hold) →
       over n (λ j. w (with_value_at r.seats id h j)) + w v.mine ≡ over n (λ j. w (r.seats j)) + w h
-  sum_moves w h =
-      let a = over_put n w r.seats id h seated in
-      let b : w (r.seats id) ≡ w v.mine = ap w old_is in
-      omega arith
+  sum_moves w h = let q0 = over_put n w r.seats id h seated in grind (arith, nat_tests, q0)
 
   -- a step on the word of slot k
   module _ (h : Hold) (k x : ℕ) (homes' : Homes) (phase : Phase) (near : k < slots)
@@ -95,19 +93,10 @@ module _ (z : SetUp) (n : ℕ) (from to : ℕ → ℕ) (slots : ℕ) (s : State 
 
     slots_in_phase : (j : ℕ) → j < slots → InPhase (get_or (set s.words k x) j 0) homes' j (phases' j)
     slots_in_phase j l =
-        let wide = r.wide in
-        at_put r.phases k phase (λ i p. InPhase (get_or (set s.words k x) i 0) homes' i p) j
-        (subst (λ y. InPhase y homes' k phase) (sym (get_or-set_same s.words k x 0 (omega arith))) here)
-        (λ ne.
-        phase_moves (get_or s.words j 0) (get_or (set s.words k x) j 0) s.homes homes' j (r.phases j)
-        (get_or-set_other s.words k j x 0 ne) (same_homes j ne) (r.each_slot j l))
+        grind (arith, nat_tests, common_steps, at_put, get_or, get_or-set_other, get_or-set_same, phase_moves)
 
     slots_busy : (j : ℕ) → j < slots → Busy from to (λ i. (seats' i).stage) j (phases' j)
-    slots_busy j l =
-        at_put r.phases k phase (Busy from to (λ i. (seats' i).stage)) j busy
-        (λ ne.
-        busy_moves from to r.seats id k h j
-        (subst (Only k) (ap (λ (g : Hold). g.stage) (sym old_is)) only) ne (r.phases j) (r.busy j l))
+    slots_busy j l = grind (arith, nat_tests, common_steps, at_put, busy_moves, old_is)
 
     links_balance : (f : ℕ → Message → ℕ) →
         over n (λ j. weigh_links f (seats' j).put) ≡
@@ -189,10 +178,7 @@ module _ (z : SetUp) (n : ℕ) (from to : ℕ → ℕ) (slots : ℕ) (s : State 
   pub whole_again : (h : Hold) (log : List Record) → MovesReach z n (with_value_at r.seats id h)
       (bag_of_hold h ++ others) log →
       MovesReach z n (with_value_at r.seats id h) (in_flight n slots (with_value_at r.seats id h) r.phases) log
-  whole_again h log q =
-      rebag z n (with_value_at r.seats id h) (bag_of_hold h ++ others) (in_flight n slots (with_value_at r.seats id h)
-      r.phases) log
-      (joined h) q
+  whole_again h log q = grind (arith, nat_tests, common_steps, joined, rebag)
 
   -- a step on the last word
   module _ (h : Hold) (x : ℕ) (log : List Record) (count : x ≡ length log) (stage : h.stage ≡ v.mine.stage)

@@ -1,5 +1,7 @@
 -- The owners of a line in the state that seats and slots make, place by place.
 use Rattle.std.proofs.Common.{◌≡◌, ℕ, zero, suc, List, refl, arith}
+use Rattle.std.proofs.lemmas.Bool.Decides.{nat_tests}
+use Rattle.std.proofs.lemmas.Grind.{common_steps}
 use Rattle.physiological_order.specs.declared.operation.Record.{Record}
 use Rattle.private_cache.specs.CopyTable.{copy_of}
 use Rattle.machine_theorem.specs.Coherence.{owner_in}
@@ -19,10 +21,7 @@ use Rattle.seat_rule.proofs.Weights.{weigh_together}
 owned_over : (cores : ℕ → CoreState) (n line : ℕ) →
     owned_below (λ c. copy_in (cores c) line) n ≡ over n (λ c. owner_in (copy_of (cores c).cache line))
 owned_over cores zero line = refl
-owned_over cores (suc n) line =
-    let rest = owned_over cores n line in
-    let last = owns_is (copy_of (cores n).cache line) in
-    omega (arith, rest, last)
+owned_over cores (suc n) line = let q0 = owned_over cores n line in grind (arith, nat_tests, common_steps, q0, owns_is)
 
 pub owners_added : (z : SetUp) (seats : ℕ → Hold) (phases : ℕ → Phase) (log : List Record) (line : ℕ) →
     owners z.config

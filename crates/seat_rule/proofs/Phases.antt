@@ -1,5 +1,6 @@
 -- Slots and seats that are out: what stays so when one slot or one seat changes.
-use Rattle.std.proofs.Common.{◌≡◌, ◌≢◌, ℕ, sym, refl, ap, ◌∙◌, subst}
+use Rattle.std.proofs.Common.{◌≡◌, ◌≢◌, ℕ, refl, ◌∙◌, arith}
+use Rattle.std.proofs.lemmas.Bool.Decides.{nat_tests}
 use lib.ListN.{get_elem?}
 use Rattle.network.specs.declared.message.Message.{Message}
 use Rattle.seat_views.specs.Seated.{with_value_at}
@@ -42,9 +43,7 @@ module _ (from to : ℕ → ℕ) where
   module _ (seats : ℕ → Hold) (id k : ℕ) (h : Hold) (i : ℕ) (only : Only k (seats id).stage) (ne : i ≢ k) where
     stays_out : (j : ℕ) (stage : Stage) → (Only k stage → i ≡ k) → (seats j).stage ≡ stage →
         (with_value_at seats id h j).stage ≡ stage
-    stays_out j stage here is =
-        let other : j ≢ id = λ e. ne (here (subst (Only k) (ap (λ q. (seats q).stage) (sym e) ∙ is) only)) in
-        ap (λ (g : Hold). g.stage) (put_else seats id h j other) ∙ is
+    stays_out j stage here is = grind (arith, nat_tests)
 
     pub busy_moves : (phase : Phase) → Busy from to (λ j. (seats j).stage) i phase →
         Busy from to (λ j. (with_value_at seats id h j).stage) i phase

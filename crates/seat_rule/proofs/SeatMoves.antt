@@ -1,7 +1,8 @@
 -- Each change that a seat makes by itself is a move of the state.
-use Rattle.std.proofs.Common.{◌≡◌, ◌≢◌, ℕ, ◌+◌, ◌<◌, List, [], ◌∷◌, ◌++◌, Option, Some, None, sym, refl}
+use Rattle.std.proofs.Common.{◌≡◌, ℕ, ◌+◌, ◌<◌, List, [], ◌∷◌, ◌++◌, Option, Some, None, sym, refl}
 use Rattle.std.proofs.Common.{ap, ◌∙◌, subst, arith, length, true, false}
-use mathlib.Core.Logic.{dite}
+use Rattle.std.proofs.lemmas.Bool.Decides.{nat_tests}
+use Rattle.std.proofs.lemmas.Grind.{common_steps}
 use native.Mathlib.Decide.{ℕ_discrete}
 use Rattle.std.specs.Prelude.{Bool}
 use Rattle.std.specs.Ordering.{nat_cmp}
@@ -16,9 +17,8 @@ use Rattle.core_pts.specs.CoreTable as core_table
 use Rattle.core_pts.specs.CoreTable.{CoreState, core_has_case}
 use Rattle.llc_bank.specs.BankTable.{BankState, bank_has_case}
 use Rattle.dram_mts.specs.Table.{dram_has_case}
-use Rattle.machine_table.specs.Step.{record_of}
+use Rattle.machine_table.specs.Step.{record_of, Step, attempt_open, attempted, bank_step, dram_step, message_of}
 use Rattle.machine_table.specs.Step as step
-use Rattle.machine_table.specs.Step.{Step, attempt_open, attempted, bank_step, dram_step, message_of}
 use Rattle.machine_theorem.specs.Bags.{SameBag}
 use Rattle.machine_theorem.specs.States as moves
 use Rattle.machine_theorem.specs.States.{Same}
@@ -42,21 +42,12 @@ use Rattle.seat_rule.proofs.Frames.{same_of}
 -- what a seat has of its own is replaced, for all seats
 with_of : {X : Type 0} (g : Hold → X) (seats : ℕ → Hold) (id : ℕ) (h : Hold) (x : X) → g h ≡ x →
     (j : ℕ) → with_at (λ c. g (seats c)) id x j ≡ g (with_value_at seats id h j)
-with_of g seats id h x e j =
-    at_put seats id h (λ i y. with_at (λ c. g (seats c)) id x i ≡ g y) j (put_here (λ c. g (seats c)) id x ∙ sym e)
-    (λ ne. put_else (λ c. g (seats c)) id x j ne)
+with_of g seats id h x e j = grind (arith, nat_tests, common_steps, at_put, put_else, put_here)
 
 -- what the seat of bank i has of its own is replaced, for all banks
 with_bank_of : {X : Type 0} (g : Hold → X) (seats : ℕ → Hold) (cores i id : ℕ) (h : Hold) (x : X) → g h ≡ x →
     id ≡ cores + i → (j : ℕ) → with_at (λ b. g (seats (cores + b))) i x j ≡ g (with_value_at seats id h (cores + j))
-with_bank_of g seats cores i id h x e named j =
-    dite (ℕ_discrete j i)
-    (λ (e' : j ≡ i).
-    ap (with_at (λ b. g (seats (cores + b))) i x) e' ∙ put_here (λ b. g (seats (cores + b))) i x
-    ∙ sym e ∙ ap g (sym (put_here seats id h)) ∙ ap (λ q. g (with_value_at seats id h q)) (omega (arith, named, e')))
-    (λ (ne : j ≢ i).
-    put_else (λ b. g (seats (cores + b))) i x j ne
-    ∙ ap g (sym (put_else seats id h (cores + j) (λ e'. ne (omega arith)))))
+with_bank_of g seats cores i id h x e named j = let q0 = put_here seats id h in grind (arith, nat_tests, q0)
 
 module _ (z : SetUp) (n : ℕ) (seats : ℕ → Hold) (xs : List Message) (log : List Record) where
   module _ (id : ℕ) (b : Hold) (is_seat : id < n) where
@@ -131,17 +122,13 @@ module _ (z : SetUp) (n : ℕ) (seats : ℕ → Hold) (xs : List Message) (log :
           b.dram ≡ a.dram → HoldSends a b rest sent →
           Same (with_answer (with_bank before i part) (rest ++ xs) sent) after
       bank_lands rest sent part new core dram sends =
-          lands (with_bank before i part) rest sent (cores_stay core.core)
-          (with_bank_of (λ y. y.bank) seats z.config.cores i id b part new named) (drams_stay dram)
-          (lists_stay core.issued) refl refl sends
+          grind (arith, nat_tests, common_steps, cores_stay, drams_stay, lands, lists_stay, with_bank_of)
 
       dram_lands : (rest : List Message) (sent : Option Message) (part : FinMap nat_cmp (List ℕ)) → b.dram ≡ part →
           SameCore a b → b.bank ≡ a.bank → HoldSends a b rest sent →
           Same (with_answer (with_dram before i part) (rest ++ xs) sent) after
       dram_lands rest sent part new core bank sends =
-          lands (with_dram before i part) rest sent (cores_stay core.core) (banks_stay bank)
-          (with_bank_of (λ y. y.dram) seats z.config.cores i id b part new named) (lists_stay core.issued) refl refl
-          sends
+          grind (arith, nat_tests, common_steps, banks_stay, cores_stay, lands, lists_stay, with_bank_of)
 
     -- the messages beside a delivered one, and beside those of other seats
     beside_all : (to : Node) (f g : Message → Bool) → ((m : Message) → g m ≡ f m) → (o : Option Message)

@@ -1,6 +1,8 @@
 -- What is known of a seat's part and of its messages, since it is a part of a reached state.
 use Rattle.std.proofs.Common.{◌≡◌, ℕ, zero, suc, ◌+◌, ◌<◌, Bool, true, false, cond, eqb, List, [], ◌∷◌, ◌++◌, length}
 use Rattle.std.proofs.Common.{Option, Some, None, option_to_list, remove, sym, ap, ◌∙◌, subst, arith}
+use Rattle.std.proofs.lemmas.Bool.Decides.{nat_tests}
+use Rattle.std.proofs.lemmas.Grind.{common_steps}
 use Rattle.std.specs.Prelude.{slice_get}
 use Rattle.physiological_order.specs.declared.operation.Record.{Record}
 use Rattle.physiological_order.specs.Order.{of_core}
@@ -11,7 +13,7 @@ use Rattle.llc_bank.specs.BankTable.{bank_has_case}
 use Rattle.dram_mts.specs.Table.{dram_has_case}
 use Rattle.protocol.specs.Issued.{IsIssued, listed}
 use Rattle.machine_table.specs.SetUp.{is_good}
-use Rattle.machine_theorem.specs.Bags.{weigh, SameBag}
+use Rattle.machine_theorem.specs.Bags.{SameBag}
 use Rattle.machine_theorem.specs.Shape.{IsCore, IsBank}
 use Rattle.machine_theorem.specs.States as moves
 use Rattle.machine_theorem.specs.Consistent.{FindsCase}
@@ -99,12 +101,7 @@ of_outbox a i m e f =
     omega arith
 
 pub of_hand : (a : Hold) (m : Message) → a.hand ≡ Some m → SameBag (bag_of_hold a) (m ∷ (a.outbox ++ a.held))
-of_hand a m e f =
-    let b = weigh-append f a.outbox (option_to_list a.hand ++ a.held) in
-    let c = weigh-append f a.outbox a.held in
-    let d : weigh f (option_to_list a.hand ++ a.held) ≡ f m + weigh f a.held =
-    ap (λ o. weigh f (option_to_list o ++ a.held)) e in
-    omega arith
+of_hand a m e f = grind (arith, nat_tests, common_steps, option_to_list, weigh-append)
 
 pub of_held : (a : Hold) (i : ℕ) (m : Message) → slice_get a.held i ≡ Some m →
     SameBag (bag_of_hold a) (m ∷ (a.outbox ++ (option_to_list a.hand ++ remove a.held i)))

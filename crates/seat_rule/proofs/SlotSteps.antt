@@ -2,6 +2,8 @@
 use Rattle.std.proofs.Common.{◌≡◌, ◌≢◌, ℕ, ◌+◌, ◌/◌, ◌<◌, ◌⊎◌, inl, inr, ⊎_elim, false, List, [], ◌∷◌, ◌++◌}
 use Rattle.std.proofs.Common.{get_or, set, Option, Some, None, option_to_list, remove, sym, refl, ap, ◌∙◌, subst, arith}
 use Rattle.std.proofs.Common.{length-set}
+use Rattle.std.proofs.lemmas.Bool.Decides.{nat_tests}
+use Rattle.std.proofs.lemmas.Grind.{common_steps}
 use Rattle.std.specs.Prelude.{slice_get}
 use mathlib.Core.Option.{some, none}
 use lib.ListN.{get_elem?}
@@ -12,8 +14,7 @@ use Rattle.network.specs.declared.message.Message.{Message}
 use Rattle.machine_theorem.specs.Bags.{weigh}
 use Rattle.seat_views.specs.declared.views.View.{View}
 use Rattle.seat_views.specs.Seated.{with_value_at, with_hold}
-use Rattle.seat_views.proofs.Lemmas.{put_here, at_put}
-use Rattle.seat_views.proofs.Lemmas.{within}
+use Rattle.seat_views.proofs.Lemmas.{put_here, at_put, within}
 use Rattle.seat_rule.specs.declared.views.SetUp.{SetUp}
 use Rattle.seat_rule.specs.declared.views.Stage.{Stage}
 use Rattle.seat_rule.specs.declared.views.Stage.TheVariants.{Idle, Writing, Reading}
@@ -57,14 +58,8 @@ module _ (z : SetUp) (n : ℕ) (from to : ℕ → ℕ) (slots : ℕ) where
         (to k ≡ id) ⊎ ((m : Message) → r.phases k ≢ reading m) → (j : ℕ) → j ≢ id → (stage : Stage) →
         At from to slots r.phases j stage → At from to slots (with_value_at r.phases k phase) j stage
     away k phase f t j ne Idle a = tt
-    away k phase f t j ne (Writing i) a =
-        at_elsewhere from to slots r.phases j k phase (Writing i)
-        (λ e.
-        ⊎_elim (λ (q : from k ≡ id). ne (sym a.1 ∙ ap from e ∙ q)) (λ no. no (ap r.phases (sym e) ∙ a.2)) f) a
-    away k phase f t j ne (Reading i m) a =
-        at_elsewhere from to slots r.phases j k phase (Reading i m)
-        (λ e.
-        ⊎_elim (λ (q : to k ≡ id). ne (sym a.1 ∙ ap to e ∙ q)) (λ no. no m (ap r.phases (sym e) ∙ a.2)) t) a
+    away k phase f t j ne (Writing i) a = grind (arith, nat_tests, common_steps, at_elsewhere)
+    away k phase f t j ne (Reading i m) a = grind (arith, nat_tests, common_steps, at_elsewhere)
 
     -- an idle seat isn't out with a slot
     module _ (k : ℕ) (idle : v.mine.stage ≡ Idle) where
@@ -74,13 +69,9 @@ module _ (z : SetUp) (n : ℕ) (from to : ℕ → ℕ) (slots : ℕ) where
       still_busy : (h : Hold) (phase : Phase) → Busy from to (λ j. (r.seats j).stage) k phase →
           Busy from to (λ j. (with_value_at r.seats id h j).stage) k phase
       still_busy h free b = tt
-      still_busy h writing b =
-          at_put r.seats id h (λ q g. q ≡ from k → g.stage ≡ Writing k) (from k)
-          (λ e. idle_writing (sym (idle_at (from k) (sym e)) ∙ b)) (λ ne e. b) refl
+      still_busy h writing b = grind (arith, nat_tests, common_steps, at_put, idle_at, idle_writing)
       still_busy h (full m) b = tt
-      still_busy h (reading m) b =
-          at_put r.seats id h (λ q g. q ≡ to k → g.stage ≡ Reading k m) (to k)
-          (λ e. idle_reading (sym (idle_at (to k) (sym e)) ∙ b)) (λ ne e. b) refl
+      still_busy h (reading m) b = grind (arith, nat_tests, common_steps, at_put, idle_at, idle_reading)
 
       -- a look that takes nothing out
       stays : (x : ℕ) → k < slots →
@@ -284,14 +275,4 @@ puts_hold a k m i e = (
 )
 
 pub takes_hold : (a : Hold) (k : ℕ) (m : Message) → a.hand ≡ None → HoldTakes a k m (take_hold a k m)
-takes_hold a k m e = (
-  record { core = refl; bank = refl; dram = refl; issued = refl; records = refl; counts = refl; seen = refl },
-  refl,
-  refl,
-  refl,
-  λ f. let b = weigh-append f a.outbox (option_to_list a.hand ++ a.held) in
-      let c = weigh-append f a.outbox (m ∷ a.held) in
-      let d : weigh f (option_to_list a.hand ++ a.held) ≡ weigh f a.held =
-      ap (λ z. weigh f (option_to_list z ++ a.held)) e in
-      omega arith,
-)
+takes_hold a k m e = grind (arith, nat_tests, common_steps, option_to_list, weigh-append)

@@ -1,5 +1,7 @@
 -- What lists of messages weigh.
 use Rattle.std.proofs.Common.{◌≡◌, ℕ, zero, suc, ◌+◌, List, [], ◌∷◌, ◌++◌, Some, remove, refl, ap, arith}
+use Rattle.std.proofs.lemmas.Bool.Decides.{nat_tests}
+use Rattle.std.proofs.lemmas.Grind.{common_steps}
 use Rattle.std.specs.Prelude.{slice_get}
 use Rattle.network.specs.declared.message.Message.{Message}
 use Rattle.machine_theorem.specs.Bags.{weigh, SameBag}
@@ -25,18 +27,11 @@ weigh_links-append f (x ∷ xs) ys = let a = weigh_links-append f xs ys in omega
 weigh-gather : (f : Message → ℕ) (n : ℕ) (g : ℕ → List Message) →
     weigh f (gather n g) ≡ over n (λ j. weigh f (g j))
 weigh-gather f zero g = refl
-weigh-gather f (suc n) g =
-    let a = weigh-gather f n g in
-    let b = weigh-append f (g n) (gather n g) in
-    omega arith
+weigh-gather f (suc n) g = let q0 = weigh-gather f n g in grind (arith, nat_tests, common_steps, q0, weigh-append)
 
 pub weigh_together : (f : Message → ℕ) (n slots : ℕ) (g k : ℕ → List Message) →
     weigh f (gather n g ++ gather slots k) ≡ over n (λ j. weigh f (g j)) + over slots (λ j. weigh f (k j))
-weigh_together f n slots g k =
-    let a = weigh-append f (gather n g) (gather slots k) in
-    let b = weigh-gather f n g in
-    let c = weigh-gather f slots k in
-    omega arith
+weigh_together f n slots g k = grind (arith, nat_tests, common_steps, weigh-append, weigh-gather)
 
 -- other messages beside two bags that are the same
 pub beside : (us bs cs xs : List Message) → SameBag us (bs ++ cs) → SameBag (us ++ xs) (bs ++ (cs ++ xs))

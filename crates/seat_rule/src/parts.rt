@@ -19,8 +19,8 @@ pub fn moves_of_seats_are_changes()
         Changes z n id a b }
 {}
 
-/// What a seat holds as it opens is a part of a reached state. So is what it holds later, as long as it has the same part,
-/// operations, records and counts, and the same messages wherever they are.
+/// What a seat holds as it opens is a part of a reached state. So is what it holds later, as long as it has the same
+/// part, operations, records and counts, and the same messages wherever they are.
 pub fn seats_stand()
     ensures opened { (z : SetUp) (n id : ℕ) → Standing z n id (opening_hold z id) }
     ensures kept { (z : SetUp) (n id : ℕ) (a b : Hold) → SamePart a b →

@@ -1,6 +1,7 @@
 -- Each instruction of a test is that of a thread which is there.
-use Rattle.std.proofs.Common.{◌≡◌, ℕ, zero, suc, ◌+◌, ◌<◌, ◌≤◌, Bool, true, false, List, []}
-use Rattle.std.proofs.Common.{None, refl, arith}
+use Rattle.std.proofs.Common.{◌≡◌, ℕ, zero, suc, ◌+◌, ◌<◌, ◌≤◌, Bool, true, false, List, [], None, refl, arith}
+use Rattle.std.proofs.lemmas.Bool.Decides.{nat_tests}
+use Rattle.std.proofs.lemmas.Grind.{common_steps}
 use Rattle.std.specs.List.{AllByRecursion as Each}
 use Rattle.litmus_lexer.specs.declared.limits.TheConstants.{MOST_ROWS}
 use Rattle.litmus_lexer.specs.declared.errors.Kind.TheVariants.{TooLarge}
@@ -30,11 +31,7 @@ module _ (bases : Bases) (threads : ℕ) where
 
   cell_below : (t end : ℕ) (r : Rows) → t < threads → Below r → Leads (cell bases t end r) Below
   unfolding cell
-  cell_below t end r lt h = leads-behind on
-    where
-      on : (b : Bool) → Leads (either (Gives r) (filled bases t end r) b) Below
-      on true = leads-given r h
-      on false = filled_below t end r lt h
+  cell_below t end r lt h = let q0 = filled_below t end r lt h in grind (arith, nat_tests, q0)
 
   -- the column goes on by one
   abbrev Next : ℕ → ℕ × Rows → Type 0
@@ -53,13 +50,7 @@ module _ (bases : Bases) (threads : ℕ) where
 
   one_column : (k : ℕ) (c : ℕ × Rows) → c.0 + suc k ≤ threads → Below c.1 →
       Leads (turn (λ d. Gives true) (column bases threads) c) (Turned k)
-  one_column k c le h = leads-then {P = λ b. b ≡ true} (leads-given true refl) by
-    where
-      by : (b : Bool) → b ≡ true → Leads (either (InOrder (column bases threads c) (λ y. Gives (true, y)))
-          (Gives (false, c)) b) (Turned k)
-      by true e = leads-then (column_below c (omega (arith, le)) h) (λ y n.
-          leads-given (true, y) (omega (arith, le, n.0), n.1))
-      by false e = absurd cc
+  one_column k c le h = grind (arith, nat_tests, common_steps, column_below, leads-given, leads-then)
 
   columns_below : (k : ℕ) (c : ℕ × Rows) → c.0 + k ≤ threads → Below c.1 → Columns k c
   unfolding until

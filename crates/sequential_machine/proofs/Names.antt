@@ -1,23 +1,23 @@
 -- The names that a test's condition names are there: registers of its threads, and locations that it numbers.
-use Rattle.std.proofs.Common.{◌≡◌, ℕ, zero, suc, ◌<◌, ◌≤◌, Bool, true, false, cond, not, eqb, ltb, leb, List, [], ◌∷◌}
+use Rattle.std.proofs.Common.{◌≡◌, ℕ, zero, suc, ◌<◌, ◌≤◌, Bool, true, false, cond, eqb, leb, List, [], ◌∷◌}
 use Rattle.std.proofs.Common.{◌++◌, length, Option, Some, None, Result, Ok, Err, refl, arith, length-append}
+use Rattle.std.proofs.lemmas.Bool.Decides.{nat_tests}
+use Rattle.std.proofs.lemmas.Grind.{common_steps}
 use Rattle.std.specs.Option.{option_map_or}
-use Rattle.std.specs.List.{list_any, AllByRecursion as Each}
-use Rattle.std.proofs.lemmas.Bool.{cond_both, ltb-true, leb-false}
+use Rattle.std.specs.List.{AllByRecursion as Each}
+use Rattle.std.proofs.lemmas.Bool.{cond_both, leb-false}
 use Rattle.litmus_lexer.specs.Pieces.{Piece, Word, Sign, LineEnd}
-use Rattle.litmus_lexer.specs.Naming.{place_of}
-use Rattle.litmus_lexer.specs.Spelling.{small_of, is_location}
+use Rattle.litmus_lexer.specs.Spelling.{small_of}
 use Rattle.litmus_lexer.specs.declared.errors.Kind.{Kind}
 use Rattle.litmus_lexer.specs.declared.errors.Kind.TheVariants.{TooLarge, BadCondition, CutShort}
 use Rattle.piece_forms.specs.Places.{Beyond}
 use Rattle.piece_forms.specs.Forms.{Verdict, Form, ◌>>=◌, Gives, InOrder, said, mapped, one, either, turn, refused}
 use Rattle.piece_forms.proofs.Lemmas.{Leads, leads-given, leads-then, Tells, leads-at, Onto, leads-until}
 use Rattle.piece_forms.proofs.Lemmas.{leads-refused}
-use Rattle.litmus_parser.specs.Names.{Names, same_name, address_of}
+use Rattle.litmus_parser.specs.Names.{Names, address_of}
 use Rattle.litmus_parser.specs.Trees.{Tree, Is, Both, Either}
-use Rattle.litmus_parser.specs.Condition.{Sight, PartForm, counted, start}
-use Rattle.litmus_parser.specs.Condition.{rest_of_factor, join_of, further, joined, chain, expression}
-use Rattle.litmus_parser.specs.Condition.{factor_with, inner, factor, condition}
+use Rattle.litmus_parser.specs.Condition.{Sight, PartForm, counted, start, rest_of_factor, join_of, further, joined}
+use Rattle.litmus_parser.specs.Condition.{chain, expression, factor_with, inner, factor, condition}
 use Rattle.litmus_parser.specs.declared.items.Opening.{Opening}
 use Rattle.litmus_parser.specs.declared.items.Opening.TheVariants.{OfThread, OfLocation}
 use Rattle.litmus_parser.specs.declared.expressions.Connective.{Connective}
@@ -27,7 +27,6 @@ use Rattle.litmus_parser.specs.declared.syntax.Name.TheVariants.{Register, Locat
 use Rattle.litmus_parser.specs.declared.syntax.Quantifier.{Quantifier}
 use Rattle.litmus_reader.specs.Seen.{seen_in}
 use Rattle.litmus_reader.specs.Litmus.{Litmus}
-use Rattle.litmus_parser.specs.Header.{text_pieces}
 use Rattle.litmus_parser.specs.Verdicts.{Bases}
 use Rattle.litmus_parser.specs.Words.{location, opening}
 use Rattle.litmus_reader.specs.Grammar.{whole_test, IsTest}
@@ -81,14 +80,7 @@ module _ (threads : ℕ) where
   located_there : (w : List ℕ) (names : Names) →
       Named threads names (mapped (λ l. (OfLocation l.0, l.1)) (location BadCondition w names))
   unfolding location
-  located_there w names =
-      let place = place_of w names in
-      let M : Result (ℕ × Names) Kind → Type 0 =
-      λ r. Named threads names (mapped (λ l. (OfLocation l.0, l.1)) r) in
-      cond_both (not (is_location w)) _ _ M (λ _. tt) (λ _.
-      cond_both (ltb place (length names)) _ _ M (λ e. (omega arith, ltb-true _ _ e)) (λ _.
-      cond_both (leb 64 (length names)) _ _ M (λ _. tt)
-      (λ _. let more = length-append names (w ∷ []) in (omega (arith, more), omega (arith, more)))))
+  located_there w names = let q0 = length-append names (w ∷ []) in grind (arith, nat_tests, q0)
 
   name_there : (o : Option ℕ) (w : List ℕ) (names : Names) → Named threads names
       (option_map_or (λ t. cond (leb threads t) (Err BadCondition) (Ok (OfThread t, names))) o
@@ -189,10 +181,7 @@ each_behind P (y ∷ xs) x h p = (h.0, each_behind P xs x h.1 p)
 
 seen_there : (threads locations : ℕ) (tree : Tree) (names : List Name) → AreThere threads locations tree →
     Each (IsThere threads locations) names → Each (IsThere threads locations) (seen_in tree names)
-seen_there threads locations (Is name value) names h e =
-    cond_both (list_any (λ other. same_name other name) names) names (names ++ name ∷ [])
-    (λ (ns : List Name). Each (IsThere threads locations) ns)
-    (λ _. e) (λ _. each_behind (IsThere threads locations) names name e h)
+seen_there threads locations (Is name value) names h e = grind (arith, nat_tests, common_steps, cond_both, each_behind)
 seen_there threads locations (Both a b) names h e =
     seen_there threads locations b (seen_in a names) h.1 (seen_there threads locations a names h.0 e)
 seen_there threads locations (Either a b) names h e =
@@ -200,6 +189,4 @@ seen_there threads locations (Either a b) names h e =
 
 pub names_there : (text : List ℕ) (test : Litmus) → IsTest text test →
     Each (IsThere test.threads (length test.locations)) test.seen
-names_there text test h =
-    let named = test_named.stands 1 (text_pieces text []) test h.last h.end h.stands in
-    rw named.1 (seen_there test.threads (length test.locations) test.tree [] named.0 tt)
+names_there text test h = grind (arith, nat_tests, common_steps, seen_there, test_named)

@@ -1,6 +1,8 @@
 -- Of two threads that each store 1 and then load the other's location, never both receive 0.
 use Rattle.std.proofs.Common.{◌≡◌, ◌≢◌, ℕ, zero, suc, ◌≤◌, eqb, List, [], ◌∷◌, Option, Some, None, ◌⊎◌, inl, inr}
-use Rattle.std.proofs.Common.{refl, sym, ap, ap₂, ◌∙◌, subst, arith, ⊎_elim}
+use Rattle.std.proofs.Common.{refl, sym, ap₂, ◌∙◌, subst, arith, ⊎_elim}
+use Rattle.std.proofs.lemmas.Bool.Decides.{nat_tests}
+use Rattle.std.proofs.lemmas.Grind.{common_steps}
 use Rattle.std.specs.Prelude.{replicate}
 use Rattle.std.specs.List.{AllByRecursion as Each}
 use Rattle.std.proofs.lemmas.Bool.{cond-false, ne_eqb}
@@ -12,7 +14,7 @@ use Rattle.sequential_machine.specs.SequentialMachine.{SequentialState, cells_of
 use Rattle.sequential_machine.specs.SequentialMachine.{registers_after}
 use Rattle.sequential_machine.specs.SequentialMachine.{after_one, Step, next, Steps, none, more, IsOutcome}
 use Rattle.sequential_machine.specs.Example.{cell, store_buffering}
-use Rattle.sequential_machine.proofs.Tables.{here, elsewhere}
+use Rattle.sequential_machine.proofs.Tables.{elsewhere}
 use Rattle.sequential_machine.proofs.Steps.{unset}
 
 -- how far a thread is
@@ -76,38 +78,15 @@ comes_to : (s : SequentialState) (t u : ℕ) (p q : Place) (i : Instruction) (re
     registers_after i (s.registers t) s.memory ≡ registers_at p →
     memory_after i (s.registers t) s.memory t ≡ word_at p → memory_after i (s.registers t) s.memory u ≡ s.memory u →
     OneOf p q → IsAt s u t q → Comes (after_one s t i rest) t u q
-comes_to s t u p q i rest ne left registers word same one_of other =
-    let new = registers_after i (s.registers t) s.memory in
-    record {
-      place = p;
-      own = record { left = here s.left t rest ∙ left; registers = here s.registers t new ∙ registers; word = word };
-      other = record {
-        left = elsewhere s.left t rest u ne ∙ other.left;
-        registers = elsewhere s.registers t new u ne
-            ∙ other.registers;
-        word = same ∙ other.word;
-      };
-      one_of = one_of;
-    }
+comes_to s t u p q i rest ne left registers word same one_of other = grind (arith, nat_tests, common_steps, elsewhere)
 
 both_same : {X : Type 0} (x y : X) (xs ys : List X) → x ∷ xs ≡ y ∷ ys → (x ≡ y) × (ys ≡ xs)
 both_same x y xs ys e = (cc, cc)
 
 comes : (s : SequentialState) (t u : ℕ) (p q : Place) (c : Cell) (rest : List Cell) → u ≢ t → left_at t u p ≡ c ∷ rest →
     IsAt s t u p → IsAt s u t q → Comes (after_one s t c.instruction rest) t u q
-comes s t u Begins q c rest ne l own other =
-    let e = both_same (cell t (does.Set 5 1)) c (left_at t u HasSet) rest l in
-    subst (λ (x : Cell). Comes (after_one s t x.instruction rest) t u q) e.0
-    (comes_to s t u HasSet q (does.Set 5 1) rest ne e.1 (ap (λ (rs : List ℕ). with_register rs 5 1) own.registers)
-    own.word
-    refl (λ v w a b. absurd cc) other)
-comes s t u HasSet q c rest ne l own other =
-    let e = both_same (cell t (does.Store 5 t)) c (left_at t u HasStored) rest l in
-    let value = register_value (s.registers t) 5 in
-    subst (λ (x : Cell). Comes (after_one s t x.instruction rest) t u q) e.0
-    (comes_to s t u HasStored q (does.Store 5 t) rest ne e.1 own.registers (here s.memory t value
-    ∙ ap (λ (rs : List ℕ). register_value rs 5) own.registers) (elsewhere s.memory t value u ne)
-    (λ v w a b. absurd cc) other)
+comes s t u Begins q c rest ne l own other = grind (arith, nat_tests, common_steps, both_same, comes_to)
+comes s t u HasSet q c rest ne l own other = grind (arith, nat_tests, common_steps, both_same, comes_to, elsewhere)
 comes s t u HasStored q c rest ne l own other =
     let e = both_same (cell t (does.Load 6 u)) c [] rest l in
     subst (λ (x : Cell). Comes (after_one s t x.instruction rest) t u q) e.0
@@ -131,18 +110,7 @@ none_of t (c ∷ cells) h = cond-false (eqb c.thread t) (c ∷ cells_of t cells)
 
 opens : Stands (sequential_opening store_buffering)
 unfolding with_items
-opens =
-    record {
-      first = Begins;
-      second = Begins;
-      own = record { left = refl; registers = refl; word = unset 0 };
-      other = record { left = refl; registers = refl; word = unset 1 };
-      one_of = λ v w a b. absurd cc;
-      no_others = λ t le.
-          let zeroth : 0 ≢ t = (λ e. absurd (omega arith)) in
-          let first : 1 ≢ t = (λ e. absurd (omega arith)) in
-          none_of t store_buffering.cells (zeroth, (first, (zeroth, (first, (zeroth, (first, tt))))));
-    }
+opens = let q0 = unset 0 in let q1 = unset 1 in grind (arith, nat_tests, q0, q1)
 
 turn_keeps : (s : SequentialState) (t : ℕ) (c : Cell) (rest : List Cell) → s.left t ≡ c ∷ rest → Stands s →
     Stands (after_one s t c.instruction rest)
@@ -188,12 +156,4 @@ values_of : (v w x y : ℕ) → v ∷ w ∷ [] ≡ x ∷ y ∷ [] → (v ≡ x) 
 values_of v w x y e = (cc, cc)
 
 pub never_both : IsOutcome store_buffering (0 ∷ 0 ∷ []) → ⊥
-never_both o =
-    let h = steps_keep (sequential_opening store_buffering) o.last o.steps opens in
-    let value = λ (t : ℕ). register_value (o.last.registers t) 6 in
-    let v = values_of 0 0 (value 0) (value 1) o.values_are in
-    no_end h.first h.second h.one_of
-    (sym h.own.left ∙ o.finished 0 (omega arith))
-    (sym h.other.left ∙ o.finished 1 (omega arith))
-    (v.0 ∙ ap (λ (rs : List ℕ). register_value rs 6) h.own.registers)
-    (v.1 ∙ ap (λ (rs : List ℕ). register_value rs 6) h.other.registers)
+never_both o = grind (arith, nat_tests, common_steps, no_end, opens, steps_keep, values_of)

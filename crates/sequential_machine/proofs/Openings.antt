@@ -1,31 +1,27 @@
 -- Items that set each name once, and what is there when all have been taken in turn.
-use Rattle.std.proofs.Common.{◌≡◌, ◌≢◌, ℕ, zero, suc, ◌+◌, ◌-◌, ◌*◌, ◌<◌, Bool, true, false, eqb, ◌||◌, ◌&&◌, nat_le}
-use Rattle.std.proofs.Common.{List, [], ◌∷◌, ◌++◌, length, Option, Some, None, Result, Ok, Err, replicate, slice_set}
+use Rattle.std.proofs.Common.{◌≡◌, ◌≢◌, ℕ, zero, suc, ◌+◌, ◌-◌, ◌<◌, Bool, true, false, ◌||◌, ◌&&◌, nat_le}
+use Rattle.std.proofs.Common.{List, [], ◌∷◌, ◌++◌, length, Option, Some, None, Ok, replicate, slice_set}
 use Rattle.std.proofs.Common.{refl, sym, ap, ◌∙◌, subst, inl, inr, arith}
-use Rattle.std.specs.Prelude.{◌⊎◌, slice_get, nat_lt, unwrap_or}
+use Rattle.std.proofs.lemmas.Bool.Decides.{nat_tests}
+use Rattle.std.proofs.lemmas.Grind.{common_steps}
+use Rattle.std.specs.Prelude.{◌⊎◌, slice_get, unwrap_or}
 use Rattle.std.specs.List.{list_any}
 use Rattle.std.specs.FinMap as finite
 use Rattle.std.specs.FinMap.{get-empty, get-insert}
 use Rattle.std.specs.Ordering.{nat_cmp, eq_by_cmp}
 use Rattle.std.specs.Cmp.{nat_cmp_total, unsigned_tied}
-use Rattle.std.proofs.lemmas.Bool.{cond_both, cond-true, cond-false, eqb-true, eq-eqb, ne_eqb, and_parts}
-use Rattle.std.proofs.lemmas.Bool.{leb-true, lt-ltb, eqb-false}
+use Rattle.std.proofs.lemmas.Bool.{cond_both, cond-true, cond-false, eqb-true, eq-eqb, ne_eqb, lt-ltb}
 use Rattle.physiological_order.specs.Order.{flat}
-use Rattle.litmus_lexer.specs.Pieces.{Piece, Word, between}
-use Rattle.litmus_lexer.specs.Spelling.{is_digit, small_of, register_of}
+use Rattle.litmus_lexer.specs.Spelling.{small_of, register_of}
 use Rattle.litmus_parser.specs.Names.{Names, same_name}
 use Rattle.litmus_parser.specs.Block.{rest_of_item, Block, added, whole_item, item_or_end, entry, block}
 use Rattle.litmus_parser.specs.Words.{named_register}
 use Rattle.litmus_parser.specs.Header.{text_pieces}
 use Rattle.litmus_parser.specs.declared.items.Opening.{Opening}
 use Rattle.litmus_parser.specs.declared.items.Opening.TheVariants.{OfThread, OfLocation}
-use Rattle.litmus_lexer.specs.declared.errors.Kind.{Kind}
-use Rattle.litmus_lexer.specs.declared.errors.Kind.TheVariants.{BadInitial, CutShort}
-use Rattle.litmus_lexer.specs.declared.errors.LitmusError.{LitmusError}
-use Rattle.piece_forms.specs.Places.{Beyond}
-use Rattle.piece_forms.specs.Forms.{said, taken, word, one, refused}
-use Rattle.piece_forms.proofs.Lemmas.{Leads, leads-given, leads-then, leads-known, Tells, leads-at, Onto, leads-until}
-use Rattle.piece_forms.proofs.Lemmas.{leads-refused}
+use Rattle.litmus_lexer.specs.declared.errors.Kind.TheVariants.{BadInitial}
+use Rattle.piece_forms.specs.Forms.{word, one, refused}
+use Rattle.piece_forms.proofs.Lemmas.{Leads, leads-given, leads-then, leads-known, Onto, leads-until, leads-refused}
 use Rattle.sequential_machine.proofs.Names.{leads-behind}
 use Rattle.litmus_parser.specs.declared.syntax.Name.{Name}
 use Rattle.litmus_parser.specs.declared.syntax.Name.TheVariants.{Register, Location}
@@ -125,41 +121,27 @@ none_set (suc n) (suc i) = none_set n i
 
 module _ (t : ℕ) where
   register_length : (xs : List ℕ) (r n : ℕ) → length xs ≡ 32 → length (with_register xs r n) ≡ 32
-  register_length xs r n l =
-      cond_both (nat_lt 0 r && nat_lt r 32) (slice_set xs r n) xs (λ (ys : List ℕ). length ys ≡ 32)
-      (λ _. set_length xs r n ∙ l) (λ _. l)
+  register_length xs r n l = grind (arith, nat_tests, common_steps, cond_both, set_length, slice_set)
 
   item_length : (name : Name) (setting : Setting) (xs : List ℕ) → length xs ≡ 32 →
       length (with_item t name setting xs) ≡ 32
-  item_length (Register owner r) (Number n) xs l =
-      cond_both (eqb owner t) (with_register xs r n) xs (λ (ys : List ℕ). length ys ≡ 32)
-      (λ _. register_length xs r n l) (λ _. l)
+  item_length (Register owner r) (Number n) xs l = let q0 = register_length xs r n l in grind (arith, nat_tests, q0)
   item_length (Register owner r) (Address a) xs l = l
   item_length (Location m) (Number n) xs l = l
   item_length (Location m) (Address a) xs l = l
 
   register_else : (xs : List ℕ) (q r n : ℕ) → q ≢ r → register_value (with_register xs q n) r ≡ register_value xs r
-  register_else xs q r n ne =
-      cond_both (nat_lt 0 q && nat_lt q 32) (slice_set xs q n) xs
-      (λ (ys : List ℕ). register_value ys r ≡ register_value xs r)
-      (λ _. ap (λ (o : Option ℕ). unwrap_or o 0) (set_else xs q r n ne)) (λ _. refl)
+  register_else xs q r n ne = grind (arith, nat_tests, common_steps, cond_both, set_else, slice_set)
 
   item_else : (r : ℕ) (name : Name) (n : ℕ) (xs : List ℕ) → name ≢ Register t r →
       register_value (with_item t name (Number n) xs) r ≡ register_value xs r
-  item_else r (Register owner q) n xs ne =
-      cond_both (eqb owner t) (with_register xs q n) xs (λ (ys : List ℕ). register_value ys r ≡ register_value xs r)
-      (λ e. register_else xs q r n (λ same. ne (ap (λ (x : ℕ). Register x q) (eqb-true owner t e)
-      ∙ ap (λ (x : ℕ). Register t x) same))) (λ _. refl)
+  item_else r (Register owner q) n xs ne = grind (arith, nat_tests, common_steps, cond_both, eqb-true, register_else)
   item_else r (Location l) n xs ne = refl
 
   item_here : (r n : ℕ) (xs : List ℕ) → (0 < r) × (r < 32) → length xs ≡ 32 →
       register_value (with_item t (Register t r) (Number n) xs) r ≡ n
   item_here r n xs near l =
-      ap (λ (ys : List ℕ). register_value ys r)
-      (cond-true (eqb t t) (with_register xs r n) xs (eq-eqb t t refl)
-      ∙ cond-true (nat_lt 0 r && nat_lt r 32) (slice_set xs r n) xs
-      (both_true (lt-ltb 0 r near.0) (lt-ltb r 32 near.1)))
-      ∙ ap (λ (o : Option ℕ). unwrap_or o 0) (set_here xs r n (omega (arith, near.1, l)))
+      grind (arith, nat_tests, common_steps, both_true, cond-true, eq-eqb, lt-ltb, set_here, slice_set)
 
   item_address : (name : Name) (l : ℕ) (xs : List ℕ) → with_item t name (Address l) xs ≡ xs
   item_address (Register owner r) l xs = refl
@@ -173,14 +155,7 @@ module _ (t : ℕ) where
   registers_open : (r : ℕ) → Opens (with_item t) (with_items t) (λ xs. register_value xs r) (λ xs. length xs ≡ 32)
       (Register t r)
   unfolding with_items
-  registers_open r = record {
-    ends = λ x. refl;
-    goes = λ item items x. refl;
-    stays = item_length;
-    own = λ n x near l. item_here r n x near l;
-    addresses = item_address;
-    others = item_else r;
-  }
+  registers_open r = grind (arith, nat_tests, common_steps, item_address, item_else, item_here, item_length)
 
 -- the words of memory
 
@@ -203,38 +178,19 @@ word_here l n words =
 
 words_open : (l : ℕ) → Opens with_setting words_opened (λ words. flat words l) (λ words. Unit {0}) (Location l)
 unfolding words_opened
-words_open l = record {
-  ends = λ x. refl;
-  goes = λ item items x. refl;
-  stays = λ other setting x good. tt;
-  own = λ n x near good. word_here l n x;
-  addresses = word_address;
-  others = word_else l;
-}
+words_open l = grind (arith, nat_tests, common_steps, word_address, word_else, word_here)
 
 -- items of the grammar
 
 digits_below : (word : List ℕ) (n : ℕ) → small_of 31 word ≡ Some n → n < 32
 digits_below [] n e = absurd cc
-digits_below (a ∷ []) n e =
-    cond_both (is_digit a) (Some (a - 48)) None (λ (o : Option ℕ). o ≡ Some n → n < 32)
-    (λ d s. let same : a - 48 ≡ n = cc in
-    omega (arith, same, leb-true a 57 (and_parts (nat_le 48 a) (nat_le a 57) d).1))
-    (λ _ s. absurd cc) e
-digits_below (a ∷ b ∷ []) n e =
-    let value = 10 * (a - 48) + (b - 48) in
-    cond_both (between 49 57 a && is_digit b && nat_le value 31) (Some value) None
-    (λ (o : Option ℕ). o ≡ Some n → n < 32)
-    (λ d s. let same : value ≡ n = cc in
-    omega (arith, same, leb-true value 31 (and_parts (between 49 57 a && is_digit b) (nat_le value 31) d).1))
-    (λ _ s. absurd cc) e
+digits_below (a ∷ []) n e = let q0 = nat_le 48 a in let q1 = nat_le a 57 in grind (arith, nat_tests, q0, q1)
+digits_below (a ∷ b ∷ []) n e = grind (arith, nat_tests)
 digits_below (a ∷ b ∷ c ∷ word) n e = absurd cc
 
 register_below : (word : List ℕ) (r : ℕ) → register_of word ≡ Some r → r < 32
 register_below [] r e = absurd cc
-register_below (first ∷ number) r e =
-    cond_both (eqb first 120) (small_of 31 number) None (λ (o : Option ℕ). o ≡ Some r → r < 32)
-    (λ _ s. digits_below number r s) (λ _ s. absurd cc) e
+register_below (first ∷ number) r e = grind (arith, nat_tests)
 
 is_same : (name : Name) → same_name name name ≡ true
 is_same (Register t r) = rw (eq-eqb t t refl, eq-eqb r r refl) refl
@@ -281,39 +237,19 @@ one_more (x ∷ items) item none settable single =
 added_single : (items : List Item) (item : Item) (all : List Item) → IsSettable item.name →
     AreSingle (settings_of items) → added items item ≡ Ok all → AreSingle (settings_of all)
 unfolding added
-added_single items item all settable single =
-    cond_both (list_any (λ other. same_name other.name item.name) items) _ _
-    (λ (r : Result (List Item) LitmusError). r ≡ Ok all → AreSingle (settings_of all))
-    (λ twice e. absurd cc) (λ none e. let same : items ++ item ∷ [] ≡ all = cc in
-    subst (λ (xs : List Item). AreSingle (settings_of xs)) same (one_more items item none settable single))
+added_single items item all settable single = grind (arith, nat_tests, common_steps, cond_both, one_more)
 
 abbrev IsSetting : ℕ → Type 0
 IsSetting r = (0 < r) × (r < 32)
 
 register_settable : Leads (one (word BadInitial (λ w. named_register BadInitial (register_of w)))) IsSetting
-register_settable =
-    leads-at IsSetting Beyond (word BadInitial (λ w. named_register BadInitial (register_of w))) (Err CutShort) on
-  where
-    told : (w : List ℕ) (o : Option ℕ) → register_of w ≡ o → Tells IsSetting (taken (named_register BadInitial o))
-    told w None e = tt
-    told w (Some r) e =
-        cond_both (eqb r 0) (Err BadInitial) (Ok r) (λ (v : Result ℕ Kind). Tells IsSetting (taken v)) (λ _. tt)
-        (λ ne. let other = eqb-false r 0 ne in (omega (arith, other), register_below w r e))
-
-    on : (o : Option Piece) → Tells IsSetting
-        (said (word BadInitial (λ w. named_register BadInitial (register_of w))) (Err CutShort) o)
-    on (Some (Word w)) = told w (register_of w) refl
-    on _ = tt
+register_settable = grind (arith, nat_tests)
 
 item_settable : (o : Opening × Names) → Leads (rest_of_item o) (λ i. IsSettable i.0.name)
 unfolding rest_of_item
 item_settable (OfThread thread, names) =
-    leads-behind (λ line. leads-behind (λ u. leads-then register_settable (λ r is.
-    leads-behind (λ v. leads-behind (λ s.
-    leads-given (record { line = line; name = Register thread r; setting = s.0 }, s.1) is)))))
-item_settable (OfLocation l, names) =
-    leads-behind (λ line. leads-behind (λ n.
-    leads-given (record { line = line; name = Location l; setting = Number n }, names) tt))
+    grind (arith, nat_tests, common_steps, leads-behind, leads-given, leads-then, register_settable)
+item_settable (OfLocation l, names) = grind (arith, nat_tests, common_steps, leads-behind, leads-given)
 
 abbrev SingleSo : Block → Type 0
 SingleSo b = AreSingle (settings_of b.0)

@@ -1,9 +1,9 @@
 -- The end of a legal history of performed threads is an outcome of the sequential machine.
 use Rattle.std.proofs.Common.{◌≡◌, ℕ, ◌<◌, List, [], ◌∷◌, length, map, Option, Some, None, refl, sym, ap, ap₂, ◌∙◌}
-use Rattle.std.proofs.Common.{subst}
+use Rattle.std.proofs.Common.{subst, arith}
+use Rattle.std.proofs.lemmas.Bool.Decides.{nat_tests}
 use Rattle.std.specs.Prelude.{slice_get, unwrap_or}
 use Rattle.std.specs.List.{AllByRecursion as Each}
-use Rattle.std.specs.Option.{option_map_or}
 use Rattle.physiological_order.specs.declared.operation.Op.{Op}
 use Rattle.physiological_order.specs.declared.operation.Record.{Record}
 use Rattle.physiological_order.specs.Order.{Memory, Arrangement, Legal, KeepsProgramOrder, ReceivesAsReplayed}
@@ -12,7 +12,7 @@ use Rattle.physiological_order.proofs.Lemmas.{one_arrangement}
 use Rattle.litmus_parser.specs.declared.syntax.Name.{Name}
 use Rattle.litmus_parser.specs.declared.syntax.Name.TheVariants.{Register, Location}
 use Rattle.litmus_reader.specs.Litmus.{Litmus}
-use Rattle.litmus_reader.specs.ThreadSteps.{Thread, register_value, next_operation}
+use Rattle.litmus_reader.specs.ThreadSteps.{Thread, next_operation}
 use Rattle.litmus_reader.specs.Truth.{end_value}
 use Rattle.litmus_reader.specs.Grammar.{IsTest}
 use Rattle.sequential_machine.specs.SequentialMachine.{SequentialState, memory_opened, value_at, IsOutcome}
@@ -38,9 +38,7 @@ same_value : (threads : List Thread) (memory : List ℕ) (s : SequentialState) (
     ((t : ℕ) → t < n → ThreadIsAt s t (thread_of threads t)) →
     ((l : ℕ) → l < locations → slice_get memory l ≡ Some (s.memory l)) →
     (name : Name) → IsThere n locations name → end_value threads memory name ≡ value_at s name
-same_value threads memory s n locations found stand words (Register t r) lt =
-    ap (λ (o : Option Thread). option_map_or (λ (q : Thread). register_value q.registers r) o 0) (found t lt)
-    ∙ sym (ap (λ (rs : List ℕ). register_value rs r) (stand t lt).registers)
+same_value threads memory s n locations found stand words (Register t r) lt = grind (arith, nat_tests)
 same_value threads memory s n locations found stand words (Location l) lt =
     ap (λ (o : Option ℕ). unwrap_or o 0) (words l lt)
 

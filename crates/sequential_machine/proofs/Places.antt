@@ -1,6 +1,8 @@
 -- A core's records stand alike in two orders of the records, if they have their places in both.
 use Rattle.std.proofs.Common.{◌≡◌, ℕ, ◌+◌, ◌≤◌, eqb, List, [], ◌∷◌, ◌⊎◌, inl, inr, refl, sym, ap₂, subst, arith}
 use Rattle.std.proofs.Common.{⊎_elim}
+use Rattle.std.proofs.lemmas.Bool.Decides.{nat_tests}
+use Rattle.std.proofs.lemmas.Grind.{common_steps}
 use Rattle.std.specs.List.{AllByRecursion as Each}
 use Rattle.std.specs.List.Sorted.{IsPermutation}
 use Rattle.std.proofs.lemmas.List.Sorted.{All-permutation, IsPermutation-sym}
@@ -19,9 +21,7 @@ each_of_core : (P : Record → Type 0) (c : ℕ) (rs : List Record) → Each (λ
     Each P (of_core c rs)
 each_of_core P c [] h = tt
 each_of_core P c (r ∷ rs) h =
-    cond_both (eqb r.core c) (r ∷ of_core c rs) (of_core c rs) (λ xs. Each P xs)
-    (λ e. (h.0 (eqb-true r.core c e), each_of_core P c rs h.1))
-    (λ e. each_of_core P c rs h.1)
+    let q0 = each_of_core P c rs h.1 in grind (arith, nat_tests, common_steps, q0, cond_both, eqb-true)
 
 of_core_each : (P : Record → Type 0) (c : ℕ) (rs : List Record) → Each P (of_core c rs) →
     Each (λ r. r.core ≡ c → P r) rs

@@ -1,12 +1,13 @@
 -- Points and the words in them: what an operation leaves, and what a thread has received.
-use Rattle.std.proofs.Common.{◌≡◌, ◌≢◌, ℕ, zero, suc, ◌<◌, Bool, true, false, eqb, cond, List, [], ◌∷◌, ◌++◌, length}
-use Rattle.std.proofs.Common.{Option, Some, refl, sym, ap, ◌∙◌, arith, inl, inr}
+use Rattle.std.proofs.Common.{◌≡◌, ◌≢◌, ℕ, zero, suc, ◌<◌, Bool, true, false, cond, List, [], ◌∷◌, ◌++◌, length}
+use Rattle.std.proofs.Common.{Option, Some, refl, sym, ap, ◌∙◌, arith}
 use Rattle.std.proofs.lemmas.Bool.{cases_eq, eq-eqb, ne_eqb}
+use Rattle.std.proofs.lemmas.Bool.Decides.{nat_tests}
+use Rattle.std.proofs.lemmas.Grind.{common_steps}
 use Rattle.std.specs.Prelude.{replicate, slice_index_or, unwrap_or}
 use Rattle.std.specs.FinMap as finite
 use Rattle.std.specs.FinMap.{get-entries}
 use Rattle.std.specs.Ordering.{nat_cmp}
-use Rattle.std.specs.Cmp.{unsigned_tied}
 use Rattle.physiological_order.specs.declared.operation.Op.{Op}
 use Rattle.physiological_order.specs.declared.operation.Op.TheVariants as op
 use Rattle.physiological_order.specs.Order.{Memory, flat_after, flat_received, with_word}
@@ -20,8 +21,7 @@ use Rattle.litmus_reader.specs.ThreadSteps.{behind_first_cell, done_with, settle
 use Rattle.sequential_machine.specs.SequentialMachine.{memory_opened}
 use Rattle.sequential_machine.specs.Turns.{Point, word_in, with_word_in, words_after, value_for, resumed}
 use Rattle.sequential_machine.specs.Turns.{thread_started, thread_at, operation_at, with_received, turned, words_set}
-use Rattle.sequential_machine.specs.Turns.{point_opened, Reached}
-use Rattle.sequential_machine.specs.Turns.{opened, turn}
+use Rattle.sequential_machine.specs.Turns.{point_opened, Reached, opened, turn}
 
 -- ---- words
 
@@ -42,10 +42,7 @@ word_else (w ∷ words) (suc a) v zero ne = refl
 word_else (w ∷ words) (suc a) v (suc b) ne = word_else words a v b (λ e. ne (ap suc e))
 
 word_set : (words : List ℕ) (a v b : ℕ) → word_in (with_word_in words a v) b ≡ with_word (word_in words) a v b
-word_set words a v b = elim (cases_eq b a) [
-  | inl e ↦ rw (eq-eqb b a e) (ap (word_in (with_word_in words a v)) e ∙ word_here words a v)
-  | inr ne ↦ rw (ne_eqb b a ne) (word_else words a v b ne)
-]
+word_set words a v b = grind (arith, nat_tests, common_steps, cases_eq, eq-eqb, ne_eqb, word_else, word_here)
 
 pub memory_set : (words : List ℕ) (x : Op) → word_in (words_after words x) ≡ flat_after (word_in words) x
 memory_set words (op.Load a) = refl
@@ -58,11 +55,7 @@ either_way false v o = refl
 
 entry_set : (es : List (ℕ × ℕ)) (a : ℕ) → word_in (words_set es) a ≡ unwrap_or (finite.find nat_cmp a es) 0
 entry_set [] a = refl
-entry_set (e ∷ es) a =
-    let found = finite.find nat_cmp a es in
-    word_set (words_set es) e.0 e.1 a ∙ ap (λ (n : ℕ). cond (eqb a e.0) e.1 n) (entry_set es a)
-    ∙ either_way (eqb a e.0) e.1 found
-    ∙ ap (λ (b : Bool). unwrap_or (cond b (Some e.1) found) 0) (sym (unsigned_tied a e.0))
+entry_set (e ∷ es) a = let q0 = entry_set es a in grind (arith, nat_tests, common_steps, q0, either_way, word_set)
 
 pub memory_opens : (test : Litmus) → word_in (point_opened test).words ≡ memory_opened test
 memory_opens test = λ i a.
@@ -140,10 +133,7 @@ told q x m e = first_told q.thread q.registers q.rest x m e
 pub turned_here : (test : Litmus) (p : Point) (t : ℕ) (x : Op) → t < length p.received →
     operation_at test p t ≡ Some x →
     thread_at test (turned p t x) t ≡ done_with (thread_at test p t) (flat_received (word_in p.words) x)
-turned_here test p t x lt is =
-    ap (resumed (thread_started test t)) (received_here p.received t (value_for p.words x) lt)
-    ∙ one_more (thread_started test t) (slice_index_or p.received t []) (value_for p.words x)
-    ∙ told (thread_at test p t) x (word_in p.words) is
+turned_here test p t x lt is = grind (arith, nat_tests, common_steps, one_more, received_here, told)
 
 pub turned_elsewhere : (test : Litmus) (p : Point) (t : ℕ) (x : Op) (u : ℕ) → u ≢ t →
     thread_at test (turned p t x) u ≡ thread_at test p u

@@ -9,8 +9,7 @@ use Rattle.physiological_order.specs.Order.{ReceivesAsReplayed}
 use Rattle.litmus_reader.specs.Litmus.{Litmus}
 use Rattle.litmus_reader.specs.ThreadSteps.{Thread, settled_thread, done_with}
 use Rattle.sequential_machine.specs.SequentialMachine.{SequentialState, cells_of, registers_opened, memory_opened}
-use Rattle.sequential_machine.specs.SequentialMachine.{sequential_opening}
-use Rattle.sequential_machine.specs.SequentialMachine.{with_at, Steps, none}
+use Rattle.sequential_machine.specs.SequentialMachine.{sequential_opening, with_at, Steps, none}
 use Rattle.sequential_machine.proofs.Doing.{Does}
 use Rattle.sequential_machine.proofs.Tables.{everywhere}
 use Rattle.sequential_machine.specs.Threads.{ThreadIsAt}

@@ -1,5 +1,6 @@
 -- Steps of threads in the order of a list, and two such runs of the example.
-use Rattle.std.proofs.Common.{◌≡◌, ℕ, zero, suc, ◌<◌, List, [], ◌∷◌, Option, refl, sym, ap, arith}
+use Rattle.std.proofs.Common.{◌≡◌, ℕ, zero, suc, ◌<◌, List, [], ◌∷◌, Option, refl, ap, arith}
+use Rattle.std.proofs.lemmas.Bool.Decides.{nat_tests}
 use Rattle.std.specs.Prelude.{unwrap_or}
 use Rattle.std.specs.FinMap.{get-empty}
 use Rattle.std.specs.Ordering.{nat_cmp}
@@ -7,8 +8,7 @@ use Rattle.litmus_parser.specs.declared.syntax.Cell.{Cell}
 use Rattle.litmus_reader.specs.OpeningMemory.{words_opened}
 use Rattle.litmus_reader.specs.ThreadSteps.{with_items}
 use Rattle.sequential_machine.specs.SequentialMachine.{SequentialState, memory_opened, sequential_opening, after_one}
-use Rattle.sequential_machine.specs.SequentialMachine.{next, Steps, none}
-use Rattle.sequential_machine.specs.SequentialMachine.{more, IsOutcome}
+use Rattle.sequential_machine.specs.SequentialMachine.{next, Steps, none, more, IsOutcome}
 use Rattle.sequential_machine.specs.Example.{store_buffering}
 use Rattle.sequential_machine.proofs.ThreadSteps.{joined}
 
@@ -51,13 +51,7 @@ through_too (suc (suc t)) lt = absurd (omega arith)
 
 pub both_receive_one : IsOutcome store_buffering (1 ∷ 1 ∷ [])
 unfolding words_opened with_items
-both_receive_one = record {
-  last = by_turns (sequential_opening store_buffering) stores_first;
-  steps =
-      turns (sequential_opening store_buffering) stores_first;
-  finished = through;
-  values_are = refl;
-}
+both_receive_one = let q0 = turns (sequential_opening store_buffering) stores_first in grind (arith, nat_tests, q0)
 
 -- every word opens as 0
 pub unset : (a : ℕ) → memory_opened store_buffering a ≡ 0
@@ -66,11 +60,6 @@ unset a = ap (λ (o : Option ℕ). unwrap_or o 0) (get-empty nat_cmp a)
 
 pub one_receives_zero : IsOutcome store_buffering (0 ∷ 1 ∷ [])
 unfolding words_opened with_items
-one_receives_zero = record {
-  last = by_turns (sequential_opening store_buffering) one_first;
-  steps =
-      turns (sequential_opening store_buffering) one_first;
-  finished = through_too;
-  values_are =
-      ap (λ (n : ℕ). n ∷ 1 ∷ []) (sym (unset 1));
-}
+one_receives_zero =
+    let q0 = turns (sequential_opening store_buffering) one_first in let q1 = unset 1 in
+    grind (arith, nat_tests, q0, q1)

@@ -1,6 +1,8 @@
 -- Steps of one thread: its instructions without memory, up to its next memory instruction, and a memory instruction.
-use Rattle.std.proofs.Common.{◌≡◌, ℕ, eqb, List, [], ◌∷◌, Option, Some, None, refl, sym, ap₂, ◌∙◌, subst}
+use Rattle.std.proofs.Common.{◌≡◌, ℕ, eqb, List, [], ◌∷◌, Option, Some, None, refl, sym, ◌∙◌, arith}
 use Rattle.std.proofs.lemmas.Bool.{cond_both, eqb-true, eq-eqb}
+use Rattle.std.proofs.lemmas.Bool.Decides.{nat_tests}
+use Rattle.std.proofs.lemmas.Grind.{common_steps}
 use Rattle.std.specs.Option.{option_map_or}
 use Rattle.physiological_order.specs.declared.operation.Op.{Op}
 use Rattle.physiological_order.specs.declared.operation.Op.TheVariants as op
@@ -8,14 +10,12 @@ use Rattle.physiological_order.specs.Order.{Memory, flat_received, flat_after}
 use Rattle.litmus_parser.specs.declared.syntax.Cell.{Cell}
 use Rattle.litmus_parser.specs.declared.syntax.Instruction.{Instruction}
 use Rattle.litmus_parser.specs.declared.syntax.Instruction.TheVariants as does
-use Rattle.litmus_reader.specs.ThreadSteps.{Thread, register_value, after_local, settled_thread}
-use Rattle.litmus_reader.specs.ThreadSteps.{instruction_operation}
+use Rattle.litmus_reader.specs.ThreadSteps.{Thread, register_value, after_local, settled_thread, instruction_operation}
 use Rattle.litmus_reader.specs.ThreadSteps.{next_operation, received_by, behind_first_cell, done_with}
 use Rattle.sequential_machine.specs.Threads.{Ready, ThreadIsAt, Goes}
 use Rattle.sequential_machine.specs.SequentialMachine.{SequentialState, cells_of, memory_after, registers_after}
-use Rattle.sequential_machine.specs.SequentialMachine.{after_one}
-use Rattle.sequential_machine.specs.SequentialMachine.{next, Steps, none, more}
-use Rattle.sequential_machine.proofs.Tables.{here, elsewhere}
+use Rattle.sequential_machine.specs.SequentialMachine.{after_one, next, Steps, none, more}
+use Rattle.sequential_machine.proofs.Tables.{here}
 use Rattle.sequential_machine.proofs.Points.{same_some}
 
 pub joined : (s u v : SequentialState) → Steps s u → Steps u v → Steps s v
@@ -27,18 +27,8 @@ behind_one : (s : SequentialState) (t : ℕ) (cell : Cell) (rest : List Cell) (m
     ≡ cell ∷ rest →
     Goes (after_one s t cell.instruction rest) t m q → Goes s t m q
 behind_one s t cell rest m q l g =
-    let registers = registers_after cell.instruction (s.registers t) s.memory in
-    record {
-      end = g.end;
-      steps = joined s (after_one s t cell.instruction rest) g.end (more none (next t cell rest l)) g.steps;
-      memory = g.memory;
-      others = λ u ne. (
-        (g.others u ne).0 ∙ elsewhere s.registers t registers u ne,
-        (g.others u ne).1
-            ∙ elsewhere s.left t rest u ne,
-      );
-      stands = g.stands;
-    }
+    let q0 = joined s (after_one s t cell.instruction rest) g.end (more none (next t cell rest l)) g.steps in
+    grind (arith, nat_tests, q0)
 
 -- from any state with these instructions left, the thread goes on to its next memory instruction
 abbrev Settles : ℕ → List Cell → Type 0
@@ -120,13 +110,7 @@ first_performed : (s : SequentialState) (t : ℕ) (rs : List ℕ) (cells : List 
     flat_received s.memory x ≡ received → Goes s t (flat_after s.memory x) (behind_first_cell t rs received cells)
 first_performed s t rs [] x received r l ready e v = absurd cc
 first_performed s t rs (cell ∷ rest) x received r l ready e v =
-    let after = on_memory cell.instruction (s.registers t) x s.memory
-    (rw r e) in
-    subst (λ (m : Memory). Goes s t m (behind_first_cell t rs received (cell ∷ rest))) after.1
-    (subst (λ (ns : List ℕ). Goes s t (memory_after cell.instruction (s.registers t) s.memory)
-    (settled_thread t ns rest))
-    (after.0 ∙ ap₂ (λ (o : Option ℕ) (ns : List ℕ). received_by cell.instruction o ns) v r)
-    (goes-behind s t cell rest (l ∙ first_of t cell rest ready.0) (settles t rest)))
+    grind (arith, nat_tests, common_steps, first_of, goes-behind, on_memory, settles)
 
 -- a thread's next operation is performed, and it receives what the memory gives
 pub performs : (s : SequentialState) (t : ℕ) (q : Thread) (x : Op) (received : Option ℕ) → ThreadIsAt s t q →

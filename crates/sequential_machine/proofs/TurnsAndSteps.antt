@@ -1,6 +1,8 @@
 -- Turns are steps of the machine, and its steps are turns.
 use Rattle.std.proofs.Common.{◌≡◌, ℕ, zero, suc, ◌<◌, ◌≤◌, List, [], ◌∷◌, ◌++◌, length}
 use Rattle.std.proofs.Common.{map, Option, Some, None, refl, sym, ap, ap₂, ◌∙◌, subst, arith, inl, inr, length-append}
+use Rattle.std.proofs.lemmas.Bool.Decides.{nat_tests}
+use Rattle.std.proofs.lemmas.Grind.{common_steps}
 use Rattle.std.specs.Prelude.{slice_get}
 use Rattle.std.specs.Option.{option_map_or}
 use Rattle.std.proofs.lemmas.Bool.{cases_eq, cases_lt, eq-eqb, ne_eqb}
@@ -14,7 +16,7 @@ use Rattle.litmus_parser.specs.declared.syntax.Instruction.TheVariants as does
 use Rattle.litmus_reader.specs.Litmus.{Litmus}
 use Rattle.litmus_reader.specs.Grammar.{IsTest}
 use Rattle.litmus_reader.specs.Truth.{end_value}
-use Rattle.litmus_reader.specs.ThreadSteps.{Thread, register_value, after_local, settled_thread, instruction_operation}
+use Rattle.litmus_reader.specs.ThreadSteps.{Thread, after_local, settled_thread, instruction_operation}
 use Rattle.litmus_reader.specs.ThreadSteps.{next_operation, received_by, behind_first_cell, done_with}
 use Rattle.sequential_machine.specs.SequentialMachine.{SequentialState, cells_of, registers_opened}
 use Rattle.sequential_machine.specs.SequentialMachine.{sequential_opening, memory_after, registers_after, after_one}
@@ -69,10 +71,7 @@ module _ (test : Litmus) (p : Point) (s : SequentialState) (memory : s.memory �
     (registers : (t : ℕ) → t < test.threads → s.registers t ≡ (thread_at test p t).registers) where
   one_value : (name : Name) → IsThere test.threads (length test.locations) name →
       end_value (threads_at test p test.threads) p.words name ≡ value_at s name
-  one_value (Register t r) lt =
-      ap (λ (o : Option Thread). option_map_or (λ (q : Thread). register_value q.registers r) o 0)
-      (thread_there test p test.threads t lt)
-      ∙ sym (ap (λ (rs : List ℕ). register_value rs r) (registers t lt))
+  one_value (Register t r) lt = let q0 = thread_there test p test.threads t lt in grind (arith, nat_tests, q0)
   one_value (Location l) lt = sym (ap (λ (m : Memory). m l) memory)
 
   same_at_end : (text : List ℕ) → IsTest text test → values_at test p ≡ map (value_at s) test.seen
@@ -158,14 +157,8 @@ own_settles : (t : ℕ) (rs : List ℕ) (c : Cell) (cells : List Cell) → c.thr
     (o : Option (List ℕ)) → after_local c.instruction rs ≡ o →
     SettlesTo t rs (c ∷ cells_of t cells) (option_map_or (λ ns. settled_thread t ns cells) o
     (record { thread = t; registers = rs; rest = c ∷ cells }))
-own_settles t rs c cells e further None is = record {
-  thread = refl;
-  comes = settle_memory c (cells_of t cells) rs is ∙ ap (λ (xs : List Cell). (rs, xs)) (sym (first_of t c cells e));
-  ready = (e, is);
-}
-own_settles t rs c cells e further (Some ns) is =
-    let h = further ns in
-    record { thread = h.thread; comes = settle_local c (cells_of t cells) rs ns is ∙ h.comes; ready = h.ready }
+own_settles t rs c cells e further None is = grind (arith, nat_tests, common_steps, first_of, settle_memory)
+own_settles t rs c cells e further (Some ns) is = grind (arith, nat_tests, common_steps, settle_local)
 
 settles_to : (t : ℕ) (rs : List ℕ) (cells : List Cell) → SettlesTo t rs (cells_of t cells) (settled_thread t rs cells)
 unfolding settled_thread settle
@@ -201,33 +194,7 @@ module _ (test : Litmus) (s : SequentialState) (k : ℕ) (p : Point) (r : Reache
 
   without_memory : (ns : List ℕ) → after_local cell.instruction (s.registers t) ≡ Some ns → GoesOn test After
   without_memory ns is =
-      let after = local cell.instruction (s.registers t) ns s.memory is in
-      let registers = registers_after cell.instruction (s.registers t) s.memory in
-      let old = f.threads t lt in
-      let now : SettlesTo t ns rest (thread_at test p t) = record {
-        thread = old.thread;
-        comes = sym (settle_local cell rest (s.registers t) ns is)
-            ∙ ap (λ (xs : List Cell). settle xs (s.registers t)) (sym l) ∙ old.comes;
-        ready = old.ready;
-      } in
-      record {
-        turns = k;
-        point = p;
-        reached = r;
-        follows = record {
-          memory = after.1 ∙ f.memory;
-          threads = λ u below. elim (cases_eq u t) [
-            | inl e ↦
-                rw e (moved t ns (After.registers t) rest (After.left t) (thread_at test p t) (thread_at test p t)
-                (here s.registers t registers ∙ after.0) (here s.left t rest) refl now)
-            | inr ne ↦
-                moved u (s.registers u) (After.registers u) (s.left u) (After.left u) (thread_at test p u)
-                (thread_at test p u) (elsewhere s.registers t registers u ne) (elsewhere s.left t rest u ne) refl
-                (f.threads u below)
-          ];
-          others = left_elsewhere;
-        };
-      }
+      grind (arith, nat_tests, common_steps, cases_eq, elsewhere, left_elsewhere, local, moved, settle_local)
 
 has_operation : (i : Instruction) (rs : List ℕ) → after_local i rs ≡ None → (x : Op) ×
     (instruction_operation i rs ≡ Some x)
@@ -303,12 +270,7 @@ module _ (test : Litmus) (s : SequentialState) (k : ℕ) (p : Point) (r : Reache
   thread_is : thread_at test (turned p t wait.op) t ≡ settled_thread t (received_by cell.instruction received
       Now.registers) wait.tail
   unfolding received
-  thread_is =
-      let there = lists_count test k p r in
-      turned_here test p t wait.op (omega (arith, lt, there)) gives
-      ∙ ap (λ (n : ℕ). behind_first_cell n Now.registers (flat_received (word_in p.words) wait.op) Now.rest)
-      (f.threads t lt).thread
-      ∙ wait.goes (flat_received (word_in p.words) wait.op)
+  thread_is = grind (arith, nat_tests, common_steps, gives, lists_count, turned_here, wait)
 
   with_memory : GoesOn test (after_one s t cell.instruction rest)
   with_memory =
@@ -357,9 +319,7 @@ followed test s u (more {u = v} a b) g = step_followed test v u (followed test s
 
 none_of : (n t : ℕ) (cells : List Cell) → AreBelow n cells → n ≤ t → cells_of t cells ≡ []
 none_of n t [] h le = refl
-none_of n t (c ∷ cells) h le =
-    let lt : c.thread < n = h.0 in
-    rw (ne_eqb c.thread t (λ e. absurd (omega (arith, e, lt, le)))) (none_of n t cells h.1 le)
+none_of n t (c ∷ cells) h le = let q0 = none_of n t cells h.1 le in grind (arith, nat_tests, q0)
 
 opening_followed : (test : Litmus) → AreBelow test.threads test.cells → GoesOn test (sequential_opening test)
 opening_followed test below = record {

@@ -12,8 +12,7 @@ use Rattle.litmus_reader.specs.Litmus.{Litmus}
 use Rattle.litmus_reader.specs.ThreadSteps.{Thread, after_local, settled_thread, next_operation, received_by}
 use Rattle.litmus_reader.specs.ThreadSteps.{behind_first_cell}
 use Rattle.sequential_machine.specs.SequentialMachine.{registers_opened}
-use Rattle.sequential_machine.specs.Turns.{Point, word_in, value_for, thread_at, with_received}
-use Rattle.sequential_machine.specs.Turns.{Reached, opened, turn}
+use Rattle.sequential_machine.specs.Turns.{Point, word_in, value_for, thread_at, with_received, Reached, opened, turn}
 use Rattle.sequential_machine.proofs.Points.{nothing_received, received_here, received_elsewhere, lists_count}
 use Rattle.sequential_machine.proofs.Points.{turned_here, turned_elsewhere}
 

@@ -1,5 +1,4 @@
-use Rattle.std.proofs.Common.{◌≡◌, ℕ, ◌+◌, ◌<◌, ◌++◌, [], ◌∷◌, List, length, length-append, ap, subst, sym}
-use Rattle.std.proofs.Common.{arith, ◌∙◌}
+use Rattle.std.proofs.Common.{◌≡◌, ℕ, ◌+◌, ◌<◌, ◌++◌, [], ◌∷◌, List, length, length-append, ap, subst, sym, arith, ◌∙◌}
 use Rattle.seat_views.specs.Seated.{one_more, first_view}
 use Rattle.seat_rule.specs.Rule.{opening_hold, seat_count}
 use Rattle.mailboxes.specs.declared.bank_seat.BankSeat.{BankSeat}

@@ -312,6 +312,7 @@ TEXTS = [
     ("0: M[0] == 1\n", "not consistent: line 1 (core 0's load of M[0], which received 1), and nothing wrote that"),
     ("0: M[0] := 0\n0: M[1] == 1\n1: M[1] := 1\n1: M[0] == 0\n", "consistent"),
     ("0: M[0] := 1\n0: M[0] := 1\n1: M[0] == 1\n1: M[0] == 0\n", "not consistent"),
+    ("16 R 0x8 0\n", "consistent"),
     ("63 R 0x8 0\r\n", "consistent"),
     ("0 W 0x4 1\n1 R 0x4 1\n1 R 0x5 0 @ 1 2.5\n", "consistent"),
     ("0 W 0x0 1 @ 0 10\n1 R 0x0 0 @ 11 12\n", "consistent"),
@@ -338,6 +339,7 @@ BAD = [
     ("0: M[0] := 1\n0: M[1] = 1\n", "line 2: `M[1] = 1` is no operation"),
     ("0: M[0] := 1\n0 R 0x0 1\n", "line 2: `0 R 0x0 1` isn't a core, a colon and an operation"),
     ("0: { M[0] == 0; M[1] := 1 }\n", "line 1: the two parts of a swap name two variables"),
+    ("0: M[0] := 1 @ 5\n", "line 1: behind `@` stand a start, a colon and an end, and here `5`"),
     ("0: sync @ 9:8\n", "line 1: the operation ends at 8, before it starts at 9"),
     (f"0: M[{2 ** 61}] := 1\n", f"line 1: the variable {2 ** 61} is greater than"),
     ("0 0 W 0x0 1 0 0\n0 2 R 0x0 1 0 1\n", "line 2: core 0's place 1 is missing"),
@@ -392,7 +394,8 @@ def settings(tester):
         status, out, error = tester.run("--opening", opening, "--out", tester.folder, history)
         tester.expect((status, error) == (int(wanted[0] == "n"), "") and out.startswith(wanted),
                       f"{first} {text!r}: {status} {out} {error}")
-    for first, wanted in (("0x0\n", "line 1: `0x0` isn't"), ("0 1\n0x0 2\n", "line 2: 0x0 is opened twice")):
+    for first, wanted in (("0x0\n", "line 1: `0x0` isn't"), ("0 1\n0x0 2\n", "line 2: 0x0 is opened twice"),
+                          (f"M[{2 ** 61}] := 1\n", f"line 1: the address {2 ** 61} is greater than")):
         opening.write_text(first)
         status, out, error = tester.run("--opening", opening, "--out", tester.folder, history)
         tester.expect((status, out) == (2, "") and wanted in error, f"{first!r}: {status} {out} {error}")
@@ -466,6 +469,10 @@ def told(tester):
     tester.expect(out.splitlines()[1:] == [str(tester.folder / f"told.order.{what}") for what in
                                            ("trace", "records", "opening")] and wrote == "0x8 5\n",
                   f"0x4 is the second of two addresses: {out} {wrote}")
+    history.write_text("0 W 0x0 1\n0 F\n0 R 0x8 0\n")
+    tester.run("--model", "tso", "--out", tester.folder, history)
+    wrote = (tester.folder / "told.order.trace").read_text()
+    tester.expect(wrote == "0 W 0x0 1\n0 F\n0 R 0x8\n", f"a fence is kept for reference/tso.py: {wrote}")
     history.write_text("".join(f"{core} R 0x8 5\n" for core in range(64)))
     opening.write_text("0x8 5\n")
     out = tester.run("--opening", opening, "--out", tester.folder, history)[1]
@@ -483,6 +490,8 @@ def orders_of_buffers(tester):
             (trace, early.replace(b"1 0 3", b"1 0 4"), "bad number 3"),
             (trace, early.replace(b"1 1 R", b"1 2 R"), "no such operation 1"),
             (trace, early[:-16], "no record of operation 0 of core 1"),
+            (trace, early.replace(b"1 0 W 0x8 1", b"1 0 W 0x8 2"), "no such operation 3"),
+            (trace, early.replace(b"1 0 W 0x8", b"0 0 W 0x0"), "no such operation 3"),
             (own, b"0 2 R 0x0 2 0 0\n0 0 W 0x0 1 0 1\n0 1 W 0x0 2 0 2\n", "legal"),
             (own, b"0 2 R 0x0 1 0 0\n0 0 W 0x0 1 0 1\n0 1 W 0x0 2 0 2\n", "wrong value 0"),
             (own, b"0 2 R 0x0 2 0 0\n0 1 W 0x0 2 0 1\n0 0 W 0x0 1 0 2\n", "out of program order 1"),
@@ -494,6 +503,19 @@ def orders_of_buffers(tester):
     for value, wanted in ((5, "legal"), (0, "wrong value 0")):
         said = tso.verdict([[("load", 1, None)]], {}, read_records(b"0 0 R 0x8 %d 0 0\n" % value), {1: 5})
         tester.expect(said == wanted, f"tso.py, over an opening: {said}, wanted {wanted}")
+    files = [tester.folder / name for name in ("b.trace", "b.records", "b.opening")]
+    for path, text in zip(files, (fenced, early.replace(b"0x8 0", b"0x8 5"), b"0x8 5\n")):
+        path.write_bytes(text)
+    checker = Tester(str(TOP / "reference/tso.py"))
+    for words in ([files[0], files[2]], files[:1]):
+        status, out, error = checker.run(*map(str, words))
+        tester.expect((status, out, error.count("\n")) == (2, "", 1), f"{words}: {status} {out} {error}")
+    opened = ["--opening", files[2], *files[:2]]
+    for text, words, status, said in ((fenced, opened, 1, "out of program order 0"), (trace, opened, 0, "legal"),
+                                      (trace, files[:2], 1, "wrong value 0")):
+        files[0].write_bytes(text)
+        ran = checker.run(*map(str, words))
+        tester.expect(ran == (status, f"{said} {tso.NOT_PROVED}\n", ""), f"{text} {words}: {ran}")
 
 
 def drawn_text(count, cores, words, values, seed, wrong=0):
@@ -572,10 +594,12 @@ NUMBERED = [
     ("0 W 0x0 1 @ 30\n0 R 0x0 1 @ 20\n", "out of program order 0\nat 20, line 2 (core 0's load of",
      "0 20 2\n1 30 1\n"),
     ("0: M[0] := 1 @ 4:4\n", "legal\n", "0 4 1\n"),
+    ("0 W 0x0 1 @ .25\n1 R 0x0 0 @ -.5\n", "legal\n", "0 -.5 2\n1 .25 1\n"),
     ("1 R 0x0 1 @ 100000000000000002\n0 W 0x0 1 @ 100000000000000001\n", "legal\n",
      "0 100000000000000001 2\n1 100000000000000002 1\n"),
     ("0 W 0x0 1 @ 1\n0 R 0x0 1\n", "line 2: one time is needed behind an @", None),
     ("0 W 0x0 1 @ 1 2\n", "line 1: one time is needed behind an @", None),
+    ("0: M[0] := 1 @ 5:\n", "line 1: one time is needed behind an @, as `@ 5` or in Axe's form `@ 5:5`", None),
     ("0 W 0x0 1 @ x\n", "line 1: behind `@` stand one or two times", None),
 ]
 MESI_RUNS = 25
@@ -605,11 +629,29 @@ def numbers(tester):
     opening.write_text("x 5\n")
     status, out, error = numberer.run("--opening", str(opening), "--out", str(tester.folder), str(history))
     tester.expect((status, out) == (2, "") and error.startswith(f"number.py: {opening}: line 1: "), f"opening: {error}")
-    mine = tester.folder / "mine.trace"
-    mine.write_text("0 W 0x0 1 @ 10\n")
-    status, out, error = numberer.run("--out", str(tester.folder), str(mine))
-    tester.expect((status, out) == (2, "") and error.count("\n") == 1 and mine.read_text() == "0 W 0x0 1 @ 10\n",
-                  f"{mine}: {status} {out} {error}")
+    os.environ["TARDIS"] = str(TOP / "reference/oracle.py")
+    for value, rest in ((1, ""), (0, "at 8, line 2 (core 1's load of 0x8, which received 0)\n")):
+        history.write_text(f"0 W 0x8 1 @ 7\n1 R 0x8 {value} @ 8\n")
+        out = numberer.run("--out", str(tester.folder), str(history))[1]
+        tester.expect(f"checked by reference/oracle.py (not proved: ./tardis isn't built)\n{rest}" in out, out)
+    os.environ["TARDIS"] = tester.program_file
+
+
+def kept(tester):
+    """No file that the scripts are given is overwritten."""
+    history, opening = tester.folder / "mine.trace", tester.folder / "mine.order.opening"
+    for tool, name in ((tester, opening), (Tester(str(TOP / "tools/number.py")), tester.folder / "mine.opening"),
+                       (Tester(str(TOP / "tools/number.py")), None)):
+        history.write_text("0 R 0x0 4 @ 10\n")
+        given = {history.rename(history.with_suffix(".history")) if name else history: "0 R 0x0 4 @ 10\n"}
+        words = ["--out", tester.folder, *given]
+        if name:
+            name.write_text("0x00 4\n")
+            words += ["--opening", name]
+            given[name] = "0x00 4\n"
+        status, out, error = tool.run(*words)
+        tester.expect((status, out) == (2, "") and "would be overwritten" in error and error.count("\n") == 1 and
+                      all(path.read_text() == text for path, text in given.items()), f"{words}: {status} {out} {error}")
 
 
 def directories(tester):
@@ -644,6 +686,7 @@ def main():
         drawn_orders(tester)
         sizes(tester, given.large)
         numbers(tester)
+        kept(tester)
         directories(tester)
         examples(tester)
     print(f"{tester.tried} tried, {tester.wrong} wrong")

@@ -1,7 +1,7 @@
 #!/usr/bin/env python3
 """Says why records aren't legal, why a text is refused, or why a run didn't end.
 
-    tools/explain.py [--opening FILE] TRACE RECORDS
+    tools/explain.py [--complete] [--opening FILE] TRACE RECORDS
                                         the verdict of `check`, with the record, what was expected of it, and what lies
                                         around it in the order by time and number; or the fault of a text
     tools/explain.py TEST|TRACE       the fault of a text, with its cell, its cause and what is often meant; of a test
@@ -17,6 +17,7 @@ faults are the program's: what TARDIS names, else the one that ./tardis built, e
 The status is 0 if nothing is wrong, 1 if something is explained, and 2 if a file can't be read; then standard error
 says so in one line.
 """
+import argparse
 import re
 import sys
 from collections import Counter
@@ -178,8 +179,9 @@ def missing(history):
     left = [(line, fields) for core, line, fields in listed if not take(count, core)]
     if left:
         line, fields = left[0]
-        yield f"{len(left)} operations of the trace have no record; the first is line {line}, " \
-              f"{b' '.join(fields).decode()}."
+        count = "1 operation of the trace has no record: line" if len(left) == 1 else \
+            f"{len(left)} operations of the trace have no record; the first is line"
+        yield f"{count} {line}, {b' '.join(fields).decode()}."
 
 
 def take(count, core):
@@ -188,11 +190,11 @@ def take(count, core):
     return count[core] >= 0
 
 
-def explained_records(paths, texts, opening):
-    """The lines that explain the verdict, over the opening of a file or zeros."""
-    verdict = program.run("check", *named(opening), *paths).strip()
+def explained_records(paths, texts, opening, complete):
+    """The lines that explain the verdict, over the opening of a file or zeros, and perhaps on complete records."""
+    verdict = program.run("check", *["--complete"] * complete, *named(opening), *paths).strip()
     whole = History(*texts, text_of(opening) if opening else b"")
-    if verdict == "legal":
+    if verdict == "legal" or verdict.startswith("no record of operation "):
         yield verdict
         yield from missing(whole)
         return
@@ -226,7 +228,7 @@ def fault_of(*words):
     return None
 
 
-def explained(paths, opening=None):
+def explained(paths, opening=None, complete=False):
     """The lines that explain the files, and whether something is wrong."""
     texts = [text_of(path) for path in paths]
     fault = opening and fault_of("check", *named(opening), "/dev/null", "/dev/null")
@@ -240,23 +242,33 @@ def explained(paths, opening=None):
         warnings = litmus_hints.warnings(texts[0].decode("ascii")) if is_test else []
         return [f"{paths[0]}: nothing is wrong with this text", *(f"  but {one}" for one in warnings)], False
     try:
-        lines = list(explained_records(paths, texts, opening))
+        lines = list(explained_records(paths, texts, opening, complete))
     except Refused as refused:
         return explained_text(paths[1], texts[1], str(refused), "records"), True
     return lines, lines[0] != "legal"
 
 
-def main(paths):
-    if paths in (["-h"], ["--help"]):
+def files(given):
+    """The options and files of a command line without a run."""
+    about = argparse.ArgumentParser(allow_abbrev=False, add_help=False)
+    about.error = lambda message: fail(f"{message} (--help tells all)")
+    about.add_argument("--complete", action="store_true")
+    about.add_argument("--opening")
+    about.add_argument("FILES", nargs="*")
+    options = about.parse_intermixed_args(given)
+    if len(options.FILES) not in ((2,) if options.opening or options.complete else (1, 2)):
+        fail("one file is wanted, or a trace and records, or -- and a command line (--help tells all)")
+    return options.FILES, options.opening, options.complete
+
+
+def main(given):
+    if given in (["-h"], ["--help"]):
         print(__doc__)
         return 0
-    if paths[:2] == ["--", "check"]:
-        paths = [path for path in paths[2:] if path != "--complete"]
-    is_run = paths[:1] == ["--"]
-    opening, paths = (paths[1], paths[2:]) if paths[:1] == ["--opening"] and len(paths) > 2 else (None, paths)
-    if not is_run and (len(paths) not in ((2,) if opening else (1, 2)) or any(path.startswith("-") for path in paths)):
-        fail("one file is wanted, or a trace and records, or -- and a command line (--help tells all)")
-    lines, is_wrong = explained_run(paths[1:]) if is_run else explained(paths, opening)
+    is_run = given[:1] == ["--"]
+    if given[:2] == ["--", "check"]:
+        is_run, given = False, given[2:]
+    lines, is_wrong = explained_run(given[1:]) if is_run else explained(*files(given))
     print("\n".join(lines))
     return int(is_wrong)
 

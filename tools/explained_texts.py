@@ -56,9 +56,11 @@ NUMBERS = ("PLACE", "VALUE", "RECEIVED", "TIME", "NUMBER")
 # What each of these is, where it is at fault.
 NUMBER_OF = {name: f"{name}: 1 to 20 decimal digits of a number that fits {32 if name == 'PLACE' else 64} bits: " + what
              for name, what in (("PLACE", "the operation's place in its core's program, from 0"),
-                                ("VALUE", "what is stored"), ("RECEIVED", "what the operation received"),
-                                ("TIME", "its time"), ("NUMBER", "its completion number"))}
+                                ("VALUE", "what is stored, or a word's first value"),
+                                ("RECEIVED", "what the operation received"), ("TIME", "its time"),
+                                ("NUMBER", "its completion number"))}
 CARRIAGE = "A carriage return: `tr -d '\\r'` takes it out."
+OF_OPENING = "A line of an opening has an address and a value."
 FORM_2 = "Cores from 16 on, and advances, need `trace 2` as the first line."
 LINES = {
     3: [(None, "A comment that is too long.")],
@@ -71,9 +73,9 @@ LINES = {
         (None, "An address is `0x` and small letters.")],
     7: [(r"\r", CARRIAGE), (r"-\d|0x\w+.*0x|\d\.\d", "Values are decimal, from 0 to 2^64 - 1."),
         (r"\d{20}", "Values are decimal, from 0 to 2^64 - 1."),
-        (r"^PLACE: `[RWS]`", "A record has the operation's place, after the core."),
+        (r"^\s*0x", OF_OPENING), (r"^PLACE: `[RWS]`", "A record has the operation's place, after the core."),
         (None, "A store or swap has a value; a record ends in time and number.")],
-    8: [(r"\r", CARRIAGE), (None, "A load has no value in a trace.")],
+    8: [(r"\r", CARRIAGE), (r"^\s*0x", OF_OPENING), (None, "A load has no value in a trace.")],
     9: [(None, "`trace 2` is the only form that has a name.")],
     10: [(None, "Each word has one value at first.")],
 }

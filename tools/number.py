@@ -9,7 +9,8 @@ anything else that rises; equal times are ordered by line. The operation of the 
 
 NAME.trace, NAME.records and NAME.map are written to FOLDER, and NAME.opening if memory doesn't open with zeros. A line
 of the map has a record's number, its time and its line. Then `tardis check` is asked, and the verdict printed, with the
-time, the line and the operation that it means.
+time, the line and the operation that it means. Where the program isn't built, reference/oracle.py is asked, and a line
+says that this isn't proved.
 
 The status is 0 if the history is legal, 1 if it isn't, and 2 if the text or a file is refused, in one line on standard
 error.
@@ -23,7 +24,7 @@ from reference.given import tool  # noqa: E402
 from tools import program  # noqa: E402
 from tools.order import read  # noqa: E402
 from tools.orders import witness  # noqa: E402
-from tools.orders.history import FENCE, Fault, read_history, read_values, words_of  # noqa: E402
+from tools.orders.history import FENCE, Fault, read_history, read_values  # noqa: E402
 
 
 def words():
@@ -43,30 +44,10 @@ def numbered(operations):
         if operation.kind == FENCE:
             continue
         if operation.start is None or operation.start != operation.end:
-            raise Fault(operation.line, "one time is needed behind an @: when the operation took effect")
+            raise Fault(operation.line, "one time is needed behind an @, as `@ 5` or in Axe's form `@ 5:5`: when the "
+                                        "operation took effect")
     nodes = [node for node, operation in enumerate(operations) if operation.kind != FENCE]
     return sorted(nodes, key=lambda node: operations[node].start)
-
-
-def write(options, operations, order, opening):
-    """The paths of the trace, the records and perhaps the opening, by what they are."""
-    of_word, stem = words_of(operations), options.out / Path(options.HISTORY).stem
-    paths, mapped = witness.files(stem, opening), stem.with_name(f"{stem.name}.map")
-    given = [Path(path).resolve() for path in (options.HISTORY, options.opening) if path]
-    for path in (*paths.values(), mapped):
-        if path.resolve() in given:
-            program.fail(f"{path} would be overwritten; --out names another folder")
-    try:
-        options.out.mkdir(parents=True, exist_ok=True)
-        witness.write(paths["trace"], witness.trace_lines(operations, of_word, False))
-        witness.write(paths["records"], witness.record_lines(operations, of_word, order))
-        if opening:
-            witness.write(paths["opening"], witness.opening_lines(opening, of_word))
-        witness.write(mapped, (f"{number} {operations[node].time} {operations[node].line}"
-                               for number, node in enumerate(order)))
-    except OSError as error:
-        program.fail(f"{error.filename}: {error.strerror}")
-    return paths
 
 
 def main(given):
@@ -75,11 +56,15 @@ def main(given):
     opening = read(options.opening, read_values) if options.opening else {}
     try:
         order = numbered(operations)
-        paths = write(options, operations, order, opening)
+        mapped = (f"{number} {operations[node].time} {operations[node].line}" for number, node in enumerate(order))
+        texts = witness.texts(operations, order, opening, False) | {"map": mapped}
+        paths = witness.write_all(options.out, Path(options.HISTORY).stem, texts, (options.HISTORY, options.opening))
         verdict = program.run(*witness.words_of_check(paths)).strip()
     except (Fault, program.Refused) as cause:
         program.fail(f"{options.HISTORY}: {cause}")
     print(verdict)
+    if program.checked_by() == program.UNPROVED:
+        print(program.UNPROVED)
     if verdict == "legal":
         return 0
     operation = operations[order[int(verdict.rpartition(" ")[2])]]

@@ -30,7 +30,7 @@ from reference.traces import read_opening, read_records  # noqa: E402
 from tools import program  # noqa: E402
 from tools.orders import witness  # noqa: E402
 from tools.orders.answer import answer  # noqa: E402
-from tools.orders.history import Fault, read_history, read_values, words_of  # noqa: E402
+from tools.orders.history import Fault, read_history, read_values  # noqa: E402
 
 NOT_CONSISTENT, NOT_DECIDED = 1, 3
 
@@ -61,21 +61,6 @@ def read(path, reader):
         program.fail(f"{path}: {fault}")
 
 
-def write_order(options, operations, order, opening):
-    """The paths of the trace, the records and perhaps the opening, by what they are."""
-    of_word = words_of(operations)
-    paths = witness.files(options.out / f"{Path(options.HISTORY).stem}.order", opening)
-    try:
-        options.out.mkdir(parents=True, exist_ok=True)
-        witness.write(paths["trace"], witness.trace_lines(operations, of_word, options.model == "tso"))
-        witness.write(paths["records"], witness.record_lines(operations, of_word, order))
-        if opening:
-            witness.write(paths["opening"], witness.opening_lines(opening, of_word))
-    except OSError as error:
-        program.fail(f"{error.filename}: {error.strerror}")
-    return paths
-
-
 def confirmed(options, paths):
     """Who confirms the order, in words; the script ends if nobody does."""
     if options.model == "tso":
@@ -91,9 +76,7 @@ def confirmed(options, paths):
         program.fail(str(refused))
     if said != "legal":
         program.fail(f"check says of the order found: {said}")
-    is_proved = Path(program.program()).name != "oracle.py"
-    return "proved by tardis check" if is_proved else \
-        "checked by reference/oracle.py (not proved: ./tardis isn't built)"
+    return program.checked_by()
 
 
 def marked(options, lines):
@@ -111,7 +94,9 @@ def main(given):
     if found.order is None:
         print("\n".join(marked(options, found.lines)))
         return NOT_CONSISTENT if found.is_known else NOT_DECIDED
-    paths = write_order(options, operations, found.order, opening)
+    texts = witness.texts(operations, found.order, opening, options.model == "tso")
+    paths = witness.write_all(options.out, f"{Path(options.HISTORY).stem}.order", texts,
+                              (options.HISTORY, options.opening))
     print("\n".join(marked(options, [f"consistent: {confirmed(options, paths)}", *map(str, paths.values())])))
     return 0
 

@@ -11,10 +11,16 @@ from pathlib import Path
 
 TOP = Path(__file__).resolve().parent.parent
 BUILT = TOP / "crates/tardis/out/tardis"
+UNPROVED = "checked by reference/oracle.py (not proved: ./tardis isn't built)"
 
 
 def program():
     return os.environ.get("TARDIS") or str(BUILT if os.access(BUILT, os.X_OK) else TOP / "reference/oracle.py")
+
+
+def checked_by():
+    """Who answers `check`, in words: only what the program says is proved."""
+    return UNPROVED if Path(program()).name == "oracle.py" else "proved by tardis check"
 
 
 def fail(said):

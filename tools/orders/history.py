@@ -11,12 +11,11 @@ LOAD, STORE, SWAP, FENCE = "R", "W", "S", "F"
 MOST = 2 ** 64 - 1
 MOST_CORE = 63
 NUMBER = r"(?:0[xX][0-9a-fA-F]+|[0-9]+)"
-TIME = r"(?:[0-9]+(?:\.[0-9]*)?(?:[eE][+-]?[0-9]{1,3})?)"
+TIME = r"(?:-?(?:[0-9]+\.?[0-9]*|\.[0-9]+)(?:[eE][+-]?[0-9]{1,3})?)"
 PLACE = rf"M\s*\[\s*({NUMBER})\s*\]"
 AXE = {LOAD: re.compile(rf"{PLACE}\s*==\s*({NUMBER})"), STORE: re.compile(rf"{PLACE}\s*:=\s*({NUMBER})"),
        SWAP: re.compile(rf"\{{\s*{PLACE}\s*==\s*({NUMBER})\s*;\s*{PLACE}\s*:=\s*({NUMBER})\s*\}}"),
        FENCE: re.compile("sync")}
-AXE_LINE = re.compile(rf"([0-9]+)\s*:\s*([^@]*?)\s*(?:@\s*({TIME})?\s*:\s*({TIME})?\s*)?")
 # After the address: how many values each letter has.
 VALUES = {LOAD: 1, STORE: 1, SWAP: 2}
 
@@ -59,6 +58,14 @@ def core_of(line, text):
     return number_of(line, text, MOST_CORE, "the core")
 
 
+def times_of(line, form, text, wanted):
+    """The start and the end of an operation, None if the form lets one be left out."""
+    found = re.fullmatch(form, text.strip())
+    if not found:
+        raise Fault(line, f"behind `@` stand {wanted}, and here `{text.strip()}`")
+    return found.groups()
+
+
 def set_times(operation, start, end):
     operation.time, operation.start = start, None if start is None else Decimal(start)
     operation.end = None if end is None else Decimal(end)
@@ -68,7 +75,8 @@ def set_times(operation, start, end):
 
 def axe_operation(line, text):
     """`1: M[1] == 0 @ 10:20`. Variable k is the word at byte address 8 * k."""
-    found = AXE_LINE.fullmatch(text)
+    front, at, times = text.partition("@")
+    found = re.fullmatch(r"([0-9]+)\s*:\s*(.*?)\s*", front)
     if not found:
         raise Fault(line, f"`{text}` isn't a core, a colon and an operation, such as `0: M[1] := 1`")
     core = core_of(line, found[1])
@@ -88,7 +96,8 @@ def axe_operation(line, text):
         values = [number_of(line, part, MOST, "the value") for part in parts.groups()[1::2]]
         operation.received = None if kind == STORE else values[0]
         operation.written = None if kind == LOAD else values[-1]
-    set_times(operation, found[3], found[4])
+    if at:
+        set_times(operation, *times_of(line, rf"({TIME})?\s*:\s*({TIME})?", times, "a start, a colon and an end"))
     return operation
 
 
@@ -117,10 +126,8 @@ def record_operation(line, text):
         operation.written = None if kind == LOAD else values[0]
         operation.received = None if kind == STORE else values[-1]
     if at:
-        found = re.fullmatch(rf"\s*({TIME})(?:\s+({TIME}))?\s*", times)
-        if not found:
-            raise Fault(line, f"behind `@` stand one or two times, and here `{times.strip()}`")
-        set_times(operation, found[1], found[2] or found[1])
+        start, end = times_of(line, rf"({TIME})(?:\s+({TIME}))?", times, "one or two times")
+        set_times(operation, start, end or start)
     return operation
 
 

@@ -1,5 +1,8 @@
 """An order as a trace and records (docs/TEXTS.md). Each record has time 0, so its number is its place in the order."""
-from tools.orders.history import FENCE, LOAD, STORE
+from pathlib import Path
+
+from tools import program
+from tools.orders.history import FENCE, LOAD, STORE, words_of
 
 FORM_1_CORES = 16
 
@@ -48,14 +51,30 @@ def record_lines(operations, words, order):
         yield f"{said} # line {operation.line}"
 
 
+def texts(operations, order, opening, with_fences):
+    """The lines of an order's trace and records, and of its opening if that isn't zeros, by what they are."""
+    words = words_of(operations)
+    lines = {"trace": trace_lines(operations, words, with_fences), "records": record_lines(operations, words, order)}
+    return lines | ({"opening": opening_lines(opening, words)} if opening else {})
+
+
 def write(path, lines):
     path.write_text("".join(f"{line}\n" for line in lines), encoding="ascii")
 
 
-def files(stem, opening):
-    """The paths of an order by what they are, in the order in which they are printed: a memory of zeros has no file."""
-    names = ["trace", "records", *["opening"] * bool(opening)]
-    return {what: stem.with_name(f"{stem.name}.{what}") for what in names}
+def write_all(folder, name, lines_of, given):
+    """The path of each text that is written, by what it is. No file that was given is overwritten."""
+    paths = {what: folder / f"{name}.{what}" for what in lines_of}
+    for path in paths.values():
+        if path.resolve() in [Path(each).resolve() for each in given if each]:
+            program.fail(f"{path} would be overwritten; --out names another folder")
+    try:
+        folder.mkdir(parents=True, exist_ok=True)
+        for what, lines in lines_of.items():
+            write(paths[what], lines)
+    except OSError as error:
+        program.fail(f"{error.filename}: {error.strerror}")
+    return paths
 
 
 def words_of_check(paths):

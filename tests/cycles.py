@@ -44,8 +44,8 @@ SENTENCES = {
             "has it.",
     "MP+swaps": "P0 stores x before it swaps y; P0's swap of y is before P1's swap, which sees it; P1 swaps y before it "
                 "loads x; P1's load of x is before P0's store, which it misses: a ring, so no order has it."}
-# Tests that no ring forbids, and why: the first order that ends as asked; P0:2 is thread 0's second instruction. In SB+yes
-# P1 is done before P0 begins, in STALE before P0's store, in FORALL its load is before that.
+# Tests that no ring forbids, and why: the first order that ends as asked; P0:2 is thread 0's second instruction. In
+# SB+yes P1 is done before P0 begins, in STALE before P0's store, in FORALL its load is before that.
 FORALL = """RISCV FORALL
 { 0:x5=1; 0:x6=x; 1:x6=x; }
 P0 | P1 ;

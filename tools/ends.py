@@ -14,7 +14,7 @@ such as a name in the condition that no instruction changes, follows the first l
 
 --grade LIST compares the ends that a student listed, one a line, as 0:x7=1 x=2; - is standard input. Blank lines,
 stars, parentheses, orders, # and what follows, and what else `tardis ends` and this script print are passed over. Each
-line that can't be read is named with the cause. An end that stands twice counts once, and is told.
+line that is no end is named with the cause. An end that stands twice counts once, and its lines are named.
 
 Exit status: 0 done, or the list is right; 1 an end of the list is missing or impossible; 2 bad words, a bad text, or
 more states than --states N allows.

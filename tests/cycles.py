@@ -44,6 +44,17 @@ SENTENCES = {
             "has it.",
     "MP+swaps": "P0 stores x before it swaps y; P0's swap of y is before P1's swap, which sees it; P1 swaps y before it "
                 "loads x; P1's load of x is before P0's store, which it misses: a ring, so no order has it."}
+# Tests that no ring forbids, and why: the first order that ends as asked; P0:2 is thread 0's second instruction. In
+# SB+yes P1 is done before P0 begins, in STALE before P0's store, in FORALL its load is before that.
+FORALL = """RISCV FORALL
+{ 0:x5=1; 0:x6=x; 1:x6=x; }
+P0 | P1 ;
+sw x5,0(x6) | lw x7,0(x6) ;
+forall (1:x7=1)
+"""
+UNRINGED = {"SB+yes": "an order ends so: P1:1 P1:2 P0:1 P0:2",
+            "STALE": "an order ends so: P0:1 P1:1 P1:2 P1:3 P1:4 P0:2", "RENEW": "no values end otherwise",
+            "FORALL": "an order ends otherwise: P1:1 P0:1"}
 REFUSED = {"PodWR Fre PodWR": "PodWR leads to a load, and PodWR begins at a store",
            "PodWR Fre Wse PodWR": "Fre Wse says what Fre says", "PodWW PodWR Fre": "PodWW PodWR says what PodWR says",
            "Rfe Fre": "Rfe Fre says what Wse says", "PodWR Fre": "two Pod at least", "PodXR Fre": "PodXR is no edge",
@@ -121,7 +132,7 @@ def known(tester):
             tester.expect([rings.reason(ring) for ring in found] == [SENTENCES[path.stem]], f"{path.stem}: {found}")
 
 
-def others(tester):
+def others(tester, scratch):
     for words, said in REFUSED.items():
         status, out, error = tester.run(*words.split())
         good = (status, out, error.count("\n")) == (2, "", 1) and said in error
@@ -133,12 +144,13 @@ def others(tester):
     is_good = (status, error) == (0, "") and out.count("PodWR Fre PodWR Fre") == 2
     tester.expect(is_good, f"--why: {status} {out} {error}")
     status, out, error = tester.run("--why", str(folder / "SB.litmus"), str(folder / "SB+yes.litmus"))
-    is_good = (status, error) == (1, "") and "PodWR Fre PodWR Fre" in out and "some order ends so" in out
+    is_good = (status, error) == (1, "") and "PodWR Fre PodWR Fre" in out and "SB+yes.litmus: no ring: an order" in out
     tester.expect(is_good, f"--why of two: {status} {out} {error}")
-    for name, said in (("SB+yes", "some order ends so"), ("STALE", "some order ends so"),
-                       ("RENEW", "no values end otherwise")):
-        status, out, error = tester.run("--why", str(folder / f"{name}.litmus"))
-        tester.expect((status, error) == (1, "") and said in out, f"--why {name}: {status} {out} {error}")
+    Path(scratch, "FORALL.litmus").write_text(FORALL)
+    for name, said in UNRINGED.items():
+        path = f"{scratch if name == 'FORALL' else folder}/{name}.litmus"
+        got = tester.run("--why", path)
+        tester.expect(got == (1, f"{path}: no ring: {said}\n", ""), f"--why {name}: {got}")
 
 
 def main(given):
@@ -147,8 +159,8 @@ def main(given):
     os.chdir(TOP)
     with tempfile.TemporaryDirectory() as folder:
         families(tester, program, folder)
+        others(tester, folder)
     known(tester)
-    others(tester)
     print(f"{tester.tried} tried, {tester.wrong} wrong")
     return int(tester.wrong > 0)
 

@@ -164,16 +164,30 @@ OLD = """if [ "$1" = ends ]; then echo "error: unrecognized subcommand 'ends'" >
 SHORT = """if [ "$1" = ends ]; then "$oracle" "$@" | grep -v '0:x7=1 1:x7=1'; exit; fi"""
 NOT_PROVED = "(listed by reference/oracle.py, not proved)"
 PROVED = "(listed by tardis ends, proved: no run has another)"
+# First lines of lists that are of another test, and its name.
+OTHERS = {"test MP\n": "MP", "MP: 3 ends in 13 states (listed by reference/oracle.py, not proved)\n": "MP"}
 # Students' lists of the ends of store buffering: how many are right, missing and impossible.
 LISTS = {"0:x7=0 1:x7=1\n0:x7=1 1:x7=0\n0:x7=1 1:x7=1\n": (3, 0, 0), "": (0, 3, 0),
          "# mine\n\n* 1:x7=1, 0:x7=1 # both\n0:x7=00 /\\ 1:x7 = 0;\n0:x7=1 1:x7=1   P0:1 P1:1 P0:2 P1:2\n": (1, 2, 1),
-         TEXTS["SB"]: (3, 0, 0), TEXTS["SB"] + "0:x7=0 1:x7=0\n0:x7=2 1:x7=1\n": (3, 0, 2)}
+         TEXTS["SB"]: (3, 0, 0), TEXTS["SB"] + "0:x7=0 1:x7=0\n0:x7=2 1:x7=1\n": (3, 0, 2),
+         "\ufeff(0:x7=0 /\\ 1:x7=1)\r\n": (1, 2, 0), "0:x7=1 1:x7=1: both\n    0:x7=1 1:x7=0\n": (2, 1, 0)}
 GRADED = """right       0:x7=1 1:x7=1
 missing     0:x7=0 1:x7=1   P0:1 P0:2 P1:1 P1:2
 missing     0:x7=1 1:x7=0   P1:1 P1:2 P0:1 P0:2
 impossible  0:x7=0 1:x7=0
+repeated    0:x7=1 1:x7=1   lines 3, 5
 """
-NO_LISTS = ("0:x7=0", "0:x7=0 1:x7=1 x=1", "0:x7=0 1:x7=1 1:x7=1", "0:x7=0 1:x7=y", "both of them", "test=1", "testing")
+# Lines that are no end of store buffering, and why.
+NO_LISTS = {"0:x7=0": "1:x7 is missing", "0:x7=0 1:x7=1 x=1": "the condition has no x",
+            "x7=0 x7=1": "the condition has no x7", "0:x7=0 1:x7=1 1:x7=1": "1:x7 stands twice",
+            "0:x7=0 0:x7=1 1:x7=1": "0:x7 stands twice",
+            "0:x7=0 1:x7=y": "`1:x7=y` can't be read", "both of them": "`both` can't be read",
+            "test=1": "the condition has no test", "testing": "`testing` can't be read",
+            "0:x7=0 1:x7=-1": "`1:x7=-1` can't be read", "0:x7=0x1 1:x7=1": "`0:x7=0x1` can't be read",
+            "P0:x7=0 P1:x7=1": "`P0:x7=0` can't be read", "0:x07=0 1:x7=1": "the condition has no 0:x07",
+            "0:x7=0 1:x7=" + "1" * 21: f"`1:x7={'1' * 21}` can't be read", "(0, 1)": "`0` can't be read",
+            "0:x7=0 \\/ 1:x7=1": "`\\/` can't be read", "1. 0:x7=0 1:x7=1": "`1.` can't be read",
+            "0:x7=0 1:x7=1 \u2013 seen": "`\u2013` can't be read", "Ada: 0:x7=0 1:x7=1": "`Ada` can't be read"}
 
 
 def end_of(test, order):
@@ -364,7 +378,7 @@ def met(tester, name, options, seeds, first):
 def graded(tester, folder):
     listed = Path(folder, "list")
     for text, counts in LISTS.items():
-        listed.write_text(text)
+        listed.write_text(text, encoding="utf-8")
         status, out, error = tester.run("--grade", str(listed), SB)
         line = "{}: {} right, {} missing, {} impossible".format(listed, *counts)
         good = (status, out.splitlines()[1], error) == (int(counts[1:] != (0, 0)), line, "")
@@ -375,13 +389,21 @@ def graded(tester, folder):
         status, out, error = tester.run("--grade", "-", test, text=own.encode())
         said = f"-: {count} right, 0 missing, 0 impossible"
         tester.expect((status, out.splitlines()[1:2], error) == (0, [said], ""), f"{own}: {status} {out} {error}")
-    for text in NO_LISTS:
-        listed.write_text("\n" + text)
-        status, out, error = tester.run("--grade", str(listed), SB)
-        said = f"ends.py: {listed}: line 2: an end is 0:x7=N 1:x7=N\n"
-        tester.expect((status, out, error) == (2, "", said), f"{text}: {status} {out} {error}")
-    status, out, error = tester.run("--grade", str(listed), SB, SB)
-    tester.expect((status, out) == (2, "") and "one test" in error, f"two tests: {status} {out} {error}")
+    listed.write_text("\n" + "\n".join(NO_LISTS), encoding="utf-8")  # each of them is told
+    got = tester.run("--grade", str(listed), SB)
+    told = [f"ends.py: {listed}: line {number}: {cause}: an end is 0:x7=N 1:x7=N"
+            for number, cause in enumerate(NO_LISTS.values(), 2)]
+    tester.expect((got[:2], got[2].splitlines()) == ((2, ""), told), f"lines that are no end: {got}, wanted {told}")
+    for text, name in OTHERS.items():
+        listed.write_text(text + "0:x7=0 1:x7=1\n")
+        got = tester.run("--grade", str(listed), SB)
+        said = f"ends.py: {listed}: line 1: the list is of {name}, and the test is SB\n"
+        tester.expect(got == (2, "", said), f"a list of another test: {got}")
+    for words, said in (((str(listed), SB, SB), "--grade takes one test"), ((str(listed),), "required: TEST"),
+                        (("none.ends", SB), "none.ends: No such file"), ((str(listed), "none"), "none: No such file"),
+                        ((str(listed), str(listed)), f"{listed}: line 1: 4 BadHeader: 'tools/explain.py")):
+        status, out, error = tester.run("--grade", *words)
+        tester.expect((status, out, error.count("\n")) == (2, "", 1) and said in error, f"{words}: {status} {error}")
 
 
 def by_others(tester, folder):

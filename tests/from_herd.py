@@ -26,7 +26,8 @@ OPENING = "RISCV T\n{ 0:x5=1; 0:x6=x; 0:x8=y; 1:x6=x; }\n P0 | P1 ;\n"
 LOAD, STORE = "lw x7,0(x6)", "sw x5,0(x6)"
 # A cell, or two of which the second is looked at, and what it becomes.
 CELLS = [("lwu x7,0(x6)", LOAD), ("lw.aq.rl t2 , ( x6 )", LOAD), ("sw.rl x5,0(t1)", STORE),
-         ("amoor.w.aq x7,zero,(x6)", LOAD), ("amoswap.w.aq.rl x7,x5,(x6)", "amoswap.w.aq x7,x5,(x6)"),
+         ("amoor.w.aq x7,zero,(x6)", LOAD), ("amoadd.w x7,x0,(x6)", LOAD), ("amoxor.w x7,x0,0(x6)", LOAD),
+         ("amoswap.w.aq.rl x7,x5,(x6)", "amoswap.w.aq x7,x5,(x6)"),
          ("amoswap.w.rl a0,x5,(x6)", "amoswap.w.rl x10,x5,(x6)"),
          ("fence", "fence rw,rw"), ("fence.tso", "fence rw,rw"),
          ("fence iorw,ow", "fence rw,w"), ("fence i,o", None), ("fence.i", None), ("nop", None),
@@ -41,7 +42,8 @@ CELLS = [("lwu x7,0(x6)", LOAD), ("lw.aq.rl t2 , ( x6 )", LOAD), ("sw.rl x5,0(t1
 # Cells that are refused, in line 4, or with another cell above them in line 5.
 NO_CELLS = ["beqq x5,x5,L9", "bne x5,frob,L9", "bne x5,,L9", "subi x7,x5,1", "addi x7,x5,x5", "add x7,x5,1",
             "LI x7,1", "blt x0,x5,L8",
-            "lr.w x7,(x6)", "sc.w x7,x5,(x6)", "amoadd.w x7,x5,(x6)", "lw x7,4(x6)", "lw x7,0(x9)",
+            "lr.w x7,(x6)", "sc.w x7,x5,(x6)", "amoadd.w x7,x5,(x6)", "amomax.w x7,x0,(x6)", "fence w", "add x7,x5,foo",
+            "lw x7,4(x6)", "lw x7,0(x9)",
             "bne x5,x0,L9",
             "lb x7,0(x6)", "addi x7,x6,4", "li x5,-1", "li x5,2147483648", "sw x6,0(x8)", "li x6,1", "lw q7,0(x6)",
             "li x5,2; li x7,2",
@@ -62,7 +64,20 @@ NO_TEXTS = [("RISCV " + "T" * 122 + OPENING[7:] + ROW + "filter (x=1)\n" + END, 
             (OPENING + ROW + "exists (x=1 /\\\n", 5), (OPENING + ROW + "exists\n(x=1 x=2)\n", 6),
             (OPENING + ROW + "exists (0:x6=x)\n", 5), (OPENING + ROW + "exists (0:x6=1)\n", 5),
             (OPENING + ROW + "exists (2:x5=1)\n", 5), (OPENING + ROW + "filter (x=1)\nforall (x=1)\n", 5),
-            ("RISCV T\n{ long x; 0:x6=x; }\n P0 ;\n lw x5,0(x6) ;\n" + END, 2), ("", 1)]
+            ("RISCV T\n{ long x; 0:x6=x; }\n P0 ;\n lw x5,0(x6) ;\n" + END, 2), ("", 1),
+            ("RISCV T\n P0 ;\n" + END, 2, "no initial block"), ("RISCV T\n{ }\n P1 ;\n" + END, 3, "begin with P0"),
+            ("RISCV T\n{ 1:x6=x; }\n P0 ;\n" + END, 1, "has a thread 1, and the table has none"),
+            ("RISCV T\n{ x=2147483648; }\n P0 ;\n" + END, 2, "values go from 0 to 2147483647"),
+            (OPENING + ROW + "exists (x=2147483648)\n", 5, "values go from 0 to 2147483647"),
+            (OPENING + " \u00e9 | ;\n" + END, 4, "a byte that isn't ASCII"),
+            (OPENING + ROW + END + END, 6, "one condition stands at the end"),
+            (OPENING + ROW + END + "locations [x;]\n", 6, "one condition stands at the end"),
+            (OPENING + ROW + "exists (x=1))\n", 5, "its parentheses don't match"),
+            (OPENING + ROW + "exists ((x=1)\n", 5, "its parentheses don't match"),
+            (OPENING + ROW + "exists (x=1 \\/ true)\n", 5, "the condition asks nothing"),
+            (OPENING + ROW + "exists (x=1 /\\ false)\n", 5, "the condition asks nothing")]
+# The same test, as an editor of another system may have saved it: all that is blank or comment goes.
+SAVED = OPENING.replace("\n", "\r\n") + "(* caf\u00e9 (* nested *) *)" + ROW + END
 
 
 class Turner(Tester):
@@ -73,13 +88,13 @@ class Turner(Tester):
         self.file = Path(folder, "herd.litmus")
 
     def turned(self, text):
-        self.file.write_text(text)
+        self.file.write_text(text, encoding="utf-8", newline="")
         return self.run(str(self.file))
 
-    def is_refused(self, text, line):
+    def is_refused(self, text, line, words=""):
         status, out, error = self.turned(text)
         good = (status, out) == (2, "") and error.startswith(f"from_herd.py: {self.file}, line {line}: ")
-        self.expect(good, f"{text!r}: {status} {out} {error}, wanted line {line}")
+        self.expect(good and words in error, f"{text!r}: {status} {out} {error}, wanted line {line}: {words}")
 
 
 def other_ends(test, fixed=()):
@@ -113,7 +128,7 @@ def generated(tester, program):
 def cells(tester):
     for cell, wanted in CELLS:
         above = "".join(f" {part} | ;\n" for part in cell.split("|"))
-        status, out, error = tester.turned(f"{OPENING}{above} L0: | ;\n{END}")
+        status, out, error = tester.turned(f"{OPENING}{above} L1: | ;\n L0: | ;\n{END}")
         rows = [row.split("|")[0].strip() for row in out.splitlines() if "|" in row][1 + cell.count("|"):]
         good = (status, rows) == (0, [wanted] if wanted else [])
         tester.expect(good, f"{cell}: {status} {rows} {error}, not {wanted}")
@@ -130,6 +145,8 @@ CONDITIONS = {"exists (not (x=1))": "exists (x=0)", "exists (x=1 => 1:x7=1)": "e
               "~exists (x=0 /\\ not (1:x7=1 /\\ x=1))": "~exists (x=0 /\\ (1:x7=0 \\/ x=0))",
               "exists (not (0:x5=2) /\\ x=1)": "exists (0:x5=1 /\\ x=1)", "exists ((x=1))": "exists ((x=1))",
               "exists (x=1 \\/ not x=1)": "exists (x=1 \\/ x=0)"}
+# The same where P1 stores to y what it loaded from x, which is 3 or 1: y may have each number of the test.
+COPIED = {"exists (not (y=1))": "exists (y=0 \\/ y=3)", "exists (y<>0 /\\ x=1)": "exists ((y=1 \\/ y=3) /\\ x=1)"}
 # What the header says that a conversion dropped, by hand from the tests.
 DROPPED = {"IRIW+addrs": "2 address dependencies dropped", "CoRR-locs": None,
            "SB64": "fences, .aq and .rl order nothing here",
@@ -180,9 +197,12 @@ def users(tester):
 
 def conditions(tester):
     opening = "RISCV T\n{ 0:x5=1; 0:x6=x; 1:x6=x; }\n P0 | P1 ;\n sw x5,0(x6) | lw x7,0(x6) ;\n"
-    for given, wanted in CONDITIONS.items():
-        status, out, error = tester.turned(f"{opening}{given}\n")
-        tester.expect((status, error) == (0, "") and out.endswith(f"\n{wanted}\n"), f"{given}: {status} {out} {error}")
+    copied = opening.replace("1:x6=x;", "1:x6=x; 1:x8=y; x=3;") + " | sw x7,0(x8) ;\n"
+    for above, table in ((opening, CONDITIONS), (copied, COPIED)):
+        for given, wanted in table.items():
+            status, out, error = tester.turned(f"{above}{given}\n")
+            good = (status, error) == (0, "") and out.endswith(f"\n{wanted}\n")
+            tester.expect(good, f"{given}: {status} {out} {error}")
 
 
 LOG = """Test SB Allowed
@@ -206,6 +226,10 @@ def logs(tester):
     tester.file.write_text(report)
     out = tester.run("--log", str(TOP / "examples/litmus/SB.litmus"), str(tester.file))
     tester.expect(out == (0, LOG, ""), f"--log: {out}")
+    hashed = tester.file.with_name("hashed.litmus")
+    hashed.write_text((TOP / "examples/litmus/SB.litmus").read_text().replace("\n", "\nHash=0123abcd\n", 1))
+    out = tester.run("--log", str(hashed), str(tester.file))
+    tester.expect(out == (0, LOG.replace("Observation", "Hash=0123abcd\nObservation"), ""), f"--log with a hash: {out}")
     report = report.replace("held 0", "held 10").replace("exists", "forall").replace("verdict no", "verdict yes")
     tester.file.write_text(report)
     status, out, error = tester.run("--log", str(tester.file))
@@ -214,8 +238,10 @@ def logs(tester):
 
 
 def others(tester):
-    for text, line in NO_TEXTS:
-        tester.is_refused(text, line)
+    for refused in NO_TEXTS:
+        tester.is_refused(*refused)
+    saved, wanted = tester.turned(SAVED), tester.turned(OPENING + ROW + END)
+    tester.expect(saved == wanted and saved[0] == 0, f"carriage returns and a comment: {saved}, wanted {wanted}")
     status, out, error = tester.turned(OPENING + ROW + "filter x=1 \\/ 0:x5=2\nexists (y=2)\n")
     wanted = "exists (x=1 \\/ 0:x5=2) /\\ ((y=2))\n"
     tester.expect((status, error) == (0, "") and out.endswith(wanted), f"a filter: {status} {out} {error}")
@@ -226,7 +252,9 @@ def others(tester):
         tester.file.write_text(f"test T\nruns 60\nall-done {done}\nheld {held}\nverdict yes\n")
         out = tester.run("--observation", str(tester.file), str(tester.file))
         tester.expect(out == (0, f"Observation T {told}\n" * 2, ""), f"{held}: {out}")
-    for words in ([], ["none.litmus"], ["--observation"], ["--observation", str(TOP / "LICENSE")], [str(TOP)], ["--x"]):
+    licence = str(TOP / "LICENSE")
+    for words in ([], ["none.litmus"], ["--observation"], ["--observation", licence], [str(TOP)], ["--x"],
+                  ["--log", licence], ["--into", licence, str(TOP / "tests/herd/SB.litmus")]):
         status, out, error = tester.run(*words)
         tester.expect((status, out, error.count("\n")) == (2, "", 1), f"{words}: {status} {out} {error}")
     status, out, error = tester.run("--help")

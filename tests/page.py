@@ -466,6 +466,8 @@ BELOW = """Math.max(...[...Array(run.steps.length + 1).keys()].map(at => {
   const bottom = of => document.querySelector(of).getBoundingClientRect().bottom;
   return Math.max(bottom(".row:last-child"), bottom(".bank:last-child")) - bottom("#parts");
 }))"""
+LINES = """(one => Math.round(one.getBoundingClientRect().height / parseFloat(getComputedStyle(one).lineHeight)))(
+  document.getElementById("answer"))"""
 # A store that takes its lease's last time, so that a load there misses it (docs/CHANGING-A-RULE.md).
 RULE, CHANGED = "copy.rts if private else fit(copy.rts + 1)", "copy.rts"
 WRONG_LOAD = "Core 1 loads 0x0 and receives 0, at time 1 (here: wrong value)"
@@ -535,6 +537,7 @@ def asked(browser, folder):
     compared.same("whose thread", heads, ["core 0 runs P0 time 0", "core 1 runs P1 time 0"])
     browser.press("End")
     compared.same("the answer", text("#answer"), "0:x7=1 1:x7=1: not the end asked for; verdict no")
+    compared.same("the answer's lines", browser.value(LINES), 1)
     compared.same("the registers", rows(), ["x7 = 1", "x7 = 1"])
     compared.same("the address", browser.value("location.hash"), f"#{browser.value('at')}")
     browser.press("?")

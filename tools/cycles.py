@@ -5,7 +5,7 @@
     tools/cycles.py SB                      the same, by its name
     tools/cycles.py --all 6                 all critical cycles of at most 6 edges, by their names
     tools/cycles.py --all 6 --into FOLDER   their tests, each as a file of the folder
-    tools/cycles.py --why TEST ..           the rings that forbid what these tests ask for
+    tools/cycles.py --why TEST ..           the rings that forbid what these tests ask for, or an order that ends so
 
 An edge leads from one operation to the next; the last one leads back to the first:
 
@@ -25,6 +25,7 @@ import sys
 from pathlib import Path
 
 sys.path.insert(0, str(Path(__file__).resolve().parent.parent))
+from reference import sequential  # noqa: E402
 from reference.given import Bad, Words, contents, litmus_test, tool  # noqa: E402
 from tools import rings  # noqa: E402
 
@@ -175,6 +176,13 @@ def cycle_of(words):
     return Cycle(edges)
 
 
+def order_of(test):
+    """The first order of the threads' memory instructions that ends as a test asks, or otherwise if it asks `forall`:
+    of the least such end. P0:2 is thread 0's second one."""
+    ends, _ = sequential.explored(sequential.Flat(test))
+    return ends[min(end for end in ends if test.holds(end) == (test.kind != "forall"))]
+
+
 def told_why(path):
     """The lines that say why no order ends as a test asks, or otherwise if it asks `forall`; and whether none does."""
     test = litmus_test(path, contents(path))
@@ -184,7 +192,8 @@ def told_why(path):
         raise Bad(f"{path}: {cause}") from None
     if not found:
         ends = "otherwise" if test.kind == "forall" else "so"
-        return [f"{path}: no ring: {'no values end' if found == [] else 'some order ends'} {ends}"], False
+        why = f"no values end {ends}" if found == [] else f"an order ends {ends}: {' '.join(order_of(test))}"
+        return [f"{path}: no ring: {why}"], False
     return [f"{test.name}: {rings.cycle_of(ring)}\n  {rings.reason(ring)}" for ring in found], True
 
 

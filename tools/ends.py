@@ -13,7 +13,8 @@ program finds: P0:2 is thread 0's second memory instruction. Runs that aren't al
 such as a name in the condition that no instruction changes, follows the first line.
 
 --grade LIST compares the ends that a student listed, one a line, as 0:x7=1 x=2; - is standard input. Blank lines,
-stars, orders, # and what follows, and what else `tardis ends` and this script print are passed over.
+stars, parentheses, orders, # and what follows, and what else `tardis ends` and this script print are passed over. Each
+line that is no end is named with the cause. An end that stands twice counts once, and its lines are named.
 
 Exit status: 0 done, or the list is right; 1 an end of the list is missing or impossible; 2 bad words, a bad text, or
 more states than --states N allows.
@@ -36,6 +37,11 @@ THREADS = {"--limit": "10000000", "--workers": "4"}
 HEADS = ("model", "test", "threads", "states", "ends", "condition", "held", "observation")
 # Lines of this script without an end: the first one, hints, runs that aren't all done.
 BESIDE = re.compile(r"\S+: \d+ ends in |  but |- [a-z-]+: ")
+# Where a list says whose it is.
+HEAD = re.compile(r"test (\S+)$|(\S+): \d+ ends in ")
+# What stands in a line: a value, a turn of an order, what separates them; nothing else can be read.
+PART = re.compile(rf"(?P<name>{NAME})\s*=\s*(?P<value>\d{{1,20}})(?!\w)|P\d+:\d+(?!\w)|/\\|[\s*,;()]+"
+                  r"|(?P<other>[^\s,;()]+)")
 
 
 class Ends:
@@ -134,29 +140,56 @@ def told(ends, met):
             raise Bad(f"{ends.path}: {end} is met and not listed: please report that")
 
 
-def student_ends(path, names):
-    """The ends of a student's list, as the text has them."""
+def is_beside(line, whole):
+    """Whether a line of a list says nothing of an end."""
+    return not line or BESIDE.match(whole) or "=" not in line and line.split()[0] in HEADS
+
+
+def student_ends(path, test):
+    """By each end of a student's list, as the text has them, the numbers of its lines."""
     text = sys.stdin.buffer.read() if path == "-" else contents(path)
     is_own = False  # whether this script printed the line before: a command and an order may follow
-    for number, whole in enumerate(text.decode("ascii", "replace").splitlines(), 1):
-        if is_own and whole.startswith("    "):
+    found, faults = {}, []
+    for number, whole in enumerate(text.decode("utf-8-sig", "replace").splitlines(), 1):
+        of = HEAD.match(whole)
+        if of and (name := of[1] or of[2]) != test.name:
+            faults.append(f"{path}: line {number}: the list is of {name}, and the test is {test.name}")
+        if is_own and whole.startswith("    ") and not re.match(rf" +({NAME})\s*=", whole):
             continue
         line, colon, _ = whole.partition("#")[0].partition(": ")
         line, is_own = line.strip(), bool(colon)
-        if not line or BESIDE.match(whole) or "=" not in line and line.split()[0] in HEADS:
+        if is_beside(line, whole):
             continue
-        atom = rf"({NAME})\s*=\s*(\d+)"
-        left = re.sub(rf"{atom}|\bP\d+:\d+\b|/\\|[\s*,;]", "", line)
-        values = [(name, int(value)) for name, value in re.findall(atom, line)]
-        if left or sorted(name for name, _ in values) != sorted(names):
-            wanted = sequential.text_of((name, "N") for name in names)
-            raise Bad(f"{path}: line {number}: an end is {wanted}")
-        yield tuple(sorted(values, key=lambda value: names.index(value[0])))
+        parts = list(PART.finditer(line))
+        if fault := fault_of(parts, test.seen):
+            wanted = sequential.text_of((name, "N") for name in test.seen)
+            faults.append(f"{path}: line {number}: {fault}: an end is {wanted}")
+            continue
+        values = {part["name"]: int(part["value"]) for part in parts if part["name"]}
+        found.setdefault(tuple((name, values[name]) for name in test.seen), []).append(number)
+    if faults:
+        raise Bad("\nends.py: ".join(faults))
+    return found
+
+
+def fault_of(parts, names):
+    """Why the parts of a line are no end, or None."""
+    given = [part["name"] for part in parts if part["name"]]
+    for part in parts:
+        if part["other"]:
+            return f"`{part['other']}` can't be read"
+    for name in given:
+        if name not in names:
+            return f"the condition has no {name}"
+        if given.count(name) > 1:
+            return f"{name} stands twice"
+    return next((f"{name} is missing" for name in names if name not in given), None)
 
 
 def graded(ends, path):
     """The lines that grade a student's list, and whether it is right."""
-    given = [sequential.text_of(end) for end in sorted(set(student_ends(path, ends.test.seen)))]
+    found = student_ends(path, ends.test)
+    given = {sequential.text_of(end): found[end] for end in sorted(found)}
     right = [end for end in given if end in ends.marks]
     missing = [end for end in ends.marks if end not in given]
     wrong = [end for end in given if end not in ends.marks]
@@ -164,6 +197,7 @@ def graded(ends, path):
     lines += [f"right       {end}" for end in right]
     lines += [f"missing     {end}   {ends.orders[end]}" for end in missing]
     lines += [f"impossible  {end}" for end in wrong]
+    lines += [f"repeated    {end}   lines {', '.join(map(str, at))}" for end, at in given.items() if len(at) > 1]
     return lines, not missing and not wrong
 
 

@@ -161,10 +161,10 @@ class Herd:
                 if line.strip():
                     self.rows.append((at, [" ".join(cell.split()) for cell in line.rstrip()[:-1].split("|")]))
             at += len(line) + 1
-        heads = self.rows.pop(0)[1] if self.rows else []
+        at, heads = self.rows.pop(0) if self.rows else (start, [])
         self.threads = len(heads)
         if not heads or heads != [f"P{number}" for number in range(self.threads)]:
-            self.source.refuse(start, "the table doesn't begin with P0, P1, ..")
+            self.source.refuse(at, "the table doesn't begin with P0, P1, ..")
         for at, cells in self.rows:
             with self.source.going_on():
                 if len(cells) != self.threads:

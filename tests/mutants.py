@@ -6,7 +6,8 @@ A mutant is a file of tools/, reference/ or python/ with one change: a compariso
 operator, `and` for `or`, no `not`, a number one more, a test always true or always false, a statement or the bound of a
 slice left out, two arguments exchanged, None returned, a comprehension without its condition. The scripts that .ci/run
 lists try it in a copy of what is committed, those first that name the file. It is refused where one fails, or takes ten
-times as long as without it. PROGRAM, EVENTS and SEATS are the built programs.
+times as long as without it. PROGRAM, EVENTS and SEATS are the built programs. With --named only scripts that name the
+file try it: then more survive, in a fraction of the time.
 
 What was tried is kept in a file, so a run that was interrupted goes on. After another commit what survived is tried
 again, and what was refused only where its own file changed. The survivors are printed, each with its place, and at the
@@ -150,6 +151,9 @@ class Room:
         return [line for line in re.search(r"<<'END'.*?\n(.*?)\nEND\n", text, re.S)[1].splitlines()
                 if not LEFT_OUT.search(line)]
 
+    def names(self, script, file):
+        return Path(file).stem in (self.folder / shlex.split(script)[0]).read_text(encoding="utf-8")
+
     def fails(self, script, seconds):
         """Why the script doesn't pass; None if it does."""
         running = subprocess.Popen(["sh", "-c", script], cwd=self.folder, env=self.environment, start_new_session=True,
@@ -164,14 +168,13 @@ class Room:
 
     def refused_by(self, file, text, times):
         """The first script that doesn't pass with this text of the file, and why; None if all do."""
-        place, stem = self.folder / file, Path(file).stem
-        named = {script: stem in (self.folder / shlex.split(script)[0]).read_text(encoding="utf-8") for script in times}
+        place = self.folder / file
         before, was = place.read_text(encoding="utf-8"), place.stat().st_mtime
         place.write_text(text, encoding="utf-8")
         self.written += 1
         os.utime(place, (self.written, self.written))  # Python takes what it compiled before for a file of equal time
         try:
-            for script in sorted(times, key=lambda script: (not named[script], times[script])):
+            for script in sorted(times, key=times.get):
                 why = self.fails(script, 20 + 10 * times[script])
                 if why:
                     return f"{script}: {why}"
@@ -185,8 +188,9 @@ class Kept:
     """What was tried, in a file of a line each: how long the scripts take, and what became of each mutant. A line has
     the commit's tree, what was tried, and None where a script failed without a change or a mutant survived."""
 
-    def __init__(self, path):
-        self.path, self.lock, self.tree = path, threading.Lock(), committed("rev-parse", "HEAD^{tree}").decode().strip()
+    def __init__(self, path, named=False):
+        self.path, self.lock = path, threading.Lock()
+        self.tree = committed("rev-parse", "HEAD^{tree}").decode().strip() + " named" * named
         lines = map(json.loads, path.read_text(encoding="utf-8").splitlines() if path.exists() else ())
         self.told = {tuple(key): said for tree, key, said in lines if tree == self.tree or said is not None}
 
@@ -196,28 +200,36 @@ class Kept:
             file.write(json.dumps([self.tree, key, said]) + "\n")
 
 
-def timed(room, kept):
-    """The scripts that pass without a change, with the seconds that each takes."""
-    for script in room.scripts():
+def timed(room, scripts, kept):
+    """Those of the scripts that pass without a change, with the seconds that each takes."""
+    for script in scripts:
         if ("seconds", script) not in kept.told:
             began = time.monotonic()
-            why = room.fails(script, 600)
+            why = room.fails(script, 1200)
             kept.tell(("seconds", script), None if why else time.monotonic() - began)
-        if kept.told["seconds", script] is None:
-            print(f"left out: {script} fails without a change", file=sys.stderr)
-    return {script: kept.told["seconds", script] for script in room.scripts() if kept.told["seconds", script]}
+            if why:
+                print(f"left out: {script}: {why} without a change", file=sys.stderr)
+    return {script: kept.told["seconds", script] for script in scripts if kept.told["seconds", script]}
 
 
-def works(room, wanted, kept, times):
+def tried(room, file, index, kept, named):
+    """What became of a mutant, by the scripts that name the file, and then by the others."""
+    text, _, _ = mutant((room.folder / file).read_text(encoding="utf-8"), index)
+    if text is None:
+        return "the same"
+    first = [script for script in room.scripts() if room.names(script, file)]
+    others = [] if named else [script for script in room.scripts() if script not in first]
+    return next(filter(None, (room.refused_by(file, text, timed(room, of, kept)) for of in (first, others))), None)
+
+
+def works(room, wanted, kept, named):
     """Tries mutants until none is left."""
     while True:
         try:
             key = wanted.get_nowait()
         except queue.Empty:
             return
-        _, file, _, index = key
-        text, _, _ = mutant((room.folder / file).read_text(encoding="utf-8"), index)
-        kept.tell(key, "the same" if text is None else room.refused_by(file, text, times))
+        kept.tell(key, tried(room, key[1], key[3], kept, named))
 
 
 def judged(room, drawn, kept):
@@ -295,6 +307,7 @@ def parsed():
     parser.add_argument("--sample", type=int, default=1000, metavar="N", help="how many mutants (1000)")
     parser.add_argument("--seed", type=int, default=1, metavar="N", help="what draws them (1)")
     parser.add_argument("--only", default="", metavar="FILE", help="only of files whose path has these letters")
+    parser.add_argument("--named", action="store_true", help="only by scripts that name the file")
     parser.add_argument("--jobs", type=int, default=os.cpu_count(), metavar="N", help="how many at a time")
     parser.add_argument("--kept", type=Path, default=Path("mutants.kept"), metavar="FILE", help="(mutants.kept)")
     return parser.parse_args()
@@ -306,21 +319,22 @@ def main():
         print("\n".join([*wrong, f"{len(wrong)} wrong"]))
         return int(bool(wrong))
     options = parsed()
-    kept, wanted = Kept(options.kept), queue.Queue()
+    kept, wanted = Kept(options.kept, options.named), queue.Queue()
     with tempfile.TemporaryDirectory() as folder:
         rooms = []
         for number in range(options.jobs):
             Path(folder, str(number)).mkdir()
             rooms.append(Room(f"{folder}/{number}", options))
-        places, times = [key for key in rooms[0].sites() if options.only in key[1]], timed(rooms[0], kept)
+        places = [key for key in rooms[0].sites() if options.only in key[1]]
         drawn = random.Random(options.seed).sample(places, min(options.sample, len(places)))
         for key in drawn:
             if key not in kept.told:
                 wanted.put(key)
         with ThreadPoolExecutor(options.jobs) as pool:
-            list(pool.map(lambda room: works(room, wanted, kept, times), rooms))  # raises what one of them raised
+            list(pool.map(lambda room: works(room, wanted, kept, options.named), rooms))
         told = judged(rooms[0], drawn, kept)
-    print(f"{len(drawn) - told['the same']} mutants of {len(places)}, seed {options.seed}, by {len(times)} scripts: "
+    how = f"seed {options.seed}{', by scripts that name the file' * options.named}"
+    print(f"{len(drawn) - told['the same']} mutants of {len(places)}, {how}: "
           f"{told['refused']} refused, {told['slow']} of them by their time, {told['excused']} in tests/mutants.table, "
           f"{told['left']} survive")
     return int(told["left"] > 0)

@@ -24,6 +24,7 @@ from reference.given import NUMBERS  # noqa: E402
 from reference.traces import Trace  # noqa: E402
 from tests.explored_rules import ANY, FAILING, FAILS, NUMBERED, RIGHT, SB, STORE_AND_LOAD, STUCK  # noqa: E402
 from tests.explored_rules import TWO_STORES, WIDE, WRONG  # noqa: E402
+from tests.texts import ran as ended  # noqa: E402
 from tools.explored import ahead  # noqa: E402
 from tools.explored.frozen import Elsewhere, Numbered, Unread  # noqa: E402
 from tools.explored.parts import MASK, Parts  # noqa: E402
@@ -320,8 +321,7 @@ def numbered(folder, name, changes):
 
 # The command line.
 def ran(*words, to=None):
-    return subprocess.run([EXPLORE, *map(str, words)], capture_output=True, text=True, timeout=120, check=False,
-                          cwd=TOP, input=to)
+    return ended([EXPLORE, *map(str, words)], text=True, cwd=TOP, input=to)
 
 
 def command_line(folder, player):
@@ -420,14 +420,12 @@ def copied(folder):
         for old, new in changes:
             text = text.replace(old, new)
         (mine / "reference/machine.py").write_text(text, encoding="utf-8")
-        done = subprocess.run([mine / "tools/explore.py", "--found", mine / "found", trace], capture_output=True,
-                              text=True, timeout=120, check=False)
+        done = ended([mine / "tools/explore.py", "--found", mine / "found", trace], text=True)
         if done.returncode != status or says not in done.stdout or (status == 2) != (done.stderr.count("\n") == 1):
             yield f"{name}, in a copy: {done}"
         if status == 2:
             continue
-        if subprocess.run([mine / "tools/explore.py", "--small", "--resume", mine / "kept", test], check=False,
-                          capture_output=True, timeout=120).returncode != 2:
+        if ended([mine / "tools/explore.py", "--small", "--resume", mine / "kept", test]).returncode != 2:
             yield "a search goes on with another machine"
         played, page = (subprocess.run(words, capture_output=True, text=True, check=False) for words in (
             [mine / "reference/play.py", mine / "found"],

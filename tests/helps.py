@@ -14,7 +14,9 @@ import sys
 import tempfile
 from pathlib import Path
 
-TOP = Path(__file__).resolve().parent.parent
+sys.path.insert(0, str(Path(__file__).resolve().parent.parent))
+from tests.texts import TOP, ran as ended  # noqa: E402
+
 FOLDERS = ("reference", "tools", "maintain")
 # What the kit runs, and what is read by others: no tools.
 OTHERS = {"kit.py", "program.sh"}
@@ -44,8 +46,7 @@ def files():
 
 
 def ran(words):
-    return subprocess.run(words, cwd=TOP, capture_output=True, text=True, stdin=subprocess.DEVNULL, timeout=120,
-                          check=False)
+    return ended(words, cwd=TOP, text=True, stdin=subprocess.DEVNULL)
 
 
 def pipes():

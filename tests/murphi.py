@@ -8,12 +8,13 @@ last line is `N tried, M wrong`.
 """
 import re
 import shutil
-import subprocess
 import sys
 import tempfile
 from pathlib import Path
 
-TOP = Path(__file__).resolve().parent.parent
+sys.path.insert(0, str(Path(__file__).resolve().parent.parent))
+from tests.texts import TOP, ran  # noqa: E402
+
 MODEL = TOP / "examples/murphi/tardis.m"
 ROOMY, ANY = {"PLACES": 2, "BANK_PLACES": 2}, {"EVICT_ANY": "true"}
 WRITERS = "0 W 0x0 1\n0 W 0x8 1\n1 W 0x8 1\n1 W 0x0 1\n"  # a trace, since the model stores no other value
@@ -57,16 +58,15 @@ def verified(folder, text):
     model.write_text(text, encoding="ascii")
     for command in (["rumur", "--deadlock-detection", "stuck", "--threads", "1", "--output", source, model],
                     ["cc", "-O1", "-march=native", "-w", source, "-lpthread", "-o", program]):
-        subprocess.run(command, check=True, capture_output=True, timeout=120)
-    return subprocess.run([program], capture_output=True, text=True, check=False, timeout=600).stdout
+        ran(command).check_returncode()
+    return ran([program], text=True).stdout
 
 
 def explored(test, words):
     """The states, the events and those of done states, and the ends."""
     path, text = ("/dev/stdin", test) if "\n" in test else (TOP / f"examples/litmus/{test}.litmus", None)
-    ran = subprocess.run([TOP / "tools/explore.py", *words, path], input=text, capture_output=True, text=True,
-                         check=False, timeout=600)
-    lines = [line.partition(" ") for line in ran.stdout.splitlines()]
+    done = ran([TOP / "tools/explore.py", *words, path], input=text, text=True)
+    lines = [line.partition(" ") for line in done.stdout.splitlines()]
     of = {name: said for name, _, said in lines}
     ends = {tuple(re.findall(r"=(\d)", said.replace("-", "0"))) for name, _, said in lines if name == "end"}
     return int(of["states"]), int(of["events"]) + int(of["done"]), ends

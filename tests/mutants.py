@@ -1,14 +1,18 @@
 #!/usr/bin/env python3
 """Changes one place of the Python that users run, and asks the gate: tests/mutants.py [options] PROGRAM EVENTS SEATS.
+tests/mutants.py --self-test tries the script itself, without programs.
 
 A mutant is a file of tools/, reference/ or python/ with one change: a comparison turned round or off by one, another
 operator, `and` for `or`, no `not`, a number one more, a test always true or always false, a statement or the bound of a
 slice left out, two arguments exchanged, None returned, a comprehension without its condition. The scripts that .ci/run
 lists try it in a copy of what is committed, those first that name the file. It is refused where one fails, or takes ten
-times as long as without it. PROGRAM, EVENTS and SEATS are the built programs.
+times as long as without it. PROGRAM, EVENTS and SEATS are the built programs. With --named only scripts that name the
+file try it: then more survive, in a fraction of the time.
 
-What was tried is kept in a file, so a run that was interrupted goes on. The survivors are printed, each with its place,
-and at the end how many were refused. Which mutants are tried depends on the seed and on what is committed.
+What was tried is kept in a file, so a run that was interrupted goes on. After another commit what survived is tried
+again, and what was refused only where its own file changed. The survivors are printed, each with its place, and at the
+end how many were refused. A row of tests/mutants.table, `FILE | BEFORE => AFTER | REASON`, says why one may survive.
+Which mutants are tried depends on the seed and on what is committed.
 """
 import argparse
 import ast
@@ -19,19 +23,24 @@ import queue
 import random
 import re
 import shlex
+import shutil
 import subprocess
 import sys
 import tempfile
 import threading
 import time
 from collections import Counter
+from concurrent.futures import ThreadPoolExecutor
+from hashlib import sha256
 from pathlib import Path
 
 TOP = Path(__file__).resolve().parent.parent
+TABLE = TOP / "tests/mutants.table"
+CRATES = {"program": "tardis", "events": "play_events", "seats": "play_seats"}
 FOLDERS = ("tools", "reference", "python")
-# Scripts that try no Python that users run, need a library, or take minutes for what others try as well.
-LEFT_OUT = re.compile(r"costs|refusals|slurm|embed|recursion|pages\.sh|sentences|documents|literals|memory|grammar"
-                      r"|header|reached")
+# Scripts that try no Python that users run, or need a library.
+LEFT_OUT = re.compile(r"costs|refusals|slurm|embed|recursion|sentences|documents|literals|memory|grammar|header|reached"
+                      r"|mutants")
 OTHERS = {ast.Lt: ast.LtE, ast.LtE: ast.Lt, ast.Gt: ast.GtE, ast.GtE: ast.Gt, ast.Eq: ast.NotEq, ast.NotEq: ast.Eq,
           ast.In: ast.NotIn, ast.NotIn: ast.In, ast.Is: ast.IsNot, ast.IsNot: ast.Is, ast.And: ast.Or, ast.Or: ast.And,
           ast.Add: ast.Sub, ast.Sub: ast.Add, ast.Mult: ast.Add, ast.FloorDiv: ast.Mult, ast.Mod: ast.FloorDiv,
@@ -90,7 +99,8 @@ def changes(node):
 
 
 def mutant(text, index):
-    """The text with this change, and its line; the text None where the change isn't one."""
+    """The text with this change, its line, and what stood there and stands there; the text None where the change isn't
+    one."""
     tree = ast.parse(text)
     place, made = list(changes(tree))[index]
     lines = text.encode().split(b"\n")
@@ -99,35 +109,50 @@ def mutant(text, index):
     words = ast.unparse(ast.fix_missing_locations(made))
     if isinstance(made, ast.expr) and not isinstance(made, ast.Slice):
         words = f"({words})"
-    changed = text.encode()
-    changed = (changed[:first] + words.encode() + changed[last:]).decode()
-    return (None if ast.dump(ast.parse(changed)) == ast.dump(tree) else changed), place.lineno
+    whole = text.encode()
+    changed = (whole[:first] + words.encode() + whole[last:]).decode()
+    told = " ".join(f"{whole[first:last].decode()} => {words}".split())
+    return (None if ast.dump(ast.parse(changed)) == ast.dump(tree) else changed), place.lineno, told
 
 
-def sites():
-    """Each file of which a mutant may be, with the index of its change."""
-    for folder in FOLDERS:
-        for path in sorted((TOP / folder).rglob("*.py")):
-            count = sum(1 for _ in changes(ast.parse(path.read_text(encoding="utf-8"))))
-            yield from ((path.relative_to(TOP), index) for index in range(count))
+def committed(*words):
+    return subprocess.run(["git", *words], cwd=TOP, stdout=subprocess.PIPE, check=True).stdout
 
 
-def scripts():
-    """The gate's commands that are asked."""
-    listed = re.search(r"<<'END'.*?\n(.*?)\nEND\n", (TOP / ".ci/run").read_text(encoding="utf-8"), re.S)[1]
-    return [line for line in listed.splitlines() if not LEFT_OUT.search(line)]
+def excused(table):
+    """What may survive, as (file, change), by the text of the table."""
+    rows = [line.split(" | ", 1) for line in table.splitlines() if not line.startswith("#")]
+    return {(file, rest.rpartition(" | ")[0]) for file, rest in rows}
 
 
 class Room:
-    """A copy of the tree, in which scripts are run."""
+    """A copy of what is committed, in which scripts are run."""
 
     def __init__(self, folder, options):
-        self.folder = folder
-        archive = subprocess.run(["git", "archive", "HEAD"], cwd=TOP, stdout=subprocess.PIPE, check=True).stdout
-        subprocess.run(["tar", "-x", "-C", folder], input=archive, check=True)
-        self.environment = os.environ | {name: os.path.abspath(getattr(options, name.upper()))
-                                         for name in ("program", "events", "seats")}
-        self.environment |= {"tardis": self.environment["program"], "TARDIS": self.environment["program"]}
+        self.folder, self.written = Path(folder), 0
+        subprocess.run(["tar", "-x", "-C", folder], input=committed("archive", "HEAD"), check=True)
+        self.environment = os.environ.copy()
+        for name, crate in CRATES.items():
+            built = self.folder / f"crates/{crate}/out/{crate}"
+            built.parent.mkdir(parents=True)
+            shutil.copy(getattr(options, name.upper()), built)
+            self.environment["tardis" if name == "program" else name] = str(built)
+
+    def sites(self):
+        """What each mutant is kept by: its file, a sum of that file, and the index of its change."""
+        for path in sorted(path for folder in FOLDERS for path in (self.folder / folder).rglob("*.py")):
+            text, file = path.read_text(encoding="utf-8"), str(path.relative_to(self.folder))
+            key = "mutant", file, sha256(text.encode()).hexdigest()
+            yield from ((*key, index) for index, _ in enumerate(changes(ast.parse(text))))
+
+    def scripts(self):
+        """The gate's commands that are asked."""
+        text = (self.folder / ".ci/run").read_text(encoding="utf-8")
+        return [line for line in re.search(r"<<'END'.*?\n(.*?)\nEND\n", text, re.S)[1].splitlines()
+                if not LEFT_OUT.search(line)]
+
+    def names(self, script, file):
+        return Path(file).stem in (self.folder / shlex.split(script)[0]).read_text(encoding="utf-8")
 
     def fails(self, script, seconds):
         """Why the script doesn't pass; None if it does."""
@@ -142,97 +167,177 @@ class Room:
         return f"status {status}" if status else None
 
     def refused_by(self, file, text, times):
-        """The first script that doesn't pass with this text of the file, None if all do."""
-        place, stem = Path(self.folder, file), file.stem
-        named = {script: stem in Path(self.folder, shlex.split(script)[0]).read_text(encoding="utf-8")
-                 for script in times}
-        before = place.read_text(encoding="utf-8")
+        """The first script that doesn't pass with this text of the file, and why; None if all do."""
+        place = self.folder / file
+        before, was = place.read_text(encoding="utf-8"), place.stat().st_mtime
         place.write_text(text, encoding="utf-8")
+        self.written += 1
+        os.utime(place, (self.written, self.written))  # Python takes what it compiled before for a file of equal time
         try:
-            for script in sorted(times, key=lambda script: (not named[script], times[script])):
-                if self.fails(script, 20 + 10 * times[script]):
-                    return script
+            for script in sorted(times, key=times.get):
+                why = self.fails(script, 20 + 10 * times[script])
+                if why:
+                    return f"{script}: {why}"
             return None
         finally:
             place.write_text(before, encoding="utf-8")
+            os.utime(place, (was, was))
 
 
 class Kept:
-    """What was tried, in a file of a line each: how long the scripts take, and what became of each mutant."""
+    """What was tried, in a file of a line each: how long the scripts take, and what became of each mutant. A line has
+    the commit's tree, what was tried, and None where a script failed without a change or a mutant survived."""
 
-    def __init__(self, path):
+    def __init__(self, path, named=False):
         self.path, self.lock = path, threading.Lock()
-        lines = path.read_text(encoding="utf-8").splitlines() if path.exists() else ()
-        self.told = {tuple(key): said for key, said in map(json.loads, lines)}
+        self.tree = committed("rev-parse", "HEAD^{tree}").decode().strip() + " named" * named
+        lines = map(json.loads, path.read_text(encoding="utf-8").splitlines() if path.exists() else ())
+        self.told = {tuple(key): said for tree, key, said in lines if tree == self.tree or said is not None}
 
     def tell(self, key, said):
         with self.lock, self.path.open("a", encoding="utf-8") as file:
             self.told[key] = said
-            file.write(json.dumps([key, said]) + "\n")
+            file.write(json.dumps([self.tree, key, said]) + "\n")
 
 
-def timed(room, kept):
-    """The scripts that pass without a change, with the seconds that each takes."""
-    for script in scripts():
+def timed(room, scripts, kept):
+    """Those of the scripts that pass without a change, with the seconds that each takes."""
+    for script in scripts:
         if ("seconds", script) not in kept.told:
             began = time.monotonic()
-            why = room.fails(script, 600)
+            why = room.fails(script, 1200)
             kept.tell(("seconds", script), None if why else time.monotonic() - began)
             if why:
-                print(f"left out: {script}: {why}", file=sys.stderr)
-    return {key[1]: said for key, said in kept.told.items() if key[0] == "seconds" and said is not None}
+                print(f"left out: {script}: {why} without a change", file=sys.stderr)
+    return {script: kept.told["seconds", script] for script in scripts if kept.told["seconds", script]}
 
 
-def works(room, wanted, kept, times):
+def tried(room, file, index, kept, named):
+    """What became of a mutant, by the scripts that name the file, and then by the others."""
+    text, _, _ = mutant((room.folder / file).read_text(encoding="utf-8"), index)
+    if text is None:
+        return "the same"
+    first = [script for script in room.scripts() if room.names(script, file)]
+    others = [] if named else [script for script in room.scripts() if script not in first]
+    return next(filter(None, (room.refused_by(file, text, timed(room, of, kept)) for of in (first, others))), None)
+
+
+def works(room, wanted, kept, named):
     """Tries mutants until none is left."""
     while True:
         try:
-            file, index = wanted.get_nowait()
+            key = wanted.get_nowait()
         except queue.Empty:
             return
-        text, line = mutant((TOP / file).read_text(encoding="utf-8"), index)
-        by = "the same" if text is None else room.refused_by(file, text, times)
-        kept.tell(("mutant", str(file), index), by)
-        if by is None:
-            print(f"survives: {file}:{line}: change {index}", flush=True)
+        kept.tell(key, tried(room, key[1], key[3], kept, named))
 
 
-def main():
+def judged(room, drawn, kept):
+    """Prints the mutants that survived without a reason; how many did what."""
+    rows, told = excused(TABLE.read_text(encoding="utf-8")), Counter()
+    for key in drawn:
+        said, file = kept.told[key], key[1]
+        _, line, change = mutant((room.folder / file).read_text(encoding="utf-8"), key[3])
+        kind = "the same" if said == "the same" else "refused" if said else "excused"
+        if said is None and (file, change) not in rows:
+            kind = "left"
+            print(f"survives: {file}:{line}: {change}")
+        told[kind] += 1
+        told["slow"] += kind == "refused" and said.endswith(" seconds")
+    return told
+
+
+# Of some texts all changes, by hand: what stands there instead.
+BY_HAND = {
+    "a < b": ["(a <= b)"], "a >= b": ["(a > b)"], "a == 1": ["(a != 1)", "a == (2)"], "a not in b": ["(a in b)"],
+    "a is b": ["(a is not b)"], "a + b": ["(a - b)"], "a % b": ["(a // b)"], "a & b": ["(a | b)"], "f'{a + 1}'": [],
+    "a and not b": ["(a or not b)", "a and (b)"], "b if a else c": ["b if (True) else c", "b if (False) else c"],
+    "if a:\n    b = c": ["if (True):\n    b = c", "if (False):\n    b = c", "if a:\n    pass"], "raise a": ["pass"],
+    "a += b": ["a -= b", "pass"], "f()": ["pass"], "f(a, b)": ["pass", "(f(b, a))"], "f(*a, b)": ["pass"],
+    "\u00e9 = a[b:c]": ["pass", "\u00e9 = a[:c]", "\u00e9 = a[b:]"],
+    "(a for b in c if d if e)": ["((a for b in c if e))"],
+    "def f():\n    return a": ["def f():\n    return (None)"], "sys.path.insert(0, a)": [],
+    "if __name__ == '__main__':\n    f()": [],
+}
+
+
+def self_test():
+    """Faults of the script itself."""
+    for text, wanted in BY_HAND.items():
+        made = [mutant(text, index)[0] for index in range(len(list(changes(ast.parse(text)))))]
+        if made != wanted:
+            yield f"{text!r}: {made}"
+    came = mutant("a = 1\nb = (c  <\n d)", 3)[1:]
+    if came != (2, "c < d => (c <= d)"):
+        yield f"what a change is called: {came}"
+    if excused("# a\nb.py | c | d => (c & d) | e\n") != {("b.py", "c | d => (c & d)")}:
+        yield "the table is read in another way"
+    with tempfile.TemporaryDirectory() as folder:
+        yield from self_test_of_rooms(folder)
+        yield from self_test_of_files(Path(folder, "kept"))
+
+
+def self_test_of_rooms(folder):
+    room = Room(folder, argparse.Namespace(PROGRAM=__file__, EVENTS=__file__, SEATS=__file__))
+    own, script = "reference/given.py", "tools/merge.py --self-test"
+    before = (room.folder / own).read_text(encoding="utf-8")
+    other = before.replace("def tool(main)", "def tool(niam)")  # as long
+    time_of_file = "import os\nraise SystemExit(int(os.stat(__file__).st_mtime))"  # it is the fourth text
+    for text, seconds, why in ((before, 100, None), (other, 100, "status 1"), (before, 100, None),
+                               (time_of_file, 100, "status 4"), ("while True:\n    pass", -1.9, "1 seconds")):
+        came = room.refused_by(own, text, {script: seconds})
+        if came != (why and f"{script}: {why}") or (room.folder / own).read_text(encoding="utf-8") != before:
+            yield f"{own}, {text[:60]!r}: {came}"
+
+
+def self_test_of_files(path):
+    """A refused mutant of another commit is kept, a survivor of another isn't."""
+    for tree, index, said in (("other", 0, None), ("other", 1, "a: status 1"), (None, 2, None)):
+        kept = Kept(path)
+        kept.tree = tree or kept.tree
+        kept.tell(("mutant", "a.py", "sum", index), said)
+    if [key[3] for key in Kept(path).told] != [1, 2]:
+        yield f"what is kept: {Kept(path).told}"
+
+
+def parsed():
     parser = argparse.ArgumentParser(description=__doc__, formatter_class=argparse.RawDescriptionHelpFormatter)
-    for name in ("PROGRAM", "EVENTS", "SEATS"):
-        parser.add_argument(name)
+    for name in CRATES:
+        parser.add_argument(name.upper())
     parser.add_argument("--sample", type=int, default=1000, metavar="N", help="how many mutants (1000)")
     parser.add_argument("--seed", type=int, default=1, metavar="N", help="what draws them (1)")
     parser.add_argument("--only", default="", metavar="FILE", help="only of files whose path has these letters")
-    parser.add_argument("--show", type=int, metavar="INDEX", help="print --only's file with this change, and end")
+    parser.add_argument("--named", action="store_true", help="only by scripts that name the file")
     parser.add_argument("--jobs", type=int, default=os.cpu_count(), metavar="N", help="how many at a time")
     parser.add_argument("--kept", type=Path, default=Path("mutants.kept"), metavar="FILE", help="(mutants.kept)")
-    options = parser.parse_args()
-    places = [place for place in sites() if options.only in str(place[0])]
-    if options.show is not None:
-        print(mutant((TOP / places[0][0]).read_text(encoding="utf-8"), options.show)[0])
-        return 0
-    drawn = random.Random(options.seed).sample(places, min(options.sample, len(places)))
-    kept, wanted = Kept(options.kept), queue.Queue()
-    for place in drawn:
-        if ("mutant", str(place[0]), place[1]) not in kept.told:
-            wanted.put(place)
-    with tempfile.TemporaryDirectory() as first:
-        times = timed(Room(first, options), kept)
+    return parser.parse_args()
+
+
+def main():
+    if sys.argv[1:] == ["--self-test"]:
+        wrong = list(self_test())
+        print("\n".join([*wrong, f"{len(wrong)} wrong"]))
+        return int(bool(wrong))
+    options = parsed()
+    kept, wanted = Kept(options.kept, options.named), queue.Queue()
     with tempfile.TemporaryDirectory() as folder:
         rooms = []
         for number in range(options.jobs):
             Path(folder, str(number)).mkdir()
             rooms.append(Room(f"{folder}/{number}", options))
-        threads = [threading.Thread(target=works, args=(room, wanted, kept, times)) for room in rooms]
-        for thread in threads:
-            thread.start()
-        for thread in threads:
-            thread.join()
-    said = Counter(str(kept.told["mutant", str(file), index]) for file, index in drawn)
-    tried = len(drawn) - said["the same"]
-    print(f"{tried} mutants of {len(places)}, {tried - said['None']} refused, {said['None']} survive")
-    return 0
+        places = [key for key in rooms[0].sites() if options.only in key[1]]
+        drawn = random.Random(options.seed).sample(places, min(options.sample, len(places)))
+        for key in drawn:
+            if key not in kept.told:
+                wanted.put(key)
+        with ThreadPoolExecutor(options.jobs) as pool:
+            list(pool.map(lambda room: works(room, wanted, kept, options.named), rooms))
+        told = judged(rooms[0], drawn, kept)
+    how = f"seed {options.seed}{', by scripts that name the file' * options.named}"
+    print(f"{len(drawn) - told['the same']} mutants of {len(places)}, {how}: "
+          f"{told['refused']} refused, {told['slow']} of them by their time, {told['excused']} in tests/mutants.table, "
+          f"{told['left']} survive")
+    return int(told["left"] > 0)
 
 
 if __name__ == "__main__":

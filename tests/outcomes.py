@@ -7,7 +7,6 @@ tests are those of examples/outcomes, whose header line `ends=..` has the number
 line is `N tried, M wrong`.
 """
 import re
-import subprocess
 import sys
 from concurrent.futures import ThreadPoolExecutor
 from itertools import product
@@ -17,7 +16,7 @@ from pathlib import Path
 sys.path.insert(0, str(Path(__file__).resolve().parent.parent))
 from reference import sequential  # noqa: E402
 from reference.litmus import Test  # noqa: E402
-from tests import by_threads  # noqa: E402
+from tests import by_threads, texts  # noqa: E402
 
 EXAMPLES = Path(__file__).resolve().parent.parent / "examples"
 
@@ -57,8 +56,7 @@ def plain_faults(test, possible, ends):
 
 def faults(program, path, test, possible, words, must_finish):
     """What can't be so under a setting."""
-    ran = subprocess.run([program, "litmus", "--runs", str(RUNS), "--limit", str(LIMIT), *words, str(path)],
-                         capture_output=True, text=True, timeout=120)
+    ran = texts.ran([program, "litmus", "--runs", str(RUNS), "--limit", str(LIMIT), *words, str(path)], text=True)
     try:
         batch = by_threads.read_batch(test, ran.stdout)
     except (IndexError, ValueError) as error:

@@ -8,7 +8,6 @@ hand. The last line is `N tried, M wrong`.
 """
 import re
 import shutil
-import subprocess
 import sys
 import tempfile
 from concurrent.futures import ThreadPoolExecutor
@@ -20,6 +19,7 @@ TOP = Path(__file__).resolve().parent.parent
 sys.path.insert(0, str(TOP))
 from reference.order import check  # noqa: E402
 from reference.traces import Trace, read_records  # noqa: E402
+from tests.texts import ran as ended  # noqa: E402
 from tools import try_rule  # noqa: E402
 
 
@@ -84,12 +84,10 @@ def ran(changes, *words):
     with tempfile.TemporaryDirectory() as folder:
         copy = changed(folder, changes)
         found = Path(folder, "found")
-        done = subprocess.run([copy / "tools/try_rule.py", "--found", found, *words], capture_output=True, text=True,
-                              timeout=120)
+        done = ended([copy / "tools/try_rule.py", "--found", found, *words], text=True)
         again = None
         if done.returncode == 1:
-            again = subprocess.run(command_of(done.stdout.splitlines()), shell=True, capture_output=True, text=True,
-                                   timeout=60)
+            again = ended(["sh", "-c", command_of(done.stdout.splitlines())], text=True)
             assert done.stdout.endswith(" states:\n" + found.read_text()), "--found writes another text"
         return done.returncode, done.stdout + done.stderr, again
 
@@ -149,14 +147,14 @@ def refusals():
     script = str(TOP / "tools/try_rule.py")
     for words in (["none.trace"], ["--tries"], [str(TOP / "examples/bad/SB-cut.litmus")], [str(TOP)],
                   ["--tries", "0"], ["--tries", "-5"], ["--first", "-3"], ["--first", str(2 ** 64)], ["/dev/null"]):
-        done = subprocess.run([script, *words], capture_output=True, text=True, timeout=60)
+        done = ended([script, *words], text=True)
         if (done.returncode, done.stdout, done.stderr.count("\n")) != (2, "", 1):
             yield f"{words}: {done.returncode} {done.stdout} {done.stderr}"
-    done = subprocess.run([script, "--stuck", "--tries", "300"], capture_output=True, text=True, timeout=60)
+    done = ended([script, "--stuck", "--tries", "300"], text=True)
     if done.returncode != 1 or not done.stdout.startswith(STUCK) or "NetworkFull" not in done.stdout:
         yield f"--stuck: {done.stdout} {done.stderr}"
     names = [str(TOP / "examples" / name) for name in ("litmus/SB.litmus", "traces/PAST.trace")]
-    done = subprocess.run([script, "--tries", "40", *names], capture_output=True, text=True, timeout=60)
+    done = ended([script, "--tries", "40", *names], text=True)
     if done.returncode or not done.stdout.startswith("40 tries: all legal"):
         yield f"{names}: {done.stdout} {done.stderr}"
 

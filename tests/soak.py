@@ -69,7 +69,8 @@ class Threads:
         few += draw.choice([[], [f"--bank-sets={draw.randint(1, 2)}", f"--bank-ways={draw.randint(1, 4)}"]])
         line = [self.program, "trace", "--schedule=threads", f"--workers={WORKERS}", f"--banks={BANKS}", *few,
                 f"--line-words={draw.choice([1, 8])}", f"--lease={draw.choice([1, 10, 1000])}",
-                *draw.choice([[], ["--private-write"]]), "--limit=2000000", "--records", "/dev/stdin"]
+                *draw.choice([[], ["--private-write"]]), *draw.choice([[], ["--fair"]]), "--limit=2000000", "--records",
+                "/dev/stdin"]
         status, records, error = ran(line, text)
         files = {"trace": text, "records": records, "command": shlex.join(line).encode()}
         if status not in (0, 1) or error:

@@ -15,7 +15,7 @@ import xml.etree.ElementTree as xml
 from pathlib import Path
 
 sys.path.insert(0, str(Path(__file__).resolve().parent.parent))
-from tests.texts import TOP, Tester, oracle  # noqa: E402
+from tests.texts import PATIENCE, TOP, Tester, oracle  # noqa: E402
 from tools import plots, sweep  # noqa: E402
 
 
@@ -224,12 +224,13 @@ def parts(tester):
 def interrupted(tester):
     """Ctrl-C ends a sweep without a word but its progress, and the table goes on from there."""
     words = ["--csv", "stopped.csv", "--jobs", "2", "--lease", "1..4000", "renewed.trace"]
+    signal.signal(signal.SIGINT, signal.default_int_handler)  # where the shell has this script ignore it, as behind `&`
     with subprocess.Popen([tester.program, *words], stdout=subprocess.PIPE, stderr=subprocess.PIPE) as ran:
         while ran.poll() is None and not (Path("stopped.csv").exists() and
                                           Path("stopped.csv").read_text().count("\n") > 3):
             time.sleep(0.05)
         ran.send_signal(signal.SIGINT)
-        out, error = ran.communicate(timeout=60)
+        out, error = ran.communicate(timeout=PATIENCE)
     made = Path("stopped.csv").read_text().count("\n") - 1
     tester.expect((ran.returncode, out) == (1, b"") and b"Traceback" not in error and 3 <= made < 4000,
                   f"Ctrl-C: {ran.returncode} {out} {error[-300:]} {made}")

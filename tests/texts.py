@@ -8,6 +8,7 @@ from the same page (reference/oracle.py). The second program must find the same 
 import os
 import random
 import re
+import shlex
 import subprocess
 import sys
 import tempfile
@@ -23,6 +24,7 @@ from reference.reports import litmus_report  # noqa: E402
 from reference.traces import Fault, Trace, read_records  # noqa: E402
 
 
+PATIENCE = 1200  # seconds, after which a command hangs, even on a busy machine
 MORE = "\n\nFor more information, try '--help'.\n"
 BAD_HEADER, BAD_INITIAL, BAD_TABLE, BAD_CONDITION, CUT_SHORT, ACCEPTED = 4, 5, 7, 13, 14, 0
 
@@ -40,15 +42,23 @@ STORE_BUFFERING = [
 ]
 
 
+def ran(words, **how):
+    """What a command came to, with its output. One that hangs ends the script, with a line that names it."""
+    try:
+        return subprocess.run(words, capture_output=True, timeout=PATIENCE, check=False, **how)
+    except subprocess.TimeoutExpired:
+        sys.exit(f"not done after {PATIENCE} seconds: {shlex.join(map(str, words))[:300]}")
+
+
 class Tester:
     def __init__(self, program):
         self.program, self.tried, self.wrong = program, 0, 0
 
     def run(self, *words, text=None):
         """The status, standard output and standard error; with a text, given through a pipe."""
-        ran = subprocess.run([self.program, *words], input=text, capture_output=True, timeout=120,
-                             stdin=None if text is not None else subprocess.DEVNULL)
-        return ran.returncode, ran.stdout.decode(), ran.stderr.decode(errors="replace")
+        given = {"stdin": subprocess.DEVNULL} if text is None else {"input": text}
+        done = ran([self.program, *words], **given)
+        return done.returncode, done.stdout.decode(), done.stderr.decode(errors="replace")
 
     def expect(self, good, what):
         self.tried += 1

@@ -7,12 +7,11 @@ The last line is `N tried, M wrong`.
 """
 import os
 import shlex
-import subprocess
 import sys
 from pathlib import Path
 
 sys.path.insert(0, str(Path(__file__).resolve().parent.parent))
-from tests.texts import MORE, TOP, oracle  # noqa: E402
+from tests.texts import MORE, TOP, oracle, ran  # noqa: E402
 
 
 def blocks():
@@ -48,17 +47,16 @@ def answers():
             error = answer + (MORE if answer.startswith("error: ") else "\n")
             yield from ((line, (status, "", error)) for line in words)
             if "bad configuration" in answer or "'--fair' needs" in answer:
-                by_oracle = [subprocess.run(["reference/oracle.py", *line], capture_output=True) for line in words]
-                yield from ((line, (status, "", error), ran) for line, ran in zip(words, by_oracle))
+                by_oracle = [ran(["reference/oracle.py", *line]) for line in words]
+                yield from ((line, (status, "", error), done) for line, done in zip(words, by_oracle))
 
 
 def main():
     program, tried, wrong = os.path.abspath(sys.argv[1]), 0, 0
     os.chdir(TOP)
-    for words, wanted, *ran in answers():
-        ran = ran[0] if ran else subprocess.run([program, *words], capture_output=True, stdin=subprocess.DEVNULL,
-                                                timeout=120)
-        got = ran.returncode, ran.stdout.decode(), ran.stderr.decode(errors="replace")
+    for words, wanted, *done in answers():
+        done = done[0] if done else ran([program, *words], stdin=subprocess.DEVNULL)
+        got = done.returncode, done.stdout.decode(), done.stderr.decode(errors="replace")
         tried += 1
         if got != wanted:
             wrong += 1

@@ -563,7 +563,8 @@ def sizes(tester, is_large):
     hard = tester.folder / "hard.history"
     hard.write_bytes(drawn_text(2000, 8, 8, 4, 1))
     status, out, error = tester.run("--seconds", "1", "--out", tester.folder, hard)
-    tester.expect((status, error) == (3, "") and re.match(r"not decided after 1 s: \d+ of 2000 operations", out),
+    reached = r"not decided after 1 s: (\d+ of 2000 operations|what is forced isn't known yet)"  # on a busy machine
+    tester.expect((status, error) == (3, "") and re.match(reached, out),
                   f"the time is up: {status} {out} {error}")
 
 

@@ -64,10 +64,10 @@ def fault_of_records(issued, records):
 
 def fault_of_program(records, fences, at):
     """The first record of a core that comes too early in the order; `records` are the core's, by place."""
-    reads = stores = fenced = -1  # the last places in the order of those before: reads, stores, all before a fence
+    reads = stores = fenced = -1  # the last places in the order of those before: reads, stores, stores before a fence
     for record in records:
         if record.place in fences:
-            fenced = max(reads, stores)
+            fenced = stores
         here = at[record.number]
         if here < max(reads, fenced) or record.kind != "load" and here < stores:
             return f"out of program order {record.number}"

@@ -59,6 +59,10 @@ EQUAL = [("0 W 0x0 1\n0 W 0x8 1\n1 R 0x0\n1 R 0x8\n1 R 0x0\n",
          ("0 W 0x0 1\n0 W 0x0 2\n1 R 0x0\n", "0 0 W 0x0 1 0 0\n0 1 W 0x0 2 0 1\n1 0 R 0x0 0 0 2\n", [
              "wrong value 2", "Core 1 received a value that 2 later writes had replaced, as when an invalidation",
              "It hadn't touched the word before.", "another order explains these records: tools/order.py RECORDS"]),
+         # Core 0's second record is missing, so these aren't all that an order must have.
+         ("0 R 0x0\n0 R 0x0\n0 R 0x0\n", "0 0 R 0x0 5 0 0\n0 2 R 0x0 0 0 1\n", [
+             "wrong value 0", "another may: tools/order.py RECORDS looks for it.",
+             "No other order of the 2 records around it, lines 1 to 2, explains them"]),
          # Core 0 reads what it wrote itself, before core 1 did.
          ("0 W 0x0 1\n1 W 0x0 2\n0 R 0x0\n", "0 0 W 0x0 1 0 0\n1 0 W 0x0 2 0 1\n0 1 R 0x0 1 0 2\n", [
              "wrong value 2", "Core 0 received a value that 1 later write had replaced, as after a lost invalidation.",
@@ -179,7 +183,8 @@ HERD_CONVERTED = {"AMO_X0", "CTRLFENCEI", "CoRR-locs", "IRIW+addrs", "LB+data+ct
 SLIPS = [("lw x7,x6", "", "The operands of `lw` are xD,0(xB)."), ("ldr x5,[x6]", "", "did you mean `lw`?"),
          ("amoswap x7,x5,(x6)", "", "`amoswap.w` or `amoswap.d`"), ("mfence", "", "did you mean `fence rw,rw`?"),
          ("lw x7,0(x6) ;", "", "One `;` ends the row"), ("amoswap.w x7,(x6),x5", "", "are xD,xS,(xB)."),
-         ("", "final (1:x7=1)", "A condition begins with `exists`"), ("", "(1:x7=1)", "A condition begins with `exists`"),
+         ("", "final (1:x7=1)", "A condition begins with `exists`"),
+         ("", "(1:x7=1)", "A condition begins with `exists`"),
          ("", "forrall (x=1)", "did you mean `forall`?"), ("", "exists (1:r7=1)", "Registers are x0 to x31."),
          ("", "exists (P1:x7=1)", "`1:x7`, not `P1:x7`"), ("", "exists (1:x7=-1)", "No number is negative."),
          ("", "exists (1:x7=1))", "A parenthesis too many"), ("", "exists (3:x7=1)", "There is no thread 3"),

@@ -26,7 +26,7 @@ from tests.texts import TOP, Tester  # noqa: E402
 from tools.mesi import Machine  # noqa: E402
 from tools.number import numbered  # noqa: E402
 from tools.order import confirmed  # noqa: E402
-from tools.orders import solver, witness  # noqa: E402
+from tools.orders import search, solver, witness  # noqa: E402
 from tools.orders.answer import answer  # noqa: E402
 from tools.orders.forced import Forced, NoOrder  # noqa: E402
 from tools.orders.history import Operation, read_history, words_of  # noqa: E402
@@ -275,7 +275,9 @@ def set_holds(operations, lines):
 
 
 def draws(tester, count):
-    """Half of the histories of each kind have an order, as far as drawing goes."""
+    """Half of the histories of each kind have an order, as far as drawing goes. A try of the search has few branches, so
+    that it begins anew on these, too."""
+    usual, search.FIRST_BRANCHES = search.FIRST_BRANCHES, 0.2
     for real_time, model in ((False, "sc"), (True, "sc"), (False, "tso")):
         draw, left = random.Random(f"{real_time} {model}"), {True: count // 2, False: count - count // 2}
         while any(left.values()):
@@ -286,6 +288,7 @@ def draws(tester, count):
                 tester.agrees(operations, has_order, model=model, real_time=real_time)
                 if solver.is_installed() and count <= 1000:
                     asks(tester, operations, has_order, model, real_time)
+    search.FIRST_BRANCHES = usual
 
 
 def asks(tester, operations, has_order, model, real_time):
@@ -415,8 +418,8 @@ def confirmations(tester):
     trace, records = tester.folder / "c.trace", tester.folder / "c.records"
     trace.write_text("0 W 0x0 1\n1 R 0x0\n")
     for model in ("sc", "tso"):
-        for text, is_good in (("0 0 W 0x0 1 0 0\n1 0 R 0x0 1 0 1\n", True), ("0 0 W 0x0 1 0 0\n1 0 R 0x0 0 0 1\n", False),
-                              ("0 0 W 0x0 1 0 0\n", False), ("", False)):
+        for text, is_good in (("0 0 W 0x0 1 0 0\n1 0 R 0x0 1 0 1\n", True),
+                              ("0 0 W 0x0 1 0 0\n1 0 R 0x0 0 0 1\n", False), ("0 0 W 0x0 1 0 0\n", False), ("", False)):
             records.write_text(text)
             try:
                 with contextlib.redirect_stderr(io.StringIO()) as error:
@@ -560,7 +563,8 @@ def sizes(tester, is_large):
     hard = tester.folder / "hard.history"
     hard.write_bytes(drawn_text(2000, 8, 8, 4, 1))
     status, out, error = tester.run("--seconds", "1", "--out", tester.folder, hard)
-    tester.expect((status, error) == (3, "") and re.match(r"not decided after 1 s: \d+ of 2000 operations", out),
+    reached = r"not decided after 1 s: (\d+ of 2000 operations|what is forced isn't known yet)"  # on a busy machine
+    tester.expect((status, error) == (3, "") and re.match(reached, out),
                   f"the time is up: {status} {out} {error}")
 
 

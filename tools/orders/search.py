@@ -3,13 +3,19 @@
 A load that can be performed is performed at once: that takes nothing from what follows. So is a write that every
 order performs first of those of its word that are left. Otherwise the writes of one word are tried in turn, if one of
 these must come next there and all can; else all that can. States from which no way led to the end aren't tried again.
+If that takes many branches, the search begins anew and tries writes in a drawn order, then in the first one again, and
+so on, with ever more branches. What one try learns of states serves the next.
 """
+import random
 import time
 from array import array
 from bisect import bisect_left
 
 from tools.orders.forced import TimeUp
 from tools.orders.history import FENCE
+
+
+FIRST_BRANCHES = 10  # of the first try and the second, for each operation; twice as many of the next two, and so on
 
 
 class Search:
@@ -28,7 +34,8 @@ class Search:
         for address, chains in problem.writes.items():
             self.writes[self.words[address]] = list(chains.items())
         self.needs = [[(problem.chain[one], problem.place[one]) for one in into] for into in forced.into]
-        self.rank = ranks(problem, forced)
+        self.ranks = self.rank = ranks(problem, forced)
+        self.tries, self.last_branch = 0, FIRST_BRANCHES * len(problem.nodes)
         # Of each branch on the way: how much was performed, what is to be tried yet, and the state.
         self.order, self.undo, self.frames = [], [], []
         self.dead, self.states, self.most = set(), 0, 0
@@ -173,6 +180,9 @@ class Search:
             if len(self.order) == count:
                 return self.order
             if len(choices) > 1:
+                if self.states >= self.last_branch:
+                    self.begin_anew()
+                    continue
                 self.states += 1
                 state = self.state()
                 if state in self.dead:
@@ -189,6 +199,14 @@ class Search:
             length, left, _ = frames[-1]
             self.take_back(length)
             self.perform(left.pop())
+
+    def begin_anew(self):
+        self.take_back(0)
+        self.frames.clear()
+        self.tries += 1
+        self.last_branch += FIRST_BRANCHES * len(self.problem.nodes) * 2 ** (self.tries // 2)
+        draw = random.Random(self.tries)
+        self.rank = {node: draw.random() for node in self.ranks} if self.tries % 2 else self.ranks
 
     def look_at_clock(self):
         if time.monotonic() > self.deadline:

@@ -10,8 +10,8 @@ each a share of the time:
     texts     litmus tests and traces, some damaged, under any options: the program prints what the second one does.
     players   events and calls of seats: the players answer what the second program's parts do.
 
-Case N of a part depends on the seed and N alone; --first N begins with it. A difference ends the part with status 1; its
-text, records and command stay in the folder of --kept. The last line of a part says how much it tried, without a
+Case N of a part depends on the seed and N alone; --first N begins with it. A difference ends the part with status 1;
+its text, records and command stay in the folder of --kept. The last line of a part says how much it tried, without a
 difference.
 """
 import argparse

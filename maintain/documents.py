@@ -35,6 +35,8 @@ GROUPS = [
         ("litmus_reader", "*", "")]),
     ("Runs by threads: what a turn is, and each call of a seat that it makes", [
         ("thread_driver", "*", "")]),
+    ("Seats of your own, and numbers: their calls, and what a close leaves", [
+        (name, "*", "") for name in ("mailboxes", "closed_machine", "drawn_numbers", "shared_jobs", "stop_flags")]),
     ("Runs and reports: the schedule, the sequential machine, the text, the program", [
         (name, "*", "") for name in ("byte_streams", "programs", "schedules", "worker_driver", "sequential_machine",
                                      "sequential_ends", "report_text", "run_results", "command_line", "tardis")]),

@@ -10,8 +10,9 @@ each a share of the time:
     texts     litmus tests and traces, some damaged, under any options: the program prints what the second one does.
     players   events and calls of seats: the players answer what the second program's parts do.
 
-Case N of a part depends on the seed and N alone. A difference ends the part with status 1; its text, records and
-command stay in the folder of --kept. The last line of a part says how much it tried, without a difference.
+Case N of a part depends on the seed and N alone; --first N begins with it. A difference ends the part with status 1;
+its text, records and command stay in the folder of --kept. The last line of a part says how much it tried, without a
+difference.
 """
 import argparse
 import random
@@ -28,7 +29,6 @@ from reference.traces import Trace, read_records  # noqa: E402
 from tests import ends, fair, texts  # noqa: E402
 
 CORES, WORKERS, BANKS = 64, 16, 8
-PATIENCE = 600  # seconds, after which a command hangs
 
 
 class Difference(Exception):
@@ -40,7 +40,8 @@ class Difference(Exception):
 
 
 def ran(words, text):
-    done = subprocess.run([str(word) for word in words], input=text, capture_output=True, timeout=PATIENCE, check=False)
+    done = subprocess.run([str(word) for word in words], input=text, capture_output=True, timeout=texts.PATIENCE,
+                          check=False)
     return done.returncode, done.stdout, done.stderr
 
 
@@ -69,7 +70,7 @@ class Threads:
         few += draw.choice([[], [f"--bank-sets={draw.randint(1, 2)}", f"--bank-ways={draw.randint(1, 4)}"]])
         line = [self.program, "trace", "--schedule=threads", f"--workers={WORKERS}", f"--banks={BANKS}", *few,
                 f"--line-words={draw.choice([1, 8])}", f"--lease={draw.choice([1, 10, 1000])}",
-                *draw.choice([[], ["--private-write"]]), *draw.choice([[], ["--fair"]]), "--limit=2000000", "--records",
+                *draw.choice([[], ["--private-write"]]), *draw.choice([[], ["--fair"]]), "--limit=100000", "--records",
                 "/dev/stdin"]
         status, records, error = ran(line, text)
         files = {"trace": text, "records": records, "command": shlex.join(line).encode()}
@@ -142,7 +143,7 @@ PARTS = {"threads": Threads, "texts": Texts, "players": Players}
 
 def soaks(name, options, seconds):
     """Whether the cases of a part made no difference for so long."""
-    part, count, until = PARTS[name](options), 0, time.monotonic() + seconds
+    part, count, until = PARTS[name](options), options.first - 1, time.monotonic() + seconds
     while time.monotonic() < until:
         count += 1
         try:
@@ -152,7 +153,8 @@ def soaks(name, options, seconds):
                 (options.kept / f"{name}-{options.seed}-{count}.{file}").write_bytes(text)
             print(f"{name}: case {count} of seed {options.seed}: {error}", flush=True)
             return False
-    print(f"{name}: {part.tried(count)}, seed {options.seed}, no difference", flush=True)
+    told = f"seed {options.seed}, cases {options.first} to {count}"
+    print(f"{name}: {part.tried(count - options.first + 1)}, {told}, no difference", flush=True)
     return True
 
 
@@ -164,6 +166,7 @@ def main():
     parser.add_argument("SEATS", nargs="?")
     parser.add_argument("--part", action="append", choices=PARTS, help="only this part, or these (all)")
     parser.add_argument("--seed", type=int, default=1, metavar="N", help="what opens the generators (1)")
+    parser.add_argument("--first", type=int, default=1, metavar="N", help="the first case (1)")
     parser.add_argument("--kept", type=Path, default=Path("soak"), metavar="FOLDER", help="where files are left (soak)")
     options = parser.parse_args()
     names = options.part or [name for name in PARTS if name != "players" or options.SEATS]

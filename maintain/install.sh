@@ -14,7 +14,7 @@ done
 mkdir -p "$1" && cd "$1" || exit 1
 mkdir -p bin include lib/pkgconfig lib/cmake/tardis share/man/man1 share/bash-completion/completions || exit 1
 install -m 755 "$tardis" bin/tardis && install -m 755 "$events" bin/tardis-play-events || exit 1
-cp "$top/crates/tardis_c/tardis.h" "$top/crates/tardis_c/tardis.hpp" include/ || exit 1
+cp "$top"/crates/tardis_c/tardis*.h* include/ || exit 1
 
 number=$(sed -n 's/^#define TARDIS_VERSION //p' include/tardis.h)
 minor=$((number / 10000)).$((number / 100 % 100))
@@ -38,7 +38,9 @@ Libs: -L\${prefix}/lib -ltardis
 END
 cat >lib/cmake/tardis/tardis-config.cmake <<'END'
 get_filename_component(tardis_prefix "${CMAKE_CURRENT_LIST_DIR}/../../.." ABSOLUTE)
-add_library(tardis::tardis STATIC IMPORTED)
+if(NOT TARGET tardis::tardis)
+    add_library(tardis::tardis STATIC IMPORTED)
+endif()
 set_target_properties(tardis::tardis PROPERTIES IMPORTED_LOCATION "${tardis_prefix}/lib/libtardis.a"
     INTERFACE_INCLUDE_DIRECTORIES "${tardis_prefix}/include")
 END
@@ -46,6 +48,9 @@ cat >lib/cmake/tardis/tardis-config-version.cmake <<END
 set(PACKAGE_VERSION $version)
 if(NOT PACKAGE_VERSION VERSION_LESS PACKAGE_FIND_VERSION)
     set(PACKAGE_VERSION_COMPATIBLE TRUE)
+endif()
+if(PACKAGE_VERSION VERSION_EQUAL PACKAGE_FIND_VERSION)
+    set(PACKAGE_VERSION_EXACT TRUE)
 endif()
 END
 

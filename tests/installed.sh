@@ -52,12 +52,15 @@ if has pkg-config "its file"; then
     [ "$version" = "tardis $said" ] || fail "$version, and by pkg-config $said"
 fi
 if has cmake "its file"; then
-    printf '%s\n' 'cmake_minimum_required(VERSION 3.13)' 'project(tried C)' 'find_package(tardis 0.1 REQUIRED)' \
+    # As two parts of one project find it.
+    printf '%s\n' 'cmake_minimum_required(VERSION 3.13)' 'project(tried C CXX)' 'find_package(tardis 0.1 REQUIRED)' \
         "add_executable(by_cmake $embed/check.c)" 'target_link_libraries(by_cmake tardis::tardis)' \
-        >"$work/CMakeLists.txt"
+        "find_package(tardis ${version#tardis } EXACT REQUIRED)" 'set(CMAKE_CXX_STANDARD 17)' \
+        "add_executable(in_cpp $embed/tardis.cpp)" 'target_link_libraries(in_cpp tardis::tardis)' >"$work/CMakeLists.txt"
     { cmake -S "$work" -B "$work/cmake" -DCMAKE_PREFIX_PATH="$prefix" && cmake --build "$work/cmake"; } \
         >"$work/said" 2>&1 || fail "$(cat "$work/said")"
     legal cmake "$work/cmake/by_cmake"
+    legal "cmake in C++" "$work/cmake/in_cpp" check
 fi
 
 strict="-std=c++17 -pedantic -O1 -Wall -Wextra -Werror -I$prefix/include"
@@ -65,12 +68,26 @@ for each in "$embed/latency.cpp" "$top/tests/machines.cpp"; do
     # shellcheck disable=SC2086
     g++ $strict -o "$work/$(basename "$each" .cpp)" "$each" -L"$prefix/lib" -ltardis || exit 1
 done
+# The machine from C: a load of a word that opens with 5, by hand.
+gcc -std=c11 -pedantic -O1 -Wall -Wextra -Werror -I"$prefix/include" -o "$work/drive" "$embed/drive.c" || exit 1
+"$work/drive" tardis-play-events >"$work/said" || fail "drive: $(cat "$work/said")"
+diff - "$work/said" <<'END' || exit 1
+opened
+issued
+requested
+m0 ShReq core 1 > bank 0 0x8 pts 0 version none: started
+m1 DramLd bank 0 > dram 0 0x8: delivered
+m2 DramLdRep dram 0 > bank 0 0x8 words 5: delivered
+m0 ShReq core 1 > bank 0 0x8 pts 0 version none: delivered
+m3 ShRep bank 0 > core 1 0x8 wts 0 rts 10 words 5: delivered
+completed 1 0 R 0x8 5 0 0
+END
 # A network of one's own, in C++ and in Python: the same cycles.
 awk 'BEGIN { for (line = 0; line < 9; line++) printf "0 W 0x%x 1\n", 2048 * line }' >"$work/full.trace"
 for trace in FIRST-STORE MIGRATORY FALSE-SHARING PAST COMMENTS EMPTY full; do
     path=$top/examples/traces/$trace.trace
     [ -e "$path" ] || path=$work/$trace.trace
-    "$work/latency" "$TARDIS_PLAYER" "$path" 1 100 >"$work/said"
+    "$work/latency" tardis-play-events "$path" 1 100 >"$work/said"
     "$embed/latency.py" "$path" 1 100 | diff "$work/said" - || exit 1
 done
 # Machines in C++ whose players live side by side, are interrupted or gone.

@@ -1,9 +1,10 @@
-// Machines of tardis.hpp whose players live side by side, are interrupted, or gone: machines PLAYER FULL
-// FULL opens, then refuses a list, and ends. An alarm ends what hangs.
+// Machines of tardis.hpp and tardis_machine.h whose players live side by side, are interrupted, or gone: machines PLAYER
+// FULL. FULL opens, then refuses a list, and ends. An alarm ends what hangs.
 #include "tardis.hpp"
 
 #include <csignal>
 #include <cstdlib>
+#include <cstring>
 #include <iostream>
 
 namespace {
@@ -16,10 +17,33 @@ void expect(bool good, const char *what) {
 
 void nothing(int) {}
 
+// The calls in C: answers that just fit, and that don't; what is no line; a player that is closed, or isn't there.
+void calls(const char *player) {
+    tardis_machine machine;
+    char answer[7];
+    const auto is = [&](const char *line, int number, const char *wanted) {
+        return tardis_machine_call(&machine, line, answer, sizeof answer) == number && std::strcmp(answer, wanted) == 0;
+    };
+    expect(tardis_machine_start(&machine, player) == TARDIS_MACHINE_DONE, "a start");
+    expect(is("machine cores 2", TARDIS_MACHINE_DONE, "opened"), "an answer that just fits");
+    expect(is("shape", TARDIS_MACHINE_LONG, "cores "), "an answer that doesn't fit");
+    expect(is("state 64", TARDIS_MACHINE_LONG, "core 0"), "an answer that takes more than one read");
+    expect(is(" \t\r\v\f", TARDIS_MACHINE_LINE, "") && is("", TARDIS_MACHINE_LINE, ""), "a blank line in C");
+    expect(is("flight\nflight", TARDIS_MACHINE_LINE, ""), "two lines in C");
+    expect(is("flight", TARDIS_MACHINE_DONE, "none"), "the call behind them");
+    tardis_machine_close(&machine);
+    tardis_machine_close(&machine);
+    expect(is("flight", TARDIS_MACHINE_GONE, ""), "a machine that is closed");
+    expect(tardis_machine_start(&machine, "/none") == TARDIS_MACHINE_DONE, "a start of nothing");
+    expect(is("flight", TARDIS_MACHINE_GONE, ""), "a player that isn't there, in C");
+    tardis_machine_close(&machine);
+}
+
 }  // namespace
 
 int main(int, char **words) {
     alarm(60);
+    calls(words[1]);
     std::string why = "?";
     expect(!tardis::Machine::open("/none", "", &why) && why.empty(), "a player that isn't there");
     expect(!tardis::Machine::open(words[1], "cores 65", &why) && why == "refused BadConfig", "65 cores");
@@ -29,13 +53,16 @@ int main(int, char **words) {
     first.reset();  // while the player of the other one lives, which was started later
     usleep(100000);
     expect(waitpid(-1, nullptr, WNOHANG) == 0, "a player that nobody waits for");
-    expect(second->in_flight() && second->in_flight()->empty(), "nothing is in flight");
+    expect(second->in_flight().is_told && second->in_flight().numbers.empty(), "nothing is in flight");
     expect(second->call("issue 0 R 0x28") == "issued" && second->attempt(0) == "requested", "a load");
     const auto sent = second->message(0);
     expect(sent && sent->number == 0 && sent->kind == "ShReq" && sent->sender == "core 0" && sent->receiver == "bank 0" &&
                sent->address == 0x28 && sent->carries == "pts 0 version none",
            "its request");
     expect(second->deliver(0) == "started" && second->message(1) && second->message(1)->carries.empty(), "its fetch");
+    uint64_t sum = 0;
+    for (const uint64_t number : second->in_flight()) sum += number + 1;  // of the request and its fetch
+    expect(sum == 3, "what is in flight");
     expect(!second->message(7), "a message that isn't there");
     expect(second->call("machine cores 1") == "opened", "another machine");
     expect(second->call("").empty() && second->call(" \r").empty(), "a blank line");
@@ -56,6 +83,6 @@ int main(int, char **words) {
     waitpid(child, nullptr, 0);
     // A player that refuses memory, by hand.
     auto full = tardis::Machine::open(words[2], "");
-    expect(full && !full->in_flight(), "a list without memory");
-    expect(!full->in_flight() && !full->message(0) && full->call("flight").empty(), "a player that is gone");
+    expect(full && !full->in_flight().is_told, "a list without memory");
+    expect(!full->in_flight().is_told && !full->message(0) && full->call("flight").empty(), "a player that is gone");
 }

@@ -108,7 +108,7 @@ def machine():
             fail("the look-ups after it")
         if opened.deliver(7) != tardis.Answer("refused", "NoSuch") or opened.open_operation(1) is not None:
             fail("a message that isn't there")
-        if opened.records().columns()["received"] != [5]:
+        if opened.records(1) or opened.records().columns()["received"] != [5]:
             fail("columns")
     for make, kind in ((lambda: tardis.Machine(cores=65), tardis.BadConfiguration),
                        (lambda: tardis.Machine(ways=17), tardis.BadConfiguration)):
@@ -252,6 +252,55 @@ def runs(is_proved):
         if told != wanted:
             fail(f"a verdict: {told}, not {wanted}")
     faults(is_proved)
+    ends(is_proved)
+
+
+def ends(is_proved):
+    """Ends of store buffering by hand, of which one meets the condition; bounds."""
+    text = STORE_BUFFERING.with_stem("SB+yes").read_text()
+    listed = tardis.ends(text)
+    wanted = [tardis.End({"0:x7": first, "1:x7": second}, (first, second) == (1, 0))
+              for first, second in ((0, 1), (1, 0), (1, 1))]
+    if (listed.ends, listed.observation, listed.condition) != (wanted, "Sometimes", "exists"):
+        fail(f"ends: {listed}")
+    if (listed.name, listed.states, listed.is_proved) != ("SB+yes", 13, is_proved):
+        fail(f"ends: {listed}")
+    if tardis.ends(text, states=7) != listed:
+        fail("ends of 7 states at once")
+    refuses(tardis.TooManyStates, lambda: tardis.ends(text, states=6), "a seventh state")
+    refuses(tardis.BadConfiguration, lambda: tardis.ends(text, states=0), "no state")
+    refuses(tardis.BadText, lambda: tardis.ends("RISCV\n"), "no litmus test")
+    program = os.environ.get("TARDIS")
+    tardis.found.program.cache_clear()
+    os.environ["TARDIS"] = shutil.which("true")
+    refuses(tardis.TardisError, lambda: tardis.ends(text), "a program of another version")
+    del os.environ["TARDIS"]
+    if program is not None:
+        os.environ["TARDIS"] = program
+
+
+CALLER = """
+import tardis
+report: tardis.TraceReport = tardis.trace("0 R 0x0", lease=5)
+records: tardis.Records = tardis.trace("0 R 0x0", records=True)
+listed: list[tardis.End] = tardis.ends("").ends
+with tardis.Machine(cores=2) as machine:
+    sent: tardis.Message | None = machine.message(0)
+"""
+
+
+def typed():
+    """What mypy says of the package and of a caller, where it is there."""
+    if shutil.which("mypy") is None:
+        return print("python_package.py: no mypy, so type hints aren't tried", file=sys.stderr)
+    with tempfile.TemporaryDirectory() as folder:
+        caller = Path(folder, "caller.py")
+        for text, wanted in ((CALLER, 0), (CALLER.replace(": tardis.Records", ": tardis.TraceReport"), 1)):
+            caller.write_text(text)
+            told = subprocess.run(["mypy", "--strict", f"--cache-dir={folder}/kept", caller], text=True,
+                                  env=os.environ | {"MYPYPATH": str(TOP / "python")}, capture_output=True)
+            if told.returncode != wanted:
+                fail(f"type hints: {told.stdout}{told.stderr}")
 
 
 def faults(is_proved):
@@ -263,7 +312,7 @@ def faults(is_proved):
                              (lambda: tardis.check("", "", opening={4: 5}), tardis.BadText, 1),
                              (lambda: tardis.trace("0 R 0x0\n", lease=0), tardis.BadConfiguration, None),
                              (lambda: tardis.trace("0 R 0x0\n", schedule="seed", fair=True), tardis.BadConfiguration,
-                              None)):
+                              None), (lambda: tardis.trace("", runs=2), TypeError, None)):
         try:
             make()
             fail("what is refused was taken")
@@ -304,6 +353,7 @@ def main(words):
         another_version()
         return runs(True)
     packaged()
+    typed()
     warnings.simplefilter("ignore")
     player = words[0]
     told = []
@@ -319,7 +369,7 @@ def main(words):
         print(f"python_package.py: {tried} calls, one by one")
     if told[0] != told[1]:
         fail(f"latency.py: {told[0]} by the proved player, and {told[1]}")
-    os.environ["TARDIS_LIBRARY"] = ""
+    os.environ["TARDIS_LIBRARY"] = os.environ["TARDIS"] = ""
     runs(False)
 
 

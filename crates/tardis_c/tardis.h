@@ -1,6 +1,6 @@
-/* The checker and the runner of "Tardis, proved" for C and C++. README.md beside this file says what is proved of them
-   and how to link them. The numbers that calls answer are the program's numbers of errors where it has them, and not
-   its exit statuses.
+/* The checker and the runner of "Tardis, proved" for C and C++. crates/tardis_c/README.md of the repository says what
+   is proved of them and how to link them. tardis_machine.h drives the machine event by event. The numbers that calls
+   answer are the program's numbers of errors where it has them, and not its exit statuses.
 
    Texts are bytes with a length, and need no byte 0 at their end. A null pointer stands for nothing where the length is
    0, and is TARDIS_NULL elsewhere. What a call writes must not overlap anything else that it is given. No call keeps a
@@ -174,7 +174,11 @@ static inline int tardis_check_opened(const char *opening, size_t opening_length
 }
 
 /* Checks records against what cores were issued, each core's operations in its order, over a memory of zeros. Look at
-   the number first: what is told says nothing on TARDIS_NO_MEMORY and TARDIS_NULL. */
+   the number first: what is told says nothing on TARDIS_NO_MEMORY and TARDIS_NULL.
+
+   A history may grow: append operations and records to your arrays, and ask again. Each call goes through all of it.
+   The verdict is on what is there. If no later record comes before one of these by time and number, a wrong value or a
+   fault of program order stays one. Else a later record may mend it, or break what was legal. */
 static inline int tardis_check_records(const struct tardis_operation *operations, size_t operation_count,
                                        const struct tardis_record *records, size_t record_count,
                                        struct tardis_told *told) {

@@ -5,8 +5,8 @@
 #define TARDIS_HPP
 
 #include "tardis.h"
+#include "tardis_machine.h"
 
-#include <cerrno>
 #include <charconv>
 #include <functional>
 #include <memory>
@@ -16,11 +16,6 @@
 #include <string_view>
 #include <utility>
 #include <vector>
-
-#include <fcntl.h>
-#include <sys/socket.h>
-#include <sys/wait.h>
-#include <unistd.h>
 
 namespace tardis {
 
@@ -113,67 +108,48 @@ struct Message {
     std::string carries;
 };
 
+// The numbers of the messages in flight, in the order of sending, for a loop to go through. There are none, and
+// `is_told` is false, where memory is refused or the player is gone.
+struct InFlight {
+    bool is_told = false;
+    std::vector<uint64_t> numbers;
+    auto begin() const { return numbers.begin(); }
+    auto end() const { return numbers.end(); }
+};
+
 // A machine that you drive: you say which core attempts, and when each message arrives. It runs in the player of
 // events, a process of its own, which answers each call at once (docs/EVENTS.md). The machine ends with this value.
 // One thread at a time may call it.
 class Machine {
   public:
-    // Starts the player at this path and opens a machine, as `cores 4 line-words 8 lease 10`; none if that is refused.
-    // Then `why` is the player's answer, or empty where there is no player.
+    // Starts the player at this path, or of this name on PATH, and opens a machine, as `cores 4 line-words 8 lease 10`;
+    // none if that is refused. Then `why` is the player's answer, or empty where there is no player.
     static std::optional<Machine> open(const std::string &player, const std::string &options,
                                        std::string *why = nullptr) {
-        if (why) why->clear();
-        int ends[2];
-        // Closed in all other programs that are started: a player ends when the last copy of its machine's end is gone.
-        if (socketpair(AF_UNIX, SOCK_STREAM | SOCK_CLOEXEC, 0, ends) != 0) return std::nullopt;
-        const pid_t child = fork();
-        if (child == 0) {
-            setpgid(0, 0);  // so that Ctrl-C doesn't end it
-            const int far = fcntl(ends[1], F_DUPFD_CLOEXEC, 3);  // 0 and 1 may be the ends themselves
-            if (far < 0 || dup2(far, 0) < 0 || dup2(far, 1) < 0) _exit(127);
-            execl(player.c_str(), player.c_str(), "--live", static_cast<char *>(nullptr));
-            _exit(127);
-        }
-        close(ends[1]);
-        if (child < 0) {
-            close(ends[0]);
-            return std::nullopt;
-        }
-        Machine machine(child, ends[0]);
-        const std::string answer = machine.call("machine " + options);
+        Machine machine;
+        const int number = tardis_machine_start(&machine.machine, player.c_str());
+        const std::string answer = number == TARDIS_MACHINE_DONE ? machine.call("machine " + options) : "";
+        if (why) *why = answer == "opened" ? "" : answer;
         if (answer == "opened") return machine;
-        if (why) *why = answer;
         return std::nullopt;
     }
 
-    Machine(Machine &&other) noexcept : child(std::exchange(other.child, -1)), end(std::exchange(other.end, -1)) {}
+    Machine(Machine &&other) noexcept : machine(std::exchange(other.machine, {-1, -1})) {}
     Machine &operator=(Machine &&other) noexcept {
-        std::swap(child, other.child);
-        std::swap(end, other.end);
+        std::swap(machine, other.machine);
         return *this;
     }
-    ~Machine() {
-        if (end >= 0) close(end);
-        while (child > 0 && waitpid(child, nullptr, 0) < 0 && errno == EINTR) {}
-    }
+    ~Machine() { tardis_machine_close(&machine); }
 
     // The answer to a line of docs/EVENTS.md: `issue 1 R 0x8`, `deliver m3`, `copy 0 0x8`; empty if the player is
     // gone, or if that isn't one line.
     std::string call(const std::string &line) {
-        if (line.find('\n') != line.npos || line.find_first_not_of(" \t\r\v\f") == line.npos) return {};
-        const std::string said = line + '\n';
-        for (size_t at = 0; at < said.size();) {
-            const ssize_t count = send(end, said.data() + at, said.size() - at, MSG_NOSIGNAL);
-            if (count < 0 && errno == EINTR) continue;
-            if (count <= 0) return {};
-            at += static_cast<size_t>(count);
-        }
+        if (tardis_machine_send(&machine, line.data(), line.size()) != TARDIS_MACHINE_DONE) return {};
         std::string answer;
         for (char block[4096]; answer.empty() || answer.back() != '\n';) {
-            const ssize_t count = read(end, block, sizeof block);
-            if (count < 0 && errno == EINTR) continue;
-            if (count <= 0) return {};
-            answer.append(block, static_cast<size_t>(count));
+            const size_t count = tardis_machine_receive(&machine, block, sizeof block);
+            if (count == 0) return {};
+            answer.append(block, count);
         }
         answer.pop_back();
         return answer;
@@ -182,19 +158,18 @@ class Machine {
     std::string attempt(unsigned core) { return call("attempt " + std::to_string(core)); }
     std::string deliver(uint64_t number) { return call("deliver m" + std::to_string(number)); }
 
-    // The numbers of the messages in flight, in the order of sending; none if memory is refused or the player is gone.
-    std::optional<std::vector<uint64_t>> in_flight() {
-        std::vector<uint64_t> numbers;
+    InFlight in_flight() {
+        InFlight flight;
         const std::string told = call("flight");
-        if (told == "none") return numbers;
+        if (told == "none") return {true, {}};
         std::istringstream words(told);
         for (std::string word; words >> word;) {
             const auto number = word[0] == 'm' ? number_of(word, 1, 10) : std::nullopt;
-            if (!number) return std::nullopt;
-            numbers.push_back(*number);
+            if (!number) return {};
+            flight.numbers.push_back(*number);
         }
-        if (numbers.empty()) return std::nullopt;
-        return numbers;
+        flight.is_told = !flight.numbers.empty();
+        return flight;
     }
 
     // The message in flight that has this number, if there is one.
@@ -217,9 +192,8 @@ class Machine {
         const auto read = std::from_chars(word.data() + from, end, number, base);
         return read.ec == std::errc() && read.ptr == end ? std::optional(number) : std::nullopt;
     }
-    Machine(pid_t child, int end) : child(child), end(end) {}
-    pid_t child;
-    int end;
+    Machine() = default;
+    tardis_machine machine{-1, -1};
 };
 
 } // namespace tardis

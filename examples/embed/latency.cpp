@@ -34,9 +34,9 @@ class Network {
             now = time;
             if (is_message) arrive(number, now);
             else go_on(static_cast<unsigned>(number), now);
-            const auto numbers = machine.in_flight();
-            if (!numbers || is_refused) return std::nullopt;
-            for (const uint64_t each : *numbers) {
+            const tardis::InFlight flight = machine.in_flight();
+            if (!flight.is_told || is_refused) return std::nullopt;
+            for (const uint64_t each : flight) {
                 if (each < sent) continue;
                 const auto message = machine.message(each);
                 if (!message) return std::nullopt;

@@ -9,8 +9,12 @@ class NoMemory(TardisError):
     """Memory was refused."""
 
 
+class TooManyStates(TardisError):
+    """A list of ends would keep more states at once than it may."""
+
+
 class BadConfiguration(TardisError):
-    """An option of the machine is out of its range: the text names it."""
+    """An option is out of its range: the text names it."""
 
 
 class BadText(TardisError):

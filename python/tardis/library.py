@@ -53,7 +53,7 @@ def told(call: Any, size: int, *arguments: Any) -> tuple[int, str]:
         if length.value <= size:
             break
         size = length.value
-    text = buffer[:length.value].decode()
+    text = ctypes.string_at(buffer, length.value).decode()
     if number in ERRORS:
         raise ERRORS[number](text.strip())
     if number > SHORT_BUFFER:

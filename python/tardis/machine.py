@@ -6,8 +6,8 @@ from dataclasses import dataclass
 from typing import Any
 
 from tardis import found
-from tardis.errors import BadConfiguration, NoMemory, TardisError
-from tardis.options import Options, whole
+from tardis.errors import NoMemory, TardisError
+from tardis.options import Options, within
 from tardis.reports import Record, Records, record_of
 
 OF_MACHINE = ("banks", "sets", "ways", "bank_sets", "bank_ways", "line_words", "lease", "messages", "time")
@@ -49,8 +49,7 @@ class Machine:
         for name in options:
             if name not in (*OF_MACHINE, "private_write"):
                 raise TypeError(f"{name} is an option of a run, and not of a machine")
-        if not 1 <= whole("cores", cores) <= 64:
-            raise BadConfiguration(f"cores is {cores}: it goes from 1 to 64")
+        within("cores", cores, 1, 64)
         path = found.player()
         self.is_proved = path is not None
         command = [path] if path else found.second("play.py", "the player of events")
@@ -168,9 +167,9 @@ class Machine:
         """The word's value, where its line now is."""
         return int(self.call(f"word {address:#x}"))
 
-    def records(self) -> Records:
-        """The completed operations."""
-        return Records(record_of(self.call(f"record {number}")) for number in range(int(self.call("records"))))
+    def records(self, first: int = 0) -> Records:
+        """The completed operations, from this number on."""
+        return Records(record_of(self.call(f"record {number}")) for number in range(first, int(self.call("records"))))
 
     def check(self) -> str:
         """The checker's verdict on the records: always legal."""

@@ -19,6 +19,13 @@ def whole(name: str, value: Any) -> int:
     return operator.index(value)
 
 
+def within(name: str, value: Any, least: int, most: int) -> int:
+    """The value of an option that is a whole number of this range."""
+    if not least <= whole(name, value) <= most:
+        raise BadConfiguration(f"{name} is {value}: it goes from {least} to {most}")
+    return whole(name, value)
+
+
 @dataclass(frozen=True, kw_only=True)
 class Options:
     """How a machine is built, and how a run goes on it."""
@@ -41,8 +48,7 @@ class Options:
 
     def __post_init__(self) -> None:
         for name, (least, most) in RANGES.items():
-            if not least <= whole(name, getattr(self, name)) <= most:
-                raise BadConfiguration(f"{name} is {getattr(self, name)}: it goes from {least} to {most}")
+            within(name, getattr(self, name), least, most)
         if whole("line_words", self.line_words) not in (1, 8):
             raise BadConfiguration(f"line_words is {self.line_words}: it is 1 or 8")
         for name in ("private_write", "fair"):

@@ -26,6 +26,28 @@ class LitmusReport:
 
 
 @dataclass(frozen=True)
+class End:
+    """An end of a litmus test: the value of each name in the condition, and whether these make its expression true."""
+
+    values: dict[str, int]
+    holds: bool
+
+
+@dataclass(frozen=True)
+class EndsReport:
+    """Every end that a litmus test has, in any run. `is_proved` says who listed them: the proved program, or the second
+    one."""
+
+    text: str = field(repr=False)
+    is_proved: bool
+    name: str
+    states: int              # met on the way
+    ends: list[End]
+    condition: str           # exists, ~exists or forall
+    observation: str         # Never, Sometimes or Always: how often an end makes the expression true
+
+
+@dataclass(frozen=True)
 class TraceReport:
     """The report on a run of a trace."""
 
@@ -65,15 +87,28 @@ def record_of(line: str) -> Record:
                   values[-1] if kind != "W" else None, time, number)
 
 
+def values_of(words: list[str]) -> dict[str, int]:
+    """The values of names, from words as `0:x7=1`."""
+    return {name: int(value) for name, _, value in (word.rpartition("=") for word in words)}
+
+
 def litmus_report(text: str, is_proved: bool) -> LitmusReport:
     """A report on a litmus test, from its text."""
     lines = text.splitlines()
     pairs = [line.split() for line in lines]
-    states = [State(int(times), {name: int(value) for name, _, value in (word.rpartition("=") for word in words)})
-              for times, *words in pairs if times.isdigit()]
+    states = [State(int(times), values_of(words)) for times, *words in pairs if times.isdigit()]
     named = {words[0]: words[1] for words in pairs if len(words) == 2 and not words[0].isdigit()}
     numbers = {name: int(value) for name, value in named.items() if value.isdigit() and name != "test"}
     return LitmusReport(text, is_proved, named["test"], numbers, states, named["condition"], named["verdict"] == "yes")
+
+
+def ends_report(text: str, is_proved: bool) -> EndsReport:
+    """A list of ends, from its text."""
+    lines = text.splitlines()
+    ends = [End(values_of(line[2:].split()), line[0] == "*") for line in lines if line[:2] in ("  ", "* ")]
+    named = {words[0]: words[1:] for words in map(str.split, lines) if words}
+    return EndsReport(text, is_proved, named["test"][0], int(named["states"][0]), ends, named["condition"][0],
+                      named["observation"][1])
 
 
 def trace_report(text: str, is_proved: bool) -> TraceReport:

@@ -3,31 +3,38 @@ import os
 import subprocess
 import tempfile
 from collections.abc import Mapping
-from typing import Any
+from typing import Any, Literal, overload
 
 from tardis import found, library
-from tardis.errors import BadConfiguration, BadText, NoMemory, TardisError
-from tardis.options import Options
-from tardis.reports import LitmusReport, Records, TraceReport, litmus_report, records_of, trace_report
+from tardis.errors import BadConfiguration, BadText, NoMemory, TardisError, TooManyStates
+from tardis.options import Options, within
+from tardis.reports import EndsReport, LitmusReport, Records, TraceReport
+from tardis.reports import ends_report, litmus_report, records_of, trace_report
 
 
 def in_bytes(text: str | bytes) -> bytes:
     return text.encode() if isinstance(text, str) else text
 
 
-def by_second(words: list[str], *texts: bytes) -> str:
-    """What the second program prints of a command on these texts, whose files are named behind the words."""
-    command = found.second("oracle.py", "the shared library")
+def printed(program: list[str], words: list[str], *texts: bytes) -> str:
+    """What a program prints of a command on these texts, whose files are named behind the words."""
     with tempfile.TemporaryDirectory(prefix="tardis-") as folder:
         paths = [os.path.join(folder, str(number)) for number in range(len(texts))]
         for path, text in zip(paths, texts):
             with open(path, "wb") as file:
                 file.write(text)
-        came = subprocess.run(command + words + paths, capture_output=True, text=True)
+        came = subprocess.run(program + words + paths, capture_output=True, text=True)
     if came.returncode in (0, 1) and (came.stdout or not came.stderr):  # of records there may be none
         return came.stdout
     told = came.stderr.strip()
+    if told.startswith("tardis: more than "):
+        raise TooManyStates(told)
     raise {1: NoMemory, 2: BadText, 3: BadConfiguration}.get(came.returncode, TardisError)(told)
+
+
+def by_second(words: list[str], *texts: bytes) -> str:
+    """What the second program prints, which stands for the shared library."""
+    return printed(found.second("oracle.py", "the shared library"), words, *texts)
 
 
 def run(kind: str, text: str | bytes, options: Options, records: bool = False) -> tuple[str, bool]:
@@ -45,10 +52,31 @@ def litmus(text: str | bytes, **options: Any) -> LitmusReport:
     return litmus_report(*run("litmus", text, Options(**options)))
 
 
+def ends(text: str | bytes, *, states: int = 4_194_304) -> EndsReport:
+    """Lists every end that a litmus test has, in any run, by the proved program. `states` may be kept at once, from 1
+    to 4294967295.
+
+    Raises BadText, BadConfiguration, TooManyStates or NoMemory."""
+    within("states", states, 1, 2 ** 32 - 1)
+    program = found.program()
+    command = [program] if program else found.second("oracle.py", "the program")
+    return ends_report(printed(command, ["ends", "--states", str(states)], in_bytes(text)), program is not None)
+
+
+@overload
+def trace(text: str | bytes, *, records: Literal[False] = False, **options: Any) -> TraceReport: ...
+
+
+@overload
+def trace(text: str | bytes, *, records: Literal[True], **options: Any) -> Records: ...
+
+
 def trace(text: str | bytes, *, records: bool = False, **options: Any) -> TraceReport | Records:
     """Runs a trace over a memory of zeros: its report, or its records by columns.
 
     Raises BadText, BadConfiguration or NoMemory."""
+    if "runs" in options:
+        raise TypeError("runs is an option of a litmus test, and not of a trace")
     if records:
         return records_of(run("trace", text, Options(**options), True)[0])
     return trace_report(*run("trace", text, Options(**options)))

@@ -1,0 +1,120 @@
+/* A machine that a program in C or C++ drives: it says which core attempts, and when each message arrives. The machine
+   runs in the player of events, a process of its own, which answers each call at once: the program can break nothing
+   that is proved of it. Calls and answers are lines as docs/EVENTS.md has them: `issue 1 R 0x8`, `deliver m3`. Nothing
+   here is proved, and no library is needed.
+
+   It is for POSIX: in strict C define _POSIX_C_SOURCE as 200809L first. One thread at a time may call one machine. For
+   cores and banks on threads of your own there is no call: a seat is a value that its thread owns, which only Rattle
+   can check (crates/mailboxes). From C, let one thread call, or run `tardis trace --schedule threads`. */
+#ifndef TARDIS_MACHINE_H
+#define TARDIS_MACHINE_H
+
+#include <errno.h>
+#include <fcntl.h>
+#include <stddef.h>
+#include <string.h>
+#include <sys/socket.h>
+#include <sys/types.h>
+#include <sys/uio.h>
+#include <sys/wait.h>
+#include <unistd.h>
+
+#ifdef __cplusplus
+extern "C" {
+#endif
+
+enum tardis_machine_number {
+    TARDIS_MACHINE_DONE = 0,
+    TARDIS_MACHINE_LONG = 1, /* the answer doesn't fit: the buffer has its front */
+    TARDIS_MACHINE_LINE = 2, /* that isn't one line: nothing was called */
+    TARDIS_MACHINE_GONE = 3  /* there is no player, or it is gone */
+};
+
+struct tardis_machine {
+    pid_t player;
+    int end; /* of the socket; -1 once it is closed */
+};
+
+/* Ends the player, whose machine is gone then. A second time it does nothing. */
+static inline void tardis_machine_close(struct tardis_machine *machine) {
+    if (machine->end >= 0) close(machine->end);
+    machine->end = -1;
+    while (machine->player > 0 && waitpid(machine->player, NULL, 0) < 0 && errno == EINTR) {}
+    machine->player = -1;
+}
+
+/* Starts the player at this path, or of this name on PATH. It has no machine yet: `machine cores 4` opens one. That
+   there is no such player is met at the first call. */
+static inline int tardis_machine_start(struct tardis_machine *machine, const char *player) {
+    int ends[2], far;
+    machine->player = machine->end = -1;
+    /* Closed in all other programs that are started: a player ends when the last copy of its machine's end is gone. */
+    if (socketpair(AF_UNIX, SOCK_STREAM | SOCK_CLOEXEC, 0, ends) != 0) return TARDIS_MACHINE_GONE;
+    machine->end = ends[0];
+    machine->player = fork();
+    if (machine->player == 0) {
+        setpgid(0, 0);                           /* so that Ctrl-C doesn't end it */
+        far = fcntl(ends[1], F_DUPFD_CLOEXEC, 3); /* 0 and 1 may be the ends themselves */
+        if (far < 0 || dup2(far, 0) < 0 || dup2(far, 1) < 0) _exit(127);
+        execlp(player, player, "--live", (char *)NULL);
+        _exit(127);
+    }
+    close(ends[1]);
+    if (machine->player > 0) return TARDIS_MACHINE_DONE;
+    tardis_machine_close(machine);
+    return TARDIS_MACHINE_GONE;
+}
+
+/* Sends a call, which has this length and isn't blank. Then its answer is to be received. */
+static inline int tardis_machine_send(struct tardis_machine *machine, const char *line, size_t length) {
+    size_t at, blanks = 0;
+    for (at = 0; at < length; at++) blanks += line[at] && strchr(" \t\r\v\f", line[at]) ? 1 : 0;
+    if (blanks == length || memchr(line, '\n', length)) return TARDIS_MACHINE_LINE;
+    for (at = 0; at <= length;) {
+        struct iovec parts[2] = {{(char *)line + at, length - at}, {(char *)"\n", 1}};
+        struct msghdr said;
+        ssize_t count;
+        memset(&said, 0, sizeof said);
+        said.msg_iov = parts;
+        said.msg_iovlen = 2;
+        count = sendmsg(machine->end, &said, MSG_NOSIGNAL);
+        if (count < 0 && errno == EINTR) continue;
+        if (count <= 0) return TARDIS_MACHINE_GONE;
+        at += (size_t)count;
+    }
+    return TARDIS_MACHINE_DONE;
+}
+
+/* Receives the next bytes of an answer, whose last one is a line feed: how many, or 0 if the player is gone. */
+static inline size_t tardis_machine_receive(struct tardis_machine *machine, char *buffer, size_t size) {
+    ssize_t count;
+    do count = read(machine->end, buffer, size);
+    while (count < 0 && errno == EINTR);
+    return count < 0 ? 0 : (size_t)count;
+}
+
+/* Calls, and puts the answer and a byte 0 behind it into a buffer of at least one byte. */
+static inline int tardis_machine_call(struct tardis_machine *machine, const char *line, char *answer, size_t size) {
+    char block[512];
+    size_t filled = 0, count, more;
+    int is_long = 0;
+    const int number = tardis_machine_send(machine, line, strlen(line));
+    answer[0] = 0;
+    if (number != TARDIS_MACHINE_DONE) return number;
+    do {
+        count = tardis_machine_receive(machine, block, sizeof block);
+        if (count == 0) return TARDIS_MACHINE_GONE;
+        more = block[count - 1] == '\n' ? count - 1 : count;
+        if (more > size - 1 - filled) is_long = 1, more = size - 1 - filled;
+        memcpy(answer + filled, block, more);
+        filled += more;
+        answer[filled] = 0;
+    } while (block[count - 1] != '\n');
+    return is_long ? TARDIS_MACHINE_LONG : TARDIS_MACHINE_DONE;
+}
+
+#ifdef __cplusplus
+}
+#endif
+
+#endif

@@ -58,7 +58,8 @@ UNRINGED = {"SB+yes": "an order ends so: P1:1 P1:2 P0:1 P0:2",
 REFUSED = {"PodWR Fre PodWR": "PodWR leads to a load, and PodWR begins at a store",
            "PodWR Fre Wse PodWR": "Fre Wse says what Fre says", "PodWW PodWR Fre": "PodWW PodWR says what PodWR says",
            "Rfe Fre": "Rfe Fre says what Wse says", "PodWR Fre": "two Pod at least", "PodXR Fre": "PodXR is no edge",
-           "": "edges are wanted", "--all 3": "4 to 8 edges", "--all 5 SB": "edges are wanted",
+           "Rfe PodRR Fre" + " PodWR Fre" * 5: "a cycle has 12 edges at most",
+           "": "edges are wanted", "--all 3": "4 to 8 edges", "--all 9": "4 to 8 edges", "--all 5 SB": "edges are wanted",
            "--all 4 --into nowhere": "nowhere is no folder", "--why none.litmus": "none.litmus: No such file",
            "--why LICENSE": "LICENSE: line 1: 4 BadHeader", "--why examples/litmus/PRIVATE.litmus": "executions, and"}
 

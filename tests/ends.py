@@ -434,9 +434,10 @@ def of_tool(program):
         lines = tester.run("--seeds", "1", "--threads", "0", str(path))[1].splitlines()
         tester.expect(lines[1:4] == WARNINGS, f"warnings: {lines}")
     if program:
-        status, out, error = tester.run("--seeds", "1", "--threads", "20", SB)
-        runs = sum(map(int, re.findall(r"by threads \((\d+) of 20\)", out)))
-        tester.expect((status, error, runs) == (0, "", 20), f"by threads: {status} {out} {error}")
+        for words, count in ((("--threads", "20"), 20), ((), 100)):
+            status, out, error = tester.run("--seeds", "1", *words, SB)
+            runs = sum(map(int, re.findall(rf"by threads \((\d+) of {count}\)", out)))
+            tester.expect((status, error, runs) == (0, "", count), f"by threads: {status} {out} {error}")
     got = tester.run("--states", "6", SB)
     tester.expect(got == (2, "", f"ends.py: {SB}: more than 6 states\n"), f"6 states: {got}")
     return tester

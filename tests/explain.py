@@ -142,7 +142,7 @@ CELLS = [("lw x7,4(x6)", "8", "offset"), ("fence", "8", "two sets"), ("amoswap.w
          ("li x5,-1", "8", "decimal"), ("li x5,0x1", "8", "decimal"), ("xor x7,x5,x5", "8", "no arithmetic"),
          ("lw x7 0(x6)", "8", "comma"), ("LW x7,0(x6)", "8", "small letters"), ("lw x7,0(x6)# c", "8", "No remark"),
          ("ori x5,x0,4000", "9", "2047"), ("li x5,2147483648", "9", "2147483647"), ("sd x5,0(x6)", "10", "`lw`, `sw`"),
-         ("sw x6,0(x6)", "11", "the address"), ("lw x7,0(x8)", "12", "lacks")]
+         ("sw x6,0(x6)", "11", "the address"), ("lw x7,0(x8)", "12", "lacks this thread's address, as `0:x6=x`.")]
 TEXTS = [
     (".litmus", PLAIN + "(* a *)\n" + OPENING + "exists x=0\n", ["line 2, `(* a *)`", "4 BadHeader", "from_herd"]),
     (".litmus", PLAIN + "\"\u201c\"\n" + OPENING + "exists x=0\n", ["line 2, `\"\\xe2\\x80\\x9c\"`", "3 BadByte"]),
@@ -157,6 +157,11 @@ TEXTS = [
     (".litmus", PLAIN + OPENING + "exists x=0 && x=1\n", ["line 4", "13 BadCondition", "Atoms are"]),
     (".litmus", PLAIN + OPENING + "exists 0:\nx6=0\n", ["line 5, `x6=0`", "11 AddressAsValue", "the address"]),
     (".litmus", PLAIN + OPENING, ["line 3", "14 CutShort", "The condition"]),
+    (".litmus", PLAIN + OPENING + " sw x5,0(x6) ;\nexists x=0\n", [
+        "line 4", "7 BadTable", "The row has 1 cell, and there are 2 threads"]),
+    (".trace", "x R 0x0\n", ["CORE: `x`", "4 BadCore", "begins with the core, a number alone"]),
+    (".trace", f"0 R 0x0 {'y' * 92}\n", [f"line 1, `0 R 0x0 {'y' * 92}`, a field too many"]),
+    (".trace", f"0 R 0x0 {'y' * 93}\n", [f"line 1, `0 R 0x0 {'y' * 92}..`, a field too many: `{'y' * 93}`"]),
     (".trace", "0 R 0x0\n16 R 0x8\n", ["line 2, `16 R 0x8`, CORE: `16`", "4 BadCore", "`trace 2`"]),
     (".trace", "0,R,0x0\n", ["line 1", "CORE: `0,R,0x0`", "not commas"]),
     (".trace", "0 A\n", ["the letter: `A`", "5 BadOperation", "`trace 2`"]),
@@ -179,6 +184,10 @@ TEXTS = [
 
 # Tests of tests/herd_users that tools/from_herd.py converts: they have no loop, offset, array, pointer or sum.
 HERD_CONVERTED = {"AMO_X0", "CTRLFENCEI", "CoRR-locs", "IRIW+addrs", "LB+data+ctrl", "PPOCA", "SB64", "SB64b"}
+# What other machines call an instruction.
+ELSEWHERE = {"st": "sw", "str": "sw", "store": "sw", "stw": "sw", "ldr": "lw", "load": "lw", "lwz": "lw", "set": "li",
+             "mov": "lw`, `sw` or `li", "movl": "lw`, `sw` or `li", "swap": "amoswap.w", "xchg": "amoswap.w",
+             "swp": "amoswap.w", "mfence": "fence rw,rw", "dmb": "fence rw,rw", "sync": "fence rw,rw"}
 # Cells of P1 and conditions that aren't read, and words of the hint that each must get.
 SLIPS = [("lw x7,x6", "", "The operands of `lw` are xD,0(xB)."), ("ldr x5,[x6]", "", "did you mean `lw`?"),
          ("amoswap x7,x5,(x6)", "", "`amoswap.w` or `amoswap.d`"), ("mfence", "", "did you mean `fence rw,rw`?"),
@@ -189,7 +198,8 @@ SLIPS = [("lw x7,x6", "", "The operands of `lw` are xD,0(xB)."), ("ldr x5,[x6]",
          ("", "exists (P1:x7=1)", "`1:x7`, not `P1:x7`"), ("", "exists (1:x7=-1)", "No number is negative."),
          ("", "exists (1:x7=1))", "A parenthesis too many"), ("", "exists (3:x7=1)", "There is no thread 3"),
          ("", "exists [x]=1", "`tools/from_herd.py` converts it"),
-         ("", "forall (1:x7=1 => x=1)", "`tools/from_herd.py` converts this test")]
+         ("", "forall (1:x7=1 => x=1)", "`tools/from_herd.py` converts this test"),
+         *((f"{name} x5,x7", "", f"did you mean `{meant}`?") for name, meant in ELSEWHERE.items())]
 # Tests that are read, and what of them can't be meant.
 WARNED = [
     ("RISCV T\n{ 0:x6=x; 0:x8=y; 0:x5=1; }\n P0 ;\n sw x5,0(x6) ;\nexists x=1\n", [

@@ -147,6 +147,13 @@ CONDITIONS = {"exists (not (x=1))": "exists (x=0)", "exists (x=1 => 1:x7=1)": "e
               "exists (x=1 \\/ not x=1)": "exists (x=1 \\/ x=0)"}
 # The same where P1 stores to y what it loaded from x, which is 3 or 1: y may have each number of the test.
 COPIED = {"exists (not (y=1))": "exists (y=0 \\/ y=3)", "exists (y<>0 /\\ x=1)": "exists ((y=1 \\/ y=3) /\\ x=1)"}
+# Rows above two labels, and what the header says of them: what `li` sets again is no load's value.
+HEADERS = {" bne x5,x0,L0 | ;\n": "1 branch dropped",
+           " bne x5,x0,L2 | ;\n L2: bne x5,x0,L0 | ;\n": "2 branches dropped",
+           " lw x7,0(x6) | ;\n bne x7,x0,L1 | ;\n": "1 control dependency dropped",
+           " lw x7,0(x6) | ;\n li x7,1 | ;\n bne x7,x0,L0 | ;\n": "1 branch dropped"}
+# Types of locations, by the width of the instructions.
+WIDTHS = {"int": "w", "int32_t": "w", "uint32_t": "w", "long": "d", "int64_t": "d", "uint64_t": "d"}
 # What the header says that a conversion dropped, by hand from the tests.
 DROPPED = {"IRIW+addrs": "2 address dependencies dropped", "CoRR-locs": None,
            "SB64": "fences, .aq and .rl order nothing here",
@@ -166,6 +173,19 @@ OBSTACLES = {
     "PTR": [(4, "an address in memory"), (10, "isn't a location's"), (11, "stores an address"), (11, "a second width"),
             (12, "`1:x7=b` in the condition")],
     "X86": [(1, "the first line isn't `RISCV` and a name")]}
+
+
+def headers(tester):
+    for rows, wanted in HEADERS.items():
+        status, out, error = tester.turned(f"{OPENING}{rows} L1: | ;\n L0: | ;\n{END}")
+        tester.expect((status, error) == (0, "") and f"\nconverted={wanted}\n" in out, f"{rows}: {status} {out} {error}")
+    for name, own in WIDTHS.items():
+        for width in "wd":
+            text = f"RISCV T\n{{ {name} x=1; 0:x6=x; }}\n P0 ;\n l{width} x5,0(x6) ;\n{END}"
+            if width == own:
+                tester.expect(tester.turned(text)[0] == 0, f"{name} with l{width}")
+            else:
+                tester.is_refused(text, 2, "a type that isn't as wide")
 
 
 def users(tester):
@@ -268,6 +288,7 @@ def main(program):
         cells(tester)
         users(tester)
         conditions(tester)
+        headers(tester)
         logs(tester)
         others(tester)
     print(f"{tester.tried} tried, {tester.wrong} wrong")

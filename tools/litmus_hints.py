@@ -15,7 +15,7 @@ OPERANDS = {"lw": "xD,0(xB)", "ld": "xD,0(xB)", "sw": "xS,0(xB)", "sd": "xS,0(xB
 ELSEWHERE = {"st": "sw", "str": "sw", "store": "sw", "stw": "sw", "ldr": "lw", "load": "lw", "lwz": "lw",
              "set": "li", "mov": "lw`, `sw` or `li", "movl": "lw`, `sw` or `li",
              "swap": "amoswap.w", "xchg": "amoswap.w", "swp": "amoswap.w",
-             "mfence": "fence rw,rw", "dmb": "fence rw,rw", "sync": "fence rw,rw", "lr.w": "lw", "lr.d": "ld"}
+             "mfence": "fence rw,rw", "dmb": "fence rw,rw", "sync": "fence rw,rw"}
 KEYWORDS = ("exists", "~exists", "forall")
 ATOMIC = ("amo", "lr", "sc")
 ARITHMETIC = "add addi sub xor xori or and andi mv sll slli".split()

@@ -590,6 +590,27 @@ def narrow(browser, folder):
                     yield f"{name} at {size}: {fault} is cut"
 
 
+# What the first line says of a run's options.
+HOWS = {"the past": "lease 3, by rounds", "IRIW by a seed": "lease 10, seed 7",
+        "false sharing": "lease 10, by rounds, lines of 8 words",
+        "private writes": "lease 10, by rounds, private writes", "fair rounds": "lease 10, by fair rounds"}
+
+
+def counted(player, folder):
+    """Jumps find as many events of each kind as a test's report counts."""
+    for name in ("SB", "LOCK", "RENEW", "STALE"):
+        path = folder / f"{name}.html"
+        written(player, [f"examples/litmus/{name}.litmus"], path)
+        report = (TOP / f"examples/litmus/{name}.report").read_text()
+        told = {words[0]: int(words[1]) for words in map(str.split, report.splitlines()) if words[-1].isdigit()
+                and len(words) == 2}
+        wanted = {"c": told["completed"], "s": told["stale-hits"], "r": told["renewals"],
+                  "l": told["flushes"] + told["write-backs"]}
+        found = {key: sum(key in step[6] for step in data_of(path)["steps"]) for key in wanted}
+        if found != wanted:
+            yield f"{name}: jumps to {found}, wanted {wanted}"
+
+
 def refusals(player, folder):
     """What is answered in one line, and what the page says of a run that isn't all done."""
     (folder / "huge.trace").write_text("".join(f"{n % 8} W 0x0 {n}\n" for n in range(900)))
@@ -641,6 +662,9 @@ def main(given):
             faults += [f"{words[-1]}: more than 4 MB"] if path.stat().st_size > MOST_BYTES else []
         faults += refusals(player, folder)
         faults += questions(player, folder)
+        faults += counted(player, folder)
+        faults += [f"{name}: {data_of(pages[name])['how']}, wanted {how}" for name, how in HOWS.items()
+                   if data_of(pages[name])["how"] != how]
         if installed():
             browser = Browser(installed())
             faults += in_browser(browser, player, pages, folder)

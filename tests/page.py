@@ -341,6 +341,21 @@ def tried(browser, path, says):
         browser.call("Input.dispatchMouseEvent", type=kind, x=box["x"] + box["width"] / 2,
                      y=box["y"] + box["height"] / 2, button="left", clickCount=1)
     compared.same("the slider's middle", at(), browser.value("run.steps.length / 2"))
+    browser.press("Home")
+    last, most = browser.value("run.steps.length"), 0
+    while (before := at()) < last:
+        browser.press("ArrowRight")
+        over = at() - before - 1
+        compared.same("what is said of events passed over", browser.value("document.getElementById('passed').textContent"),
+                      f"({over} passed over that changed nothing)" if over else "")
+        most = max(most, over)
+    compared.same("some events are passed over", most > 0, True)
+    for key, of, wanted in ((" ", "[at < run.steps.length, document.getElementById('play').textContent].join()",
+                             ("true,pause", "true,play")),
+                            ("d", "document.documentElement.classList.contains('dark')", (True, False))):
+        for after in wanted:
+            browser.press(key)
+            compared.same(f"after {key!r}", browser.value(of), after)
     return compared.faults
 
 
@@ -533,6 +548,12 @@ def asked(browser, folder):
     browser.open(folder / "SB.html")
     compared.same("the condition", text("#condition"), "exists (0:x7=0 /\\ 1:x7=0)")
     compared.same("no answer yet", [text("#answer"), rows()], ["", ["x7", "x7"]])
+    filled = """[...Array(run.steps.length + 1).keys()].map(place => {
+  go(place);
+  return counts[at] + ":" + [...document.querySelectorAll(".registers")].filter(one => one.textContent.includes("=")).length;
+}).filter((one, place, all) => one !== all[place - 1]).join()"""
+    compared.same("registers by completions", browser.value(filled), "0:0,1:0,2:0,3:1,4:2")  # both stores, both loads
+    browser.press("Home")
     heads = [" ".join(browser.value(f"document.querySelector('#core-{core} h2').innerText").split()) for core in (0, 1)]
     compared.same("whose thread", heads, ["core 0 runs P0 time 0", "core 1 runs P1 time 0"])
     browser.press("End")

@@ -46,7 +46,7 @@ number-read is_one put inside more (b ∷ bytes) value count fits =
             let same : count + (1 + n) ≡ count + 1 + n = omega arith in
             rw (e, lt, inside b e, take-one_more n b bytes, e, same)
             (number-read is_one put inside more bytes (put value b) (count + 1) fits')
-        | inr ge ↦ grind (arith, nat_tests, common_steps, grown, nat_tests, never, take-one_more)
+        | inr ge ↦ grind (arith, nat_tests, common_steps, grown, never, take-one_more)
       ]
       | inr e ↦ grind (arith, nat_tests, common_steps, cases_Bool, ended-here, take-one_more)
     ]
@@ -60,13 +60,13 @@ pub goes-on : (hex : Bool) (bytes : List ℕ) (value i next : ℕ) → Goes hex 
     is_digit_of hex (get_or bytes i 0) ≡ true → put_digit hex value (get_or bytes i 0) < 18446744073709551616 →
     next ≡ put_digit hex value (get_or bytes i 0) → Goes hex bytes next (i + 1)
 unfolding number_read
-goes-on hex bytes value i next known lt h fits e = grind (arith, nat_tests, common_steps, drop_more, get_or, nat_tests)
+goes-on hex bytes value i next known lt h fits e = grind (arith, nat_tests, common_steps, drop_more, get_or)
 
 pub goes-over : (hex : Bool) (bytes : List ℕ) (value i : ℕ) → Goes hex bytes value i → i < length bytes →
     is_digit_of hex (get_or bytes i 0) ≡ true → (put_digit hex value (get_or bytes i 0) < 18446744073709551616 → ⊥) →
     None ≡ number_of (is_digit_of hex) (put_digit hex) 0 0 bytes
 unfolding number_read
-goes-over hex bytes value i known lt h over = grind (arith, nat_tests, common_steps, drop_more, get_or, nat_tests)
+goes-over hex bytes value i known lt h over = grind (arith, nat_tests, common_steps, drop_more, get_or)
 
 pub goes-wrong : (hex : Bool) (bytes : List ℕ) (value i : ℕ) → Goes hex bytes value i → i < length bytes →
     is_digit_of hex (get_or bytes i 0) ≡ false → is_within (get_or bytes i 0) ≡ true →

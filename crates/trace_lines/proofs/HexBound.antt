@@ -33,10 +33,10 @@ pub hex-bound : (digits : List ℕ) → list_all is_hex_digit digits ≡ true �
 hex-bound digits h le = grind (arith, nat_tests, common_steps, fold-bound, pow-le-pow_right)
 
 pub few-bound : (digits : List ℕ) → is_few is_hex_digit 16 digits ≡ true → hex_of digits < 18446744073709551616
-few-bound digits h = grind (arith, nat_tests, common_steps, and_parts, hex-bound, nat_tests)
+few-bound digits h = grind (arith, nat_tests, common_steps, and_parts, hex-bound)
 
 hex-number : (field : List ℕ) → hex_in field ≡ number_in true 16 (2 ^ 64) field
-hex-number field = grind (arith, nat_tests, common_steps, cases_Bool, few-bound, nat_tests)
+hex-number field = grind (arith, nat_tests, common_steps, cases_Bool, few-bound)
 
 -- what a byte address stands for, with the fields after it
 abbrev pub worded : Option (ℕ × List (List ℕ)) → Option (ℕ × List (List ℕ))

@@ -11,9 +11,6 @@ use Rattle.text_lines.proofs.Lemmas.{take-one_more, drop-one_more}
 use Rattle.trace_lines.specs.Fields.{is_blank, before_comment, begins_inside_field, first_grown, parted, fields_of}
 use Rattle.trace_lines.specs.Fields.{is_within, front_field, has_fields}
 
-comment-none : (b : ℕ) (bytes : List ℕ) → (b == 35) ≡ true → before_comment (b ∷ bytes) ≡ []
-comment-none b bytes e = rw e refl
-
 comment-later : (b : ℕ) (bytes : List ℕ) → (b == 35) ≡ false → before_comment (b ∷ bytes) ≡ b ∷ before_comment bytes
 comment-later b bytes e = rw (e, take-one_more (prefix_len (λ c. not (c == 35)) bytes) b bytes) refl
 
@@ -73,7 +70,7 @@ unfolding front_field parted
 fronted-first b bytes e =
     let n : ℕ = prefix_len is_within bytes in
     elim (cases_Bool (is_within b)) [
-      | inl h ↦ grind (arith, nat_tests, common_steps, drop-one_more, field-first, nat_tests, take-one_more)
+      | inl h ↦ grind (arith, nat_tests, common_steps, drop-one_more, field-first, take-one_more)
       | inr h ↦ grind (arith, nat_tests)
     ]
 

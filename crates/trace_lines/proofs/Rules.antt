@@ -1,5 +1,5 @@
 -- What is read of the next field: rules for what holds of every reading, and for what is read.
-use Rattle.std.proofs.Common.{◌≡◌, ℕ, List, [], ◌∷◌, Option, Some, None, refl, ap, ◌==◌, arith}
+use Rattle.std.proofs.Common.{◌≡◌, ℕ, List, [], ◌∷◌, Option, Some, None, refl, ◌==◌, arith}
 use Rattle.std.proofs.lemmas.Bool.Decides.{nat_tests}
 use Rattle.std.proofs.lemmas.Grind.{common_steps}
 use Rattle.std.specs.Prelude.{Result, Ok, Err, option_map}
@@ -10,7 +10,7 @@ use Rattle.trace_lines.specs.declared.steps.Access.{Access}
 use Rattle.trace_lines.specs.Causes.{Missing}
 use Rattle.trace_lines.specs.Fields.{is_within, front_field}
 use Rattle.trace_lines.specs.Fronts.{front_says, letter_in}
-use Rattle.trace_lines.specs.Reading.{FieldsRead, field_at, access_in}
+use Rattle.trace_lines.specs.Reading.{field_at, access_in}
 use Rattle.text_lines.specs.Reading.{◌>>=◌, found}
 
 -- the next field is missing, or says nothing
@@ -48,11 +48,6 @@ pub read_as : {X Y : Type 0} (kind : Kind) (says : List ℕ → Option X) (field
 unfolding field_at
 read_as kind says field fields x f y e g = rw e g
 
-found-mapped : {X : Type 0} (kind : Kind) (o : Option X) (fields : List (List ℕ)) (r : FieldsRead X) →
-    r ≡ found kind o (λ x. Ok (x, fields)) → r ≡ found kind (option_map (λ x. (x, fields)) o) (λ x. Ok x)
-found-mapped kind (Some x) fields r e = e
-found-mapped kind None fields r e = e
-
 -- what the field in front says is read
 pub front-read : {X : Type 0} (kind : Kind) (says : List ℕ → Option X) → says [] ≡ None → (bytes : List ℕ)
     (o : Option (X × List (List ℕ))) (fields : List (List ℕ)) → fields ≡ front_field bytes → o ≡ front_says says bytes
@@ -65,24 +60,9 @@ front-read kind says silent bytes o fields f e =
 abbrev pub beside : {X : Type 0} → List (List ℕ) → Option X → Option (X × List (List ℕ))
 beside fields o = option_map (λ x. (x, fields)) o
 
-letter-first : (field : List ℕ) (fields : List (List ℕ)) (b : ℕ) (rest : List (List ℕ)) →
-    Some (b, rest) ≡ beside fields (letter_in field) →
-    beside rest (access_in (b ∷ [])) ≡ beside fields (access_in field)
-letter-first (a ∷ []) fields b rest e =
-    let pair : ◌≡◌ {A = ℕ × List (List ℕ)} (b, rest) (a, fields) = cc in
-    let first : b ≡ a = ap (λ (x : ℕ × List (List ℕ)). x.0) pair in
-    let second : rest ≡ fields = ap (λ (x : ℕ × List (List ℕ)). x.1) pair in
-    rw (first, second) refl
-letter-first _ fields b rest e = absurd cc
-
 pub letter-read : (bytes : List ℕ) (b : ℕ) (rest : List (List ℕ)) (o : Option Access) →
     Some (b, rest) ≡ front_says letter_in bytes → o ≡ access_in (b ∷ []) → beside rest o ≡ front_says access_in bytes
 letter-read bytes b rest o e f = grind (arith, nat_tests)
-
-letter-missing : (field : List ℕ) (fields : List (List ℕ)) → None ≡ beside fields (letter_in field) →
-    None ≡ beside fields (access_in field)
-letter-missing (a ∷ []) fields e = absurd cc
-letter-missing _ fields e = refl
 
 pub letter-none : (bytes : List ℕ) → None ≡ front_says letter_in bytes → None ≡ front_says access_in bytes
 letter-none bytes e = grind (arith, nat_tests)

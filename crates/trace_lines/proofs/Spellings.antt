@@ -19,7 +19,7 @@ if_some false y x e = absurd cc
 
 pub number-takes : (digits bound : ℕ) (field : List ℕ) (n : ℕ) → decimal_in digits bound field ≡ Some n →
     IsNumber digits bound field n
-number-takes digits bound field n e = grind (arith, nat_tests, common_steps, and_parts, if_some, nat_tests)
+number-takes digits bound field n e = grind (arith, nat_tests, common_steps, and_parts, if_some)
 
 pub number-again : (digits bound : ℕ) (field : List ℕ) (n : ℕ) → IsNumber digits bound field n →
     decimal_in digits bound field ≡ Some n

@@ -1,28 +1,21 @@
 -- A message in the hand for which times don't fit stops the seat.
-use Rattle.std.proofs.Common.{◌≡◌, ℕ, ◌+◌, ◌-◌, ◌⊎◌, ◌&&◌, Bool, true, false, not, cond, max, List, length, Option}
-use Rattle.std.proofs.Common.{Some, None, Result, Err, refl, ap, true≢false, arith}
-use Rattle.std.proofs.lemmas.Bool.{le-ltb}
+use Rattle.std.proofs.Common.{◌≡◌, ℕ, ◌+◌, ◌-◌, ◌⊎◌, ◌&&◌, Bool, true, false, cond, max, Option}
+use Rattle.std.proofs.Common.{Some, None, Result, refl, true≢false, arith}
 use Rattle.std.proofs.lemmas.Bool.Decides.{nat_tests}
 use Rattle.std.proofs.lemmas.Grind.{common_steps}
-use Rattle.std.specs.List.{find}
 use Rattle.network.specs.declared.message.Body.TheVariants.{ShReq, WbReq}
 use Rattle.network.specs.declared.message.Message.{Message}
 use Rattle.network.specs.declared.message.TimedLine.{TimedLine}
 use Rattle.private_cache.specs.declared.line_copy.LineCopy.{LineCopy}
-use Rattle.timestamp_manager.specs.Lease.{fits, is_version, returned_lease, shared_lease}
+use Rattle.timestamp_manager.specs.Lease.{fits, is_version, shared_lease}
 use Rattle.core_pts.specs.CoreTable.{core_table}
-use Rattle.llc_bank.specs.BankTable.{bank_table, entry_of, set_of}
+use Rattle.llc_bank.specs.BankTable.{bank_table, entry_of}
 use Rattle.llc_bank.specs.declared.entry.Entry.TheVariants.{Shared, Exclusive}
-use Rattle.line_sets.specs.SetTable.{has_room}
 use Rattle.machine_table.specs.declared.event.Refusal.{Refusal as SeatRefusal}
-use Rattle.inbox.specs.declared.answer.Answer.{Answer}
 use Rattle.inbox.specs.declared.answer.Answer.TheVariants.{Refused}
-use Rattle.inbox.specs.declared.answer.Refusal.{Refusal}
 use Rattle.inbox.specs.declared.answer.Refusal.TheVariants.{Exhausted}
 use Rattle.inbox.specs.declared.answer.Served.{Served}
-use Rattle.inbox.specs.Inboxes.{InboxState, inbox}
-use Rattle.inbox.specs.Serving.{Place, in_hand, held_from, order_of, finds_no_place, fitted}
-use Rattle.inbox.specs.Serving.{is_served, serve, served_of, Serves}
+use Rattle.inbox.specs.Inboxes.{inbox}
 use Rattle.mailboxes.specs.declared.machine.Machine.{Machine}
 use Rattle.mailboxes.specs.declared.bank_seat.BankSeat.{BankSeat}
 use Rattle.mailboxes.specs.declared.sending.SendingBank.{SendingBank}
@@ -33,39 +26,7 @@ use Rattle.mailboxes.specs.BankTurns.{BankServes}
 use Rattle.seat_edges.specs.PlaceLaws.{Owns}
 use Rattle.seat_edges.specs.StopLaws.{IsLate, LateReadersStop, LateRecallsStop, LateReturnsStop, StopsSeat}
 
--- The serving
-
-module _ {T P : Type 0} (table : P → T → ℕ → Answer T × P) (takes_memory : P → T → Bool) (p : P) (m : T) where
-  module _ (held : List T) (e : table p m (256 - length held) ≡ (Refused Exhausted, p)) where
-    first : served_of table held p (order_of (Some m) held) ≡ Some (in_hand, m)
-    first =
-        let x : Place × T = (in_hand, m) in
-        ap (λ (y : Answer T × P). cond (not (finds_no_place (fitted (256 - length held) y.0))) (Some x)
-        (find (is_served table held p) (held_from 0 held))) e
-
-    served : serve table (inbox (Some m) held) p ≡ (Err Exhausted, inbox (Some m) held, p)
-    served = grind (arith, nat_tests)
-
-  -- it answers Exhausted, and nothing changes
-  record Ended (b c : InboxState T) (q : P) (told : Result Served Refusal) : Type 0 where
-    answer : told ≡ Err Exhausted
-    messages : c ≡ b
-    part : q ≡ p
-
-  ended : (held : List T) → table p m (256 - length held) ≡ (Refused Exhausted, p) → takes_memory p m ≡ false →
-      (told : Result Served Refusal) (c : InboxState T) (q : P) →
-      Serves table takes_memory (inbox (Some m) held) p told c q → Ended (inbox (Some m) held) c q told
-  ended held e none told c q s = let q0 = served held e in grind (arith, nat_tests, q0)
-
-  ends : (b : InboxState T) → b.hand ≡ Some m → ((n : ℕ) → table p m n ≡ (Refused Exhausted, p)) →
-      takes_memory p m ≡ false → (told : Result Served Refusal) (c : InboxState T) (q : P) →
-      Serves table takes_memory b p told c q → Ended b c q told
-  ends b hand e none told c q s = grind (arith, nat_tests)
-
 -- Leases that are too late
-
-late : (time : ℕ) → IsLate time → fits time ≡ false
-late time is = le-ltb time 18446744073709551616 is
 
 module _ (wts rts pts lease : ℕ) (version : Option ℕ) where
   abbrev lease_if : Bool → Option (ℕ × Bool)
@@ -78,17 +39,11 @@ module _ (wts rts pts lease : ℕ) (version : Option ℕ) where
   no_lease : IsLate (wts + lease) ⊎ IsLate (pts + lease) → shared_lease wts rts pts version lease ≡ None
   no_lease is = let q0 = never (fits (wts + lease)) in grind (arith, nat_tests, q0)
 
-no_return : (wts rts until lease : ℕ) → IsLate (wts + lease) → returned_lease wts rts until lease ≡ None
-no_return wts rts until lease h = let q0 = late (wts + lease) h in grind (arith, nat_tests, q0)
-
 -- Banks
 
 module _ (p : SendingBank) (core n line pts : ℕ) (version : Option ℕ) where
   abbrev m : Message
   m = asked core n line (ShReq pts version)
-
-  abbrev room : Bool
-  room = has_room p.bank.table (set_of p.bank line)
 
   late_bank : bank_table p.bank m ≡ None → (places : ℕ) → sending_bank_table p m places ≡ (Refused Exhausted, p)
   late_bank e places = grind (arith, nat_tests)

@@ -1,10 +1,9 @@
-use Rattle.std.proofs.Common.{Bool, ◌≡◌, ◌≢◌, ℕ, ◌+◌, true, false, Option, Some, None, refl, sym, subst, arith}
+use Rattle.std.proofs.Common.{Bool, ◌≡◌, ◌≢◌, ℕ, true, false, Some, None, refl, sym, subst, arith}
 use Rattle.std.proofs.lemmas.Bool.Decides.{nat_tests}
 use Rattle.std.proofs.lemmas.Grind.{common_steps}
 use Rattle.physiological_order.specs.declared.operation.Op.{Op}
-use Rattle.physiological_order.specs.declared.operation.Op.TheVariants.{Load}
 use Rattle.physiological_order.specs.Order.{address}
-use Rattle.protocol.specs.Machine.{Config, Copy, Line, Core, Machine, line_of, with_at, IsPast, CannotUse}
+use Rattle.protocol.specs.Machine.{Config, Line, Core, Machine, line_of, with_at, CannotUse}
 use Rattle.protocol.specs.Machine.{LineTransition, evict_shared, evict_exclusive, flushed, written_back, Answers}
 use Rattle.protocol.specs.Machine.{shared, exclusive, renews, upgrades, Asks, to_read, to_write, Transition, issue}
 use Rattle.protocol.specs.Machine.{advance, ask, answer, complete, line_changes, Reachable, at_first, goes_on}
@@ -42,14 +41,6 @@ answers_copies {c} {x} (shared line rest p) d ne = with_at_other x.copies c _ d 
 answers_copies {c} {x} (exclusive line rest p) d ne = with_at_other x.copies c _ d ne
 answers_copies {c} {x} (renews rts copy rest p is) d ne = with_at_other x.copies c _ d ne
 answers_copies {c} {x} (upgrades rts copy rest p is) d ne = with_at_other x.copies c _ d ne
-
-past_later : (op : Op) (pts rts : ℕ) → IsPast op pts rts → IsPast op (pts + 1) rts
-past_later (Load a) pts rts h = omega arith
-past_later _ pts rts h = tt
-
-blocked_later : (op : Op) (pts : ℕ) (y : Option Copy) → CannotUse op pts y → CannotUse op (pts + 1) y
-blocked_later op pts None k = tt
-blocked_later op pts (Some copy) k = (k.0, past_later op pts copy.line.rts k.1)
 
 -- a core changes, and the copies of the others stay
 core_changes : {f : Config} {cores : ℕ → Core} {lines : ℕ → Line} → BlockedOk f cores lines → (c : ℕ) (core : Core)

@@ -67,9 +67,6 @@ pub owns_some : (y : Option Copy) → owns y ≡ 1 → (copy : Copy) × (y ≡ S
 owns_some None e = absurd (omega arith)
 owns_some (Some copy) e = grind (arith, nat_tests)
 
-owns_one : (y : Option Copy) (copy : Copy) → y ≡ Some copy → copy.exclusive ≡ true → owns y ≡ 1
-owns_one y copy is ex = ap owns is ∙ cond-true copy.exclusive 1 0 ex
-
 owns_not : (y : Option Copy) → NotOwned y → owns y ≡ 0
 owns_not None free = refl
 owns_not (Some copy) free = cond-false copy.exclusive 1 0 (free copy refl)

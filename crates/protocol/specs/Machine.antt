@@ -134,7 +134,10 @@ pub data LineTransition (lease : ℕ) (loses : Bool) (pinned : ℕ → Type 0) :
       x.copies c ≡ Some copy → copy.exclusive ≡ true →
       LineTransition lease loses pinned t x t (let line =
       record (copy.line) { rts = max (max copy.line.rts (copy.line.wts + lease)) until } in
-      record x { copies = with_at x.copies c (Some (record { exclusive = false; written = false; line = line })); messages = WbRep c line ∷ rest })
+      record x {
+        copies = with_at x.copies c (Some (record { exclusive = false; written = false; line = line }));
+        messages = WbRep c line ∷ rest;
+      })
   -- the bank. A request that starts a load or a recall stays
   load_starts : {t : ℕ} {x : Line} → x.entry ≡ Absent → LineTransition lease loses pinned t x t
       (record x { entry = Loading; messages = DramLd ∷ x.messages })
@@ -149,9 +152,10 @@ pub data LineTransition (lease : ℕ) (loses : Bool) (pinned : ℕ → Type 0) :
       LineTransition lease loses pinned t x t (let leased =
       record line { rts = max (max line.rts (line.wts + lease)) (pts + lease) } in
       record x { entry = Shared dirty leased; messages = ShRep c leased ∷ rest })
-  upgraded : {t : ℕ} {x : Line} (c : ℕ) (dirty : Bool) (line : Timed) (rest : List Message) → x.entry ≡ Shared dirty line →
-      IsPermutation x.messages (ExReq c (Some line.wts) ∷ rest) →
-      LineTransition lease loses pinned t x t (record x { entry = Exclusive c; messages = UpgradeRep c line.rts ∷ rest })
+  upgraded : {t : ℕ} {x : Line} (c : ℕ) (dirty : Bool) (line : Timed) (rest : List Message) →
+      x.entry ≡ Shared dirty line → IsPermutation x.messages (ExReq c (Some line.wts) ∷ rest) →
+      LineTransition lease loses pinned t x t
+      (record x { entry = Exclusive c; messages = UpgradeRep c line.rts ∷ rest })
   granted : {t : ℕ} {x : Line} (c : ℕ) (version : Option ℕ) (dirty : Bool) (line : Timed) (rest : List Message) →
       x.entry ≡ Shared dirty line →
       IsPermutation x.messages (ExReq c version ∷ rest) →
@@ -163,7 +167,8 @@ pub data LineTransition (lease : ℕ) (loses : Bool) (pinned : ℕ → Type 0) :
             WbReq owner until ∷ x.messages;
       })
   flush_starts : {t : ℕ} {x : Line} (owner : ℕ) → x.entry ≡ Exclusive owner →
-      LineTransition lease loses pinned t x t (record x { entry = Recalling owner; messages = FlushReq owner ∷ x.messages })
+      LineTransition lease loses pinned t x t
+      (record x { entry = Recalling owner; messages = FlushReq owner ∷ x.messages })
   flush_returns : {t : ℕ} {x : Line} (c : ℕ) (line : Timed) (rest : List Message) → IsPermutation x.messages
       (FlushRep c line ∷ rest) →
       LineTransition lease loses pinned t x t (record x { entry = Shared true line; messages = rest })
@@ -172,13 +177,15 @@ pub data LineTransition (lease : ℕ) (loses : Bool) (pinned : ℕ → Type 0) :
       LineTransition lease loses pinned t x t (record x { entry = Shared true line; messages = rest })
   loaded : {t : ℕ} {x : Line} (words : List ℕ) (rest : List Message) → IsPermutation x.messages
       (DramLdRep words ∷ rest) →
-      LineTransition lease loses pinned t x t (record x { entry = Shared false (record { wts = t; rts = t; words = words }); messages = rest })
+      LineTransition lease loses pinned t x t
+      (record x { entry = Shared false (record { wts = t; rts = t; words = words }); messages = rest })
   stored : {t : ℕ} {x : Line} (rest : List Message) → IsPermutation x.messages (DramStRep ∷ rest) →
       LineTransition lease loses pinned t x t (record x { entry = Absent; messages = rest })
   evict_clean : {t : ℕ} {x : Line} (line : Timed) → x.entry ≡ Shared false line →
       LineTransition lease loses pinned t x (max t line.rts) (record x { entry = Absent })
   evict_dirty : {t : ℕ} {x : Line} (line : Timed) → x.entry ≡ Shared true line →
-      LineTransition lease loses pinned t x (max t line.rts) (record x { entry = Storing; messages = DramSt line.words ∷ x.messages })
+      LineTransition lease loses pinned t x (max t line.rts)
+      (record x { entry = Storing; messages = DramSt line.words ∷ x.messages })
   -- messages are a bag
   shuffled : {t : ℕ} {x : Line} (messages : List Message) → IsPermutation x.messages messages →
       LineTransition lease loses pinned t x t (record x { messages = messages })
@@ -212,7 +219,11 @@ pub data Answers (c : ℕ) : Line → Line → Type 0 where
       })
   upgrades : {x : Line} (rts : ℕ) (copy : Copy) (rest : List Message) → IsPermutation x.messages
       (UpgradeRep c rts ∷ rest) → x.copies c ≡ Some copy →
-      Answers c x (record x { copies = with_at x.copies c (Some (record { exclusive = true; written = false; line = record (copy.line) { rts = rts } })); messages = rest })
+      Answers c x (record x {
+        copies = with_at x.copies c
+            (Some (record { exclusive = true; written = false; line = record (copy.line) { rts = rts } }));
+        messages = rest;
+      })
 
 -- what a core has doesn't serve its operation
 abbrev pub IsPast : Op → ℕ → ℕ → Type 0

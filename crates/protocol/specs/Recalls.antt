@@ -26,7 +26,8 @@ abbrev pub OwnsOrWill : ℕ → Line → Type 0
 OwnsOrWill c x = (owns (x.copies c) ≡ 1) ⊎ (1 ≤ tally (grant_to c) x.messages)
 
 -- An Exclusive entry names the core that is or will be the owner, or whose return is on the way. While a line is being
--- recalled, that return is on the way, or the recall itself is, and finds its core as the owner, now or after its grant.
+-- recalled, that return is on the way, or the recall itself is, and finds its core as the owner, now or after its
+-- grant.
 abbrev pub OwnerAnswers : Line → Entry → Type 0
 OwnerAnswers x (Exclusive c) = (1 ≤ tally (return_of c) x.messages) ⊎ OwnsOrWill c x
 OwnerAnswers x (Recalling c) =

@@ -11,9 +11,9 @@ ghost use Rattle.protocol.specs.Recalls.{OwnerAnswers};
 /// The records are legal; a core was issued what it completed, in this order, and then its open operation; at most
 /// one cache owns a line, and grants and returns in flight count; a word's coherent value is what the replay of the
 /// records' arrangement leaves; an operation whose request is out is not served by the copy that its core has; every
-/// message in flight has a case in the table of the part that it goes to. All this holds even if cores drop recalls that
-/// they should answer. If they don't, no recall is lost: while an entry is Recalling, the owner's return is on the way,
-/// or a recall that finds the owner, now or after its grant.
+/// message in flight has a case in the table of the part that it goes to. All this holds even if cores drop recalls
+/// that they should answer. If they don't, no recall is lost: while an entry is Recalling, the owner's return is on the
+/// way, or a recall that finds the owner, now or after its grant.
 pub fn every_reached_machine_is_consistent()
     ensures legal { (config : Config) (m : Machine) → 0 < config.line_words → Reachable config m →
         Legal config.opening m.issued m.records }

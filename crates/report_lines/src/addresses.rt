@@ -33,8 +33,8 @@ fn write_hex(places: usize, number: u64, bytes: &mut [u8], end: usize) -> usize
     write_hex(places - 1, number / 16, bytes, end - 1)
 }
 
-/// The byte address of a word, as `put_address` puts it, with its last digit before `end`: where it begins. The bytes in
-/// front stay.
+/// The byte address of a word, as `put_address` puts it, with its last digit before `end`: where it begins. The bytes
+/// in front stay.
 #[tactic(auto, unfolding(crate::specs::Hexadecimal::address_text))]
 pub fn write_address(word: WordAddr, bytes: &mut [u8], end: usize) -> usize
     requires room { 18 ≤ end }

@@ -2,15 +2,14 @@
 use Rattle.std.proofs.Common.{◌≡◌, ℕ, ◌-◌, ◌≤◌, Bool, true, false, ◌&&◌, cond, length, Option, Some, refl, ap, ◌∙◌}
 use Rattle.std.proofs.Common.{arith}
 use Rattle.std.proofs.lemmas.Bool.{lt-leb}
-use Rattle.line_sets.specs.SetTable.{has_room}
+use Rattle.std.proofs.lemmas.Bool.Decides.{nat_tests}
 use Rattle.network.specs.declared.message.Body.{Body}
 use Rattle.network.specs.declared.message.Message.{Message}
 use Rattle.network.specs.declared.part.Reaction.{Reaction}
 use Rattle.network.specs.declared.part.Reaction.TheVariants.{HeldAfter}
 use Rattle.llc_bank.specs.declared.decision.Decision.TheVariants.{Loads}
 use Rattle.llc_bank.specs.declared.entry.Entry.TheVariants.{Loading}
-use Rattle.llc_bank.specs.OnEntry.{exclusive_request, loaded, shared_request}
-use Rattle.llc_bank.specs.BankTable.{BankState, after_decision, decided, set_of, with_used}
+use Rattle.llc_bank.specs.BankTable.{BankState, after_decision, decided, with_used}
 use Rattle.inbox.specs.declared.answer.Answer.{Answer}
 use Rattle.inbox.specs.declared.answer.Answer.TheVariants.{Refused}
 use Rattle.inbox.specs.declared.answer.Refusal.TheVariants.{Full}
@@ -25,14 +24,8 @@ use Rattle.seat_edges.proofs.StayingHands.{stays}
 
 loads : (bank : BankState) (core n line : ℕ) (body : Body) → IsRequest body → Lacks bank line →
     decided bank (asked core n line body) ≡ Loads
-loads bank core n line body (to_read pts version e) h =
-    let room = has_room bank.table (set_of bank line) in
-    ap (λ b. decided bank (asked core n line b)) e
-    ∙ ap (λ x. shared_request bank.lease room pts version x) h.0 ∙ ap loaded h.1
-loads bank core n line body (to_own version e) h =
-    let room = has_room bank.table (set_of bank line) in
-    ap (λ b. decided bank (asked core n line b)) e
-    ∙ ap (λ x. exclusive_request room core version x) h.0 ∙ ap loaded h.1
+loads bank core n line body (to_read pts version e) h = grind (arith, nat_tests)
+loads bank core n line body (to_own version e) h = grind (arith, nat_tests)
 
 -- whether there is a number for the message or not
 unplaced : (places : ℕ) (a : Answer Message × BankState × OutboxState) (bank : BankState) (out : OutboxState)

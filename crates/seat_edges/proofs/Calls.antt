@@ -1,9 +1,9 @@
 -- What the calls of a turn do to the messages of a seat of either kind.
-use Rattle.std.proofs.Common.{◌≡◌, Bool, is_some, List, Result, ap}
+use Rattle.std.proofs.Common.{◌≡◌, Bool, is_some, List, Result, arith}
+use Rattle.std.proofs.lemmas.Bool.Decides.{nat_tests}
 use Rattle.network.specs.declared.message.Message.{Message}
 use Rattle.machine_table.specs.declared.event.Refusal.{Refusal}
 use Rattle.inbox.specs.declared.answer.Served.{Served}
-use Rattle.seat_rule.specs.declared.views.Hold.{Hold}
 use Rattle.seat_rule.specs.declared.views.SetUp.{SetUp}
 use Rattle.mailboxes.specs.declared.machine.Machine.{Machine}
 use Rattle.mailboxes.specs.declared.mailbox.Mailbox.{Mailbox}
@@ -33,33 +33,11 @@ pub record Calls {S : Type 0} (z : SetUp) (mail : S → Mailbox) (out : S → Li
 
 pub core_calls : (m : Machine) →
     Calls m.set_up (λ (p : CoreSeat). p.mail) (λ p. p.part.outbox.messages) (CorePuts m) (CoreServes m) (CoreTakes m)
-core_calls m = record {
-  put = λ done p q e. (e.1, e.2);
-  serve = λ told p q e.
-      record {
-        looks = ap (λ (h : Hold). h.looks) e.2;
-        put = ap (λ (h : Hold). h.put) e.2;
-        taken = ap (λ (h : Hold). h.taken) e.2;
-        cursor = e.0.1;
-        number = e.0.0;
-      };
-  take = λ t p q e. (e.1, e.3);
-}
+core_calls m = grind (arith, nat_tests)
 
 pub bank_calls : (m : Machine) →
     Calls m.set_up (λ (p : BankSeat). p.mail) (λ p. p.part.outbox.messages) (BankPuts m) (BankServes m) (BankTakes m)
-bank_calls m = record {
-  put = λ done p q e. (e.1, e.2);
-  serve = λ told p q e.
-      record {
-        looks = ap (λ (h : Hold). h.looks) e.2;
-        put = ap (λ (h : Hold). h.put) e.2;
-        taken = ap (λ (h : Hold). h.taken) e.2;
-        cursor = e.0.1;
-        number = e.0.0;
-      };
-  take = λ t p q e. (e.1, e.3);
-}
+bank_calls m = grind (arith, nat_tests)
 
 -- whether the hand is full
 abbrev pub full : {S : Type 0} → (S → Mailbox) → S → Bool

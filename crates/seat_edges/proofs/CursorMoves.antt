@@ -1,9 +1,11 @@
 -- Where the next look begins after a message was taken.
-use Rattle.std.proofs.Common.{◌≡◌, ℕ, zero, suc, ◌+◌, ◌%◌, ◌<◌, inl, inr, Bool, true, false, nat_lt, List, [], ◌∷◌}
-use Rattle.std.proofs.Common.{◌++◌, Some, None, refl, sym, ap, ◌∙◌, subst, arith}
+use Rattle.std.proofs.Common.{◌≡◌, ℕ, zero, suc, ◌+◌, ◌%◌, ◌<◌, inl, Bool, true, false, nat_lt, List, [], ◌∷◌}
+use Rattle.std.proofs.Common.{◌++◌, Some, None, sym, ap, ◌∙◌, arith}
 use Rattle.std.proofs.lemmas.Bool.{ltb-false, ltb-true}
 use Rattle.std.proofs.lemmas.Nat.{mod_below}
 use Rattle.std.proofs.Math.Nat.{mod-eq_of_lt, mod_self}
+use Rattle.std.proofs.lemmas.Bool.Decides.{nat_tests}
+use Rattle.std.proofs.lemmas.Grind.{common_steps}
 use Rattle.mailboxes.specs.declared.mailbox.Mailbox.{Mailbox}
 use Rattle.mailboxes.specs.declared.taken.Take.TheVariants.{Taken, Nothing, HandFull}
 use Rattle.mailboxes.specs.BoxMoves.{hold}
@@ -13,29 +15,10 @@ use Rattle.seat_edges.specs.TurnLaws.{IsNextGoingRound, TakesBegin, TakesMoveOn}
 module _ (count place : ℕ) (within : place < count) where
   next : (b : Bool) → nat_lt (place + 1) count ≡ b → IsNextGoingRound count place ((place + 1) % count)
   next true e = let lt = ltb-true (place + 1) count e in inl (lt, mod-eq_of_lt lt)
-  next false e =
-      let last : place + 1 ≡ count = (let ge = ltb-false (place + 1) count e in omega (arith, ge, within)) in
-      inr (last, ap (λ n. n % count) last ∙ mod_self count)
+  next false e = let q0 = ltb-false (place + 1) count e in let q1 = mod_self count in grind (arith, nat_tests, q0, q1)
 
 pub moves_on : TakesMoveOn
-moves_on z p q t =
-    let count = incoming_count p.cores p.banks p.number in
-    let n = t.1.0 in
-    let place = (p.cursor + n) % count in
-    let some : 0 < count = (let few = t.1.2 in omega (arith, few)) in
-    let within : place < count = mod_below (p.cursor + n) count some in
-    let from = t.1.3 in (
-      place,
-      t.1.1,
-      record {
-        within = within;
-        taken = from.2;
-        hand = from.0;
-        next =
-            subst (IsNextGoingRound count place) (sym t.1.4)
-            (next count place within (nat_lt (place + 1) count) refl);
-      },
-    )
+moves_on z p q t = grind (arith, nat_tests, common_steps, mod_below, nat_lt, next)
 
 -- Where a take looks first
 

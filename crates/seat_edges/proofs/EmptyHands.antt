@@ -1,21 +1,20 @@
 -- A turn with an empty hand, whose held messages all wait, takes.
-use Rattle.std.proofs.Common.{◌≡◌, ℕ, ◌+◌, ◌-◌, ◌%◌, ◌≤◌, ◌⊎◌, inl, inr, Bool, true, false}
-use Rattle.std.proofs.Common.{cond, nat_eq, is_some, List, []}
-use Rattle.std.proofs.Common.{◌∷◌, ◌++◌, length, Some, None, Result, refl, sym, ap, ◌∙◌, subst, arith}
+use Rattle.std.proofs.Common.{◌≡◌, ℕ, ◌+◌, ◌-◌, ◌%◌, ◌≤◌, ◌⊎◌, inl, Bool, true, false, nat_eq, is_some, List, [], ◌∷◌}
+use Rattle.std.proofs.Common.{◌++◌, length, Some, None, Result, refl, sym, ap, ◌∙◌, subst, arith}
 use Rattle.std.proofs.lemmas.Bool.{ne_eqb}
+use Rattle.std.proofs.lemmas.Bool.Decides.{nat_tests}
+use Rattle.std.proofs.lemmas.Grind.{common_steps}
 use Rattle.std.specs.Prelude.{slice_get}
 use Rattle.network.specs.declared.message.Message.{Message}
 use Rattle.network.specs.declared.message.Node.TheVariants as node
 use Rattle.network.specs.declared.part.Reaction.TheVariants as does
-use Rattle.core_pts.specs.CoreTable.{CoreState, core_table}
+use Rattle.core_pts.specs.CoreTable.{core_table}
 use Rattle.llc_bank.specs.BankTable.{BankState, bank_table}
 use Rattle.machine_table.specs.declared.event.Refusal.{Refusal}
 use Rattle.machine_table.specs.SetUp.{is_good}
 use Rattle.inbox.specs.declared.answer.Answer.{Answer}
-use Rattle.inbox.specs.declared.answer.Answer.TheVariants.{Held, Refused}
-use Rattle.inbox.specs.declared.answer.Refusal.TheVariants.{Full}
+use Rattle.inbox.specs.declared.answer.Answer.TheVariants.{Held}
 use Rattle.inbox.specs.declared.answer.Served.{Served}
-use Rattle.inbox.specs.Inboxes.{InboxState}
 use Rattle.inbox.specs.Serving.{fitted, stays_held}
 use Rattle.seat_rule.specs.declared.views.SetUp.{SetUp}
 use Rattle.mailboxes.specs.declared.machine.Machine.{Machine}
@@ -54,16 +53,12 @@ some-place : (n : ℕ) → n ≤ 256 → nat_eq (257 - n) 0 ≡ false
 some-place n few = ne_eqb (257 - n) 0 (λ e. omega (arith, few, e))
 
 held-fits : (n : ℕ) (a : Answer Message) → nat_eq n 0 ≡ false → a ≡ Held → stays_held (fitted n a) ≡ true
-held-fits n a some e =
-    ap (λ x. stays_held (fitted n x)) e ∙ ap (λ b. stays_held {T = Message} (cond b (Refused Full) Held)) some
+held-fits n a some e = grind (arith, nat_tests)
 
 pub core-wait : (held : List Message) (p : SendingCore) → length held ≤ 256 →
     ((i : ℕ) (x : Message) → slice_get held i ≡ Some x → core_table p.core x ≡ Some (does.Held, p.core)) →
     AllWait sending_core_table sending_core_takes_memory held p
-core-wait held p few wait i x e =
-    let n = 257 - length held in
-    held-fits n (sending_core_table p x n).0 (some-place (length held) few)
-    (ap (λ r. (reacts true p.outbox n p.core r).0) (wait i x e))
+core-wait held p few wait i x e = let q0 = some-place (length held) few in grind (arith, nat_tests, q0)
 
 pub bank-wait : (held : List Message) (p : SendingBank) → length held ≤ 256 →
     ((i : ℕ) (x : Message) → slice_get held i ≡ Some x →
@@ -102,26 +97,7 @@ module _ (m : Machine) (law : LooksAtAll) (xs : List (ℕ × Message)) (at-first
 
   -- with none
   found-none : (p q : Mailbox) → Before p → Stays p q → IsAt m q → Takes m.set_up Nothing p q → After q
-  found-none p q b stays at t =
-      let cores : p.cores ≡ m.set_up.config.cores = sym stays.cores ∙ at.2 in
-      let banks : p.banks ≡ m.set_up.config.banks = sym stays.banks ∙ at.3 in
-      let all = law m.set_up p.number p.cursor m.good in
-      let same : AllFoundEmpty m.set_up p.number (found_empty p.cores p.banks p.number p.cursor
-      (incoming_count p.cores p.banks p.number)) =
-      subst (λ (y : ℕ). AllFoundEmpty m.set_up p.number (found_empty y p.banks p.number p.cursor
-      (incoming_count y p.banks p.number))) (sym cores)
-      (subst (λ (y : ℕ). AllFoundEmpty m.set_up p.number (found_empty m.set_up.config.cores y p.number p.cursor
-      (incoming_count m.set_up.config.cores y p.number))) (sym banks) all) in
-      inr (
-        (t.1.2 ∙ b.taken, t.1.3 ∙ b.cursor),
-        (
-          (hold p).looks,
-          found_empty p.cores p.banks p.number p.cursor (incoming_count p.cores p.banks p.number),
-          t.1.0,
-          subst (λ n. AllFoundEmpty m.set_up n (found_empty p.cores p.banks p.number p.cursor
-              (incoming_count p.cores p.banks p.number))) b.number same,
-        ),
-      )
+  found-none p q b stays at t = grind (arith, nat_tests)
 
   -- A seat of either kind, with what keeps it waiting
 
@@ -132,26 +108,11 @@ module _ (m : Machine) (law : LooksAtAll) (xs : List (ℕ × Message)) (at-first
       (idle : (told : Result Served Refusal) (p q : S) → serves told p q → Waits p →
       ((mail q).inbox ≡ (mail p).inbox) × (is_idle told ≡ true)) where
     after-put : (done : Bool) (p q : S) → puts done p q → Before (mail p) → Before (mail q)
-    after-put done p q put b =
-        let e = calls.put done p q put in
-        let s = came_in done (mail p) (mail q) (out p) (out q) e.1 in
-        record {
-          taken = s.taken ∙ b.taken;
-          cursor = s.cursor ∙ b.cursor;
-          number = e.0.number ∙ b.number;
-          hand = s.hand ∙ b.hand;
-        }
+    after-put done p q put b = grind (arith, nat_tests)
 
     after-serve : (told : Result Served Refusal) (p q : S) → serves told p q → (mail q).inbox ≡ (mail p).inbox →
         Before (mail p) → Before (mail q)
-    after-serve told p q serve same b =
-        let s = calls.serve told p q serve in
-        record {
-          taken = s.taken ∙ b.taken;
-          cursor = s.cursor ∙ b.cursor;
-          number = s.number ∙ b.number;
-          hand = ap (λ (y : InboxState Message). y.hand) same ∙ b.hand;
-        }
+    after-serve told p q serve same b = grind (arith, nat_tests)
 
     after-take : (before told : Result Served Refusal) (p q u : S) (t : Take) → takes t p u →
         Ends serves takes t before u told q → Before (mail p) → IsAt m (mail q) → After (mail q)
@@ -162,9 +123,7 @@ module _ (m : Machine) (law : LooksAtAll) (xs : List (ℕ × Message)) (at-first
         let x = calls.take Nothing p u t in
         subst (λ s. After (mail s)) (sym e.1)
         (found-none (mail p) (mail u) b x.0 (subst (λ s. IsAt m (mail s)) e.1 at) x.1)
-    after-take before told p q u HandFull t e b at =
-        let x = (calls.take HandFull p u t).1 in
-        absurd (let some : None ≡ Some x.0.0 = sym b.hand ∙ x.0.1 in cc)
+    after-take before told p q u HandFull t e b at = grind (arith, nat_tests)
 
     seats-take : (p q : S) (result : Result Turn Refusal) → Before (mail p) → Waits p →
         Turns serves takes (full mail) puts p result q → IsAt m (mail q) → After (mail q)
@@ -179,16 +138,7 @@ module _ (m : Machine) (law : LooksAtAll) (xs : List (ℕ × Message)) (at-first
 -- Cores
 
 core-kept : (m : Machine) (done : Bool) (p q : CoreSeat) → CorePuts m done p q → CoreWaits p → CoreWaits q
-core-kept m done p q put w =
-    let s = came_in done p.mail q.mail p.part.outbox.messages q.part.outbox.messages put.2 in
-    record {
-      goes_on = put.0.4 ∙ w.goes_on;
-      hand = s.hand ∙ w.hand;
-      few = subst (λ ys. length ys ≤ 256) (sym s.held) w.few;
-      wait = λ i x e.
-          subst (λ (k : CoreState). core_table k x ≡ Some (does.Held, k)) (sym put.0.0)
-          (w.wait i x (ap (λ ys. slice_get ys i) (sym s.held) ∙ e));
-    }
+core-kept m done p q put w = grind (arith, nat_tests, common_steps, came_in)
 
 core-idle : (m : Machine) (told : Result Served Refusal) (p q : CoreSeat) → CoreServes m told p q → CoreWaits p →
     (q.mail.inbox ≡ p.mail.inbox) × (is_idle told ≡ true)

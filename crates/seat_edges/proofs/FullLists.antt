@@ -1,9 +1,9 @@
 -- A full held list, all of whose messages wait, takes no message from the hand.
-use Rattle.std.proofs.Common.{◌≡◌, ℕ, ◌-◌, true, false, cond, nat_eq, length, Some, refl, ap, ◌∙◌, sym, subst, arith}
+use Rattle.std.proofs.Common.{◌≡◌, ℕ, ◌-◌, true, false, length, Some, refl, ap, ◌∙◌, sym, subst, arith}
+use Rattle.std.proofs.lemmas.Bool.Decides.{nat_tests}
 use Rattle.network.specs.declared.message.Message.{Message}
 use Rattle.inbox.specs.declared.answer.Answer.{Answer}
-use Rattle.inbox.specs.declared.answer.Answer.TheVariants.{Held, Refused}
-use Rattle.inbox.specs.declared.answer.Refusal.TheVariants.{Full}
+use Rattle.inbox.specs.declared.answer.Answer.TheVariants.{Held}
 use Rattle.inbox.specs.Inboxes.{InboxState, inbox}
 use Rattle.inbox.specs.Serving.{finds_no_place, fitted, Serves}
 use Rattle.mailboxes.specs.BankServing.{sending_bank_table, sending_bank_takes_memory, reacts_at}
@@ -15,9 +15,7 @@ use Rattle.seat_edges.proofs.EmptyHands.{bank-wait, core-wait}
 use Rattle.seat_edges.proofs.WaitingMessages.{waits-full}
 
 no-place : (n k : ℕ) (a : Answer Message) → k ≡ 256 → n ≡ 256 - k → a ≡ Held → finds_no_place (fitted n a) ≡ true
-no-place n k a long is held =
-    ap (λ x. finds_no_place (fitted n x)) held
-    ∙ ap (λ i. finds_no_place {T = Message} (cond (nat_eq i 0) (Refused Full) Held)) (is ∙ ap (λ i. 256 - i) long)
+no-place n k a long is held = grind (arith, nat_tests)
 
 pub full_cores : FullCoresHoldNoMore
 full_cores b c p q result m hand long first wait s =

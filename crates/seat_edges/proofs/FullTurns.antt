@@ -1,6 +1,7 @@
 -- A turn that puts nothing, whose only held message finds no place in the full outbox.
 use Rattle.std.proofs.Common.{◌≡◌, ℕ, ◌+◌, ◌≤◌, inr, Bool, false, is_some, List, [], ◌∷◌, length}
 use Rattle.std.proofs.Common.{Some, None, Result, Ok, Err, sym, ap, ◌∙◌, subst, arith}
+use Rattle.std.proofs.lemmas.Bool.Decides.{nat_tests}
 use Rattle.network.specs.declared.message.Message.{Message}
 use Rattle.core_pts.specs.CoreTable.{CoreState}
 use Rattle.llc_bank.specs.BankTable.{BankState, entry_of}
@@ -69,10 +70,7 @@ module _ {S : Type 0} {z : SetUp} {mail : S → Mailbox} {out : S → List Messa
 
 -- the only message is still there after no put
 still : (p r : Mailbox) (x : Message) → p.inbox ≡ inbox None (x ∷ []) → SameIncoming p r → r.inbox ≡ inbox None (x ∷ [])
-still p r x only same =
-    let hand = same.hand ∙ ap (λ (b : InboxState Message). b.hand) only in
-    let held = same.held ∙ ap (λ (b : InboxState Message). b.held) only in
-    λ i. inbox (hand i) (held i)
+still p r x only same = grind (arith, nat_tests)
 
 pub cores_full : ReturnsWantPlace → FullCoresTakeNothing
 cores_full law m p q result x copy goes_on only asks owns fits is_full turns same =

@@ -1,13 +1,14 @@
 -- What a turn puts, and what it looked at.
 use Rattle.std.proofs.Common.{◌≡◌, ℕ, suc, ◌+◌, ◌*◌, Bool, true, false, List, [], ◌∷◌, ◌++◌, append_assoc, append-nil, length}
-use Rattle.std.proofs.Common.{Result, Ok, Err, sym, ap, ◌∙◌, arith}
+use Rattle.std.proofs.Common.{Result, Ok, Err, ap, arith}
 use Rattle.std.proofs.lemmas.List.{length-append}
 use Rattle.std.proofs.lemmas.List.Edits.{length-remove}
 use Rattle.std.proofs.lemmas.Option.{slice_get_within}
+use Rattle.std.proofs.lemmas.Bool.Decides.{nat_tests}
+use Rattle.std.proofs.lemmas.Grind.{common_steps}
 use Rattle.network.specs.declared.message.Message.{Message}
 use Rattle.machine_table.specs.declared.event.Refusal.{Refusal}
 use Rattle.inbox.specs.declared.answer.Served.{Served}
-use Rattle.seat_rule.specs.declared.views.Hold.{Hold}
 use Rattle.seat_rule.specs.declared.views.SetUp.{SetUp}
 use Rattle.mailboxes.specs.declared.mailbox.Mailbox.{Mailbox}
 use Rattle.mailboxes.specs.declared.taken.Take.{Take}
@@ -17,7 +18,7 @@ use Rattle.mailboxes.specs.Places.{found_full, link_to}
 use Rattle.mailboxes.specs.declared.turning.Turn.{Turn}
 use Rattle.mailboxes.specs.Turns.{Turns, TurnsBy}
 use Rattle.seat_edges.specs.TurnLaws.{BankTurnsPut, CoreTurnsPut, CountsPut, PutsFirst}
-use Rattle.mailboxes.proofs.Lemmas.{no_change, stays_on}
+use Rattle.mailboxes.proofs.Lemmas.{no_change}
 use Rattle.seat_edges.proofs.Calls.{Calls, bank_calls, core_calls, full}
 use Rattle.seat_edges.proofs.Turns.{put-count, rests}
 
@@ -42,44 +43,21 @@ one_put p out n q r rest less stays put sum =
     ((4 * link_to q.cores q.banks q.number put.2.to + put.1, put.2) ∷ []) in
     let left = sum.left in
     let count = sum.put in
-    record {
-      stays = stays_on p q r sum.stays stays;
-      left = omega (arith, left, fewer, one);
-      put = omega (arith, count, more, longer);
-    }
+    grind (arith, nat_tests, i, into, fewer, one, more, longer, left, count)
 
 -- what a take adds to the looks
 pub take_adds : (z : SetUp) (t : Take) (p q : Mailbox) → Takes z t p q →
     (l : List (ℕ × ℕ)) × ((hold q).looks ≡ (hold p).looks ++ l) × ((hold q).put ≡ (hold p).put)
 take_adds z Taken p q t = (_, t.1.3.3, t.1.3.4.put)
 take_adds z Nothing p q t = (_, t.1.0, t.1.4.put)
-take_adds z HandFull p q t =
-    ([], ap (λ (h : Hold). h.looks) t.1 ∙ sym (append-nil (hold p).looks), ap (λ (h : Hold). h.put) t.1)
+take_adds z HandFull p q t = grind (arith, nat_tests, common_steps, append-nil)
 
 -- after the puts, and after the rest of the turn
 pub put_first : (p : Mailbox) (out : List Message) (n : ℕ) (q r u : Mailbox) (rest left : List Message) →
     PutSum p out n q rest → PutNothing (found_full q.cores q.banks q.number rest) q rest r left →
     (l : List (ℕ × ℕ)) × ((hold u).looks ≡ (hold r).looks ++ l) × ((hold u).put ≡ (hold r).put) →
     PutsFirst p out u × (length (hold p).put + n ≡ length (hold u).put)
-put_first p out n q r u rest left sum none adds =
-    let s = sum.stays in
-    let same : found_full q.cores q.banks q.number rest ≡ found_full p.cores p.banks p.number rest =
-    λ i. found_full (s.cores i) (s.banks i) (s.number i) rest in
-    let before = (hold q).looks in
-    let many = ap (λ (xs : List (ℕ × Message)). length xs) (adds.2 ∙ none.2) in
-    let few = sum.left in
-    let count = sum.put in (
-      record {
-        left = rest;
-        before = before;
-        later = adds.0;
-        looks =
-            adds.1 ∙ ap (λ xs. xs ++ adds.0) (none.0 ∙ ap (λ ys. before ++ ys) same)
-            ∙ append_assoc before (found_full p.cores p.banks p.number rest) adds.0;
-        put = omega (arith, many, few, count);
-      },
-      omega (arith, many, count),
-    )
+put_first p out n q r u rest left sum none adds = grind (arith, nat_tests, common_steps, append_assoc)
 
 module _ {S : Type 0} {z : SetUp} {mail : S → Mailbox} {out : S → List Message} {puts : Bool → S → S → Type 0}
     {serves : Result Served Refusal → S → S → Type 0} {takes : Take → S → S → Type 0}

@@ -1,6 +1,8 @@
 -- What comes of a turn, by what the calls keep of which it is made.
-use Rattle.std.proofs.Common.{◌≡◌, ℕ, zero, suc, Bool, true, false, List, [], ◌++◌, append-nil}
-use Rattle.std.proofs.Common.{Result, Ok, Err, sym, ap, ◌∙◌, subst}
+use Rattle.std.proofs.Common.{◌≡◌, ℕ, zero, suc, Bool, true, false, List, [], ◌++◌, append-nil, Result, Ok, Err, sym}
+use Rattle.std.proofs.Common.{ap, ◌∙◌, subst, arith}
+use Rattle.std.proofs.lemmas.Bool.Decides.{nat_tests}
+use Rattle.std.proofs.lemmas.Grind.{common_steps}
 use Rattle.machine_table.specs.declared.event.Refusal.{Refusal}
 use Rattle.inbox.specs.declared.answer.Served.{Served}
 use Rattle.mailboxes.specs.declared.taken.Take.{Take}
@@ -83,11 +85,9 @@ module _ {S : Type 0} (serves : Result Served Refusal → S → S → Type 0) (t
     goes : (idle : Bool) (earlier : Result Served Refusal) (p q : S) (told : Result Served Refusal) →
         Goes serves takes idle earlier p told q → Adds p q
     goes true earlier p q told g = ends g.0 earlier p g.1 q told g.2 g.3
-    goes false earlier p q told g =
-        let k = stay p q g.1 in ([], k.0 ∙ sym (append-nil (looks p)), k.1)
+    goes false earlier p q told g = grind (arith, nat_tests, common_steps, append-nil, stay)
 
     pub rests : (is_full : Bool) (p q : S) (told : Result Served Refusal) → Rests serves takes is_full p told q →
         Adds p q
     rests true p q told s = none told p q s
-    rests false p q told s =
-        before p s.1 q (same s.0 p s.1 s.2) (goes (is_idle s.0) s.0 s.1 q told s.3)
+    rests false p q told s = let q0 = goes (is_idle s.0) s.0 s.1 q told s.3 in grind (arith, nat_tests, q0)

@@ -1,28 +1,25 @@
 -- What a serving does where all held messages wait, and the hand is empty or its message finds no place.
-use Rattle.std.proofs.Common.{◌≡◌, ℕ, suc, ◌+◌, ◌-◌, ◌||◌, inl, inr, Bool, true, false, not, cond}
-use Rattle.std.proofs.Common.{List, [], ◌∷◌, length}
-use Rattle.std.proofs.Common.{Some, None, Result, Err, refl, sym, ap, ◌∙◌, subst, true≢false}
+use Rattle.std.proofs.Common.{◌≡◌, ℕ, suc, ◌+◌, ◌-◌, ◌||◌, Bool, true, false, cond, List, [], ◌∷◌, length, Some, None}
+use Rattle.std.proofs.Common.{Result, Err, refl, sym, ap, ◌∙◌, subst, true≢false, arith}
+use Rattle.std.proofs.lemmas.Bool.Decides.{nat_tests}
+use Rattle.std.proofs.lemmas.Grind.{common_steps}
 use Rattle.std.specs.Prelude.{slice_get}
 use Rattle.std.specs.List.{find, list_any}
 use Rattle.inbox.specs.declared.answer.Answer.{Answer}
-use Rattle.inbox.specs.declared.answer.Answer.TheVariants.{Delivered, Dropped, Started, Held, Refused}
+use Rattle.inbox.specs.declared.answer.Answer.TheVariants.{Refused}
 use Rattle.inbox.specs.declared.answer.Refusal.{Refusal}
 use Rattle.inbox.specs.declared.answer.Refusal.TheVariants.{Full}
 use Rattle.inbox.specs.declared.answer.Served.{Served}
 use Rattle.inbox.specs.Inboxes.{InboxState, inbox}
-use Rattle.inbox.specs.Serving.{Place, in_hand, held_at, held_from, finds_no_place, stays_held, answer_to, asked}
-use Rattle.inbox.specs.Serving.{none_served}
-use Rattle.inbox.specs.Serving.{is_served, served_of, is_refused, serve, serve_by, Serves}
+use Rattle.inbox.specs.Serving.{Place, in_hand, held_at, held_from, finds_no_place, stays_held, asked, none_served}
+use Rattle.inbox.specs.Serving.{served_of, is_refused, serve, Serves}
 use Rattle.mailboxes.specs.SeatServing.{seat_result}
 use Rattle.mailboxes.specs.Turns.{is_idle}
 
 module _ {T : Type 0} where
   has_place : (a : Answer T) → stays_held a ≡ true → finds_no_place a ≡ false
-  has_place (Delivered sent) h = refl
-  has_place Dropped h = refl
-  has_place (Started sent) h = refl
-  has_place Held h = refl
   has_place (Refused r) h = absurd (true≢false (sym h))
+  has_place _ h = refl
 
   none-found : (s : Place × T → Bool) (n : ℕ) (ms : List T) →
       ((k i : ℕ) (x : T) → slice_get ms i ≡ Some x → s (held_at k, x) ≡ false) → find s (held_from n ms) ≡ None
@@ -51,34 +48,16 @@ module _ {T : Type 0} where
     waited : (held : List T) (p : P) → AllWait held p →
         (served_of table held p (held_from 0 held) ≡ None)
         × (is_refused table held p (held_from 0 held) ≡ false)
-    waited held p wait = (
-      none-found (is_served table held p) 0 held
-          (λ k i x e. ap (λ b. not (b || finds_no_place (asked table p x (257 - length held)).0)) (wait i x e)),
-      none-any (λ x. finds_no_place (answer_to table held p x).0) 0 held
-          (λ k i x e. has_place (asked table p x (257 - length held)).0 (wait i x e)),
-    )
+    waited held p wait = grind (arith, nat_tests, common_steps, has_place, none-any, none-found)
 
     unserved : (held : List T) (p : P) → AllWait held p →
         serve table (inbox None held) p ≡ (none_served false held, inbox None held, p)
-    unserved held p wait =
-        let w = waited held p wait in
-        ap (λ y. serve_by table (is_refused table held p (held_from 0 held)) y (inbox None held) p) w.0
-        ∙ ap (λ b. serve_by table b None (inbox None held) p) w.1
+    unserved held p wait = let q0 = waited held p wait in grind (arith, nat_tests, q0)
 
     waits-held : (held : List T) (p : P) → AllWait held p → (served : Result Served Refusal) (c : InboxState T)
         (q : P) → Serves table takes_memory (inbox None held) p served c q →
         (c ≡ inbox None held) × (is_idle (seat_result served) ≡ true)
-    waits-held held p wait served c q s =
-        elim s [
-          | inl f ↦ (
-            ap (λ (y : Result Served Refusal × InboxState T × P). y.1) f
-                ∙ ap (λ (y : Result Served Refusal × InboxState T × P). y.1) (unserved held p wait),
-            ap (λ (y : Result Served Refusal × InboxState T × P). is_idle (seat_result y.0)) f
-                ∙ ap (λ (y : Result Served Refusal × InboxState T × P). is_idle (seat_result y.0))
-                (unserved held p wait) ∙ idle held,
-          )
-          | inr f ↦ absurd (let some : None ≡ Some f.3.0 = sym (waited held p wait).0 ∙ f.3.1 in cc)
-        ]
+    waits-held held p wait served c q s = grind (arith, nat_tests, common_steps, idle, unserved, waited)
 
     -- nothing comes of the held messages, and they stay
     pub waits : (b : InboxState T) (p : P) → b.hand ≡ None → AllWait b.held p → (served : Result Served Refusal)
@@ -93,27 +72,13 @@ module _ {T : Type 0} where
     module _ (held : List T) (p : P) (m : T)
         (full : finds_no_place (asked table p m (256 - length held)).0 ≡ true) (wait : AllWait held p) where
       none-served : served_of table held p ((in_hand, m) ∷ held_from 0 held) ≡ None
-      none-served =
-          ap (λ b. cond (not b) (Some (in_hand, m)) (find (is_served table held p) (held_from 0 held))) full
-          ∙ (waited held p wait).0
+      none-served = let q0 = waited held p wait in grind (arith, nat_tests, q0)
 
       full-unserved : serve table (inbox (Some m) held) p ≡ (Err Full, inbox (Some m) held, p)
-      full-unserved =
-          ap (λ y. serve_by table (is_refused table held p ((in_hand, m) ∷ held_from 0 held)) y (inbox (Some m) held) p)
-          none-served
-          ∙ ap (λ b. serve_by table (b || list_any (λ x. finds_no_place (answer_to table held p x).0) (held_from 0 held))
-          None (inbox (Some m) held) p) full
+      full-unserved = grind (arith, nat_tests, common_steps, none-served)
 
       -- nothing comes of the message in the hand either
       pub waits-full : (served : Result Served Refusal) (c : InboxState T) (q : P) →
           Serves table takes_memory (inbox (Some m) held) p served c q →
           (served ≡ Err Full) × (c ≡ inbox (Some m) held) × (q ≡ p)
-      waits-full served c q s =
-          elim s [
-            | inl f ↦ (
-              ap (λ (y : Result Served Refusal × InboxState T × P). y.0) (f ∙ full-unserved),
-              ap (λ (y : Result Served Refusal × InboxState T × P). y.1) (f ∙ full-unserved),
-              ap (λ (y : Result Served Refusal × InboxState T × P). y.2) (f ∙ full-unserved),
-            )
-            | inr f ↦ absurd (let some : None ≡ Some f.3.0 = sym none-served ∙ f.3.1 in cc)
-          ]
+      waits-full served c q s = grind (arith, nat_tests, common_steps, full-unserved, none-served)

@@ -12,7 +12,8 @@ ghost use Rattle.seat_edges.specs.StopLaws.{LateReadersStop, LateRecallsStop, La
 ghost use Rattle.seat_edges.specs.TurnLaws.{BankTurnsPut, CoreTurnsPut, EmptyBankHandsTake, EmptyCoreHandsTake};
 ghost use Rattle.seat_edges.specs.TurnLaws.{FullBankHandsTakeNothing, FullBanksTakeNothing};
 ghost use Rattle.seat_edges.specs.TurnLaws.{FullCoreHandsTakeNothing, FullCoresTakeNothing, TakesBegin, TakesMoveOn};
-ghost use Rattle.seat_edges.specs.WaitLaws.{BanksServeBehind, CoresServeBehind, FullBanksHoldNoMore, FullCoresHoldNoMore};
+ghost use Rattle.seat_edges.specs.WaitLaws.{BanksServeBehind, CoresServeBehind, FullBanksHoldNoMore};
+ghost use Rattle.seat_edges.specs.WaitLaws.{FullCoresHoldNoMore};
 
 use mailboxes::laws::all_incoming_slots_are_looked_at;
 

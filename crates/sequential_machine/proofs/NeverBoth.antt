@@ -1,16 +1,14 @@
 -- Of two threads that each store 1 and then load the other's location, never both receive 0.
-use Rattle.std.proofs.Common.{◌≡◌, ◌≢◌, ℕ, zero, suc, ◌≤◌, eqb, List, [], ◌∷◌, Option, Some, None, ◌⊎◌, inl, inr}
+use Rattle.std.proofs.Common.{◌≡◌, ◌≢◌, ℕ, zero, suc, ◌≤◌, List, [], ◌∷◌, Option, Some, None, ◌⊎◌, inl, inr}
 use Rattle.std.proofs.Common.{refl, sym, ap₂, ◌∙◌, subst, arith, ⊎_elim}
 use Rattle.std.proofs.lemmas.Bool.Decides.{nat_tests}
 use Rattle.std.proofs.lemmas.Grind.{common_steps}
 use Rattle.std.specs.Prelude.{replicate}
-use Rattle.std.specs.List.{AllByRecursion as Each}
-use Rattle.std.proofs.lemmas.Bool.{cond-false, ne_eqb}
 use Rattle.litmus_parser.specs.declared.syntax.Cell.{Cell}
 use Rattle.litmus_parser.specs.declared.syntax.Instruction.{Instruction}
 use Rattle.litmus_parser.specs.declared.syntax.Instruction.TheVariants as does
 use Rattle.litmus_reader.specs.ThreadSteps.{register_value, with_register, with_items}
-use Rattle.sequential_machine.specs.SequentialMachine.{SequentialState, cells_of, sequential_opening, memory_after}
+use Rattle.sequential_machine.specs.SequentialMachine.{SequentialState, sequential_opening, memory_after}
 use Rattle.sequential_machine.specs.SequentialMachine.{registers_after}
 use Rattle.sequential_machine.specs.SequentialMachine.{after_one, Step, next, Steps, none, more, IsOutcome}
 use Rattle.sequential_machine.specs.Example.{cell, store_buffering}
@@ -102,11 +100,6 @@ record Stands (s : SequentialState) : Type 0 where
   pub other : IsAt s 1 0 second
   pub one_of : OneOf first second
   pub no_others : (t : ℕ) → 2 ≤ t → s.left t ≡ []
-
-none_of : (t : ℕ) (cells : List Cell) → Each (λ c. c.thread ≢ t) cells → cells_of t cells ≡ []
-none_of t [] h = refl
-none_of t (c ∷ cells) h = cond-false (eqb c.thread t) (c ∷ cells_of t cells) (cells_of t cells)
-    (ne_eqb c.thread t h.0) ∙ none_of t cells h.1
 
 opens : Stands (sequential_opening store_buffering)
 unfolding with_items

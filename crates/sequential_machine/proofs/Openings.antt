@@ -1,5 +1,5 @@
 -- Items that set each name once, and what is there when all have been taken in turn.
-use Rattle.std.proofs.Common.{◌≡◌, ◌≢◌, ℕ, zero, suc, ◌+◌, ◌-◌, ◌<◌, Bool, true, false, ◌||◌, ◌&&◌, nat_le}
+use Rattle.std.proofs.Common.{◌≡◌, ◌≢◌, ℕ, zero, suc, ◌+◌, ◌-◌, ◌<◌, Bool, true, false, ◌||◌, ◌&&◌}
 use Rattle.std.proofs.Common.{List, [], ◌∷◌, ◌++◌, length, Option, Some, None, Ok, replicate, slice_set}
 use Rattle.std.proofs.Common.{refl, sym, ap, ◌∙◌, subst, inl, inr, arith}
 use Rattle.std.proofs.lemmas.Bool.Decides.{nat_tests}
@@ -12,7 +12,7 @@ use Rattle.std.specs.Ordering.{nat_cmp, eq_by_cmp}
 use Rattle.std.specs.Cmp.{nat_cmp_total, unsigned_tied}
 use Rattle.std.proofs.lemmas.Bool.{cond_both, cond-true, cond-false, eqb-true, eq-eqb, ne_eqb, lt-ltb}
 use Rattle.physiological_order.specs.Order.{flat}
-use Rattle.litmus_lexer.specs.Spelling.{small_of, register_of}
+use Rattle.litmus_lexer.specs.Spelling.{register_of}
 use Rattle.litmus_parser.specs.Names.{Names, same_name}
 use Rattle.litmus_parser.specs.Block.{rest_of_item, Block, added, whole_item, item_or_end, entry, block}
 use Rattle.litmus_parser.specs.Words.{named_register}
@@ -181,16 +181,6 @@ unfolding words_opened
 words_open l = grind (arith, nat_tests, common_steps, word_address, word_else, word_here)
 
 -- items of the grammar
-
-digits_below : (word : List ℕ) (n : ℕ) → small_of 31 word ≡ Some n → n < 32
-digits_below [] n e = absurd cc
-digits_below (a ∷ []) n e = let q0 = nat_le 48 a in let q1 = nat_le a 57 in grind (arith, nat_tests, q0, q1)
-digits_below (a ∷ b ∷ []) n e = grind (arith, nat_tests)
-digits_below (a ∷ b ∷ c ∷ word) n e = absurd cc
-
-register_below : (word : List ℕ) (r : ℕ) → register_of word ≡ Some r → r < 32
-register_below [] r e = absurd cc
-register_below (first ∷ number) r e = grind (arith, nat_tests)
 
 is_same : (name : Name) → same_name name name ≡ true
 is_same (Register t r) = rw (eq-eqb t t refl, eq-eqb r r refl) refl

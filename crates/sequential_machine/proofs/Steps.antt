@@ -1,5 +1,5 @@
 -- Steps of threads in the order of a list, and two such runs of the example.
-use Rattle.std.proofs.Common.{◌≡◌, ℕ, zero, suc, ◌<◌, List, [], ◌∷◌, Option, refl, ap, arith}
+use Rattle.std.proofs.Common.{◌≡◌, ℕ, List, [], ◌∷◌, Option, refl, ap, arith}
 use Rattle.std.proofs.lemmas.Bool.Decides.{nat_tests}
 use Rattle.std.specs.Prelude.{unwrap_or}
 use Rattle.std.specs.FinMap.{get-empty}
@@ -38,16 +38,6 @@ stores_first = 0 ∷ 1 ∷ 0 ∷ 1 ∷ 0 ∷ 1 ∷ []
 -- one thread is through before the other begins
 abbrev one_first : List ℕ
 one_first = 0 ∷ 0 ∷ 0 ∷ 1 ∷ 1 ∷ 1 ∷ []
-
-through : (t : ℕ) → t < 2 → (by_turns (sequential_opening store_buffering) stores_first).left t ≡ []
-through zero lt = refl
-through (suc zero) lt = refl
-through (suc (suc t)) lt = absurd (omega arith)
-
-through_too : (t : ℕ) → t < 2 → (by_turns (sequential_opening store_buffering) one_first).left t ≡ []
-through_too zero lt = refl
-through_too (suc zero) lt = refl
-through_too (suc (suc t)) lt = absurd (omega arith)
 
 pub both_receive_one : IsOutcome store_buffering (1 ∷ 1 ∷ [])
 unfolding words_opened with_items

@@ -45,7 +45,8 @@ pub fn programs_are_threads()
         → ThreadIsAt s t program → next_operation program ≡ None → s.left t ≡ [] }
 {}
 
-/// The ends of turns are the outcomes of the machine: it matters not at what instructions without memory a thread waits.
+/// The ends of turns are the outcomes of the machine: it matters not at what instructions without memory a thread
+/// waits.
 pub fn ends_of_turns_are_outcomes()
     ensures sound { (text : List ℕ) (test : Litmus) (values : List ℕ) →
         IsTest text test → IsEnd test values → IsOutcome test values }

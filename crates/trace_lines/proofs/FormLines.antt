@@ -1,6 +1,8 @@
 -- Which form a line tells, both ways, and why it is refused.
-use Rattle.std.proofs.Common.{◌≡◌, ℕ, Bool, true, false, cond, List, [], ◌∷◌, Option, Some, None, refl, sym}
-use Rattle.std.proofs.Common.{subst, codes}
+use Rattle.std.proofs.Common.{◌≡◌, ℕ, Bool, true, false, cond, List, [], ◌∷◌, Option, Some, None, refl, sym, subst}
+use Rattle.std.proofs.Common.{codes, arith}
+use Rattle.std.proofs.lemmas.Bool.Decides.{nat_tests}
+use Rattle.std.proofs.lemmas.Grind.{common_steps}
 use Rattle.std.specs.Prelude.{Result, Ok, Err, IfOk, IfErr, MatchOption}
 use Rattle.std.specs.Str.{bytes_eq}
 use Rattle.std.proofs.lemmas.Bool.{both_ways}
@@ -21,11 +23,8 @@ two-judged : (first second : List ℕ) (fields : List (List ℕ)) (b : Bool) →
     (b ≡ true → second ≡ codes "2") → (second ≡ codes "2" → b ≡ true) →
     LineJudged (first ∷ second ∷ fields) (cond b (ended (Some Two) fields) (Err BadForm))
 unfolding ended
-two-judged first second [] true e f g =
-    let rest : second ∷ [] ≡ codes "2" ∷ [] = rw (f refl) refl in ((e, rest), tt)
-two-judged first second (extra ∷ left) true e f g =
-    let front : first ∷ second ∷ [] ≡ codes "trace" ∷ codes "2" ∷ [] = rw (e, f refl) refl in
-    (tt, (first ∷ second ∷ [], extra, left, refl, front))
+two-judged first second [] true e f g = grind (arith, nat_tests)
+two-judged first second (extra ∷ left) true e f g = grind (arith, nat_tests)
 two-judged first second fields false e f g = (tt, (e, λ same. both_ways false refl (g same)))
 
 named-judged : (first : List ℕ) (fields : List (List ℕ)) → first ≡ codes "trace" →
@@ -65,8 +64,7 @@ two-read b c e f = rw (e, f) refl
 pub form-only : (fields : List (List ℕ)) (form : Form) → IsFormLine fields form → form_line_at fields ≡ Ok (Some form)
 unfolding form_line_at
 form-only [] form h = absurd h
-form-only (first ∷ fields) One h = one-read fields (bytes_eq first (codes "trace"))
-    (λ e. h ((bytes_eq-Decides first (codes "trace")).0 e))
+form-only (first ∷ fields) One h = grind (arith, nat_tests, common_steps, bytes_eq-Decides, one-read)
 form-only (first ∷ fields) Two h =
     rw h.1 (two-read (bytes_eq first (codes "trace")) (bytes_eq (codes "2") (codes "2"))
     ((bytes_eq-Decides first (codes "trace")).1 h.0) ((bytes_eq-Decides (codes "2") (codes "2")).1 refl))

@@ -1,9 +1,9 @@
 -- The number of the field in front: read digit by digit, and as a whole.
-use Rattle.std.proofs.Common.{◌≡◌, ℕ, ◌+◌, ◌<◌, ◌≤◌, ◌&&◌, Bool, true, false, ltb, cond}
-use Rattle.std.proofs.Common.{List, [], ◌∷◌, take, drop, length, get_or, Option}
-use Rattle.std.proofs.Common.{Some, None, refl, sym, ◌∙◌, arith, inl, inr}
+use Rattle.std.proofs.Common.{◌≡◌, ℕ, ◌+◌, ◌<◌, ◌≤◌, ◌&&◌, Bool, true, false, ltb, cond, List, [], ◌∷◌, drop, length}
+use Rattle.std.proofs.Common.{get_or, Option, Some, None, refl, sym, arith, inl, inr}
+use Rattle.std.proofs.lemmas.Grind.{common_steps}
 use Rattle.std.specs.Prelude.{◌^◌, nat_lt, if◌then◌else◌}
-use Rattle.std.specs.List.{list_all, fold, prefix_len}
+use Rattle.std.specs.List.{fold, prefix_len}
 use Rattle.std.proofs.lemmas.Bool.{cases_Bool}
 use Rattle.std.proofs.lemmas.List.{drop_more, drop_all}
 use Rattle.std.proofs.lemmas.Bool.Decides.{nat_tests}
@@ -23,10 +23,7 @@ number_read is_one put value count (b ∷ bytes) =
 grown : (put : ℕ → ℕ → ℕ) → ((value b : ℕ) → value ≤ put value b) → (digits : List ℕ) (value : ℕ) →
     value ≤ fold put value digits
 grown put more [] value = omega arith
-grown put more (b ∷ digits) value =
-    let here = more value b in
-    let later = grown put more digits (put value b) in
-    omega (arith, here, later)
+grown put more (b ∷ digits) value = let q0 = grown put more digits (put value b) in grind (arith, nat_tests, q0)
 
 never : (b : Bool) (x : Option (ℕ × ℕ)) → None ≡ cond (b && false) x None
 never true x = refl
@@ -34,10 +31,7 @@ never false x = refl
 
 ended-here : (is_one : ℕ → Bool) (put : ℕ → ℕ → ℕ) (value count : ℕ) → value < 18446744073709551616 →
     number_of is_one put value count [] ≡ Some (value, count)
-ended-here is_one put value count fits =
-    let test : ltb value 18446744073709551616 ≡ true = grind (arith, nat_tests) in
-    let same : count + 0 ≡ count = omega arith in
-    rw (test, same) refl
+ended-here is_one put value count fits = grind (arith, nat_tests)
 
 pub number-read : (is_one : ℕ → Bool) (put : ℕ → ℕ → ℕ) → ((b : ℕ) → is_one b ≡ true → is_within b ≡ true)
     → ((value b : ℕ) → value ≤ put value b) → (bytes : List ℕ) (value count : ℕ) → value < 18446744073709551616 →
@@ -52,15 +46,9 @@ number-read is_one put inside more (b ∷ bytes) value count fits =
             let same : count + (1 + n) ≡ count + 1 + n = omega arith in
             rw (e, lt, inside b e, take-one_more n b bytes, e, same)
             (number-read is_one put inside more bytes (put value b) (count + 1) fits')
-        | inr ge ↦ let least = grown put more (take n bytes) (put value b) in
-            let over : ltb (fold put (put value b) (take n bytes)) 18446744073709551616 ≡ false =
-            grind (arith, nat_tests) in
-            rw (e, ge, inside b e, take-one_more n b bytes, e, over) (never (list_all is_one (take n bytes)) _)
+        | inr ge ↦ grind (arith, nat_tests, common_steps, grown, never, take-one_more)
       ]
-      | inr e ↦ elim (cases_Bool (is_within b)) [
-        | inl w ↦ rw (e, w, take-one_more n b bytes, e) refl
-        | inr w ↦ rw (e, w) (sym (ended-here is_one put value count fits))
-      ]
+      | inr e ↦ grind (arith, nat_tests, common_steps, cases_Bool, ended-here, take-one_more)
     ]
 
 -- what is read from a byte on gives the whole
@@ -72,17 +60,13 @@ pub goes-on : (hex : Bool) (bytes : List ℕ) (value i next : ℕ) → Goes hex 
     is_digit_of hex (get_or bytes i 0) ≡ true → put_digit hex value (get_or bytes i 0) < 18446744073709551616 →
     next ≡ put_digit hex value (get_or bytes i 0) → Goes hex bytes next (i + 1)
 unfolding number_read
-goes-on hex bytes value i next known lt h fits e =
-    let test : ltb (put_digit hex value (get_or bytes i 0)) 18446744073709551616 ≡ true = grind (arith, nat_tests) in
-    rw e (sym (rw (drop_more bytes i 0 lt, h, test) refl) ∙ known)
+goes-on hex bytes value i next known lt h fits e = grind (arith, nat_tests, common_steps, drop_more, get_or)
 
 pub goes-over : (hex : Bool) (bytes : List ℕ) (value i : ℕ) → Goes hex bytes value i → i < length bytes →
     is_digit_of hex (get_or bytes i 0) ≡ true → (put_digit hex value (get_or bytes i 0) < 18446744073709551616 → ⊥) →
     None ≡ number_of (is_digit_of hex) (put_digit hex) 0 0 bytes
 unfolding number_read
-goes-over hex bytes value i known lt h over =
-    let test : ltb (put_digit hex value (get_or bytes i 0)) 18446744073709551616 ≡ false = grind (arith, nat_tests) in
-    rw (drop_more bytes i 0 lt, h, test) at known
+goes-over hex bytes value i known lt h over = grind (arith, nat_tests, common_steps, drop_more, get_or)
 
 pub goes-wrong : (hex : Bool) (bytes : List ℕ) (value i : ℕ) → Goes hex bytes value i → i < length bytes →
     is_digit_of hex (get_or bytes i 0) ≡ false → is_within (get_or bytes i 0) ≡ true →
@@ -110,5 +94,4 @@ digit-more true value b = omega arith
 digit-more false value b = omega arith
 
 pub digits-go : (hex : Bool) (bytes : List ℕ) → Goes hex bytes 0 0
-digits-go hex bytes =
-    number-read (is_digit_of hex) (put_digit hex) (digit-inside hex) (digit-more hex) bytes 0 0 (omega arith)
+digits-go hex bytes = grind (arith, nat_tests, common_steps, digit-inside, digit-more, number-read)

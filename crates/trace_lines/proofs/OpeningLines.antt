@@ -1,5 +1,7 @@
 -- What a line of an opening says, both ways, and why it is refused.
-use Rattle.std.proofs.Common.{◌≡◌, ℕ, ◌^◌, List, [], ◌∷◌, Option, Some, None, refl, sym, subst}
+use Rattle.std.proofs.Common.{◌≡◌, ℕ, ◌^◌, List, [], ◌∷◌, Option, Some, None, refl, sym, subst, arith}
+use Rattle.std.proofs.lemmas.Bool.Decides.{nat_tests}
+use Rattle.std.proofs.lemmas.Grind.{common_steps}
 use Rattle.std.specs.Prelude.{Result, Ok, Err, IfOk, IfErr, MatchOption}
 use Rattle.trace_lines.specs.declared.errors.Kind.{Kind}
 use Rattle.trace_lines.specs.declared.errors.Kind.TheVariants.{BadAddress, BadValue}
@@ -40,8 +42,7 @@ line-from fields (Err kind) j = (tt, j)
 line-judged : (fields : List (List ℕ)) → LineJudged fields (opening_line_at fields)
 unfolding opening_line_at
 line-judged [] = (refl, tt)
-line-judged (first ∷ fields) =
-    line-from (first ∷ fields) (opening_at (first ∷ fields)) (opening-judged (first ∷ fields))
+line-judged (first ∷ fields) = grind (arith, nat_tests, common_steps, line-from, opening-judged)
 
 pub opening-told : (fields : List (List ℕ)) (r : Result (Option (ℕ × ℕ)) Kind) → r ≡ opening_line_at fields →
     LineJudged fields r

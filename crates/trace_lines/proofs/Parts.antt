@@ -1,6 +1,7 @@
 -- How the fields of a line begin.
-use Rattle.std.proofs.Common.{◌≡◌, ℕ, ◌+◌, ◌<◌, ◌==◌, true, false}
+use Rattle.std.proofs.Common.{◌≡◌, ℕ, ◌<◌, ◌==◌, true, false}
 use Rattle.std.proofs.Common.{List, [], ◌∷◌, take, drop, length, get_or, refl, sym, ap, ◌∙◌, arith, inl, inr}
+use Rattle.std.proofs.lemmas.Grind.{common_steps}
 use Rattle.std.specs.Prelude.{not}
 use Rattle.std.proofs.lemmas.Bool.{cases_Bool}
 use Rattle.std.proofs.lemmas.Bool.Decides.{nat_tests}
@@ -9,9 +10,6 @@ use Rattle.std.specs.List.{prefix_len}
 use Rattle.text_lines.proofs.Lemmas.{take-one_more, drop-one_more}
 use Rattle.trace_lines.specs.Fields.{is_blank, before_comment, begins_inside_field, first_grown, parted, fields_of}
 use Rattle.trace_lines.specs.Fields.{is_within, front_field, has_fields}
-
-comment-none : (b : ℕ) (bytes : List ℕ) → (b == 35) ≡ true → before_comment (b ∷ bytes) ≡ []
-comment-none b bytes e = rw e refl
 
 comment-later : (b : ℕ) (bytes : List ℕ) → (b == 35) ≡ false → before_comment (b ∷ bytes) ≡ b ∷ before_comment bytes
 comment-later b bytes e = rw (e, take-one_more (prefix_len (λ c. not (c == 35)) bytes) b bytes) refl
@@ -37,19 +35,12 @@ unfolding parted
 parted-joined b bytes e f = rw (e, f) refl
 
 fields-blank : (b : ℕ) (bytes : List ℕ) → is_blank b ≡ true → fields_of (b ∷ bytes) ≡ fields_of bytes
-fields-blank b bytes e =
-    rw (comment-later b bytes (no-comment b e)) (parted-blank b (before_comment bytes) e)
+fields-blank b bytes e = grind (arith, nat_tests, common_steps, comment-later, no-comment, parted-blank)
 
 -- whether a field goes on
 goes-on : (b : ℕ) (bytes : List ℕ) → begins_inside_field (before_comment (b ∷ bytes)) ≡ is_within b
 unfolding begins_inside_field
-goes-on b bytes =
-    elim (cases_Bool (b == 35)) [
-      | inl e ↦ let outside : is_within b ≡ false = grind (arith, nat_tests) in
-          rw (comment-none b bytes e, outside) refl
-      | inr e ↦ let same : not (is_blank b) ≡ is_within b = grind (arith, nat_tests) in
-          rw (comment-later b bytes e) same
-    ]
+goes-on b bytes = let q0 = cases_Bool (b == 35) in grind (arith, nat_tests, q0)
 
 ends : begins_inside_field (before_comment []) ≡ false
 unfolding begins_inside_field
@@ -58,9 +49,7 @@ ends = refl
 -- a field in front goes as far as its bytes
 field-first : (b : ℕ) (bytes : List ℕ) → is_within b ≡ true → fields_of (b ∷ bytes)
     ≡ (b ∷ take (prefix_len is_within bytes) bytes) ∷ fields_of (drop (prefix_len is_within bytes) bytes)
-field-first b [] h =
-    let w = within-parts b h in
-    rw (comment-later b [] w.1) (parted-alone b (before_comment []) w.0 ends)
+field-first b [] h = grind (arith, nat_tests, common_steps, comment-later, ends, parted-alone, within-parts)
 field-first b (c ∷ bytes) h =
     let w = within-parts b h in
     let n : ℕ = prefix_len is_within bytes in
@@ -81,10 +70,8 @@ unfolding front_field parted
 fronted-first b bytes e =
     let n : ℕ = prefix_len is_within bytes in
     elim (cases_Bool (is_within b)) [
-      | inl h ↦ let some : (1 + n == 0) ≡ false = grind (arith, nat_tests) in
-          rw (h, some, drop-one_more n b bytes, take-one_more n b bytes) (field-first b bytes h)
-      | inr h ↦ let comment : (b == 35) ≡ true = grind (arith, nat_tests) in
-          rw (h, comment-none b bytes comment) refl
+      | inl h ↦ grind (arith, nat_tests, common_steps, drop-one_more, field-first, take-one_more)
+      | inr h ↦ grind (arith, nat_tests)
     ]
 
 -- behind the blanks in front
@@ -92,10 +79,8 @@ pub fronted : (line : List ℕ) → fields_of line ≡ front_field (drop (prefix
 unfolding parted
 fronted [] = sym fronted-none
 fronted (b ∷ bytes) =
-    elim (cases_Bool (is_blank b)) [
-      | inl e ↦ rw (e, drop-one_more (prefix_len is_blank bytes) b bytes) (fields-blank b bytes e ∙ fronted bytes)
-      | inr e ↦ rw e (fronted-first b bytes e)
-    ]
+    let q0 = fronted bytes in
+    grind (arith, nat_tests, common_steps, q0, cases_Bool, drop-one_more, fields-blank, fronted-first)
 
 pub fronted-by : (line bytes : List ℕ) (n : ℕ) → n ≡ prefix_len is_blank line → bytes ≡ drop n line →
     fields_of line ≡ front_field bytes
@@ -121,9 +106,4 @@ pub fronted-has : (bytes : List ℕ) → 0 < length bytes →
     has_fields (front_field bytes) ≡ is_within (get_or bytes 0 0)
 unfolding front_field
 fronted-has [] lt = absurd (omega arith)
-fronted-has (b ∷ bytes) lt =
-    elim (cases_Bool (is_within b)) [
-      | inl h ↦ let some : (1 + prefix_len is_within bytes == 0) ≡ false = grind (arith, nat_tests) in
-          rw (h, some) refl
-      | inr h ↦ rw h refl
-    ]
+fronted-has (b ∷ bytes) lt = let q0 = cases_Bool (is_within b) in grind (arith, nat_tests, q0)

@@ -1,23 +1,22 @@
 -- What a line of records says, both ways, and why it is refused.
-use Rattle.std.proofs.Common.{◌≡◌, ℕ, ◌^◌, List, [], ◌∷◌, Option, Some, None, refl, inl, inr, sym, subst, codes}
+use Rattle.std.proofs.Common.{◌≡◌, ℕ, ◌^◌, List, [], ◌∷◌, Option, Some, None, refl, inl, inr, sym, subst, codes, arith}
+use Rattle.std.proofs.lemmas.Bool.Decides.{nat_tests}
+use Rattle.std.proofs.lemmas.Grind.{common_steps}
 use Rattle.std.specs.Prelude.{Result, Ok, Err, IfOk, IfErr, MatchOption}
 use Rattle.physiological_order.specs.declared.operation.Op.{Op}
 use Rattle.physiological_order.specs.declared.operation.Op.TheVariants.{Load, Store, Swap}
 use Rattle.physiological_order.specs.declared.operation.Record.{Record}
 use Rattle.trace_lines.specs.declared.errors.Kind.{Kind}
-use Rattle.trace_lines.specs.declared.errors.Kind.TheVariants.{BadCore, BadOperation, BadAddress, BadValue}
-use Rattle.trace_lines.specs.declared.errors.Kind.TheVariants.{ExtraWords}
+use Rattle.trace_lines.specs.declared.errors.Kind.TheVariants.{BadCore, BadOperation, BadAddress, BadValue, ExtraWords}
 use Rattle.trace_lines.specs.declared.steps.Access.{Access}
 use Rattle.trace_lines.specs.declared.steps.Access.TheVariants as access
 use Rattle.text_lines.specs.Reading.{◌>>=◌}
-use Rattle.trace_lines.specs.Reading.{decimal_in, address_in, access_in, ended, core_at, place_at}
-use Rattle.trace_lines.specs.Reading.{operation_at, address_at, number_field_at, timed_at, record_rest_at}
-use Rattle.trace_lines.specs.Reading.{record_fields_at}
+use Rattle.trace_lines.specs.Reading.{decimal_in, address_in, access_in, ended, core_at, place_at, operation_at}
+use Rattle.trace_lines.specs.Reading.{address_at, number_field_at, timed_at, record_rest_at, record_fields_at}
 use Rattle.trace_lines.specs.Reading.{record_line_at}
 use Rattle.trace_lines.specs.Grammar.{IsNumber, IsCoreNumber, IsValue, IsAddress, IsCompletion, IsRecordLine}
 use Rattle.trace_lines.specs.Causes.{HasCoreNumber, HasPlaceNumber, HasAddress, HasValue, IsAccess, FewValues}
-use Rattle.trace_lines.specs.Causes.{CompletionCause}
-use Rattle.trace_lines.specs.Causes.{RecordCause}
+use Rattle.trace_lines.specs.Causes.{CompletionCause, RecordCause}
 use Rattle.trace_lines.proofs.Rules.{judged, missing, read_as}
 use Rattle.trace_lines.proofs.Spellings.{letter_of, number-takes, number-again, address-takes, address-again}
 use Rattle.trace_lines.proofs.Spellings.{access-takes, access-again}
@@ -160,8 +159,7 @@ RecordJudged fields (Err kind) = RecordCause kind fields
 behind-place : (first : List ℕ) (core : ℕ) (second : List ℕ) (place : ℕ) (left : List (List ℕ))
     (r : Result Record Kind) → IsCoreNumber 64 first core → IsNumber 20 (2 ^ 32) second place →
     CompletionJudged core place left r → RecordJudged (first ∷ second ∷ left) r
-behind-place first core second place left (Ok r) c p j =
-    (subst (IsCoreNumber 64 first) (sym j.1) c, subst (IsNumber 20 (2 ^ 32) second) (sym j.2) p, j.0)
+behind-place first core second place left (Ok r) c p j = grind (arith, nat_tests)
 behind-place first core second place left (Err BadCore) c p j = absurd j
 behind-place first core second place left (Err BadValue) c p j = inr ((core, c), ((place, p), j))
 behind-place first core second place left (Err kind) c p j = ((core, c), ((place, p), j))
@@ -191,8 +189,7 @@ line-from fields (Err kind) j = (tt, j)
 line-judged : (fields : List (List ℕ)) → LineJudged fields (record_line_at fields)
 unfolding record_line_at
 line-judged [] = (refl, tt)
-line-judged (first ∷ fields) =
-    line-from (first ∷ fields) (record_fields_at (first ∷ fields)) (record-judged (first ∷ fields))
+line-judged (first ∷ fields) = grind (arith, nat_tests, common_steps, line-from, record-judged)
 
 pub record-told : (fields : List (List ℕ)) (r : Result (Option Record) Kind) → r ≡ record_line_at fields →
     LineJudged fields r
@@ -236,12 +233,11 @@ completion-again core place fields op received ts number h = absurd h
 
 record-again : (fields : List (List ℕ)) (r : Record) → IsRecordLine fields r → record_fields_at fields ≡ Ok r
 unfolding record_fields_at core_at place_at
-record-again [] r h = absurd h
-record-again (first ∷ []) r h = absurd h
 record-again (first ∷ second ∷ fields) r h =
     read_as BadCore (decimal_in 2 64) first _ r.core _ _ (number-again 2 64 first r.core h.0)
     (read_as BadValue (decimal_in 20 (2 ^ 32)) second _ r.place _ _ (number-again 20 (2 ^ 32) second r.place h.1)
     (completion-again r.core r.place fields r.op r.received r.ts r.number h.2))
+record-again _ r h = absurd h
 
 pub record-only : (fields : List (List ℕ)) (r : Record) → IsRecordLine fields r → record_line_at fields ≡ Ok (Some r)
 unfolding record_line_at

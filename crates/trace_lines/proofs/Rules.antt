@@ -1,14 +1,16 @@
 -- What is read of the next field: rules for what holds of every reading, and for what is read.
-use Rattle.std.proofs.Common.{◌≡◌, ℕ, List, [], ◌∷◌, Option, Some, None, refl, sym, ap, ◌∙◌, ◌==◌, inl, inr, take, drop}
+use Rattle.std.proofs.Common.{◌≡◌, ℕ, List, [], ◌∷◌, Option, Some, None, refl, ◌==◌, arith}
+use Rattle.std.proofs.lemmas.Bool.Decides.{nat_tests}
+use Rattle.std.proofs.lemmas.Grind.{common_steps}
 use Rattle.std.specs.Prelude.{Result, Ok, Err, option_map}
 use Rattle.std.specs.List.{prefix_len}
-use Rattle.std.proofs.lemmas.Bool.{cases_Bool, eqb-true}
+use Rattle.std.proofs.lemmas.Bool.{cases_Bool}
 use Rattle.trace_lines.specs.declared.errors.Kind.{Kind}
 use Rattle.trace_lines.specs.declared.steps.Access.{Access}
 use Rattle.trace_lines.specs.Causes.{Missing}
-use Rattle.trace_lines.specs.Fields.{is_within, front_field, fields_of}
+use Rattle.trace_lines.specs.Fields.{is_within, front_field}
 use Rattle.trace_lines.specs.Fronts.{front_says, letter_in}
-use Rattle.trace_lines.specs.Reading.{FieldsRead, field_at, access_in}
+use Rattle.trace_lines.specs.Reading.{field_at, access_in}
 use Rattle.text_lines.specs.Reading.{◌>>=◌, found}
 
 -- the next field is missing, or says nothing
@@ -30,16 +32,14 @@ pub judged : {X Y : Type 0} (P : List (List ℕ) → Result Y Kind → Type 0) (
     → P fields (field_at kind says fields >>= f)
 unfolding field_at
 judged P kind says [] f bad good = bad tt
-judged P kind says (field ∷ fields) f bad good =
-    found-judged (P (field ∷ fields)) kind (says field) fields f bad (good field fields)
+judged P kind says (field ∷ fields) f bad good = grind (arith, nat_tests, common_steps, found-judged)
 
 -- where each field of a kind says something, a blank field is missing
 pub missing : {X : Type 0} (P : List ℕ → Type 0) (says : List ℕ → Option X)
     → ((field : List ℕ) → P field → (x : X) × (says field ≡ Some x))
     → (fields : List (List ℕ)) → Blank says fields → Missing P fields
 missing P says spelled [] h = tt
-missing P says spelled (field ∷ fields) h = λ p. let s = spelled field p in
-    let never : None ≡ Some s.0 = sym h ∙ s.1 in absurd cc
+missing P says spelled (field ∷ fields) h = grind (arith, nat_tests)
 
 -- a field that says x is read as x
 pub read_as : {X Y : Type 0} (kind : Kind) (says : List ℕ → Option X) (field : List ℕ) (fields : List (List ℕ))
@@ -48,50 +48,21 @@ pub read_as : {X Y : Type 0} (kind : Kind) (says : List ℕ → Option X) (field
 unfolding field_at
 read_as kind says field fields x f y e g = rw e g
 
-found-mapped : {X : Type 0} (kind : Kind) (o : Option X) (fields : List (List ℕ)) (r : FieldsRead X) →
-    r ≡ found kind o (λ x. Ok (x, fields)) → r ≡ found kind (option_map (λ x. (x, fields)) o) (λ x. Ok x)
-found-mapped kind (Some x) fields r e = e
-found-mapped kind None fields r e = e
-
 -- what the field in front says is read
 pub front-read : {X : Type 0} (kind : Kind) (says : List ℕ → Option X) → says [] ≡ None → (bytes : List ℕ)
     (o : Option (X × List (List ℕ))) (fields : List (List ℕ)) → fields ≡ front_field bytes → o ≡ front_says says bytes
     → field_at kind says fields ≡ found kind o (λ x. Ok x)
 unfolding field_at front_field
 front-read kind says silent bytes o fields f e =
-    elim (cases_Bool (prefix_len is_within bytes == 0)) [
-      | inl h ↦ let none : prefix_len is_within bytes ≡ 0 = eqb-true _ _ h in
-          rw (f, e, none, silent) refl
-      | inr h ↦ rw (f, e, h) (found-mapped kind _ _ _ refl)
-    ]
+    let q0 = cases_Bool (prefix_len is_within bytes == 0) in grind (arith, nat_tests, q0)
 
 -- with the fields after it
 abbrev pub beside : {X : Type 0} → List (List ℕ) → Option X → Option (X × List (List ℕ))
 beside fields o = option_map (λ x. (x, fields)) o
 
-letter-first : (field : List ℕ) (fields : List (List ℕ)) (b : ℕ) (rest : List (List ℕ)) →
-    Some (b, rest) ≡ beside fields (letter_in field) →
-    beside rest (access_in (b ∷ [])) ≡ beside fields (access_in field)
-letter-first [] fields b rest e = absurd cc
-letter-first (a ∷ []) fields b rest e =
-    let pair : ◌≡◌ {A = ℕ × List (List ℕ)} (b, rest) (a, fields) = cc in
-    let first : b ≡ a = ap (λ (x : ℕ × List (List ℕ)). x.0) pair in
-    let second : rest ≡ fields = ap (λ (x : ℕ × List (List ℕ)). x.1) pair in
-    rw (first, second) refl
-letter-first (a ∷ c ∷ field) fields b rest e = absurd cc
-
 pub letter-read : (bytes : List ℕ) (b : ℕ) (rest : List (List ℕ)) (o : Option Access) →
     Some (b, rest) ≡ front_says letter_in bytes → o ≡ access_in (b ∷ []) → beside rest o ≡ front_says access_in bytes
-letter-read bytes b rest o e f =
-    let n : ℕ = prefix_len is_within bytes in
-    rw f (letter-first (take n bytes) (fields_of (drop n bytes)) b rest e)
-
-letter-missing : (field : List ℕ) (fields : List (List ℕ)) → None ≡ beside fields (letter_in field) →
-    None ≡ beside fields (access_in field)
-letter-missing [] fields e = refl
-letter-missing (a ∷ []) fields e = absurd cc
-letter-missing (a ∷ c ∷ field) fields e = refl
+letter-read bytes b rest o e f = grind (arith, nat_tests)
 
 pub letter-none : (bytes : List ℕ) → None ≡ front_says letter_in bytes → None ≡ front_says access_in bytes
-letter-none bytes e =
-    let n : ℕ = prefix_len is_within bytes in letter-missing (take n bytes) (fields_of (drop n bytes)) e
+letter-none bytes e = grind (arith, nat_tests)

@@ -1,12 +1,13 @@
 -- What fields say, both ways.
-use Rattle.std.proofs.Common.{◌≡◌, ℕ, ◌*◌, ◌/◌, ◌%◌, ◌<◌, Bool, true, false, cond, eqb, ltb, ◌&&◌, List, []}
-use Rattle.std.proofs.Common.{◌∷◌, Option, Some, None, refl, sym, ap, subst, ◌∙◌, arith, codes}
+use Rattle.std.proofs.Common.{◌≡◌, ℕ, ◌*◌, ◌/◌, ◌%◌, Bool, true, false, cond, eqb, ◌&&◌, List, []}
+use Rattle.std.proofs.Common.{◌∷◌, Option, Some, None, refl, ◌∙◌, arith, codes}
+use Rattle.std.proofs.lemmas.Grind.{common_steps}
 use Rattle.std.specs.Prelude.{option_and_then}
-use Rattle.std.proofs.lemmas.Bool.{and_parts, and_from, eqb-true}
+use Rattle.std.proofs.lemmas.Bool.{and_parts, eqb-true}
 use Rattle.std.proofs.lemmas.Bool.Decides.{nat_tests}
 use Rattle.trace_lines.specs.declared.steps.Access.{Access}
 use Rattle.trace_lines.specs.declared.steps.Access.TheVariants as access
-use Rattle.trace_lines.specs.Spelling.{is_digit, is_hex_digit, is_few, decimal_of, hex_of}
+use Rattle.trace_lines.specs.Spelling.{is_hex_digit, is_few, hex_of}
 use Rattle.trace_lines.specs.Reading.{decimal_in, hex_in, word_at_byte, address_in, access_in}
 use Rattle.trace_lines.specs.Grammar.{IsNumber, IsAddress}
 
@@ -18,21 +19,11 @@ if_some false y x e = absurd cc
 
 pub number-takes : (digits bound : ℕ) (field : List ℕ) (n : ℕ) → decimal_in digits bound field ≡ Some n →
     IsNumber digits bound field n
-number-takes digits bound field n e =
-    let t = if_some (is_few is_digit digits field && ltb (decimal_of field) bound) (decimal_of field) n e in
-    let p = and_parts (is_few is_digit digits field) (ltb (decimal_of field) bound) t.0 in
-    let test = p.1 in
-    let lt : decimal_of field < bound = grind (arith, nat_tests) in
-    (p.0, t.1, subst (λ (k : ℕ). k < bound) t.1 lt)
+number-takes digits bound field n e = grind (arith, nat_tests, common_steps, and_parts, if_some)
 
 pub number-again : (digits bound : ℕ) (field : List ℕ) (n : ℕ) → IsNumber digits bound field n →
     decimal_in digits bound field ≡ Some n
-number-again digits bound field n h =
-    let lt : decimal_of field < bound = subst (λ (k : ℕ). k < bound) (sym h.1) h.2 in
-    let test : ltb (decimal_of field) bound ≡ true = grind (arith, nat_tests) in
-    let both : (is_few is_digit digits field && ltb (decimal_of field) bound) ≡ true =
-    and_from (is_few is_digit digits field) (ltb (decimal_of field) bound) h.0 test in
-    rw both (ap Some h.1)
+number-again digits bound field n h = grind (arith, nat_tests)
 
 -- ---- addresses
 
@@ -46,8 +37,6 @@ if_or_none true o x e = (refl, e)
 if_or_none false o x e = absurd cc
 
 pub address-takes : (field : List ℕ) (word : ℕ) → address_in field ≡ Some word → IsAddress field word
-address-takes [] word e = absurd cc
-address-takes (a ∷ []) word e = absurd cc
 address-takes (a ∷ b ∷ digits) word e =
     let t = if_or_none (eqb a 48 && eqb b 120) (option_and_then word_at_byte (hex_in digits)) word e in
     let p = and_parts (eqb a 48) (eqb b 120) t.0 in
@@ -61,17 +50,13 @@ address-takes (a ∷ b ∷ digits) word e =
       v.0,
       v.1 ∙ byte,
     )
+address-takes _ word e = absurd cc
 
 word-again : (byte word : ℕ) → byte ≡ 8 * word → word_at_byte byte ≡ Some word
-word-again byte word e =
-    let whole : byte % 8 ≡ 0 = omega arith in
-    let part : byte / 8 ≡ word = omega arith in
-    rw (whole, part) refl
+word-again byte word e = grind (arith, nat_tests)
 
 pub address-again : (field : List ℕ) (word : ℕ) → IsAddress field word → address_in field ≡ Some word
-address-again field word h =
-    let w = word-again (hex_of h.0) word h.3 in
-    rw (h.1, h.2) w
+address-again field word h = let q0 = word-again (hex_of h.0) word h.3 in grind (arith, nat_tests, q0)
 
 -- ---- operations
 
@@ -96,10 +81,9 @@ letter-cases false false true a access.Swap f g h e = rw (h refl) refl
 letter-cases false false false a x f g h e = absurd cc
 
 pub access-takes : (field : List ℕ) (x : Access) → access_in field ≡ Some x → field ≡ letter_of x
-access-takes [] x e = absurd cc
 access-takes (a ∷ []) x e =
     letter-cases (eqb a 82) (eqb a 87) (eqb a 83) a x (eqb-true a 82) (eqb-true a 87) (eqb-true a 83) e
-access-takes (a ∷ b ∷ field) x e = absurd cc
+access-takes _ x e = absurd cc
 
 pub access-again : (field : List ℕ) (x : Access) → field ≡ letter_of x → access_in field ≡ Some x
 access-again field access.Read e = rw e refl

@@ -1,13 +1,14 @@
 -- What a line of a trace says, both ways, and why it is refused.
-use Rattle.std.proofs.Common.{◌≡◌, ◌≢◌, ℕ, ◌^◌, eqb, List, [], ◌∷◌, Option, Some, None, refl}
-use Rattle.std.proofs.Common.{inl, inr, sym, subst, codes}
+use Rattle.std.proofs.Common.{◌≡◌, ◌≢◌, ℕ, ◌^◌, eqb, List, [], ◌∷◌, Option, Some, None, refl, inl, inr, sym, subst}
+use Rattle.std.proofs.Common.{codes, arith}
+use Rattle.std.proofs.lemmas.Bool.Decides.{nat_tests}
+use Rattle.std.proofs.lemmas.Grind.{common_steps}
 use Rattle.std.specs.Prelude.{Result, Ok, Err, IfOk, IfErr, MatchOption}
 use Rattle.std.proofs.lemmas.Bool.{cases_Bool, eqb-true, eqb-false}
 use Rattle.physiological_order.specs.declared.operation.Op.{Op}
 use Rattle.physiological_order.specs.declared.operation.Op.TheVariants.{Load, Store, Swap}
 use Rattle.trace_lines.specs.declared.errors.Kind.{Kind}
-use Rattle.trace_lines.specs.declared.errors.Kind.TheVariants.{BadCore, BadOperation, BadAddress, BadValue}
-use Rattle.trace_lines.specs.declared.errors.Kind.TheVariants.{ExtraWords}
+use Rattle.trace_lines.specs.declared.errors.Kind.TheVariants.{BadCore, BadOperation, BadAddress, BadValue, ExtraWords}
 use Rattle.trace_lines.specs.declared.steps.Access.{Access}
 use Rattle.trace_lines.specs.declared.steps.Access.TheVariants as access
 use Rattle.trace_lines.specs.declared.steps.Form.{Form}
@@ -21,8 +22,7 @@ use Rattle.trace_lines.specs.Reading.{address_at, number_field_at, operand_at, o
 use Rattle.trace_lines.specs.Reading.{trace_at, trace_line_at}
 use Rattle.trace_lines.specs.Grammar.{IsCoreNumber, IsValue, IsAddress, IsOp, IsStep, IsTraceLine}
 use Rattle.trace_lines.specs.Causes.{Missing, Behind, FollowsWhole, HasCoreNumber, HasAddress, HasValue, IsAccess}
-use Rattle.trace_lines.specs.Causes.{IsWriting}
-use Rattle.trace_lines.specs.Causes.{IsStepWord, StepCause, TraceCause}
+use Rattle.trace_lines.specs.Causes.{IsWriting, IsStepWord, StepCause, TraceCause}
 use Rattle.trace_lines.proofs.Rules.{judged, missing, read_as}
 use Rattle.trace_lines.proofs.Spellings.{letter_of, number-takes, number-again, address-takes, address-again}
 use Rattle.trace_lines.proofs.Spellings.{access-takes, access-again}
@@ -113,8 +113,7 @@ step-judged : (form : Form) (fields : List (List ℕ)) → StepJudged form field
 unfolding step_at
 step-judged One fields = step-from One fields (op_at fields) (op-judged fields) (λ m. m)
 step-judged Two [] = step-from Two [] (op_at []) (op-judged []) (λ m. tt)
-step-judged Two ([] ∷ fields) = step-from Two ([] ∷ fields) (op_at ([] ∷ fields)) (op-judged ([] ∷ fields))
-    (λ m. no_step [] (λ e. absurd cc) m)
+step-judged Two ([] ∷ fields) = let q0 = op-judged ([] ∷ fields) in grind (arith, nat_tests, q0)
 step-judged Two ((a ∷ []) ∷ fields) =
     elim (cases_Bool (eqb a 65)) [
       | inl e ↦ rw e (advance-judged a fields (eqb-true a 65 e))
@@ -122,9 +121,7 @@ step-judged Two ((a ∷ []) ∷ fields) =
           rw e (step-from Two ((a ∷ []) ∷ fields) (op_at ((a ∷ []) ∷ fields)) (op-judged ((a ∷ []) ∷ fields))
           (λ m. no_step (a ∷ []) (λ same. ne (let s : a ≡ 65 = cc in s)) m))
     ]
-step-judged Two ((a ∷ b ∷ field) ∷ fields) =
-    step-from Two ((a ∷ b ∷ field) ∷ fields) (op_at ((a ∷ b ∷ field) ∷ fields))
-    (op-judged ((a ∷ b ∷ field) ∷ fields)) (λ m. no_step (a ∷ b ∷ field) (λ e. absurd cc) m)
+step-judged Two ((a ∷ b ∷ field) ∷ fields) = grind (arith, nat_tests, common_steps, no_step, op-judged, step-from)
 
 abbrev TraceJudged : Form → List (List ℕ) → Result (ℕ × Step) Kind → Type 0
 TraceJudged form fields (Ok told) = IsTraceLine form fields told.0 told.1
@@ -159,8 +156,7 @@ line-from form fields (Err kind) j = (tt, j)
 line-judged : (form : Form) (fields : List (List ℕ)) → LineJudged form fields (trace_line_at form fields)
 unfolding trace_line_at
 line-judged form [] = (refl, tt)
-line-judged form (first ∷ fields) =
-    line-from form (first ∷ fields) (trace_at form (first ∷ fields)) (trace-judged form (first ∷ fields))
+line-judged form (first ∷ fields) = grind (arith, nat_tests, common_steps, line-from, trace-judged)
 
 pub trace-told : (form : Form) (fields : List (List ℕ)) (r : Result (Option (ℕ × Step)) Kind) →
     r ≡ trace_line_at form fields → LineJudged form fields r
@@ -198,8 +194,7 @@ op-step fields (Some rest) op n e = absurd cc
 step-again : (form : Form) (fields : List (List ℕ)) (told : Step) → IsStep form fields told →
     step_at form fields ≡ Ok told
 unfolding step_at ended
-step-again form fields (step.Op op) h =
-    op-step fields (behind_advance form fields) op (no_advance form fields op h) (op-again fields op h)
+step-again form fields (step.Op op) h = grind (arith, nat_tests, common_steps, no_advance, op-again, op-step)
 step-again One fields step.Advance h = absurd h
 step-again Two fields step.Advance h = rw h refl
 

@@ -4,7 +4,7 @@ use Rattle.std.proofs.Common.{◌∷◌, length, map, nat_lt, Option, Some, None
 use Rattle.std.proofs.Common.{⊎_elim, arith}
 use Rattle.std.specs.Ordering.{nat_cmp}
 use Rattle.std.specs.FinMap.{FinMap}
-use Rattle.std.proofs.lemmas.Bool.{cond_both, ltb-true, ltb-false}
+use Rattle.std.proofs.lemmas.Bool.{cases_lt, cond_both}
 use Rattle.physiological_order.specs.declared.operation.Op.{Op}
 use Rattle.network.specs.declared.message.Message.{Message}
 use Rattle.network.specs.NumberedMessages.{IsRising}
@@ -72,12 +72,12 @@ module _ {P : Type 0} (acts : Acts P) where
       (λ more. ⊎_elim (λ (out : s.is_out ≡ true). absurd (let z : true ≡ false = sym out ∙ more in cc))
       (λ (k : Lasting K s.machine). inr (leads k)) so)
 
-  both_lead : (K M L : Claim) (f g : Part P) (s : Standing P) →
+  both_lead : (M L : Claim) (f g : Part P) (s : Standing P) →
       Holds M (after_actions acts s (f s)) →
       (Holds M (after_actions acts s (f s)) →
       Holds L (after_actions acts (after_actions acts s (f s)) (g (after_actions acts s (f s))))) →
       Holds L (after_actions acts s (followed_by acts f g s))
-  both_lead K M L f g s first second =
+  both_lead M L f g s first second =
       subst (Holds L) (sym (after_both acts s (f s) (g (after_actions acts s (f s))))) (second first)
 
   if_leads : (b : Bool) (K : Claim) (part : Part P) (s : Standing P) → Holds K s →
@@ -119,7 +119,7 @@ module _ {P : Type 0} (acts : Acts P) where
           (no_room_is (transition t.machine (event.Attempt c)).0 no_place)) so
 
   tries_lead : (c : ℕ) → Leads (InTurn (c + 1)) (InTurn (c + 1)) (tries acts c)
-  tries_lead c s so = both_lead (InTurn (c + 1)) (InTurn (c + 1)) (InTurn (c + 1)) (one (Does (event.Attempt c)))
+  tries_lead c s so = both_lead (InTurn (c + 1)) (InTurn (c + 1)) (one (Does (event.Attempt c)))
       (only_if (finds_no_place s.machine c) (makes_place c)) s (attempt_leads c s so)
       (λ k. if_leads (finds_no_place s.machine c) (InTurn (c + 1)) (makes_place c) t k
       (λ no_place. place_leads c t (ap (λ (m : Machine). finds_no_place m c) (stays no_place) ∙ no_place) k))
@@ -138,14 +138,14 @@ module _ {P : Type 0} (acts : Acts P) where
     where
       go : (o : Option (Op × Bool)) → Holds (InTurn (c + 1)) (after_actions acts s (attempt_of acts c o s))
       go None = so
-      go (Some x) = both_lead (InTurn (c + 1)) (InTurn (c + 1)) (InTurn (c + 1)) (tries acts c)
+      go (Some x) = both_lead (InTurn (c + 1)) (InTurn (c + 1)) (tries acts c)
           (only_if (finds_no_place s.machine c) (one (Does (event.Attempt c)))) s (tries_lead c s so)
           (λ k. if_leads (finds_no_place s.machine c) (InTurn (c + 1)) (one (Does (event.Attempt c)))
           (after_actions acts s (tries acts c s)) k
           (λ no_place. attempt_leads c (after_actions acts s (tries acts c s)) k))
 
   turn_leads : (c : ℕ) → Leads (InTurn c) (InTurn (c + 1)) (core_turn acts c)
-  turn_leads c s so = both_lead (InTurn c) (InTurn (c + 1)) (InTurn (c + 1)) (steps_on acts c) (attempts acts c) s
+  turn_leads c s so = both_lead (InTurn (c + 1)) (InTurn (c + 1)) (steps_on acts c) (attempts acts c) s
       (steps_lead c s so) (attempts_lead c (after_actions acts s (steps_on acts c s)))
 
   -- the cores' turns, after which deliveries begin
@@ -171,7 +171,7 @@ module _ {P : Type 0} (acts : Acts P) where
       go : (o : Option (ℕ × ℕ)) →
           Holds (Pends ys) (after_actions acts t (parts.line_leaves acts fair n o t))
       go None = so
-      go (Some x) = both_lead (Pends ys) (Pends ys) (Pends ys)
+      go (Some x) = both_lead (Pends ys) (Pends ys)
           (one (Does (event.EvictBank x.0 x.1))) (only_if (Wins fair x t) (one (Does (event.Deliver n)))) t
           (event_leads (Pends ys) (Pends ys) (event.EvictBank x.0 x.1)
           (programs_told acts t.programs) t (line_lasts x.0 x.1 ys t.machine) so)
@@ -188,7 +188,7 @@ module _ {P : Type 0} (acts : Acts P) where
       Lasting (Pends ys) (transition m (event.Deliver n)).1) →
       Leads K (Pends ys) (delivery acts fair n)
   one_delivered K fair n ys others lasts s so =
-      both_lead K (Pends ys) (Pends ys) (one (Does (event.Deliver n)))
+      both_lead (Pends ys) (Pends ys) (one (Does (event.Deliver n)))
       (only_if (is_held (transition s.machine (event.Deliver n)).0) (makes_room acts fair n)) s
       (event_leads K (Pends ys) (event.Deliver n) (programs_told acts s.programs) s (lasts s.machine) so)
       (λ k. if_leads (is_held (transition s.machine (event.Deliver n)).0) (Pends ys)
@@ -304,11 +304,9 @@ module _ {P : Type 0} (acts : Acts P) (config : Config) (good : is_good config �
     by_cause numbers (too_many free core op below next is) = too_many free core op below next is
 
     pub stalls_whole : StallsFromOpening acts config m programs
-    stalls_whole = by_number (nat_lt last.machine.mail.next (2 ^ 64 - 1)) refl
-      where
-        by_number : (b : Bool) → nat_lt last.machine.mail.next (2 ^ 64 - 1) ≡ b →
-            StallsFromOpening acts config m programs
-        by_number false is = unnumbered (let z = ltb-false last.machine.mail.next (2 ^ 64 - 1) is in
-            let same = ap (λ (n : Machine). n.mail.next) ended.machine_is in omega (arith, z, same))
-        by_number true is = by_cause (ltb-true last.machine.mail.next (2 ^ 64 - 1) is)
-            (stalls_since acts config good memory [] fair limit opening refl ended)
+    stalls_whole =
+        let same = ap (λ (n : Machine). n.mail.next) ended.machine_is in
+        elim (cases_lt last.machine.mail.next (2 ^ 64 - 1)) [
+          | inr used ↦ unnumbered (omega (arith, used, same))
+          | inl numbers ↦ by_cause numbers (stalls_since acts config good memory [] fair limit opening refl ended)
+        ]

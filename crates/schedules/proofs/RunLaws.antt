@@ -24,7 +24,7 @@ all_both m [] ys = refl
 all_both m (x ∷ xs) ys = all_both (transition m x).1 xs ys
 
 module _ {P : Type 0} (acts : Acts P) where
-  one_makes : (s : Standing P) (action : Action) →
+  pub one_makes : (s : Standing P) (action : Action) →
       after_all s.machine (events_of_one acts s action) ≡ (after_action acts s action).machine
   one_makes s (Does e) = elim (cases_Bool s.is_out) [
     | inl out ↦ rw out refl
@@ -73,15 +73,21 @@ module _ {P S : Type 0} (plan : Plan P S) (start : Position P S) where
             rw (cut.leads, ← cut.events_are) at
             (turns p.own p.standing p.events cut.made cut.left (run_kept cut.turns) cut.turn_is)
 
+  -- a part of a turn makes its machine of the start's
+  pub turn_makes : (s : Standing P) (events : List Event) (made : List Action) →
+      s.machine ≡ after_all start.standing.machine events → (after_actions plan.acts (begin s) made).machine ≡
+      after_all start.standing.machine (events ++ events_of plan.acts (begin s) made)
+  turn_makes s events made so =
+      sym (all_both start.standing.machine events (events_of plan.acts (begin s) made)
+      ∙ ap (λ (m : Machine). after_all m (events_of plan.acts (begin s) made)) (sym so)
+      ∙ actions_make plan.acts (begin s) made)
+
   pub run_makes : {keeps : Bool} {events : List Event} {m : Machine} {programs : List P} {e : End} → start.events ≡ [] →
       Ended keeps plan start events m programs e → m ≡ after_all start.standing.machine events
   run_makes {keeps} {events} opens ended =
       sym ended.machine_is
       ∙ all_kept (λ s events. s.machine ≡ after_all start.standing.machine events) (rw opens refl)
-      (λ own s events made left so is.
-      sym (all_both start.standing.machine events (events_of plan.acts (begin s) made)
-      ∙ ap (λ (m : Machine). after_all m (events_of plan.acts (begin s) made)) (sym so)
-      ∙ actions_make plan.acts (begin s) made)) ended
+      (λ own s events made left so is. turn_makes s events made so) ended
 
   -- all done is said of a run that left nothing to do, and that turns are used of one that left something
   abbrev pub Says : End → Standing P → Type 0
@@ -111,38 +117,6 @@ none_of : {A : Type 0} (o : Option A) → is_none o ≡ true → o ≡ None
 none_of None is = refl
 none_of (Some x) is = absurd (false≢true is)
 
-module _ {P S : Type 0} (plan : Plan P S) (m : Machine) (opening : List P) (own : S) where
-  -- all done means that no core has an open operation and no program a next step
-  pub run_leaves_nothing : {keeps : Bool} {events : List Event} {after : Machine} {programs : List P} {e : End} →
-      Ended keeps plan (initial_position plan.acts m opening own) events after programs e → e ≡ AllDone → (core : ℕ) →
-      core < after.config.cores → (open_op after core ≡ None) × (next_in plan.acts programs core ≡ None)
-  run_leaves_nothing {keeps} {events} {after} {programs} {e} ended done core below =
-      rw (ended.machine_is, ended.programs_are) at (nothing_left (by_end ended.ends))
-    where
-      start : Position P S
-      start = initial_position plan.acts m opening own
-
-      s : Standing P
-      s = ended.last
-
-      by_end : HasRun (run plan plan.limit start) events ended.last e
-          ⊎ IsCut keeps plan start events ended.last e →
-          are_over plan.acts ended.last.machine ended.last.programs ended.last.machine.config.cores ≡ true
-      by_end (inl h) =
-          rw (h.standing_is, h.end_is, done) at (run_says plan start (here_says plan start start.standing) plan.limit)
-      by_end (inr cut) = absurd (let bad = sym done ∙ cut.end_is in cc)
-
-      nothing_left : are_over plan.acts ended.last.machine ended.last.programs ended.last.machine.config.cores ≡ true →
-          (open_op ended.last.machine core ≡ None) × (next_in plan.acts ended.last.programs core ≡ None)
-      nothing_left over =
-          let parts = and_parts (is_none (open_op ended.last.machine core))
-          (is_none (next_in plan.acts ended.last.programs core))
-          (each_over plan.acts ended.last.machine ended.last.programs ended.last.machine.config.cores core
-          (rw ended.machine_is below) over) in (
-            none_of (open_op ended.last.machine core) parts.0,
-            none_of (next_in plan.acts ended.last.programs core) parts.1,
-          )
-
 -- a run that its last turn ended
 pub not_cut : {P S : Type 0} {keeps : Bool} {plan : Plan P S} {start : Position P S} {events : List Event} {m : Machine}
     {programs : List P} {e : End} (ended : Ended keeps plan start events m programs e) → e ≢ NoMemory →
@@ -151,6 +125,29 @@ not_cut ended other = elim ended.ends [
   | inl h ↦ h
   | inr cut ↦ absurd (other cut.end_is)
 ]
+
+module _ {P S : Type 0} (plan : Plan P S) (m : Machine) (opening : List P) (own : S) where
+  -- all done means that no core has an open operation and no program a next step
+  pub run_leaves_nothing : {keeps : Bool} {events : List Event} {after : Machine} {programs : List P} {e : End} →
+      Ended keeps plan (initial_position plan.acts m opening own) events after programs e → e ≡ AllDone → (core : ℕ) →
+      core < after.config.cores → (open_op after core ≡ None) × (next_in plan.acts programs core ≡ None)
+  run_leaves_nothing {keeps} {events} {after} {programs} {e} ended done core below =
+      rw (ended.machine_is, ended.programs_are) at nothing_left
+    where
+      start : Position P S
+      start = initial_position plan.acts m opening own
+
+      over : are_over plan.acts ended.last.machine ended.last.programs ended.last.machine.config.cores ≡ true
+      over = let h = not_cut ended (λ bad. let z = sym done ∙ bad in absurd cc) in
+          rw (h.standing_is, h.end_is, done) at (run_says plan start (here_says plan start start.standing) plan.limit)
+
+      nothing_left : (open_op ended.last.machine core ≡ None) × (next_in plan.acts ended.last.programs core ≡ None)
+      nothing_left =
+          let parts = and_parts (is_none (open_op ended.last.machine core))
+          (is_none (next_in plan.acts ended.last.programs core))
+          (each_over plan.acts ended.last.machine ended.last.programs ended.last.machine.config.cores core
+          (rw ended.machine_is below) over) in
+          (none_of (open_op ended.last.machine core) parts.0, none_of (next_in plan.acts ended.last.programs core) parts.1)
 
 -- a run leaves no choice
 same_run : {P S : Type 0} {keeps : Bool} (plan : Plan P S) (start : Position P S) (events others : List Event)

@@ -12,6 +12,7 @@ use Rattle.schedules.specs.Runs.{Plan, Position, initial_position, begin, turn_a
 use Rattle.schedules.specs.Runs.{one_more, run}
 use Rattle.schedules.specs.Runs.{are_over, end_here, AsksMemory, Ended, Finishes}
 use Rattle.schedules.specs.Notes.{Log, Point, at, standing, IsMade, IsRefused, Reaches, KeepsAs}
+use Rattle.schedules.proofs.KnownEvents.{known_of}
 use Rattle.schedules.proofs.Parts.{made_keeps}
 
 -- a run that ended stays as it is
@@ -45,21 +46,14 @@ module _ {P S : Type 0} (plan : Plan P S) (start : Position P S) where
       (run plan plan.limit start).standing ≡ s → (run plan plan.limit start).end ≡ e →
       IfSome kept (λ events. events ≡ (run plan plan.limit start).events) →
       Finishes plan start kept s.machine s.programs e
-  finished None s e standing_is end_is events_are = (
-    (run plan plan.limit start).events,
-    record {
-      last = s;
-      machine_is = refl;
-      programs_are = refl;
-      ends = inl (record { standing_is = standing_is; events_are = refl; end_is = end_is });
-    },
-  )
-  finished (Some events) s e standing_is end_is events_are = record {
-    last = s;
-    machine_is = refl;
-    programs_are = refl;
-    ends = inl (record { standing_is = standing_is; events_are = sym events_are; end_is = end_is });
-  }
+  finished kept s e standing_is end_is events_are =
+      known_of (λ events. Ended (is_some kept) plan start events s.machine s.programs e) kept
+      (run plan plan.limit start).events events_are (record {
+        last = s;
+        machine_is = refl;
+        programs_are = refl;
+        ends = inl (record { standing_is = standing_is; events_are = refl; end_is = end_is });
+      })
 
   ended_by : (turns : ℕ) → turns ≤ plan.limit → (kept : Option (List Event)) (s : Standing P) (e : End) →
       e ≢ end.TurnsUsed → (run plan turns start).standing ≡ s → (run plan turns start).end ≡ e →
@@ -172,13 +166,10 @@ module _ {P S : Type 0} (plan : Plan P S) (start : Position P S) where
     refused : turns < plan.limit → (q : Point P) →
         IsRefused plan.acts (plan.schedule.turn own (standing p false)) p q →
         Finishes plan start q.log.events q.machine q.programs end.NoMemory
-    refused below q cut = by_kept q.log.events
-        (with_noted p.log.events q.log.events (run plan turns start).events _ now.events_are cut.is_made.notes) cut.asks
-      where
-        ended : (keeps : Bool) (events : List Event) →
-            events ≡ (run plan turns start).events ++ events_of plan.acts (standing p false) cut.made →
-            AsksMemory keeps q.machine cut.left → Ended keeps plan start events q.machine q.programs end.NoMemory
-        ended keeps events is asks = record {
+    refused below q cut =
+        known_of (λ events. Ended (is_some q.log.events) plan start events q.machine q.programs end.NoMemory)
+        q.log.events _
+        (with_noted p.log.events q.log.events (run plan turns start).events _ now.events_are cut.is_made.notes) (record {
           last = standing q false;
           machine_is = refl;
           programs_are = refl;
@@ -191,21 +182,12 @@ module _ {P S : Type 0} (plan : Plan P S) (start : Position P S) where
             left = cut.left;
             turn_is = turn_is ∙ cut.actions_are;
             leads = ap (λ (s : Standing P). after_actions plan.acts s cut.made) now.begins ∙ cut.is_made.leads;
-            events_are = is ∙ ap (λ (s : Standing P). (run plan turns start).events
-                ++ events_of plan.acts s cut.made) (sym now.begins);
+            events_are = ap (λ (s : Standing P). (run plan turns start).events ++ events_of plan.acts s cut.made)
+                (sym now.begins);
             in_time = refl;
-            asks = asks;
+            asks = cut.asks;
           });
-        }
-
-        by_kept : (kept : Option (List Event)) →
-            IfSome kept (λ events. events ≡ (run plan turns start).events
-            ++ events_of plan.acts (standing p false) cut.made) → AsksMemory (is_some kept) q.machine cut.left →
-            Finishes plan start kept q.machine q.programs end.NoMemory
-        by_kept None is asks =
-            let events = (run plan turns start).events ++ events_of plan.acts (standing p false) cut.made in
-            (events, ended false events refl asks)
-        by_kept (Some events) is asks = ended true events is asks
+        })
 
     -- a turn that ends the run
     pub did_end : turns < plan.limit → (e : End) (q : Point P) →

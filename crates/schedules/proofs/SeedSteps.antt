@@ -1,7 +1,7 @@
 -- A seeded schedule issues and advances a core as its program says.
 use Rattle.std.proofs.Common.{◌≡◌, ◌%◌, ℕ, zero, suc, Bool, true, false, List, [], ◌∷◌, ◌++◌, length, map, get_or}
 use Rattle.std.proofs.Common.{Option, Some, None, refl}
-use Rattle.std.specs.List.{flat_map, range_with_len}
+use Rattle.std.specs.List.{flat_map, range_with_len, AllByRecursion as Each}
 use Rattle.rand_pcg.specs.Pcg.{pcg32}
 use Rattle.physiological_order.specs.declared.operation.Op.{Op}
 use Rattle.programs.specs.declared.steps.Step.{Step}
@@ -21,30 +21,26 @@ use Rattle.schedules.proofs.GivenSteps.{tries_give, delivery_gives}
 module _ {P : Type 0} (acts : Acts P) (s : Standing P) where
   -- an entry gives a core only what its program does
   Fits : Choice → Type 0
-  Fits choice = AreGiven acts s (chosen acts choice s)
+  Fits choice = AreGiven acts (Unit {0}) s (chosen acts choice s)
 
   -- each of a list does
-  AllFit : List Choice → Type 0
-  AllFit [] = Unit {0}
-  AllFit (choice ∷ choices) = Fits choice × AllFit choices
+  abbrev AllFit : List Choice → Type 0
+  AllFit choices = Each Fits choices
 
   fit_both : (xs ys : List Choice) → AllFit xs → AllFit ys → AllFit (xs ++ ys)
-  unfolding AllFit
   fit_both [] ys front back = back
   fit_both (x ∷ xs) ys front back = (front.0, fit_both xs ys front.1 back)
 
   fit_mapped : {X : Type 0} (f : X → Choice) → ((x : X) → Fits (f x)) → (xs : List X) → AllFit (map f xs)
-  unfolding AllFit
   fit_mapped f each [] = tt
   fit_mapped f each (x ∷ xs) = (each x, fit_mapped f each xs)
 
   fit_pieces : {X : Type 0} (f : X → List Choice) → ((x : X) → AllFit (f x)) → (xs : List X) → AllFit (flat_map f xs)
-  unfolding AllFit
   fit_pieces f each [] = tt
   fit_pieces f each (x ∷ xs) = fit_both (f x) (flat_map f xs) (each x) (fit_pieces f each xs)
 
   one_fits : (xs : List Choice) (k : ℕ) → AllFit xs → Fits (get_or xs k Nothing)
-  unfolding Fits AllFit
+  unfolding Fits
   one_fits [] zero all = tt
   one_fits [] (suc k) all = tt
   one_fits (x ∷ xs) zero all = all.0
@@ -52,12 +48,12 @@ module _ {P : Type 0} (acts : Acts P) (s : Standing P) where
 
   step_fits : (core : ℕ) (o : Option (Op × Bool)) (next : Option Step) → open_op s.machine core ≡ o →
       next_in acts s.programs core ≡ next → AllFit (core_step core o next)
-  unfolding Fits AllFit
+  unfolding Fits
   step_fits core None None free is = tt
   step_fits core None (Some (step.Op op)) free is = (((free, is), tt), tt)
   step_fits core None (Some step.Advance) free is = (((free, is), tt), tt)
   step_fits core (Some (op, true)) next free is = tt
-  step_fits core (Some (op, false)) next free is = (tries_give acts core s, tt)
+  step_fits core (Some (op, false)) next free is = (tries_give acts (Unit {0}) core s, tt)
 
   list_fits : (k : ℕ) → AllFit (drawn_list acts s.machine s.programs k)
   unfolding Fits
@@ -72,7 +68,7 @@ module _ {P : Type 0} (acts : Acts P) (s : Standing P) where
   list_fits (suc (suc (suc k))) = fit_both (core_steps acts s.machine s.programs s.machine.config.cores) _
       (fit_pieces _ (λ core. step_fits core (open_op s.machine core) (next_in acts s.programs core) refl refl)
       (range_with_len 0 s.machine.config.cores))
-      (fit_mapped (λ number. Delivers number) (λ number. delivery_gives acts false number s)
+      (fit_mapped (λ number. Delivers number) (λ number. delivery_gives acts (Unit {0}) false number s)
       (numbers_in_flight s.machine))
 
   drawn_fits : (a b : ℕ) → Fits (get_or (drawn_list acts s.machine s.programs (a % 16))

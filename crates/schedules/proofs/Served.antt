@@ -1,4 +1,5 @@
--- Whatever the end of a run, each core was issued what its program gave, and the program was told of each record.
+-- Whatever the end of a run, each core was issued what its program gave, and the program was told of each record. By
+-- rounds a core's time goes on by itself only between operations.
 use Rattle.std.proofs.Common.{◌≡◌, ℕ, ◌+◌, ◌<◌, ◌==◌, Bool, false, List, [], ◌∷◌, ◌++◌, length}
 use Rattle.std.proofs.Common.{map, get_or, Option, Some, None, refl, sym, ap, ◌∙◌, subst, arith}
 use Rattle.std.proofs.Common.{append-nil, append_assoc, inl, inr, if◌then◌else◌}
@@ -17,15 +18,18 @@ use Rattle.machine_table.specs.declared.event.Event.TheVariants.{Advance}
 use Rattle.machine_table.specs.declared.event.Answer.{Answer}
 use Rattle.machine_table.specs.declared.event.Answer.TheVariants as answer
 use Rattle.machine_table.specs.Machine.{Machine, operation_of, open_op, open_op_of}
+use Rattle.machine_table.specs.Runs.{after_all}
 use Rattle.machine_table.specs.Transition.{transition}
 use Rattle.protocol.specs.Issued.{IsIssued, listed}
+use Rattle.machine_theorem.specs.Replies.{AdvancesBetween, IsBetween}
 use Rattle.machine_theorem.proofs.Lemmas.{after_all_same}
 use Rattle.programs.specs.declared.ends.End.{End}
 use Rattle.programs.specs.declared.steps.Step.TheVariants as step
 use Rattle.programs.specs.Acts.{Acts, done_in, next_in}
 use Rattle.schedules.specs.Parts.{Action, Does, Advances, Lists, Standing, after_action, after_actions, after_answer}
-use Rattle.schedules.specs.Parts.{programs_told, told_advance, is_advanced}
-use Rattle.schedules.specs.Runs.{Plan, begin, initial_position, Ended}
+use Rattle.schedules.specs.Parts.{events_of, events_of_one, programs_told, told_advance, is_advanced}
+use Rattle.schedules.specs.RoundSchedule.{Round, rounds}
+use Rattle.schedules.specs.Runs.{Plan, begin, initial_position, plan_of, Ended}
 use Rattle.machine_theorem.specs.Service.{AreServed}
 use Rattle.schedules.specs.GivenSteps.{GivesSteps, AreGiven, IsGiven}
 use Rattle.schedules.proofs.TableSteps.{op_at, IsQuiet, is_completion}
@@ -33,7 +37,8 @@ use Rattle.schedules.proofs.TableSteps.{not_completed, issue_does, attempt_does,
 use Rattle.schedules.proofs.TableSteps.{cache_eviction_stays, bank_eviction_stays}
 use Rattle.schedules.proofs.ServiceSteps.{Serving, served_none, served_quiet, served_issue, served_done}
 use Rattle.schedules.proofs.ServiceSteps.{served_advance}
-use Rattle.schedules.proofs.RunLaws.{all_kept}
+use Rattle.schedules.proofs.RoundSteps.{rounds_give_steps}
+use Rattle.schedules.proofs.RunLaws.{all_kept, one_makes, turn_makes}
 
 -- behind the first of the records
 pub behind : (rs more : List Record) (k : ℕ) (ops : List Op) → Stand k ops (rs ++ more) →
@@ -164,29 +169,23 @@ module _ {P : Type 0} (acts : Acts P) (start : Machine) (opening : List P) where
         (none_open s.machine core free) next quiet)
         (λ t. served_quiet acts start opening s.machine o.1 s.programs so.serving quiet)
 
-  one_kept : (s : Standing P) (action : Action) → IsGiven acts s action → Kept s → Kept (after_action acts s action)
+    told : (event : Event) → IsGiven acts (Unit {0}) s (Does event) → Told event
+    told (Issue core op) given = issued core op given.1
+    told (Attempt core) given = attempted core
+    told (Deliver number) given = quietly (Deliver number) (delivery_stays s.machine number)
+    told (EvictCache core line) given = quietly (EvictCache core line) (cache_eviction_stays s.machine core line)
+    told (EvictBank bank line) given = quietly (EvictBank bank line) (bank_eviction_stays s.machine bank line)
+    told (Advance core) given = quietly (Advance core) (advance_stays s.machine core)
+
+  one_kept : (s : Standing P) (action : Action) → IsGiven acts (Unit {0}) s action → Kept s →
+      Kept (after_action acts s action)
   one_kept s Lists given so = so
   one_kept s (Advances core) given so =
       answered s (told_advance acts s.programs core) (Advance core) so (advanced s so core given.0 given.1)
-  one_kept s (Does (Issue core op)) given so =
-      answered s (programs_told acts s.programs) (Issue core op) so (issued s so core op given.1)
-  one_kept s (Does (Attempt core)) given so =
-      answered s (programs_told acts s.programs) (Attempt core) so (attempted s so core)
-  one_kept s (Does (Deliver number)) given so =
-      answered s (programs_told acts s.programs) (Deliver number) so
-      (quietly s so (Deliver number) (delivery_stays s.machine number))
-  one_kept s (Does (EvictCache core line)) given so =
-      answered s (programs_told acts s.programs) (EvictCache core line) so
-      (quietly s so (EvictCache core line) (cache_eviction_stays s.machine core line))
-  one_kept s (Does (EvictBank bank line)) given so =
-      answered s (programs_told acts s.programs) (EvictBank bank line) so
-      (quietly s so (EvictBank bank line) (bank_eviction_stays s.machine bank line))
-  one_kept s (Does (Advance core)) given so =
-      answered s (programs_told acts s.programs) (Advance core) so
-      (quietly s so (Advance core) (advance_stays s.machine core))
+  one_kept s (Does event) given so = answered s (programs_told acts s.programs) event so (told s so event given)
 
   -- the front of a turn whose steps are given
-  front_kept : (s : Standing P) (made left : List Action) → AreGiven acts s (made ++ left) → Kept s →
+  front_kept : (s : Standing P) (made left : List Action) → AreGiven acts (Unit {0}) s (made ++ left) → Kept s →
       Kept (after_actions acts s made)
   front_kept s [] left given so = so
   front_kept s (action ∷ made) left given so =
@@ -203,7 +202,7 @@ module _ {P S : Type 0} (plan : Plan P S) (gives : GivesSteps plan.acts plan.sch
       (λ s events. Kept plan.acts start opening s)
       (record { serving = served_none plan.acts start opening; count = count })
       (λ own s events made left so is. front_kept plan.acts start opening (begin s) made left
-      (subst (AreGiven plan.acts (begin s)) is (gives own (begin s)))
+      (subst (AreGiven plan.acts (Unit {0}) (begin s)) is (gives own (begin s)))
       (record { serving = so.serving; count = so.count })) ended in
       let kept : Serving plan.acts start opening m programs =
       rw (ended.machine_is, ended.programs_are) at last.serving in
@@ -219,3 +218,43 @@ module _ {P S : Type 0} (plan : Plan P S) (gives : GivesSteps plan.acts plan.sch
               told = kept.told core closed;
             };
       }
+
+-- lists of events in which a core advances only between operations
+both_between : (m : Machine) (xs ys : List Event) → AdvancesBetween m xs → AdvancesBetween (after_all m xs) ys →
+    AdvancesBetween m (xs ++ ys)
+both_between m [] ys front back = back
+both_between m (x ∷ xs) ys front back = (front.0, both_between (transition m x).1 xs ys front.1 back)
+
+module _ {P : Type 0} (acts : Acts P) where
+  event_between : (s : Standing P) (e : Event) → IsBetween s.machine e →
+      AdvancesBetween s.machine (if s.is_out then [] else e ∷ [])
+  event_between s e is = cond_both s.is_out [] (e ∷ []) (AdvancesBetween s.machine) (λ out. tt) (λ more. (is, tt))
+
+  one_between : (s : Standing P) (action : Action) → IsGiven acts ⊥ s action →
+      AdvancesBetween s.machine (events_of_one acts s action)
+  one_between s Lists given = tt
+  one_between s (Advances core) given = event_between s (Advance core) (none_open s.machine core given.0)
+  one_between s (Does (Advance core)) given = absurd given
+  one_between s (Does e) given = event_between s e tt
+
+  front_between : (s : Standing P) (made left : List Action) → AreGiven acts ⊥ s (made ++ left) →
+      AdvancesBetween s.machine (events_of acts s made)
+  front_between s [] left given = tt
+  front_between s (x ∷ xs) left given =
+      both_between s.machine (events_of_one acts s x) (events_of acts (after_action acts s x) xs)
+      (one_between s x given.0) (rw (one_makes acts s x) (front_between (after_action acts s x) xs left given.1))
+
+  pub rounds_between : (limit : ℕ) (round : Round) (start m : Machine) (opening programs : List P)
+      (events : List Event) (e : End) {keeps : Bool} →
+      Ended keeps (plan_of acts (rounds acts) limit) (initial_position acts start opening round) events m programs e →
+      AdvancesBetween start events
+  rounds_between limit round start m opening programs events e ended =
+      let plan = plan_of acts (rounds acts) limit in
+      let first = initial_position acts start opening round in
+      (all_kept plan first (λ s made. (s.machine ≡ after_all start made) × AdvancesBetween start made) (refl, tt)
+      (λ own s before made left so is. (
+        turn_makes plan first s before made so.0,
+        both_between start before (events_of acts (begin s) made) so.1 (rw (← so.0)
+            (front_between (begin s) made left
+            (subst (AreGiven acts ⊥ (begin s)) is (rounds_give_steps acts ⊥ own (begin s))))),
+      )) ended).1

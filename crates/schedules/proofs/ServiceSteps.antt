@@ -87,108 +87,88 @@ module _ {P : Type 0} (acts : Acts P) where
                 (slice_get programs core)) (sym (quiet.ops core)) (so_far.told core none);
           }
 
+      -- what is to be shown of one core alone, where all is as before for the others
+      module _ (c : ℕ) (now : List P) (added : List Record) (records : after.records ≡ start.records ++ added)
+          (there : AllByRecursion (λ r. r.core < start.config.cores) added)
+          (same : (core : ℕ) → core ≢ c → of_core core added ≡ of_core core so_far.added)
+          (ops : (core : ℕ) → core ≢ c → op_at after core ≡ op_at m core)
+          (others : (core : ℕ) → core ≢ c → slice_get now core ≡ slice_get programs core)
+          (here : (b : Option P) → Told acts (of_core c so_far.added) (op_at m c) b (slice_get programs c) →
+          Told acts (of_core c added) (op_at after c) b (slice_get now c)) where
+        abbrev IsTold : ℕ → Type 0
+        IsTold core = op_at start core ≡ None →
+            Told acts (of_core core added) (op_at after core) (slice_get before core) (slice_get now core)
+
+        served_by : Serving after now
+        served_by = record {
+          added = added;
+          records = records;
+          there = there;
+          told = λ core. elim (cases_eq core c) [
+            | inl e ↦ subst IsTold (sym e) (λ none. here (slice_get before c) (so_far.told c none))
+            | inr other ↦ λ none. rw (same core other, ops core other, others core other) (so_far.told core none)
+          ];
+        }
+
       pub served_issue : (c : ℕ) (op : Op) → next_in acts programs c ≡ Some (step.Op op) → Opens m c op after →
           Serving after programs
       served_issue c op next opens =
-          record {
-            added = so_far.added;
-            records = opens.records ∙ so_far.records;
-            there = so_far.there;
-            told = λ core none. by_core core (slice_get before core) (cases_eq core c) (so_far.told core none);
-          }
+          served_by c programs so_far.added (opens.records ∙ so_far.records) so_far.there (λ core other. refl)
+          opens.opened.there (λ core other. refl) here
         where
-          by_core : (core : ℕ) (b : Option P) → (core ≡ c) ⊎ (core ≡ c → ⊥) →
-              Told acts (of_core core so_far.added) (op_at m core) b (slice_get programs core) →
-              Told acts (of_core core so_far.added) (op_at after core) b (slice_get programs core)
-          by_core core None (inl here) was = absurd (let e : None ≡ Some (step.Op op) =
-              sym (ap (next_of acts) was.2) ∙ ap (next_in acts programs) here ∙ next in cc)
-          by_core core (Some p) (inl here) was =
-              let open_now : op_at after core ≡ Some op = ap (op_at after) here ∙ opens.opened.here in
-              let gives : acts.next was.now ≡ Some (step.Op op) =
-              sym (ap (next_of acts) was.is_now) ∙ ap (next_in acts programs) here ∙ next in record {
+          here : (b : Option P) → Told acts (of_core c so_far.added) (op_at m c) b (slice_get programs c) →
+              Told acts (of_core c so_far.added) (op_at after c) b (slice_get programs c)
+          here None was = absurd (let e : None ≡ Some (step.Op op) = sym (ap (next_of acts) was.2) ∙ next in cc)
+          here (Some p) was =
+              let gives : acts.next was.now ≡ Some (step.Op op) = sym (ap (next_of acts) was.is_now) ∙ next in record {
                 now = was.now;
                 is_now = was.is_now;
                 performs = was.performs;
-                ahead = subst (λ (o : Option Op). IfSome o (λ x. acts.next was.now ≡ Some (step.Op x)))
-                    (sym open_now) gives;
+                ahead = rw opens.opened.here gives;
               }
-          by_core core b (inr other) was =
-              subst (λ (o : Option Op). Told acts (of_core core so_far.added) o b (slice_get programs core))
-              (sym (opens.opened.there core other)) was
+
+      -- what a program is told of
+      more_told : (c : ℕ) (received : Option ℕ) (rs more : List Record) (p : P)
+          (was : Told acts rs (op_at m c) (Some p) (slice_get programs c)) → op_at after c ≡ None →
+          Performs acts more p (acts.done was.now received) →
+          Told acts more (op_at after c) (Some p) (slice_get (done_in acts programs c received) c)
+      more_told c received rs more p was closed performs = record {
+        now = acts.done was.now received;
+        is_now = done_here programs c received was.now was.is_now;
+        performs = performs;
+        ahead = rw closed tt;
+      }
 
       pub served_done : (c : ℕ) (done : Record) → c < start.config.cores → IsDone m c done after →
           Serving after (done_in acts programs c done.received)
       served_done c done below is =
-          record {
-            added = so_far.added ++ done ∷ [];
-            records = is.records ∙ ap (λ rs. rs ++ done ∷ []) so_far.records ∙ append_assoc start.records
-                so_far.added (done ∷ []);
-            there = each_push (λ r. r.core < start.config.cores) so_far.added done so_far.there
-                (subst (λ (k : ℕ). k < start.config.cores) (sym is.core) below);
-            told = λ core none. by_core core (slice_get before core) (cases_eq core c) (so_far.told core none);
-          }
+          served_by c (done_in acts programs c done.received) (so_far.added ++ done ∷ [])
+          (is.records ∙ ap (λ rs. rs ++ done ∷ []) so_far.records ∙ append_assoc start.records so_far.added (done ∷ []))
+          (each_push (λ r. r.core < start.config.cores) so_far.added done so_far.there (rw is.core below))
+          (λ core other. of_core-other core so_far.added done (λ e. other (sym e ∙ is.core))) is.closed.there
+          (done_there programs c done.received) here
         where
-          by_core : (core : ℕ) (b : Option P) → (core ≡ c) ⊎ (core ≡ c → ⊥) →
-              Told acts (of_core core so_far.added) (op_at m core) b (slice_get programs core) →
-              Told acts (of_core core (so_far.added ++ done ∷ [])) (op_at after core) b
-              (slice_get (done_in acts programs c done.received) core)
-          by_core core None (inl here) was = absurd (let e : None ≡ Some done.op =
-              sym was.1 ∙ ap (op_at m) here ∙ is.op in cc)
-          by_core core (Some p) (inl here) was =
-              let open_was : op_at m core ≡ Some done.op = ap (op_at m) here ∙ is.op in
-              let gives : acts.next was.now ≡ Some (step.Op done.op) =
-              subst (λ (o : Option Op). IfSome o (λ x. acts.next was.now ≡ Some (step.Op x))) open_was was.ahead in
-              let closed : op_at after core ≡ None = ap (op_at after) here ∙ is.closed.here in
-              let program : slice_get programs c ≡ Some was.now = ap (slice_get programs) (sym here) ∙ was.is_now in
-              record {
-                now = acts.done was.now done.received;
-                is_now = ap (slice_get (done_in acts programs c done.received)) here ∙ done_here programs c
-                    done.received was.now program;
-                performs = subst (λ (rs : List Record). Performs acts rs p (acts.done was.now done.received))
-                    (sym (of_core-own core so_far.added done (is.core ∙ sym here)))
-                    (performs_more (of_core core so_far.added) p was.now done was.performs gives);
-                ahead = subst (λ (o : Option Op). IfSome o (λ x. acts.next (acts.done was.now done.received) ≡ Some
-                    (step.Op x))) (sym closed) tt;
-              }
-          by_core core b (inr other) was =
-              subst (λ (rs : List Record). Told acts rs (op_at after core) b
-              (slice_get (done_in acts programs c done.received) core))
-              (sym (of_core-other core so_far.added done (λ e. other (sym e ∙ is.core))))
-              (subst (λ (o : Option Op). Told acts (of_core core so_far.added) o b
-              (slice_get (done_in acts programs c done.received) core)) (sym (is.closed.there core other))
-              (subst (λ (o : Option P). Told acts (of_core core so_far.added) (op_at m core) b o)
-              (sym (done_there programs c done.received core other)) was))
+          here : (b : Option P) → Told acts (of_core c so_far.added) (op_at m c) b (slice_get programs c) →
+              Told acts (of_core c (so_far.added ++ done ∷ [])) (op_at after c) b
+              (slice_get (done_in acts programs c done.received) c)
+          here None was = absurd (let e : None ≡ Some done.op = sym was.1 ∙ is.op in cc)
+          here (Some p) was =
+              let gives : acts.next was.now ≡ Some (step.Op done.op) = rw is.op at was.ahead in
+              more_told c done.received (of_core c so_far.added) (of_core c (so_far.added ++ done ∷ [])) p was
+              is.closed.here (rw (of_core-own c so_far.added done is.core)
+              (performs_more (of_core c so_far.added) p was.now done was.performs gives))
 
       -- a core without an open operation advances, and its program is told
       pub served_advance : (c : ℕ) → op_at m c ≡ None → next_in acts programs c ≡ Some step.Advance →
           IsQuiet m after → Serving after (done_in acts programs c None)
       served_advance c free next quiet =
-          record {
-            added = so_far.added;
-            records = quiet.records ∙ so_far.records;
-            there = so_far.there;
-            told = λ core none. by_core core (slice_get before core) (cases_eq core c) (so_far.told core none);
-          }
+          served_by c (done_in acts programs c None) so_far.added (quiet.records ∙ so_far.records) so_far.there
+          (λ core other. refl) (λ core other. quiet.ops core) (done_there programs c None) here
         where
-          by_core : (core : ℕ) (b : Option P) → (core ≡ c) ⊎ (core ≡ c → ⊥) →
-              Told acts (of_core core so_far.added) (op_at m core) b (slice_get programs core) →
-              Told acts (of_core core so_far.added) (op_at after core) b (slice_get (done_in acts programs c None) core)
-          by_core core None (inl here) was = absurd (let e : None ≡ Some step.Advance =
-              sym (ap (next_of acts) was.2) ∙ ap (next_in acts programs) here ∙ next in cc)
-          by_core core (Some p) (inl here) was =
-              let still : op_at after core ≡ None = quiet.ops core ∙ ap (op_at m) here ∙ free in
-              let gives : acts.next was.now ≡ Some step.Advance =
-              sym (ap (next_of acts) was.is_now) ∙ ap (next_in acts programs) here ∙ next in
-              let program : slice_get programs c ≡ Some was.now = ap (slice_get programs) (sym here) ∙ was.is_now in
-              record {
-                now = acts.done was.now None;
-                is_now = ap (slice_get (done_in acts programs c None)) here ∙ done_here programs c None was.now program;
-                performs = advances_more (of_core core so_far.added) p was.now was.performs gives;
-                ahead = subst (λ (o : Option Op). IfSome o (λ x. acts.next (acts.done was.now None) ≡ Some
-                    (step.Op x))) (sym still) tt;
-              }
-          by_core core b (inr other) was =
-              subst (λ (o : Option Op). Told acts (of_core core so_far.added) o b
-              (slice_get (done_in acts programs c None) core)) (sym (quiet.ops core))
-              (subst (λ (o : Option P). Told acts (of_core core so_far.added) (op_at m core) b o)
-              (sym (done_there programs c None core other)) was)
+          here : (b : Option P) → Told acts (of_core c so_far.added) (op_at m c) b (slice_get programs c) →
+              Told acts (of_core c so_far.added) (op_at after c) b (slice_get (done_in acts programs c None) c)
+          here None was = absurd (let e : None ≡ Some step.Advance = sym (ap (next_of acts) was.2) ∙ next in cc)
+          here (Some p) was =
+              more_told c None (of_core c so_far.added) (of_core c so_far.added) p was (quiet.ops c ∙ free)
+              (advances_more (of_core c so_far.added) p was.now was.performs
+              (sym (ap (next_of acts) was.is_now) ∙ next))

@@ -6,8 +6,7 @@ use Rattle.std.specs.List.{slice_get}
 use Rattle.std.specs.Ordering.{nat_cmp}
 use Rattle.std.specs.FinMap.{FinMap}
 use Rattle.std.specs.Prelude.{option_map}
-use Rattle.std.proofs.lemmas.Bool.{cases_Bool, cases_eq, cond_both, cond-true, cond-false, eqb-true, ltb-true}
-use Rattle.std.proofs.lemmas.Bool.{ltb-false}
+use Rattle.std.proofs.lemmas.Bool.{cases_Bool, cases_eq, cases_lt, cond_both, cond-true, cond-false, eqb-true}
 use Rattle.std.proofs.lemmas.Option.{slice_get_within, slice_get-get_or}
 use Rattle.physiological_order.specs.declared.operation.Op.{Op}
 use Rattle.physiological_order.specs.Order.{address}
@@ -45,18 +44,19 @@ use Rattle.programs.specs.declared.steps.Step.TheVariants as step
 use Rattle.programs.specs.Acts.{Acts, next_in}
 use Rattle.schedules.specs.Parts as parts
 use Rattle.schedules.specs.Parts.{Action, Does, Advances, Lists, Standing, Part, after_action, after_actions}
-use Rattle.schedules.specs.Parts.{after_answer, programs_told, told_advance, one, only_if, makes_place, finds_no_place}
-use Rattle.schedules.specs.Parts.{tries, makes_room, delivery, is_held, is_no_room, is_progress, is_times_end}
+use Rattle.schedules.specs.Parts.{after_answer, programs_told, told_advance, followed_by, one, only_if, makes_place}
+use Rattle.schedules.specs.Parts.{finds_no_place, tries, makes_room, delivery, is_held, is_no_room, is_progress}
+use Rattle.schedules.specs.Parts.{is_times_end}
 use Rattle.schedules.specs.RoundSchedule.{Round, no_round, rising, numbers_in_flight, step_action, step_of, steps_on}
 use Rattle.schedules.specs.RoundSchedule.{attempt_of, attempts as attempts_on, core_turn, core_turns, deliveries}
 use Rattle.schedules.specs.RoundSchedule.{round_of, rounds}
 use Rattle.schedules.specs.Runs.{Plan, Position, begin, run, one_more, after_turn, end_of_turn, end_here, Ended}
 use Rattle.schedules.specs.Runs.{initial_position, is_over, are_over, plan_of}
-use Rattle.schedules.specs.Stalls.{StallsSince, full, unnumbered, too_many}
+use Rattle.schedules.specs.Stalls.{IsAmong, StallsSince, full, unnumbered, too_many}
 use Rattle.schedules.proofs.Over.{one_not_over}
 use Rattle.schedules.proofs.RunLaws.{not_cut, run_makes, all_both, run_stands, all_kept, Says, here_says, run_says}
-use Rattle.schedules.proofs.StillRounds.{IsCalm, IsStill, AreStill, IsAmong, GoesOn, HasStill, all_still, still_leaves}
-use Rattle.schedules.proofs.StillRounds.{went, both_still, each_still}
+use Rattle.schedules.proofs.StillRounds.{IsCalm, IsStill, AreStill, GoesOn, AreOf, Has, all_still, still_leaves}
+use Rattle.schedules.proofs.StillRounds.{went, all_of, both_have, each_has}
 
 calm_stays : (a : Answer) → IsCalm a → IsMoving a → ⊥
 calm_stays answer.Waiting calm moving = moving
@@ -86,75 +86,96 @@ module _ {P : Type 0} (acts : Acts P) (round : Round) (s : Standing P) (so : Goe
   abbrev m : Machine
   m = s.machine
 
-  abbrev Still : Part P → Type 0
-  Still part = HasStill acts s so part
+  abbrev made : List Action
+  made = round_of acts round s
 
-  halves : Still (core_turns acts round.cores) × Still (deliveries acts round.is_fair)
-  halves = both_still acts s so (core_turns acts round.cores) (deliveries acts round.is_fair) still
+  abbrev AreHere : List Action → Type 0
+  AreHere actions = AreOf acts s so made actions
 
-  turn_still : (core : ℕ) → core < round.cores → Still (steps_on acts core) × Still (attempts_on acts core)
-  turn_still core below =
-      both_still acts s so (steps_on acts core) (attempts_on acts core)
-      (each_still acts s so (core_turn acts) (rising round.cores 0) halves.0 core
+  abbrev Holds : Part P → Type 0
+  Holds part = AreHere (part s)
+
+  parted : (f g : Part P) → Holds (followed_by acts f g) → Holds f × Holds g
+  parted f g has = both_have acts s so made f g has
+
+  halves : Holds (core_turns acts round.cores) × Holds (deliveries acts round.is_fair)
+  halves = parted (core_turns acts round.cores) (deliveries acts round.is_fair)
+      (all_of acts s so made made still (λ action is. is))
+
+  turn_has : (core : ℕ) → core < round.cores → Holds (steps_on acts core) × Holds (attempts_on acts core)
+  turn_has core below =
+      parted (steps_on acts core) (attempts_on acts core)
+      (each_has acts s so made (core_turn acts) (rising round.cores 0) halves.0 core
       (among_rising round.cores 0 core (omega arith) (omega (arith, below))))
 
   -- the attempts at an open operation
-  attempt_still : (core : ℕ) (state : CoreState) (op : Op) → slice_get m.cores core ≡ Some state →
-      state.open_op ≡ Some op → Still (tries acts core)
-  attempt_still core state op at opens =
+  attempt_has : (core : ℕ) (state : CoreState) (op : Op) → slice_get m.cores core ≡ Some state →
+      state.open_op ≡ Some op → Holds (tries acts core)
+  attempt_has core state op at opens =
       let below : core < round.cores = (let z = slice_get_within m.cores core state at in omega (arith, z, cores)) in
       let opened : open_op m core ≡ Some (op, state.is_out) =
       ap open_op_of at ∙ ap (option_map (λ p. (p, state.is_out))) opens in
-      (both_still acts s so (tries acts core)
-      (only_if (finds_no_place m core) (one (Does (event.Attempt core))))
-      (subst (λ o. AreStill m (attempt_of acts core o s)) opened (turn_still core below).1)).0
+      (parted (tries acts core) (only_if (finds_no_place m core) (one (Does (event.Attempt core))))
+      (subst (λ o. AreHere (attempt_of acts core o s)) opened (turn_has core below).1)).0
 
   -- the delivery of a message in flight, with what follows
-  delivery_still : (n : ℕ) (x : Message) → at_number n m.mail.messages ≡ Some x →
-      Still (one (Does (event.Deliver n))) × Still (only_if (is_held (transition m (event.Deliver n)).0)
+  delivery_has : (n : ℕ) (x : Message) → at_number n m.mail.messages ≡ Some x →
+      Holds (one (Does (event.Deliver n))) × Holds (only_if (is_held (transition m (event.Deliver n)).0)
       (makes_room acts round.is_fair n))
-  delivery_still n x at =
-      both_still acts s so (one (Does (event.Deliver n))) (only_if (is_held (transition m (event.Deliver n)).0)
+  delivery_has n x at =
+      parted (one (Does (event.Deliver n))) (only_if (is_held (transition m (event.Deliver n)).0)
       (makes_room acts round.is_fair n))
-      (each_still acts s so (delivery acts round.is_fair) (numbers_in_flight m) halves.1.1 n
+      (each_has acts s so made (delivery acts round.is_fair) (numbers_in_flight m) halves.1.1 n
       (among_flight n x m.mail.messages at))
 
-  if_holds : (b : Bool) (part : Part P) → b ≡ true → Still (only_if b part) → Still part
-  if_holds b part holds so = subst (λ (c : Bool). AreStill m (only_if c part s)) holds so
+  if_holds : (b : Bool) (part : Part P) → b ≡ true → Holds (only_if b part) → Holds part
+  if_holds b part holds has = subst (λ (c : Bool). AreHere (only_if c part s)) holds has
 
   requested : (b : Body) → IsRequest b → is_request b ≡ true
   requested (body.ShReq pts version) is = refl
   requested (body.ExReq version) is = refl
   requested _ is = absurd is
 
-  -- so nothing that a round would make moves
-  in_round_calm : (e : Event) → IsInRound m e → IsCalm (transition m e).0
-  in_round_calm _ (attempts core state op at opens) = (attempt_still core state op at opens).0
-  in_round_calm _ (copy_leaves core line state op at opens no_place victim) =
-      (subst (λ o. AreStill m (parts.copy_leaves core o s))
+  -- each event that a round would make is one that this one made, and doesn't move
+  pub was_made : (e : Event) → IsInRound m e → IsCalm (transition m e).0 × IsAmong (Does e) made
+  was_made _ (attempts core state op at opens) = (attempt_has core state op at opens).0
+  was_made _ (copy_leaves core line state op at opens no_place victim) =
+      (subst (λ o. AreHere (parts.copy_leaves core o s))
       (ap (victim_for_core m core) (ap open_op_of at ∙ ap (option_map (λ p. (p, state.is_out))) opens)
       ∙ ap (victim_of (address op / m.config.line_words)) at ∙ victim)
       (if_holds (finds_no_place m core) (makes_place core) (ap is_no_room no_place)
-      (both_still acts s so (one (Does (event.Attempt core)))
-      (only_if (finds_no_place m core) (makes_place core)) (attempt_still core state op at opens)).1)).0
-  in_round_calm _ (delivers n x at) = (delivery_still n x at).0.0
-  in_round_calm _ (line_leaves n bank line x state at to is there held room) =
-      (subst (λ o. AreStill m (parts.line_leaves acts round.is_fair n o s))
+      (parted (one (Does (event.Attempt core)))
+      (only_if (finds_no_place m core) (makes_place core)) (attempt_has core state op at opens)).1)).0
+  was_made _ (delivers n x at) = (delivery_has n x at).0.0
+  was_made _ (line_leaves n bank line x state at to is there held room) =
+      (subst (λ o. AreHere (parts.line_leaves acts round.is_fair n o s))
       (ap (room_for_message m) at ∙ cond-true (is_request x.body) (room_at m x.line x.to) None (requested x.body is)
       ∙ ap (room_at m x.line) to ∙ ap (room_in bank x.line) there ∙ ap (option_map (λ v. (bank, v))) room)
       (if_holds (is_held (transition m (event.Deliver n)).0) (makes_room acts round.is_fair n) (ap is_held held)
-      (delivery_still n x at).1)).0
+      (delivery_has n x at).1)).0
 
   -- and it isn't so that something does
   pub none_moves : MovesOn m → ⊥
-  none_moves x = calm_stays (transition m x.event).0 (in_round_calm x.event x.in_round) x.moving
+  none_moves x = calm_stays (transition m x.event).0 (was_made x.event x.in_round).0 x.moving
 
   -- a program's next step is refused
   pub step_still : (core : ℕ) → core < round.cores → (next : Step) → open_op m core ≡ None →
       next_in acts s.programs core ≡ Some next → IsStill m (step_action core next)
   step_still core below next free is =
-      (subst (λ o. AreStill m (step_of core None o s)) is
-      (subst (λ o. AreStill m (step_of core o (next_in acts s.programs core) s)) free (turn_still core below).0)).0
+      (subst (λ o. AreHere (step_of core None o s)) is
+      (subst (λ o. AreHere (step_of core o (next_in acts s.programs core) s)) free (turn_has core below).0)).0.0
+
+-- a round that goes on without progress made each event that a round would make, and left all as it was
+pub round_tried : {P : Type 0} (acts : Acts P) (round : Round) (s : Standing P) →
+    length s.machine.cores ≡ round.cores → GoesOn (after_actions acts s (round_of acts round s)) →
+    (after_actions acts s (round_of acts round s) ≡ s) × ((e : Event) → IsInRound s.machine e →
+    IsAmong (Does e) (round_of acts round s) × (is_progress (transition s.machine e).0 ≡ false))
+round_tried acts round s cores goes_on =
+    let so = went acts s (round_of acts round s) goes_on in
+    let still = all_still acts s (round_of acts round s) goes_on in (
+      still_leaves acts s so (round_of acts round s) still,
+      λ e is. let k = was_made acts round s so cores still e is in (k.1, k.0.quiet),
+    )
 
 -- a machine runs while times aren't exhausted
 stays_running : (m : Machine) (a : Answer) (after : Machine) → Answered m a after → is_times_end a ≡ false →
@@ -385,20 +406,14 @@ module _ {P : Type 0} (acts : Acts P) (config : Config) (good : is_good config �
       by_work k = by_step k.0 k.1 (next_in acts last.programs k.0) refl k.2
 
     since : StallsSince acts last.machine last.programs
-    since = by_room (nat_lt (length last.machine.mail.messages) config.messages) refl
-      where
-        by_number : (b : Bool) → nat_lt last.machine.mail.next (2 ^ 64 - 1) ≡ b →
-            length last.machine.mail.messages < config.messages → StallsSince acts last.machine last.programs
-        by_number false is room = unnumbered (ltb-false last.machine.mail.next (2 ^ 64 - 1) is)
-        by_number true is room = by_work room (ltb-true last.machine.mail.next (2 ^ 64 - 1) is)
+    since = elim (cases_lt (length last.machine.mail.messages) config.messages) [
+      | inr most ↦ full (subst (λ (c : Config). c.messages ≤ length last.machine.mail.messages) (sym of_config) most)
+      | inl room ↦ elim (cases_lt last.machine.mail.next (2 ^ 64 - 1)) [
+        | inl numbers ↦ by_work room numbers
             (one_not_over acts last.machine last.programs last.machine.config.cores stands.work)
-
-        by_room : (b : Bool) → nat_lt (length last.machine.mail.messages) config.messages ≡ b →
-            StallsSince acts last.machine last.programs
-        by_room false is = full (subst (λ (c : Config). c.messages ≤ length last.machine.mail.messages) (sym of_config)
-            (ltb-false (length last.machine.mail.messages) config.messages is))
-        by_room true is = by_number (nat_lt last.machine.mail.next (2 ^ 64 - 1)) refl
-            (ltb-true (length last.machine.mail.messages) config.messages is)
+        | inr used ↦ unnumbered used
+      ]
+    ]
 
     pub stalls_since : StallsSince acts m programs
     stalls_since = rw (← ended.machine_is, ← ended.programs_are) since

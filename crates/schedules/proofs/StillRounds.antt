@@ -16,6 +16,7 @@ use Rattle.programs.specs.Acts.{Acts}
 use Rattle.schedules.specs.Parts.{Action, Does, Advances, Lists, Standing, Part, after_action, after_actions}
 use Rattle.schedules.specs.Parts.{after_answer, followed_by, for_each, is_progress, is_times_end, programs_told}
 use Rattle.schedules.specs.Parts.{told_advance}
+use Rattle.schedules.specs.Stalls.{IsAmong}
 
 -- an answer that is no progress, and doesn't end the run
 pub record IsCalm (a : Answer) : Type 0 where
@@ -29,11 +30,6 @@ calm_leaves m (answer.Refused refusal.NoMemory) after says calm = absurd says
 calm_leaves m (answer.Refused refusal.Exhausted) after says calm = absurd (let z : true ≡ false = calm.in_time in cc)
 calm_leaves m (answer.Refused _) after says calm = says
 calm_leaves m _ after says calm = absurd (let z : true ≡ false = calm.quiet in cc)
-
--- one of the numbers
-abbrev pub IsAmong : ℕ → List ℕ → Type 0
-IsAmong n [] = ⊥
-IsAmong n (k ∷ ks) = (n ≡ k) ⊎ IsAmong n ks
 
 -- each action of a list is answered so at one machine
 abbrev pub IsStill : Machine → Action → Type 0
@@ -132,24 +128,36 @@ module _ {P : Type 0} (acts : Acts P) where
       let same : after_action acts s x ≡ s = action_leaves s so x first in
       (first, all_still s xs (subst (λ (t : Standing P). GoesOn (after_actions acts t xs)) same after))
 
-  -- so each part makes its actions where the turn began
-  module _ (s : Standing P) (so : GoesOn s) where
-    abbrev pub HasStill : Part P → Type 0
-    HasStill part = AreStill s.machine (part s)
+  -- so each part makes its actions where the turn began, each of them an action of the whole
+  module _ (s : Standing P) (so : GoesOn s) (whole : List Action) where
+    abbrev pub AreOf : List Action → Type 0
+    AreOf actions = Each (λ action. IsStill s.machine action × IsAmong action whole) actions
 
-    both : (xs ys : List Action) → AreStill s.machine (xs ++ ys) → AreStill s.machine xs × AreStill s.machine ys
-    both [] ys still = (tt, still)
-    both (x ∷ xs) ys still = let k = both xs ys still.1 in ((still.0, k.0), k.1)
+    abbrev pub Has : Part P → Type 0
+    Has part = AreOf (part s)
 
-    pub both_still : (f g : Part P) → HasStill (followed_by acts f g) → HasStill f × HasStill g
-    both_still f g still =
-        let k = both (f s) (g (after_actions acts s (f s))) still in
-        (k.0, subst (λ (t : Standing P). AreStill s.machine (g t)) (still_leaves s so (f s) k.0) k.1)
+    pub all_of : (actions : List Action) → AreStill s.machine actions →
+        ((action : Action) → IsAmong action actions → IsAmong action whole) → AreOf actions
+    all_of [] still are = tt
+    all_of (x ∷ xs) still are = ((still.0, are x (inl refl)), all_of xs still.1 (λ y later. are y (inr later)))
 
-    pub each_still : (part : ℕ → Part P) (numbers : List ℕ) → HasStill (for_each acts part numbers) → (n : ℕ) →
-        IsAmong n numbers → HasStill (part n)
-    each_still part [] still n there = absurd there
-    each_still part (k ∷ ks) still n there =
-        let both = both_still (part k) (for_each acts part ks) still in
-        ⊎_elim (λ (same : n ≡ k). subst (λ (i : ℕ). HasStill (part i)) (sym same) both.0)
-        (λ (later : IsAmong n ks). each_still part ks both.1 n later) there
+    are_still : (actions : List Action) → AreOf actions → AreStill s.machine actions
+    are_still [] each = tt
+    are_still (x ∷ xs) each = (each.0.0, are_still xs each.1)
+
+    both : (xs ys : List Action) → AreOf (xs ++ ys) → AreOf xs × AreOf ys
+    both [] ys each = (tt, each)
+    both (x ∷ xs) ys each = let k = both xs ys each.1 in ((each.0, k.0), k.1)
+
+    pub both_have : (f g : Part P) → Has (followed_by acts f g) → Has f × Has g
+    both_have f g each =
+        let k = both (f s) (g (after_actions acts s (f s))) each in
+        (k.0, subst (λ (t : Standing P). AreOf (g t)) (still_leaves s so (f s) (are_still (f s) k.0)) k.1)
+
+    pub each_has : (part : ℕ → Part P) (numbers : List ℕ) → Has (for_each acts part numbers) → (n : ℕ) →
+        IsAmong n numbers → Has (part n)
+    each_has part [] each n there = absurd there
+    each_has part (k ∷ ks) each n there =
+        let both = both_have (part k) (for_each acts part ks) each in
+        ⊎_elim (λ (same : n ≡ k). subst (λ (i : ℕ). Has (part i)) (sym same) both.0)
+        (λ (later : IsAmong n ks). each_has part ks both.1 n later) there

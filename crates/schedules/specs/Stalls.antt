@@ -1,5 +1,5 @@
 -- Why a run by rounds stalls: each round that could make progress needs room for a message, or a number.
-use Rattle.std.specs.Prelude.{◌≡◌, ℕ, ◌-◌, ◌^◌, ◌<◌, ◌≤◌, List, length, Some, None}
+use Rattle.std.specs.Prelude.{◌≡◌, ◌⊎◌, ℕ, ◌-◌, ◌^◌, ◌<◌, ◌≤◌, List, [], ◌∷◌, length, Some, None}
 use Rattle.physiological_order.specs.declared.operation.Op.{Op}
 use Rattle.programs.specs.declared.steps.Step.TheVariants as step
 use Rattle.programs.specs.Acts.{Acts, next_in}
@@ -9,6 +9,10 @@ use Rattle.machine_table.specs.declared.event.Answer.TheVariants.{Refused}
 use Rattle.machine_table.specs.declared.event.Refusal.TheVariants.{TooMany}
 use Rattle.machine_table.specs.Machine.{Machine, open_op}
 use Rattle.machine_table.specs.Transition.{transition}
+
+abbrev pub IsAmong : {A : Type 0} → A → List A → Type 0
+IsAmong x [] = ⊥
+IsAmong x (y ∷ ys) = (x ≡ y) ⊎ IsAmong x ys
 
 pub data StallsBy {P : Type 0} (acts : Acts P) (m : Machine) (programs : List P) (IsFull : Type 0) : Type 0 where
   -- there are too few places for messages

@@ -1,6 +1,6 @@
 //! Which answers are progress, which events rounds make, that seeds differ, and that a run has no choice. A function
 //! does nothing: its contract is the law.
-ghost use Rattle.std.specs.Prelude.{◌≡◌, ◌≢◌, ◌+◌, ◌<◌, ◌^◌, Bool, false, true, ℕ, List};
+ghost use Rattle.std.specs.Prelude.{◌≡◌, ◌≢◌, ◌+◌, ◌<◌, ◌^◌, Bool, false, true, ℕ, List, length};
 ghost use Rattle.physiological_order.specs.declared.operation.Record.{Record};
 ghost use Rattle.std.specs.Ordering.{nat_cmp};
 ghost use Rattle.std.specs.FinMap.{FinMap};
@@ -12,15 +12,18 @@ ghost use Rattle.machine_table.specs.SetUp.{is_good};
 ghost use Rattle.machine_table.specs.declared.event.Event.{Event};
 ghost use Rattle.machine_table.specs.declared.event.Answer.TheVariants as answer;
 ghost use Rattle.machine_table.specs.declared.event.Refusal.{Refusal};
+ghost use Rattle.machine_table.specs.Transition.{transition};
+ghost use Rattle.machine_theorem.specs.Replies.{AdvancesBetween};
+ghost use Rattle.machine_theorem.specs.Rounds.{IsInRound};
 ghost use Rattle.programs.specs.declared.ends.End.{End};
 ghost use Rattle.schedules.specs.declared.policy.Policy.{Policy};
 ghost use Rattle.schedules.specs.declared.policy.Policy.TheVariants as policy;
 ghost use Rattle.schedules.specs.Batches.{policy_of_run};
 ghost use Rattle.schedules.specs.Policies.{EndedBy};
-ghost use Rattle.schedules.specs.Parts.{Standing, is_progress};
+ghost use Rattle.schedules.specs.Parts.{Does, Standing, after_actions, is_progress};
 ghost use Rattle.schedules.specs.Runs.{Ended, initial_position, opened, plan_of};
-ghost use Rattle.schedules.specs.Stalls.{StallsSince, StallsFromOpening};
-ghost use Rattle.schedules.specs.RoundSchedule.{no_round, rounds, AreRounds, ArePartOfRounds};
+ghost use Rattle.schedules.specs.Stalls.{IsAmong, StallsSince, StallsFromOpening};
+ghost use Rattle.schedules.specs.RoundSchedule.{Round, no_round, round_of, rounds, AreRounds, ArePartOfRounds};
 
 use programs::End;
 use programs::program::Program;
@@ -49,7 +52,7 @@ pub fn progress_is_all_but_waiting()
 /// EvictCache of the copy that makes a place follows, if there is one, and a second Attempt. Then there is one Deliver
 /// of each message in flight after the cores, in their order. After Held, and only there, EvictBank of the line that
 /// makes room follows, if there is one. In fair rounds, and only there, if that is answered Evicted, one more Deliver
-/// of the message follows.
+/// of the message follows. A core advances only between operations.
 pub fn rounds_make_their_events<P: Program>()
     ensures whole { (fair keeps : Bool) (start m : Machine) (opening programs : List P) (limit : ℕ)
         (events : List Event) (end : End) →
@@ -64,6 +67,23 @@ pub fn rounds_make_their_events<P: Program>()
         (initial_position P.acts start opening (no_round fair start.config.cores)) events m programs
         end → ArePartOfRounds P.acts (no_round fair start.config.cores)
         (opened start opening) events }
+    ensures between { (fair keeps : Bool) (start m : Machine) (opening programs : List P) (limit : ℕ)
+        (events : List Event) (end : End) →
+        Ended keeps (plan_of P.acts (rounds P.acts) limit)
+        (initial_position P.acts start opening (no_round fair start.config.cores)) events m programs
+        end → AdvancesBetween start events }
+{}
+
+/// A round without progress tried all that `rounds_move_on` says that a round makes. Where it begins, take each event
+/// of a round of that law: an attempt, a delivery, or an eviction that makes room. The round makes that event, and its
+/// answer there is Waiting, Held or a refusal. The round leaves the machine and the programs as they were.
+pub fn rounds_without_progress_tried_all<P: Program>()
+    ensures { (round : Round) (s : Standing P) → length s.machine.cores ≡ round.cores →
+        let made = round_of P.acts round s in
+        let after = after_actions P.acts s made in
+        after.has_progressed ≡ false → after.is_out ≡ false →
+        (after ≡ s) × ((event : Event) → IsInRound s.machine event →
+        IsAmong (Does event) made × (is_progress (transition s.machine event).0 ≡ false)) }
 {}
 
 /// A run by rounds, fair or not, stalls only where it can't send or issue. Its machine is one that any list of events

@@ -14,6 +14,7 @@ use Rattle.litmus_reader.specs.Litmus.{Litmus}
 use Rattle.sequential_machine.specs.Turns.{Point, Reached, IsEnd}
 use Rattle.sequential_machine.proofs.Lemmas.{turns_few}
 use Rattle.sequential_ends.specs.Packed.{packed}
+use Rattle.sequential_ends.specs.Rows.{rows_in}
 use Rattle.sequential_ends.specs.Layers.{layer, ends_before, kept_at}
 use Rattle.sequential_ends.proofs.LayerPoints.{sound, ends_sound, every_end, empty_from}
 
@@ -22,21 +23,26 @@ first_few : (test : Litmus) (k : ℕ) (points : List Point) → Each (Reached te
 first_few test k [] h lt = absurd (omega (arith, lt))
 first_few test k (p ∷ points) h lt = turns_few test k p h.0
 
+pub layer_long : (test : Litmus) (k : ℕ) (rows : List (List ℕ × List ℕ)) → rows_in rows ≡ map packed (layer test k) →
+    length rows ≡ length (layer test k)
+layer_long test k rows is =
+    sym (length-map rows (λ (r : List ℕ × List ℕ). r.0)) ∙ ap length is ∙ length-map (layer test k) packed
+
 -- a layer that has points is one of so many
-pub layer_few : (test : Litmus) (k : ℕ) (rows : List (List ℕ)) → rows ≡ map packed (layer test k) → 0 < length rows →
-    k ≤ test.threads * length test.cells
+pub layer_few : (test : Litmus) (k : ℕ) (rows : List (List ℕ × List ℕ)) → rows_in rows ≡ map packed (layer test k) →
+    0 < length rows → k ≤ test.threads * length test.cells
 layer_few test k rows is lt =
-    let long = ap length is ∙ length-map (layer test k) packed in
+    let long = layer_long test k rows is in
     first_few test k (layer test k) (sound test k) (omega (arith, lt, long))
 
 no_points : (points : List Point) → length points ≤ 0 → points ≡ []
 no_points [] le = refl
 no_points (p ∷ points) le = absurd (omega (arith, le))
 
-pub layer_empty : (test : Litmus) (k : ℕ) (rows : List (List ℕ)) → rows ≡ map packed (layer test k) → length rows ≤ 0 →
-    layer test k ≡ []
+pub layer_empty : (test : Litmus) (k : ℕ) (rows : List (List ℕ × List ℕ)) → rows_in rows ≡ map packed (layer test k) →
+    length rows ≤ 0 → layer test k ≡ []
 layer_empty test k rows is le =
-    let long = ap length is ∙ length-map (layer test k) packed in no_points (layer test k) (omega (arith, le, long))
+    let long = layer_long test k rows is in no_points (layer test k) (omega (arith, le, long))
 
 module _ (test : Litmus) (k : ℕ) (none : layer test k ≡ []) (rows sorted : List (List ℕ))
     (are : rows ≡ ends_before test k) (same : IsPermutation rows sorted) where

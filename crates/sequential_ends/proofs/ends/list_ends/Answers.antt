@@ -16,7 +16,7 @@ returns-in-Err-clause-many c = λ told.
     let k = c.loop-alloc.turns in
     let inv = c.loop-alloc.invariant in
     let more = c.next_layer.ensures.many (layer test k) (inv.layer_is, lists_in test k) (c.in-Err.is ∙ passed_on _ _ told) in
-    let long = ap length inv.layer_is ∙ length-map (layer test k) packed in
+    let long = layer_long test k c.loop-alloc.layer inv.layer_is in
     let is = c.len-in-loop-alloc-2.ensures in
     let few = inv.few in (k, omega (arith, more, long, is, few))
 
@@ -42,7 +42,7 @@ loop-alloc-preserved c =
     let k = c.loop-alloc.turns in
     let inv = c.loop-alloc.invariant in
     let next = c.in-Ok.ensures in
-    let long = ap length inv.layer_is ∙ length-map (layer test k) packed in
+    let long = layer_long test k c.loop-alloc.layer inv.layer_is in
     let room = next.few in
     let is = c.len-in-loop-alloc-2.ensures in
     let few = inv.few in
@@ -57,15 +57,21 @@ loop-alloc-preserved c =
       rows_are = next.ends (layer test k) (inv.layer_is, lists_in test k)
           ∙ ap (λ (es : List (List ℕ)). with_ends test es (layer test k)) inv.rows_are ∙ ap (ends_before test) (plus_one k);
       states_are = omega (arith, sum, old, len, long, more);
+      led = next.led inv.led;
+      orders = next.orders inv.led inv.orders;
       few = omega (arith, room, few);
       kept = λ j lt.
           ⊎_elim
           (λ (e : j ≡ k). subst (λ (i : ℕ). kept_at test i ≤ c.args.most_states) (sym e)
-          (let after = ap length (next.next (layer test k) (inv.layer_is, lists_in test k))
-          ∙ length-map (layer test (suc k)) packed in omega (arith, room, few, is, long, after)))
+          (let after = layer_long test (suc k) c.in-Ok.next (next.next (layer test k) (inv.layer_is, lists_in test k)) in omega (arith, room, few, is, long, after)))
           (λ (ne : j ≡ k → ⊥). inv.kept j (omega (arith, lt, ne)))
           (cases_eq j k);
     }
+
+-- sorted
+same_rows : (c : goal.Returned) → IsPermutation (rows_in c.loop-alloc.rows) (rows_in c.sort.new.self)
+same_rows c =
+    IsPermutation-map (λ (row : List ℕ × List ℕ). row.0) c.loop-alloc.rows c.sort.new.self c.in_ok-sort.ensures.same
 
 pub returns-clause-outcomes : goal.returns-clause-outcomes
 returns-clause-outcomes c = λ text values is there.
@@ -75,7 +81,7 @@ returns-clause-outcomes c = λ text values is there.
     let len = c.len.ensures in
     let none = layer_empty test c.loop-alloc.turns c.loop-alloc.layer inv.layer_is (omega (arith, over, len)) in
     c.ends_of_turns_are_outcomes.ensures.sound text test values is
-    (each_is_end test c.loop-alloc.turns none c.loop-alloc.rows c.sort.new.self inv.rows_are c.in_ok-sort.ensures.same
+    (each_is_end test c.loop-alloc.turns none (rows_in c.loop-alloc.rows) (rows_in c.sort.new.self) inv.rows_are (same_rows c)
     values there)
 
 pub returns-clause-all : goal.returns-clause-all
@@ -85,7 +91,7 @@ returns-clause-all c = λ text values is outcome.
     let over = c.loop-alloc-test.false in
     let len = c.len.ensures in
     let none = layer_empty test c.loop-alloc.turns c.loop-alloc.layer inv.layer_is (omega (arith, over, len)) in
-    each_end_is test c.loop-alloc.turns none c.loop-alloc.rows c.sort.new.self inv.rows_are c.in_ok-sort.ensures.same
+    each_end_is test c.loop-alloc.turns none (rows_in c.loop-alloc.rows) (rows_in c.sort.new.self) inv.rows_are (same_rows c)
     values (c.ends_of_turns_are_outcomes.ensures.complete text test values is outcome)
 
 pub returns-clause-few : goal.returns-clause-few
@@ -95,5 +101,11 @@ returns-clause-few c =
     let over = c.loop-alloc-test.false in
     let len = c.len.ensures in
     let none = layer_empty test c.loop-alloc.turns c.loop-alloc.layer inv.layer_is (omega (arith, over, len)) in
-    few_kept test c.loop-alloc.turns none c.loop-alloc.rows c.sort.new.self inv.rows_are c.in_ok-sort.ensures.same
+    few_kept test c.loop-alloc.turns none (rows_in c.loop-alloc.rows) (rows_in c.sort.new.self) inv.rows_are (same_rows c)
     c.args.most_states inv.kept
+
+pub returns-clause-orders : goal.returns-clause-orders
+returns-clause-orders c =
+    let P : List ℕ × List ℕ → Type 0 = λ end. IsEndOrder c.args.has_orders (test_of c.args.test.now) end.1 end.0 in
+    recursion_from_All P c.sort.new.self (All-permutation P c.loop-alloc.rows c.sort.new.self c.in_ok-sort.ensures.same
+    (All-from_recursion P c.loop-alloc.rows c.loop-alloc.invariant.orders))

@@ -176,7 +176,8 @@ pub get_packed : (points : List Point) (rows : List (List ℕ × List ℕ)) (i :
 get_packed points [] i row are e = absurd cc
 get_packed [] (r ∷ rows) i row are e = absurd cc
 get_packed (p ∷ points) (r ∷ rows) zero row are e = (p, refl, cc)
-get_packed (p ∷ points) (r ∷ rows) (suc i) row are e = get_packed points rows i row cc e
+get_packed (p ∷ points) (r ∷ rows) (suc i) row are e =
+    let behind : rows_in rows ≡ map packed points = cc in get_packed points rows i row behind e
 
 pub each_at : {X : Type 0} (P : X → Type 0) (xs : List X) (i : ℕ) (x : X) → Each P xs → slice_get xs i ≡ Some x → P x
 each_at P [] i x h e = absurd cc

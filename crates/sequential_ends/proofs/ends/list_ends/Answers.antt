@@ -1,4 +1,4 @@
-use Rattle.std.proofs.Common.{◌≡◌, ℕ, suc, ◌+◌, ◌^◌, ◌≤◌, List, sym, ap, ◌∙◌, subst, arith, length, map, ⊎_elim}
+use Rattle.std.proofs.Common.{◌≡◌, ℕ, suc, ◌+◌, ◌^◌, ◌≤◌, List, [], ◌∷◌, refl, sym, ap, ◌∙◌, subst, arith, length, map, ⊎_elim}
 use Rattle.std.proofs.lemmas.Bool.{cases_eq}
 use Rattle.std.proofs.lemmas.List.{length-map}
 use Rattle.std.proofs.lemmas.Nat.{mul-le}
@@ -7,8 +7,34 @@ use Rattle.sequential_ends.specs.Packed.{packed}
 use Rattle.sequential_ends.specs.Layers.{layer, ends_before, with_ends, kept_at, states_before}
 use Rattle.sequential_ends.proofs.Packing.{plus_one, passed_on}
 use Rattle.sequential_ends.proofs.LayerPoints.{lists_in}
-use Rattle.sequential_ends.proofs.EveryEnd.{layer_few, layer_empty, each_is_end, each_end_is, few_kept}
+use Rattle.sequential_ends.proofs.EveryEnd.{layer_few, layer_empty, layer_long, each_is_end, each_end_is, few_kept}
+use Rattle.std.proofs.lemmas.List.Elements.{All-from_recursion, recursion_from_All}
+use Rattle.std.proofs.lemmas.List.Sorted.{All-permutation}
+use Rattle.sequential_ends.specs.Orders.{IsEndOrder, AreLed, AreEndOrders}
+use Rattle.sequential_ends.specs.Rows.{rows_in, with_ordered}
+use Rattle.sequential_ends.proofs.KeptOrders.{opening_led}
 use Rattle.sequential_ends.proofs.ends.list_ends.Goals as goal
+
+pub loop-alloc-init : goal.loop-alloc-init
+loop-alloc-init c =
+    let has = c.args.has_orders in
+    let test = test_of c.args.test.now in
+    let row = c.in_ok-opening_row.field-0.items in
+    let order = c.new.result.items in
+    let is = c.in_ok-add.ensures.added
+    ∙ ap (λ (rows : List (List ℕ × List ℕ)). with_ordered rows (row, order)) c.new-layer.ensures in
+    let one = ap length is in
+    let some = c.if-most_states-eq0.false in
+    record {
+      layer_is = ap rows_in is ∙ ap (λ (ws : List ℕ). ws ∷ []) c.in_ok-opening_row.ensures;
+      rows_are = ap rows_in c.new-rows.ensures;
+      states_are = refl;
+      led = subst (λ (rows : List (List ℕ × List ℕ)). AreLed has test rows) (sym is)
+          (opening_led test has row order c.in_ok-opening_row.ensures c.new.ensures.items);
+      orders = subst (λ (ends : List (List ℕ × List ℕ)). AreEndOrders has test ends) (sym c.new-rows.ensures) tt;
+      few = omega (arith, one, some);
+      kept = λ j lt. absurd (omega (arith, lt));
+    }
 
 pub returns-in-Err-clause-many : goal.returns-in-Err-clause-many
 returns-in-Err-clause-many c = λ told.
@@ -68,10 +94,17 @@ loop-alloc-preserved c =
           (cases_eq j k);
     }
 
--- sorted
-same_rows : (c : goal.Returned) → IsPermutation (rows_in c.loop-alloc.rows) (rows_in c.sort.new.self)
-same_rows c =
-    IsPermutation-map (λ (row : List ℕ × List ℕ). row.0) c.loop-alloc.rows c.sort.new.self c.in_ok-sort.ensures.same
+pub returns-clause-states : goal.returns-clause-states
+returns-clause-states c =
+    let inv = c.loop-alloc.invariant in
+    let over = c.loop-alloc-test.false in
+    let len = c.len.ensures in
+    record {
+      last = c.loop-alloc.turns;
+      none_left = layer_empty (test_of c.args.test.now) c.loop-alloc.turns c.loop-alloc.layer inv.layer_is
+          (omega (arith, over, len));
+      count = inv.states_are;
+    }
 
 pub returns-clause-outcomes : goal.returns-clause-outcomes
 returns-clause-outcomes c = λ text values is there.
@@ -81,7 +114,7 @@ returns-clause-outcomes c = λ text values is there.
     let len = c.len.ensures in
     let none = layer_empty test c.loop-alloc.turns c.loop-alloc.layer inv.layer_is (omega (arith, over, len)) in
     c.ends_of_turns_are_outcomes.ensures.sound text test values is
-    (each_is_end test c.loop-alloc.turns none (rows_in c.loop-alloc.rows) (rows_in c.sort.new.self) inv.rows_are (same_rows c)
+    (each_is_end test c.loop-alloc.turns none c.loop-alloc.rows c.sort.new.self inv.rows_are c.in_ok-sort.ensures.same
     values there)
 
 pub returns-clause-all : goal.returns-clause-all
@@ -91,7 +124,7 @@ returns-clause-all c = λ text values is outcome.
     let over = c.loop-alloc-test.false in
     let len = c.len.ensures in
     let none = layer_empty test c.loop-alloc.turns c.loop-alloc.layer inv.layer_is (omega (arith, over, len)) in
-    each_end_is test c.loop-alloc.turns none (rows_in c.loop-alloc.rows) (rows_in c.sort.new.self) inv.rows_are (same_rows c)
+    each_end_is test c.loop-alloc.turns none c.loop-alloc.rows c.sort.new.self inv.rows_are c.in_ok-sort.ensures.same
     values (c.ends_of_turns_are_outcomes.ensures.complete text test values is outcome)
 
 pub returns-clause-few : goal.returns-clause-few
@@ -101,7 +134,7 @@ returns-clause-few c =
     let over = c.loop-alloc-test.false in
     let len = c.len.ensures in
     let none = layer_empty test c.loop-alloc.turns c.loop-alloc.layer inv.layer_is (omega (arith, over, len)) in
-    few_kept test c.loop-alloc.turns none (rows_in c.loop-alloc.rows) (rows_in c.sort.new.self) inv.rows_are (same_rows c)
+    few_kept test c.loop-alloc.turns none c.loop-alloc.rows c.sort.new.self inv.rows_are c.in_ok-sort.ensures.same
     c.args.most_states inv.kept
 
 pub returns-clause-orders : goal.returns-clause-orders

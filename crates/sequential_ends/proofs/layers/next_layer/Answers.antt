@@ -26,7 +26,7 @@ returns-in-Err-clause-many c = λ points are told.
     let p = found.0 in
     let lists = each_at (HasLists test) points i p are.1 found.1 in
     let before = behind test (take i points) in
-    let more = c.added.ensures.many p before (found.2, lists) (c.loop-number.invariant.1 points are)
+    let more = c.add_point-added.ensures.many p before (found.2, lists) (c.loop-number.invariant.1 points are)
     (c.in-Err.is ∙ passed_on _ _ told) in
     let next = ap length (fold_next (λ (next : List Point) (q : Point). with_turns test q test.threads next) [] points i p
     found.1) in

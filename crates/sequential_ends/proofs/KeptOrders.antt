@@ -1,7 +1,6 @@
 -- The order of a row leads to the row's point.
-use Rattle.std.proofs.Common.{◌≡◌, ℕ, zero, suc, ◌<◌, Bool, true, false, List, [], ◌∷◌, ◌++◌, length, Some, None, refl, sym, ap}
+use Rattle.std.proofs.Common.{◌≡◌, ℕ, zero, suc, ◌<◌, Bool, true, false, List, [], ◌∷◌, length, Some, refl, sym, ap}
 use Rattle.std.proofs.Common.{◌∙◌, subst}
-use Rattle.std.specs.Str.{bytes_eq}
 use Rattle.std.proofs.lemmas.Slice.Eq.{bytes_eq-Decides}
 use Rattle.physiological_order.specs.declared.operation.Op.{Op}
 use Rattle.litmus_reader.specs.Litmus.{Litmus}
@@ -11,7 +10,7 @@ use Rattle.sequential_machine.proofs.Lemmas.{lists_count}
 use Rattle.sequential_ends.specs.Packed.{packed, IsRowOf}
 use Rattle.sequential_ends.specs.Rows.{of_one_row, with_ordered}
 use Rattle.sequential_ends.specs.Layers.{has_turn}
-use Rattle.sequential_ends.specs.Orders.{LedBy, EndsBy, with_turn, IsOrderOf, IsEndOrder, AreLed, AreEndOrders}
+use Rattle.sequential_ends.specs.Orders.{with_turn, IsOrderOf, IsEndOrder, AreLed, AreEndOrders}
 use Rattle.sequential_ends.specs.Orders.{opened, turn}
 use Rattle.sequential_ends.proofs.LayerPoints.{each_added, turn_over}
 

@@ -1,4 +1,4 @@
-use Rattle.std.proofs.Common.{◌≡◌, ℕ, ◌+◌, Bool, List, [], Option, option_map, sym, ap, ◌∙◌, arith, length, map, take}
+use Rattle.std.proofs.Common.{ℕ, ◌+◌, Bool, List, [], Option, option_map, sym, ap, ◌∙◌, arith, length, map, take}
 use Rattle.std.specs.Borrow.{Bor}
 use Rattle.litmus_reader.specs.TestViews.{test_of}
 use Rattle.sequential_machine.specs.Turns.{Point}

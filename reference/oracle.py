@@ -6,7 +6,7 @@ refusal has the program's status and its line on standard error. But a wrong opt
 status 2.
 
     reference/oracle.py litmus [--schedule seed --seed N] [--runs N] [--fair] [--lease N] .. [--private-write] FILE
-    reference/oracle.py ends [--states N] FILE
+    reference/oracle.py ends [--states N] [--orders] FILE
     reference/oracle.py trace [--records] [--schedule seed --seed N] [--fair] [--lease N] .. FILE
     reference/oracle.py check [--complete] [--opening FILE] TRACE RECORDS
     reference/oracle.py --rows <ROWS
@@ -81,6 +81,7 @@ def words():
     commands.choices["trace"].add_argument("--records", action="store_true")
     command = commands.add_parser("ends", allow_abbrev=False)
     command.add_argument("--states", type=number("states", 1, sequential.GREATEST), default=sequential.MOST_STATES)
+    command.add_argument("--orders", action="store_true")
     command.add_argument("FILE")
     command = commands.add_parser("check", allow_abbrev=False)
     command.add_argument("--complete", action="store_true")
@@ -137,7 +138,7 @@ def refuse_threads(options):
 
 def ends_report(options):
     try:
-        return sequential.report(read_litmus(options.FILE), options.states)
+        return sequential.report(read_litmus(options.FILE), options.states, options.orders)
     except sequential.TooManyStates:
         raise Refused(1, f"tardis: more than {options.states} states") from None
 

@@ -3,8 +3,9 @@
 
 Some texts were worked out by hand, and so was the least --states that they need. Each order of an end is made step by
 step: it must lead there and leave no thread an instruction. Of a test with few orders it must be the first of those
-that lead there. `PROGRAM ends` must print what reference/sequential.py prints of the catalogue, of examples/outcomes,
-of all critical cycles of at most 8 edges and of 1,000 random tests, and refuse the same bounds. Under total store order
+that lead there. `PROGRAM ends`, with --orders and without, must print what reference/sequential.py prints of the
+catalogue, of examples/outcomes, of all critical cycles of at most 8 edges and of 1,000 random tests, and refuse the
+same bounds. Under total store order
 a critical cycle is allowed exactly if it has a store before a load (PodWR).
 tools/ends.py must say of each end which runs meet it, as the second program makes them one by one. Without PROGRAM
 nothing is compared, and the second program makes the tool's runs. The last line is `N tried, M wrong`.
@@ -281,8 +282,9 @@ def compared(case):
     tester.expect(first_orders(test) in (None, ends), f"{name}: not the first orders: {ends}")
     if program:
         bound, given = least_bound(sizes), text.encode()
-        got = tester.run("ends", "--states", str(bound), "/dev/stdin", text=given)
-        tester.expect(got == (0, sequential.report(test), ""), f"{name}: {got}")
+        for orders in ([], ["--orders"]):
+            got = tester.run("ends", *orders, "--states", str(bound), "/dev/stdin", text=given)
+            tester.expect(got == (0, sequential.report(test, has_orders=bool(orders)), ""), f"{name}: {orders} {got}")
         if bound > 1:
             got = tester.run("ends", "--states", str(bound - 1), "/dev/stdin", text=given)
             tester.expect(got == (1, "", f"tardis: more than {bound - 1} states\n"), f"{name}: refused: {got}")

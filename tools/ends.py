@@ -8,9 +8,9 @@
 and nothing is proved: the first line says which. A star marks the ends in which the condition's expression holds. Of
 each end it says whether the run by rounds meets it, which seed is the first of N (1,000, from 0 on) and how many of
 them meet it, and whether runs by threads do (--threads N, 100; only the program makes them). The next line is the
-command that makes the run again. Of an end that no seed meets there is an order that leads there, which the second
-program finds: P0:2 is thread 0's second memory instruction. Runs that aren't all done have a dash. What can't be meant,
-such as a name in the condition that no instruction changes, follows the first line.
+command that makes the run again. Of an end that no seed meets there is an order that leads there, from the same list:
+P0:2 is thread 0's second memory instruction. Runs that aren't all done have a dash. What can't be meant, such as a name
+in the condition that no instruction changes, follows the first line.
 
 --grade LIST compares the ends that a student listed, one a line, as 0:x7=1 x=2; - is standard input. Blank lines,
 stars, parentheses, orders, # and what follows, and what else `tardis ends` and this script print are passed over. Each
@@ -19,7 +19,6 @@ line that is no end is named with the cause. An end that stands twice counts onc
 Exit status: 0 done, or the list is right; 1 an end of the list is missing or impossible; 2 bad words, a bad text, or
 more states than --states N allows.
 """
-import functools
 import re
 import shlex
 import sys
@@ -34,6 +33,8 @@ from tools.program import Refused  # noqa: E402
 
 # By threads: enough turns for a run on a busy machine (docs/TEXTS.md, Reports by threads), and so many workers.
 THREADS = {"--limit": "10000000", "--workers": "4"}
+# What a program says that knows no `ends`, or no orders.
+OLDER = ("unrecognized subcommand", "unexpected argument '--orders'")
 HEADS = ("model", "test", "threads", "states", "ends", "condition", "held", "observation")
 # Lines of this script without an end: the first one, hints, runs that aren't all done.
 BESIDE = re.compile(r"\S+: \d+ ends in |  but |- [a-z-]+: ")
@@ -52,27 +53,25 @@ class Ends:
         self.text = contents(path)
         self.test, self.most = litmus_test(path, self.text), states
         self.by, lines = self.listed()
-        self.marks = {line[2:]: line[0] for line in lines if line[0] in " *"}  # by end, in rising order
+        self.marks, self.orders = {}, {}  # by end, in rising order
+        for line in lines:
+            if line[0] in " *":
+                end, _, self.orders[end] = line[2:].partition("   ")
+                self.marks[end] = line[0]
         self.states = next(line for line in lines if line.startswith("states ")).split()[1]
 
     def listed(self):
         """What lists them, and its lines."""
         try:
-            told = program.run("ends", "--states", self.most, self.path)
+            told = program.run("ends", "--orders", "--states", self.most, self.path)
             return Path(program.program()).name, told.splitlines()
         except Refused as refused:
-            if "unrecognized subcommand" not in str(refused):
+            if not any(word in str(refused) for word in OLDER):
                 raise Bad(f"{self.path}: {refused}") from None
-        try:  # the program is older than `ends`
-            return "oracle.py", sequential.report(self.test, self.most).splitlines()
+        try:  # the program is older than `ends --orders`
+            return "oracle.py", sequential.report(self.test, self.most, has_orders=True).splitlines()
         except sequential.TooManyStates:
             raise Bad(f"{self.path}: more than {self.most} states") from None
-
-    @functools.cached_property
-    def orders(self):
-        """By end the order that the second program finds."""
-        found, _ = sequential.explored(sequential.Flat(self.test), self.most)
-        return {sequential.text_of(end): " ".join(order) for end, order in found.items()}
 
     def first_line(self):
         by = "reference/oracle.py, not proved" if self.by == "oracle.py" else "tardis ends, proved: no run has another"

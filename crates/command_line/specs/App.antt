@@ -78,12 +78,12 @@ abbrev pub litmus_app : ValueParser → App
 litmus_app p =
     with_run_and_file (with_rule (new_app (codes "litmus")) (number_rule (codes "runs") (codes "1") (up_to 1000000))) p
 
--- the ends of a litmus test are listed with so many states at once
+-- the ends of a litmus test are listed with so many states at once, and may have orders
 abbrev pub ends_app : App
 ends_app =
-    with_rule
-    (with_rule (new_app (codes "ends")) (number_rule (codes "states") (codes "4194304") (up_to 4294967295)))
-    (file_rule (codes "FILE"))
+    with_rules (new_app (codes "ends"))
+    (number_rule (codes "states") (codes "4194304") (up_to 4294967295) ∷ flag_rule (codes "orders")
+    ∷ file_rule (codes "FILE") ∷ [])
 
 -- a trace may be run with its records reported
 abbrev pub trace_app : ValueParser → App

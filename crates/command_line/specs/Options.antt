@@ -109,10 +109,11 @@ abbrev pub TellsLitmus : List Row → LitmusOptions → Type 0
 TellsLitmus rows options =
     HasNumber rows (codes "runs") 1 1000000 litmus_default.runs options.runs × TellsRun rows options.run
 
--- how many states a list of ends may keep at once
+-- how many states a list of ends may keep at once, and whether it has orders
 abbrev pub TellsEnds : List Row → EndsOptions → Type 0
 TellsEnds rows options =
     HasNumber rows (codes "states") 1 4294967295 ends_default.most_states options.most_states
+    × IsFlag rows (codes "orders") options.orders
 
 -- whether the records of a trace are asked for, and how it is run
 abbrev pub TellsTrace : List Row → TraceOptions → Type 0

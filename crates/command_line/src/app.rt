@@ -69,6 +69,8 @@ const OPENING: &str = "The file with the values that words open with; all others
 
 const STATES: &str = "How many states may be kept at once, 1 to 4294967295";
 
+const ORDERS: &str = "Puts an order of the memory operations that leads to it behind each end";
+
 const LITMUS_FILE: &str = "The file with the text of the litmus test";
 
 const TRACE_FILE: &str = "The file with the text of the trace";
@@ -232,7 +234,8 @@ fn ends_command<'a>(alloc: Global) -> Result<Command<'a>, AllocError>
     let named = empty(alloc, "ends", about);
     let states = value_parser!(u64).range(1..4294967296);
     let bounded = with(named, option(alloc, "states", "4194304", states, STATES));
-    with(bounded, file(alloc, "FILE", LITMUS_FILE))
+    let ordered = with(bounded, flag(alloc, "orders", ORDERS));
+    with(ordered, file(alloc, "FILE", LITMUS_FILE))
 }
 
 /// The command `trace`.

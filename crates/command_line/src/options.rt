@@ -135,6 +135,7 @@ pub(crate) fn ends_options(matches: &ArgMatches<'_>) -> EndsOptions
     let default = EndsOptions::DEFAULT.most_states;
     EndsOptions {
         most_states: number(matches, "states", 1, 4294967295, default),
+        orders: flag(matches, "orders"),
     }
 }
 

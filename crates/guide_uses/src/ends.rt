@@ -4,6 +4,7 @@ ghost use Rattle.std.specs.List.{AllByRecursion, Contains};
 ghost use Rattle.litmus_reader.specs.Grammar.{IsTest};
 ghost use Rattle.litmus_reader.specs.TestViews.{test_of};
 ghost use Rattle.machine_table.specs.SetUp.{is_good};
+ghost use Rattle.sequential_ends.specs.Every.{values_in};
 
 use interleaving_core::Config;
 use litmus_reader::Test;
@@ -21,9 +22,9 @@ pub fn ends_and_runs(
     requires good { is_good config ≡ true }
     requires cores { config.cores ≡ (test_of test.now).threads }
     ensures { IfOk result (λ found. (text : List ℕ) → IsTest text (test_of test.now) →
-        AllByRecursion (λ run. IfSome run.state (Contains found.0.values)) found.1.items) }
+        AllByRecursion (λ run. IfSome run.state (Contains (values_in found.0))) found.1.items) }
 {
-    let ends = list_ends(alloc, test, MOST_STATES)?;
+    let ends = list_ends(alloc, test, MOST_STATES, false)?;
     let runs = policy_runs(alloc, test, config, Policy::Seed(0), seeds, 10_000)?;
     Ok((ends, runs))
 }

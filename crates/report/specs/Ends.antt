@@ -10,28 +10,30 @@ use Rattle.litmus_reader.specs.Litmus.{Litmus}
 use Rattle.run_options.specs.declared.options.EndsOptions.{EndsOptions}
 use Rattle.run_results.specs.declared.results.RunError.{RunError}
 use Rattle.run_results.specs.declared.results.RunError.TheVariants.{TooManyStates}
-use Rattle.sequential_ends.specs.Every.{CountsStates, Every, IsTooMany}
+use Rattle.sequential_ends.specs.Every.{values_in, CountsStates, Every, IsTooMany}
 use Rattle.sequential_ends.specs.Layers.{kept_at}
+use Rattle.sequential_ends.specs.Orders.{AreEndOrders}
 use Rattle.sequential_machine.specs.SequentialMachine.{IsOutcome}
 use Rattle.report.specs.EveryText.{every_text}
 use Rattle.report.specs.Litmus.{HasNoTest}
 
 -- an end is listed exactly if it is an outcome of the test; they rise, each once, and the points that were met are
--- counted, of which at most so many were kept at once
-pub record ListsEnds (test : Litmus) (most : ℕ) (every : Every) : Type 0 where
-  pub outcomes : (values : List ℕ) → Contains every.values values → IsOutcome test values
-  pub all : (values : List ℕ) → IsOutcome test values → Contains every.values values
-  pub rising : IsSorted (slice_cmp nat_cmp) every.values
-  pub once : IsDistinct bytes_eq every.values
+-- counted, of which at most so many were kept at once; if orders are asked for, each end has one that leads there
+pub record ListsEnds (test : Litmus) (options : EndsOptions) (every : Every) : Type 0 where
+  pub outcomes : (values : List ℕ) → Contains (values_in every) values → IsOutcome test values
+  pub all : (values : List ℕ) → IsOutcome test values → Contains (values_in every) values
+  pub rising : IsSorted (slice_cmp nat_cmp) (values_in every)
+  pub once : IsDistinct bytes_eq (values_in every)
   pub states : CountsStates test every.states
-  pub few : (k : ℕ) → kept_at test k ≤ most
+  pub few : (k : ℕ) → kept_at test k ≤ options.most_states
+  pub orders : AreEndOrders options.orders test every.ends
 
 -- the bytes are the text of a test, and the text lists its ends; that is always all
 pub record IsEndsReport (options : EndsOptions) (bytes : List ℕ) (all_done : Bool) (text : List ℕ) : Type 0 where
   pub test : Litmus
   pub every : Every
   pub is_test : IsTest bytes test
-  pub lists : ListsEnds test options.most_states every
+  pub lists : ListsEnds test options every
   pub text_is : text ≡ every_text test every
   pub done : all_done ≡ true
 

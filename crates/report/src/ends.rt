@@ -60,7 +60,7 @@ fn list_of(alloc: Global, bytes: &[u8], options: &EndsOptions) -> Result<Vec<u8>
         Err(error) => return Err(error),
     };
     let most = options.most_states;
-    let every = match list_ends(alloc, &test, most as usize) {
+    let every = match list_ends(alloc, &test, most as usize, options.orders) {
         Ok(every) => every,
         Err(EndsError::TooMany) => return Err(RunError::TooManyStates(most)),
         Err(EndsError::NoMemory) => return Err(RunError::NoMemory),

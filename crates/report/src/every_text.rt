@@ -2,8 +2,9 @@
 ghost use Rattle.std.specs.Prelude.{◌≡◌, ◌<◌, ◌≤◌, ◌^◌, ◌++◌, ◌∷◌, length, IfOk, OnOk};
 ghost use Rattle.std.specs.List.{flat_map};
 ghost use Rattle.litmus_reader.specs.TestViews.{test_of};
+ghost use Rattle.sequential_ends.specs.Every.{values_in};
 ghost use Rattle.report.specs.EveryText.{condition_text, end_line, every_text, head_text, held_of};
-ghost use Rattle.report.specs.EveryText.{is_held, mark, observation_text, often};
+ghost use Rattle.report.specs.EveryText.{is_held, mark, observation_text, often, order_text, times, turn_text};
 
 use itoa::Buffer;
 use litmus_reader::Test;
@@ -29,31 +30,73 @@ fn mark(held: bool) -> u8
     if held { b'*' } else { b' ' }
 }
 
+/// How often a thread's number is among these.
+fn times(thread: u8, done: &[u8]) -> usize
+    ensures times { result ≡ times thread done.now }
+    ensures few { result ≤ length done.now }
+{
+    let mut count = 0;
+    let mut left = done;
+    while let Some((other, rest)) = left.split_first() {
+        if *other == thread {
+            count += 1;
+        }
+        left = rest;
+    }
+    count
+}
+
+/// A thread, and which of its turns this is.
+fn put_turn(out: &mut Vec<u8>, thread: u8, number: usize) -> Result<(), AllocError>
+    ensures { OnOk result (out.new.items ≡ out.old.items ++ turn_text thread number) }
+{
+    let mut digits = Buffer::new();
+    out.extend_from_slice(b" P")?;
+    out.extend_from_slice(digits.format(thread).as_bytes())?;
+    out.push(b':')?;
+    out.extend_from_slice(digits.format(number).as_bytes())
+}
+
+/// An order, if there is one.
+fn put_order(out: &mut Vec<u8>, order: &[u8]) -> Result<(), AllocError>
+    ensures { OnOk result (out.new.items ≡ out.old.items ++ order_text order.now) }
+{
+    if order.is_empty() {
+        return Ok(());
+    }
+    out.extend_from_slice(b"  ")?;
+    for at in 0..order.len() {
+        put_turn(out, order[at], times(order[at], &order[..at]) + 1)?;
+    }
+    Ok(())
+}
+
 /// The line of an end. The answer is whether the condition's expression holds in it.
-fn put_end(out: &mut Vec<u8>, test: &Test, values: &[u64]) -> Result<bool, AllocError>
+fn put_end(out: &mut Vec<u8>, test: &Test, values: &[u64], order: &[u8]) -> Result<bool, AllocError>
     ensures line { OnOk result (out.new.items ≡
-        out.old.items ++ end_line (test_of test.now) values.now) }
+        out.old.items ++ end_line (test_of test.now) (values.now, order.now)) }
     ensures held { IfOk result (λ held. held ≡ is_held (test_of test.now) values.now) }
 {
     let held = test.values_hold(values);
     out.push(mark(held))?;
     put_values(out, test, values)?;
+    put_order(out, order)?;
     out.push(b'\n')?;
     Ok(held)
 }
 
 /// A line for each end. The answer is in how many of them the condition's expression holds.
 fn put_ends(out: &mut Vec<u8>, test: &Test, every: &Ends) -> Result<usize, AllocError>
-    requires { length every.now.values < 2 ^ 64 }
+    requires { length every.now.ends < 2 ^ 64 }
     ensures lines { OnOk result (out.new.items ≡
-        out.old.items ++ flat_map (end_line (test_of test.now)) every.now.values) }
-    ensures held { IfOk result (λ held. held ≡ held_of (test_of test.now) every.now.values) }
-    ensures few { IfOk result (λ held. held ≤ length every.now.values) }
+        out.old.items ++ flat_map (end_line (test_of test.now)) every.now.ends) }
+    ensures held { IfOk result (λ held. held ≡ held_of (test_of test.now) (values_in every.now)) }
+    ensures few { IfOk result (λ held. held ≤ length every.now.ends) }
 {
     let mut held = 0;
     let mut number = 0;
-    while let Some(values) = every.values(number) {
-        let is_held = put_end(out, test, values)?;
+    while let Some((values, order)) = every.get(number) {
+        let is_held = put_end(out, test, values, order)?;
         held += usize::from(is_held);
         number += 1;
     }

@@ -28,8 +28,9 @@ ghost use Rattle.trace_reader.specs.Steps.{trace_ops};
 ghost use Rattle.trace_texts.specs.Verdicts.{check_text};
 ghost use Rattle.worker_driver.specs.Outcomes.{HasOutcome};
 ghost use Rattle.report.specs.Complete.{AreAll, HasRecord, IsFirstLack, count_of_core};
+ghost use Rattle.sequential_ends.specs.Every.{values_in};
 ghost use Rattle.report.specs.Ends.{IsEndsReport};
-ghost use Rattle.report.specs.EveryText.{held_of, often};
+ghost use Rattle.report.specs.EveryText.{often_in};
 ghost use Rattle.report.specs.Litmus.{IsLitmusReport, turns};
 ghost use Rattle.report.specs.Reports.{IsTraceReport};
 ghost use Rattle.report.specs.Verdicts.{HasNoVerdict, IsCheckReport, IsVerdictLine};
@@ -55,7 +56,7 @@ pub fn runs_end_as_listed()
     ensures { (options : LitmusOptions) (bounds : EndsOptions) (bytes text list : List ℕ)
         (all_done done : Bool) (told : IsLitmusReport options bytes all_done text)
         (listed : IsEndsReport bounds bytes done list) →
-        AllByRecursion (λ run. IfSome run.state (Contains listed.every.values)) told.runs }
+        AllByRecursion (λ run. IfSome run.state (Contains (values_in listed.every))) told.runs }
 {
     one_text_is_one_test();
 }
@@ -66,17 +67,17 @@ pub fn runs_end_as_listed()
 pub fn the_last_line_is_final()
     ensures never { (options : EndsOptions) (bytes text : List ℕ) (done : Bool)
         (list : IsEndsReport options bytes done text) →
-        often (held_of list.test list.every.values) (length list.every.values) ≡ codes "Never" →
+        often_in list.test list.every ≡ codes "Never" →
         (values : List ℕ) (end : IsOutcome list.test values) →
         holds (value_at end.last) list.test.tree ≡ false }
     ensures always { (options : EndsOptions) (bytes text : List ℕ) (done : Bool)
         (list : IsEndsReport options bytes done text) →
-        often (held_of list.test list.every.values) (length list.every.values) ≡ codes "Always" →
+        often_in list.test list.every ≡ codes "Always" →
         (values : List ℕ) (end : IsOutcome list.test values) →
         holds (value_at end.last) list.test.tree ≡ true }
     ensures sometimes { (options : EndsOptions) (bytes text : List ℕ) (done : Bool)
         (list : IsEndsReport options bytes done text) →
-        often (held_of list.test list.every.values) (length list.every.values) ≡ codes "Sometimes" →
+        often_in list.test list.every ≡ codes "Sometimes" →
         (held : Bool) → (values : List ℕ) × (end : IsOutcome list.test values)
         × (holds (value_at end.last) list.test.tree ≡ held) }
 {}

@@ -10,8 +10,8 @@ ghost use Rattle.run_options.specs.declared.options.TheConstants.TraceOptions.{D
 
 /// A machine has a lease of 10, the time 0, one bank, private caches of 64 sets of 4 lines, a bank of 256 sets of 8
 /// lines, lines of one word, 4,096 messages in flight and no private writes. A run is by rounds, at most 100,000 of
-/// them, with one worker. A litmus test has one run. A list of ends keeps at most 4,194,304 states. A trace has a
-/// report.
+/// them, with one worker. A litmus test has one run. A list of ends keeps at most 4,194,304 states and has no
+/// orders. A trace has a report.
 pub fn defaults_are_these()
     ensures machine { machine_default ≡ record {
       lease = 10;
@@ -33,6 +33,6 @@ pub fn defaults_are_these()
       machine = machine_default;
     } }
     ensures litmus { litmus_default ≡ record { runs = 1; run = run_default } }
-    ensures ends { ends_default ≡ record { most_states = 4194304 } }
+    ensures ends { ends_default ≡ record { most_states = 4194304; orders = false } }
     ensures trace { trace_default ≡ record { records = false; run = run_default } }
 {}

@@ -108,12 +108,15 @@ impl LitmusOptions {
 pub struct EndsOptions {
     /// How many states may be kept at once.
     pub most_states: u64,
+    /// Whether an order of the threads' memory operations that leads to it stands behind each end.
+    pub orders: bool,
 }
 
 impl EndsOptions {
     /// The list of a litmus test's ends if no option says otherwise.
     pub const DEFAULT: EndsOptions = EndsOptions {
         most_states: 4_194_304,
+        orders: false,
     };
 }
 

@@ -113,7 +113,7 @@ module _ (test : Litmus) (p : Point) where
         omega (arith, before, more)
   ]
 
-  turn_over : (n : ℕ) → has_turn test p n ≡ false → (t : ℕ) → t < n → operation_at test p t ≡ None
+  pub turn_over : (n : ℕ) → has_turn test p n ≡ false → (t : ℕ) → t < n → operation_at test p t ≡ None
   turn_over zero e t lt = absurd (omega (arith, lt))
   turn_over (suc n) e t lt =
       by (has_turn test p n) (operation_at test p n) refl refl e (λ h below. turn_over n h t below)

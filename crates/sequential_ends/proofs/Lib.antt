@@ -1,5 +1,6 @@
 mod WordLists
 mod Packing
 mod LayerPoints
+mod KeptOrders
 mod RowLists
 mod EveryEnd

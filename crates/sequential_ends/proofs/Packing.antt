@@ -10,8 +10,9 @@ use Rattle.physiological_order.specs.declared.operation.Op.{Op}
 use Rattle.sequential_machine.specs.Turns.{Point, value_for, words_after, with_received, turned}
 use Rattle.sequential_machine.specs.Turns.{operation_at, thread_at, threads_at}
 use Rattle.sequential_ends.specs.Packed.{packed, packed_lists}
-use Rattle.sequential_ends.specs.Rows.{with_row}
-use Rattle.sequential_ends.proofs.RowLists.{added_by}
+use Rattle.std.specs.Str.{bytes_eq}
+use Rattle.sequential_ends.specs.Rows.{rows_in, with_ordered, with_row}
+use Rattle.sequential_ends.proofs.RowLists.{added_by, ordered_added}
 use Rattle.sequential_ends.specs.Layers.{with_point, with_some, with_turns, has_turn}
 
 pub zeros_next : (n : ℕ) → replicate {A = ℕ} (suc n) 0 ≡ replicate {A = ℕ} n 0 ++ 0 ∷ []
@@ -84,7 +85,7 @@ turned_packed p t x after lists left before list behind value lt a v l e b m h =
 
 pub point_added : (points : List Point) (p : Point) →
     with_row (map packed points) (packed p) ≡ map packed (with_point points p)
-point_added points p = added_by packed points p
+point_added points p = added_by bytes_eq packed points p
 
 -- ---- one row is that of one point
 
@@ -169,17 +170,19 @@ fold_next f start xs i x e =
     one f start (y ∷ xs) zero x e = let same : y ≡ x = cc in ap (f start) same
     one f start (y ∷ xs) (suc i) x e = one f (f start y) xs i x e
 
-pub get_packed : (points : List Point) (i : ℕ) (row : List ℕ) → slice_get (map packed points) i ≡ Some row →
-    (p : Point) × (slice_get points i ≡ Some p) × (row ≡ packed p)
-get_packed [] i row e = absurd cc
-get_packed (p ∷ points) zero row e = (p, refl, cc)
-get_packed (p ∷ points) (suc i) row e = get_packed points i row e
+pub get_packed : (points : List Point) (rows : List (List ℕ × List ℕ)) (i : ℕ) (row : List ℕ × List ℕ) →
+    rows_in rows ≡ map packed points → slice_get rows i ≡ Some row →
+    (p : Point) × (slice_get points i ≡ Some p) × (row.0 ≡ packed p)
+get_packed points [] i row are e = absurd cc
+get_packed [] (r ∷ rows) i row are e = absurd cc
+get_packed (p ∷ points) (r ∷ rows) zero row are e = (p, refl, cc)
+get_packed (p ∷ points) (r ∷ rows) (suc i) row are e =
+    let behind : rows_in rows ≡ map packed points = cc in get_packed points rows i row behind e
 
-pub each_at : (P : Point → Type 0) (points : List Point) (i : ℕ) (p : Point) → Each P points →
-    slice_get points i ≡ Some p → P p
-each_at P [] i p h e = absurd cc
-each_at P (q ∷ points) zero p h e = let same : q ≡ p = cc in subst P same h.0
-each_at P (q ∷ points) (suc i) p h e = each_at P points i p h.1 e
+pub each_at : {X : Type 0} (P : X → Type 0) (xs : List X) (i : ℕ) (x : X) → Each P xs → slice_get xs i ≡ Some x → P x
+each_at P [] i x h e = absurd cc
+each_at P (y ∷ xs) zero x h e = let same : y ≡ x = cc in subst P same h.0
+each_at P (y ∷ xs) (suc i) x h e = each_at P xs i x h.1 e
 
 pub none_missing : {X : Type 0} (xs : List X) (i : ℕ) → i < length xs → slice_get xs i ≡ None → ⊥
 none_missing [] i lt e = absurd (omega (arith, lt))
@@ -187,11 +190,12 @@ none_missing (x ∷ xs) zero lt e = cc
 none_missing (x ∷ xs) (suc i) lt e = none_missing xs i (omega (arith, lt)) e
 
 -- one turn more, in rows
-pub turn_added : (test : Litmus) (p : Point) (t : ℕ) (points : List Point) (x : Op) (next : List (List ℕ))
-    (row : List ℕ) → next ≡ map packed (with_turns test p t points) → row ≡ packed (turned p t x) →
-    operation_at test p t ≡ Some x → with_row next row ≡ map packed (with_turns test p (t + 1) points)
+pub turn_added : (test : Litmus) (p : Point) (t : ℕ) (points : List Point) (x : Op) (next : List (List ℕ × List ℕ))
+    (row : List ℕ × List ℕ) → rows_in next ≡ map packed (with_turns test p t points) → row.0 ≡ packed (turned p t x) →
+    operation_at test p t ≡ Some x →
+    rows_in (with_ordered next row) ≡ map packed (with_turns test p (t + 1) points)
 turn_added test p t points x next row e f g =
-    ap₂ with_row e f ∙ point_added (with_turns test p t points) (turned p t x)
+    sym (ordered_added next row) ∙ ap₂ with_row e f ∙ point_added (with_turns test p t points) (turned p t x)
     ∙ ap (map packed) (sym (turns_next test p t points (Some x) g))
 
 -- an error goes on as it is

@@ -1,6 +1,7 @@
--- The rows that an indexed set keeps.
+-- The rows that an indexed map keeps.
 use Rattle.std.proofs.Common.{◌≡◌, Bool, true, false, ◌||◌, if◌then◌else◌, List, [], ◌∷◌, ◌++◌, ℕ, ◌+◌, map, refl}
-use Rattle.std.proofs.Common.{sym, ap, ◌∙◌, arith}
+use Rattle.std.proofs.Common.{sym, ap, ◌∙◌, arith, cond, Option, Some, None, is_some}
+use Rattle.std.specs.Map.{keys_of, lookup}
 use Rattle.std.specs.List.{list_any, IsDistinct, AllByRecursion as Each}
 use Rattle.std.specs.Str.{bytes_eq}
 use Rattle.std.specs.Global.{Vec}
@@ -8,29 +9,62 @@ use Rattle.std.specs.List.Sorted.{IsSorted}
 use Rattle.std.specs.Ordering.{nat_cmp}
 use Rattle.std.specs.Cmp.Lexicographic.{slice_cmp}
 use Rattle.std.proofs.lemmas.List.{get_or-map, length-map, map-append}
-use Rattle.sequential_ends.specs.Rows.{with_row}
+use Rattle.sequential_ends.specs.Rows.{of_one_row, rows_in, with_ordered, with_row}
 
 abbrev pub rows_of : List (Vec ℕ) → List (List ℕ)
 rows_of = map (λ row. row.items)
 
--- a row is added to rows as that of which it is the row is added to a list
-pub added_by : {X : Type 0} (row : X → List ℕ) (xs : List X) (x : X) → with_row (map row xs) (row x)
-    ≡ map row (if list_any (λ y. bytes_eq (row x) (row y)) xs then xs else xs ++ x ∷ [])
-added_by {X} row xs x = rw (any xs) (by (list_any (λ y. bytes_eq (row x) (row y)) xs))
+-- what a map adds to a list, if the list has none that is the same
+pub added_by : {X Y : Type 0} (same : Y → Y → Bool) (f : X → Y) (xs : List X) (x : X) →
+    (if list_any (same (f x)) (map f xs) then map f xs else map f xs ++ f x ∷ [])
+    ≡ map f (if list_any (λ y. same (f x) (f y)) xs then xs else xs ++ x ∷ [])
+added_by {X} same f xs x = rw (any xs) (by (list_any (λ y. same (f x) (f y)) xs))
   where
-    any : (ys : List X) →
-        list_any (λ other. bytes_eq (row x) other) (map row ys) ≡ list_any (λ y. bytes_eq (row x) (row y)) ys
+    any : (ys : List X) → list_any (same (f x)) (map f ys) ≡ list_any (λ y. same (f x) (f y)) ys
     any [] = refl
-    any (y ∷ ys) = ap (λ (b : Bool). bytes_eq (row x) (row y) || b) (any ys)
+    any (y ∷ ys) = ap (λ (b : Bool). same (f x) (f y) || b) (any ys)
 
-    by : (b : Bool) → (if b then map row xs else map row xs ++ row x ∷ []) ≡ map row (if b then xs else xs ++ x ∷ [])
+    by : (b : Bool) → (if b then map f xs else map f xs ++ f x ∷ []) ≡ map f (if b then xs else xs ++ x ∷ [])
     by true = refl
-    by false = sym (map-append row xs (x ∷ []))
+    by false = sym (map-append f xs (x ∷ []))
 
-pub row_added : (keys new : List (Vec ℕ)) (row : Vec ℕ) →
-    new ≡ (if list_any (λ key. bytes_eq row.items key.items) keys then keys else keys ++ row ∷ []) →
-    rows_of new ≡ with_row (rows_of keys) row.items
-row_added keys new row e = ap rows_of e ∙ sym (added_by (λ (row : Vec ℕ). row.items) keys row)
+pub ordered_added : (rows : List (List ℕ × List ℕ)) (row : List ℕ × List ℕ) →
+    with_row (rows_in rows) row.0 ≡ rows_in (with_ordered rows row)
+ordered_added rows row = added_by bytes_eq (λ (r : List ℕ × List ℕ). r.0) rows row
+
+-- ---- the entries of an indexed map
+
+abbrev pub ordered_of : List (Vec ℕ × Vec ℕ) → List (List ℕ × List ℕ)
+ordered_of = map (λ row. (row.0.items, row.1.items))
+
+pub keys_are_rows : (es : List (Vec ℕ × Vec ℕ)) → rows_of (keys_of es) ≡ rows_in (ordered_of es)
+keys_are_rows [] = refl
+keys_are_rows (e ∷ es) = ap (λ (rows : List (List ℕ)). e.0.items ∷ rows) (keys_are_rows es)
+
+found_by : (row : Vec ℕ) (order : List ℕ) (es : List (Vec ℕ × Vec ℕ)) →
+    list_any (of_one_row (row.items, order)) (ordered_of es)
+    ≡ is_some (lookup (λ key. bytes_eq row.items key.items) es)
+found_by row order [] = refl
+found_by row order (e ∷ es) = by (bytes_eq row.items e.0.items) _ (found_by row order es)
+  where
+    by : (b : Bool) (o : Option (Vec ℕ)) {c : Bool} → c ≡ is_some o → (b || c) ≡ is_some (cond b (Some e.1) o)
+    by true o h = refl
+    by false o h = h
+
+pub is_none : {X : Type 0} (o : Option X) → is_some o ≡ false → o ≡ None
+is_none None h = refl
+is_none (Some x) h = absurd cc
+
+pub row_there : (es : List (Vec ℕ × Vec ℕ)) (row order : Vec ℕ) →
+    is_some (lookup (λ key. bytes_eq row.items key.items) es) ≡ true →
+    ordered_of es ≡ with_ordered (ordered_of es) (row.items, order.items)
+row_there es row order h = rw (found_by row order.items es ∙ h) refl
+
+pub row_new : (es : List (Vec ℕ × Vec ℕ)) (row order : Vec ℕ) →
+    is_some (lookup (λ key. bytes_eq row.items key.items) es) ≡ false →
+    ordered_of (es ++ (row, order) ∷ []) ≡ with_ordered (ordered_of es) (row.items, order.items)
+row_new es row order h =
+    rw (found_by row order.items es ∙ h) (map-append (λ (e : Vec ℕ × Vec ℕ). (e.0.items, e.1.items)) es ((row, order) ∷ []))
 
 apart : (row : Vec ℕ) (keys : List (Vec ℕ)) → Each (λ (key : Vec ℕ). bytes_eq row.items key.items ≡ false) keys →
     Each (λ (other : List ℕ). bytes_eq row.items other ≡ false) (rows_of keys)

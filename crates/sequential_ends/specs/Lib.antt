@@ -1,4 +1,5 @@
 pub mod Rows
 pub mod Packed
 pub mod Layers
+pub mod Orders
 pub mod Every

@@ -9,8 +9,9 @@ ghost use Rattle.std.specs.Str.{bytes_eq};
 ghost use Rattle.litmus_reader.specs.Grammar.{IsTest};
 ghost use Rattle.litmus_reader.specs.TestViews.{test_of};
 ghost use Rattle.sequential_machine.specs.SequentialMachine.{IsOutcome};
-ghost use Rattle.sequential_ends.specs.Every.{CountsStates, IsTooMany};
+ghost use Rattle.sequential_ends.specs.Every.{values_in, CountsStates, IsTooMany};
 ghost use Rattle.sequential_ends.specs.Layers.{kept_at};
+ghost use Rattle.sequential_ends.specs.Orders.{AreEndOrders};
 
 use crate::error::EndsError;
 use crate::layers::next_layer;
@@ -24,7 +25,8 @@ use std::marker::Model;
 /// How many states may be kept at once, for a caller who has no other bound.
 pub const MOST_STATES: usize = 4_194_304;
 
-/// Every end of a test: the values of the names in its condition, in the order of `Test::seen`.
+/// Every end of a test: the values of the names in its condition, in the order of `Test::seen`, and an order of the
+/// threads' memory operations.
 #[derive(Drop)]
 pub struct Ends {
     rows: Rows,
@@ -36,22 +38,23 @@ impl Model for Ends {
 
     ghost Value = { Every };
 
-    ghost view = { λ e. record { values = e.rows; states = e.states } };
+    ghost view = { λ e. record { ends = e.rows; states = e.states } };
 }
 
 impl Ends {
     /// How many ends there are.
     pub fn len(&self) -> usize
-        ensures { result ≡ length self.now.values }
+        ensures { result ≡ length self.now.ends }
     {
         self.rows.len()
     }
 
-    /// The values of the end of this number, if there is one; ends are numbered from 0.
-    pub fn values(&self, number: usize) -> Option<&[u64]>
-        ensures { option_map (λ values. values.now) result ≡ slice_get self.now.values number }
+    /// The values of the end of this number, if there is one, and its order: for each operation the number of its thread,
+    /// or nothing at all if no orders are asked for. Ends are numbered from 0.
+    pub fn get(&self, number: usize) -> Option<(&[u64], &[u8])>
+        ensures { option_map (λ end. (end.0.now, end.1.now)) result ≡ slice_get self.now.ends number }
     {
-        self.rows.row(number)
+        self.rows.get(number)
     }
 
     /// How many states were met, each counted once; 2^64 - 1 stands for more.
@@ -62,17 +65,25 @@ impl Ends {
     }
 }
 
-/// Every end of a test on the sequential machine. A state is what each thread has received and the memory. The states
-/// with the same number of operations done are a layer. A layer and the next are kept at once, at most `most_states`.
-pub fn list_ends(alloc: Global, test: &Test, most_states: usize) -> Result<Ends, EndsError>
+/// Every end of a test on the sequential machine, each with an order that leads there if `has_orders`. A state is what
+/// each thread has received and the memory. The states with the same number of operations done are a layer. A layer and
+/// the next are kept at once, at most `most_states`.
+pub fn list_ends(
+    alloc: Global,
+    test: &Test,
+    most_states: usize,
+    has_orders: bool,
+) -> Result<Ends, EndsError>
     // An end is listed exactly if it is an outcome of the test.
     ensures outcomes { IfOk result (λ every. (text values : List ℕ) → IsTest text (test_of test.now) →
-        Contains every.values values → IsOutcome (test_of test.now) values) }
+        Contains (values_in every) values → IsOutcome (test_of test.now) values) }
     ensures all { IfOk result (λ every. (text values : List ℕ) → IsTest text (test_of test.now) →
-        IsOutcome (test_of test.now) values → Contains every.values values) }
+        IsOutcome (test_of test.now) values → Contains (values_in every) values) }
     // The ends rise, each once.
-    ensures rising { IfOk result (λ every. IsSorted (slice_cmp nat_cmp) every.values) }
-    ensures once { IfOk result (λ every. IsDistinct bytes_eq every.values) }
+    ensures rising { IfOk result (λ every. IsSorted (slice_cmp nat_cmp) (values_in every)) }
+    ensures once { IfOk result (λ every. IsDistinct bytes_eq (values_in every)) }
+    // Its order leads to each, if orders are asked for; else nothing is kept.
+    ensures orders { IfOk result (λ every. AreEndOrders has_orders (test_of test.now) every.ends) }
     ensures states { IfOk result (λ every. CountsStates (test_of test.now) every.states) }
     // It is TooMany exactly if more states would be kept at once.
     ensures many { result ≡ Err EndsError.TooMany → IsTooMany (test_of test.now) most_states }
@@ -83,7 +94,7 @@ pub fn list_ends(alloc: Global, test: &Test, most_states: usize) -> Result<Ends,
         return Err(EndsError::TooMany);
     }
     let mut layer = Rows::new(alloc);
-    layer.add(opening_row(alloc, test)?)?;
+    layer.add(opening_row(alloc, test)?, Vec::new(alloc))?;
     let mut rows = Rows::new(alloc);
     let mut states: u64 = 0;
     // How many turns lead to the layer. Only the proof asks.
@@ -91,7 +102,7 @@ pub fn list_ends(alloc: Global, test: &Test, most_states: usize) -> Result<Ends,
     while layer.len() > 0 {
         states = states.saturating_add(layer.len() as u64);
         let room = most_states - layer.len();
-        layer = match next_layer(alloc, test, &layer, &mut rows, room) {
+        layer = match next_layer(alloc, test, has_orders, &layer, &mut rows, room) {
             Ok(next) => next,
             Err(error) => return Err(error),
         };

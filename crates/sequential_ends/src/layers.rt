@@ -4,7 +4,8 @@ ghost use Rattle.std.specs.Prelude.{◌≡◌, ◌<◌, ◌≤◌, ℕ, List, dr
 ghost use Rattle.litmus_reader.specs.TestViews.{test_of};
 ghost use Rattle.sequential_machine.specs.Turns.{Point, turned, values_at};
 ghost use Rattle.sequential_ends.specs.Packed.{packed, packed_lists, IsRowOf, AreRowsOf};
-ghost use Rattle.sequential_ends.specs.Rows.{with_row};
+ghost use Rattle.sequential_ends.specs.Rows.{rows_in, with_ordered, with_row};
+ghost use Rattle.sequential_ends.specs.Orders.{with_turn, IsOrderOf, AreLed, AreEndOrders};
 ghost use Rattle.sequential_ends.specs.Layers.{with_turns, has_turn, behind, with_end, with_ends};
 
 use crate::error::EndsError;
@@ -15,13 +16,14 @@ use litmus_reader::{Test, ThreadState};
 use physiological_order::Op;
 use std::alloc::{AllocError, Global};
 
-// Adds a row, unless there are more than `room` then.
-fn add(rows: &mut Rows, row: Vec<u64>, room: usize) -> Result<(), EndsError>
-    ensures added { OnOk result (rows.new ≡ with_row rows.old row.items) }
+// Adds a row with its order, unless there are more than `room` then.
+fn add(rows: &mut Rows, row: Vec<u64>, order: Vec<u8>, room: usize) -> Result<(), EndsError>
+    ensures added { OnOk result (rows.new ≡ with_ordered rows.old (row.items, order.items)) }
     ensures few { OnOk result (length rows.new ≤ room) }
-    ensures many { result ≡ Err EndsError.TooMany → room < length (with_row rows.old row.items) }
+    ensures many { result ≡ Err EndsError.TooMany →
+        room < length (with_ordered rows.old (row.items, order.items)) }
 {
-    rows.add(row)?;
+    rows.add(row, order)?;
     if rows.len() > room {
         return Err(EndsError::TooMany);
     }
@@ -48,23 +50,48 @@ fn turned(
     row_with(alloc, capacity, &after, before, list, value, behind)
 }
 
+// An order with a turn of this thread behind it, if orders are asked for.
+fn with_turn(
+    alloc: Global,
+    has_orders: bool,
+    order: &[u8],
+    thread: usize,
+) -> Result<Vec<u8>, AllocError>
+    requires { thread < 16 }
+    ensures { IfOk result (λ after. after.items ≡ with_turn has_orders order.now thread) }
+{
+    if !has_orders {
+        return Ok(Vec::new(alloc));
+    }
+    let mut after = Vec::with_capacity(alloc, order.len() + 1)?;
+    after.extend_from_slice(order)?;
+    after.push(thread as u8)?;
+    Ok(after)
+}
+
 // Adds what each thread's next operation leads to from a point, and answers whether there is one.
 fn add_turns(
     alloc: Global,
     test: &Test,
+    has_orders: bool,
     row: &[u64],
+    order: &[u8],
     next: &mut Rows,
     room: usize,
 ) -> Result<bool, EndsError>
     requires few { length next.old ≤ room }
     ensures few { OnOk result (length next.new ≤ room) }
     ensures turns { (p : Point) (points : List Point) → IsRowOf (test_of test.now) p row.now →
-        next.old ≡ map packed points → OnOk result (next.new
+        rows_in next.old ≡ map packed points → OnOk result (rows_in next.new
         ≡ map packed (with_turns (test_of test.now) p (test_of test.now).threads points)) }
     ensures moved { (p : Point) → IsRowOf (test_of test.now) p row.now → IfOk result (λ moved.
         moved ≡ has_turn (test_of test.now) p (test_of test.now).threads) }
+    ensures led { (p : Point) → IsRowOf (test_of test.now) p row.now →
+        IsOrderOf has_orders (test_of test.now) order.now p →
+        AreLed has_orders (test_of test.now) next.old →
+        OnOk result (AreLed has_orders (test_of test.now) next.new) }
     ensures many { (p : Point) (points : List Point) → IsRowOf (test_of test.now) p row.now →
-        next.old ≡ map packed points → result ≡ Err EndsError.TooMany →
+        rows_in next.old ≡ map packed points → result ≡ Err EndsError.TooMany →
         room < length (with_turns (test_of test.now) p (test_of test.now).threads points) }
 {
     let (words, lists) = first_list(row);
@@ -75,7 +102,8 @@ fn add_turns(
         let (list, behind) = first_list(left);
         if let Some(op) = thread_at(test, thread, list).next() {
             let after = turned(alloc, words, lists, left, op, capacity)?;
-            if let Err(error) = add(next, after, room) {
+            let led = with_turn(alloc, has_orders, order, thread)?;
+            if let Err(error) = add(next, after, led, room) {
                 return Err(error);
             }
             moved = true;
@@ -107,7 +135,9 @@ fn values_at(alloc: Global, test: &Test, row: &[u64]) -> Result<Vec<u64>, AllocE
 fn add_point(
     alloc: Global,
     test: &Test,
+    has_orders: bool,
     row: &[u64],
+    order: &[u8],
     next: &mut Rows,
     ends: &mut Rows,
     room: usize,
@@ -115,20 +145,29 @@ fn add_point(
     requires few { length next.old ≤ room }
     ensures few { OnOk result (length next.new ≤ room) }
     ensures next { (p : Point) (points : List Point) → IsRowOf (test_of test.now) p row.now →
-        next.old ≡ map packed points → OnOk result (next.new
+        rows_in next.old ≡ map packed points → OnOk result (rows_in next.new
         ≡ map packed (with_turns (test_of test.now) p (test_of test.now).threads points)) }
     ensures ends { (p : Point) → IsRowOf (test_of test.now) p row.now →
-        OnOk result (ends.new ≡ with_end (test_of test.now) ends.old p) }
+        OnOk result (rows_in ends.new ≡ with_end (test_of test.now) (rows_in ends.old) p) }
+    ensures led { (p : Point) → IsRowOf (test_of test.now) p row.now →
+        IsOrderOf has_orders (test_of test.now) order.now p →
+        AreLed has_orders (test_of test.now) next.old →
+        OnOk result (AreLed has_orders (test_of test.now) next.new) }
+    ensures orders { (p : Point) → IsRowOf (test_of test.now) p row.now →
+        IsOrderOf has_orders (test_of test.now) order.now p →
+        AreEndOrders has_orders (test_of test.now) ends.old →
+        OnOk result (AreEndOrders has_orders (test_of test.now) ends.new) }
     ensures many { (p : Point) (points : List Point) → IsRowOf (test_of test.now) p row.now →
-        next.old ≡ map packed points → result ≡ Err EndsError.TooMany →
+        rows_in next.old ≡ map packed points → result ≡ Err EndsError.TooMany →
         room < length (with_turns (test_of test.now) p (test_of test.now).threads points) }
 {
-    match add_turns(alloc, test, row, next, room) {
+    match add_turns(alloc, test, has_orders, row, order, next, room) {
         Err(error) => return Err(error),
         Ok(true) => return Ok(()),
         Ok(false) => {}
     }
-    ends.add(values_at(alloc, test, row)?)?;
+    let values = values_at(alloc, test, row)?;
+    ends.add(values, Vec::from_slice(alloc, order)?)?;
     Ok(())
 }
 
@@ -136,22 +175,29 @@ fn add_point(
 pub(crate) fn next_layer(
     alloc: Global,
     test: &Test,
+    has_orders: bool,
     layer: &Rows,
     ends: &mut Rows,
     room: usize,
 ) -> Result<Rows, EndsError>
     ensures few { IfOk result (λ next. length next ≤ room) }
-    ensures next { (points : List Point) → AreRowsOf (test_of test.now) points layer.now →
-        IfOk result (λ next. next ≡ map packed (behind (test_of test.now) points)) }
-    ensures ends { (points : List Point) → AreRowsOf (test_of test.now) points layer.now →
-        OnOk result (ends.new ≡ with_ends (test_of test.now) ends.old points) }
-    ensures many { (points : List Point) → AreRowsOf (test_of test.now) points layer.now →
+    ensures next { (points : List Point) → AreRowsOf (test_of test.now) points (rows_in layer.now) →
+        IfOk result (λ next. rows_in next ≡ map packed (behind (test_of test.now) points)) }
+    ensures ends { (points : List Point) → AreRowsOf (test_of test.now) points (rows_in layer.now) →
+        OnOk result (rows_in ends.new ≡ with_ends (test_of test.now) (rows_in ends.old) points) }
+    ensures led { AreLed has_orders (test_of test.now) layer.now →
+        IfOk result (AreLed has_orders (test_of test.now)) }
+    ensures orders { AreLed has_orders (test_of test.now) layer.now →
+        AreEndOrders has_orders (test_of test.now) ends.old →
+        OnOk result (AreEndOrders has_orders (test_of test.now) ends.new) }
+    ensures many { (points : List Point) → AreRowsOf (test_of test.now) points (rows_in layer.now) →
         result ≡ Err EndsError.TooMany → room < length (behind (test_of test.now) points) }
 {
     let mut next = Rows::new(alloc);
     for number in 0..layer.len() {
-        if let Some(row) = layer.row(number) {
-            if let Err(error) = add_point(alloc, test, row, &mut next, ends, room) {
+        if let Some((row, order)) = layer.get(number) {
+            let added = add_point(alloc, test, has_orders, row, order, &mut next, ends, room);
+            if let Err(error) = added {
                 return Err(error);
             }
         }

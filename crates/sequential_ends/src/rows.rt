@@ -1,29 +1,29 @@
-//! Rows of words, each once, in the order in which they were first added.
+//! Rows of words, each once and with an order of turns, as they were first added.
 
-ghost use Rattle.std.specs.Prelude.{◌≡◌, ◌<◌, [], length, slice_get, option_map, OnOk, OnErr};
+ghost use Rattle.std.specs.Prelude.{◌≡◌, [], length, slice_get, option_map, OnOk, OnErr};
 ghost use Rattle.std.specs.List.{IsDistinct};
 ghost use Rattle.std.specs.List.Sorted.{IsPermutation, IsSorted};
 ghost use Rattle.std.specs.Str.{bytes_eq};
 ghost use Rattle.std.specs.Ordering.{nat_cmp};
 ghost use Rattle.std.specs.Cmp.Lexicographic.{slice_cmp};
-ghost use Rattle.sequential_ends.specs.Rows.{with_row};
+ghost use Rattle.sequential_ends.specs.Rows.{rows_in, with_ordered};
 
-use indexmap::IndexSet;
+use indexmap::IndexMap;
 use std::alloc::{AllocError, Global};
 use std::marker::Model;
 
-/// Rows of words, each once.
+/// Rows of words, each once and with an order of turns.
 #[derive(Drop)]
 pub(crate) struct Rows {
-    rows: IndexSet<Vec<u64>>,
+    rows: IndexMap<Vec<u64>, Vec<u8>>,
 }
 
 impl Model for Rows {
     ghost use Rattle.std.specs.Prelude.{ℕ, List, map};
 
-    ghost Value = { List (List ℕ) };
+    ghost Value = { List (List ℕ × List ℕ) };
 
-    ghost view = { λ r. map (λ row. row.items) r.rows.keys };
+    ghost view = { λ r. map (λ row. (row.0.items, row.1.items)) r.rows.entries };
 }
 
 impl Rows {
@@ -32,7 +32,7 @@ impl Rows {
         ensures { result ≡ [] }
     {
         Rows {
-            rows: IndexSet::new(alloc),
+            rows: IndexMap::new(alloc),
         }
     }
 
@@ -43,29 +43,32 @@ impl Rows {
         self.rows.len()
     }
 
-    /// The row of this number, if there is one.
-    pub(crate) fn row(&self, number: usize) -> Option<&[u64]>
-        ensures { option_map (λ row. row.now) result ≡ slice_get self.now number }
+    /// The row of this number and its order, if there is one.
+    pub(crate) fn get(&self, number: usize) -> Option<(&[u64], &[u8])>
+        ensures { option_map (λ row. (row.0.now, row.1.now)) result ≡ slice_get self.now number }
     {
-        let row = self.rows.get_index(number)?;
-        Some(row)
+        let (row, order) = self.rows.get_index(number)?;
+        Some((row, order))
     }
 
-    /// Adds a row behind the others, if it isn't there.
-    pub(crate) fn add(&mut self, row: Vec<u64>) -> Result<(), AllocError>
-        ensures added { OnOk result (self.new ≡ with_row self.old row.items) }
+    /// Adds a row with its order behind the others, if the row isn't there.
+    pub(crate) fn add(&mut self, row: Vec<u64>, order: Vec<u8>) -> Result<(), AllocError>
+        ensures added { OnOk result (self.new ≡ with_ordered self.old (row.items, order.items)) }
         ensures refused { OnErr result (self.new ≡ self.old) }
     {
-        self.rows.insert(row)?;
+        if self.rows.contains_key(&row) {
+            return Ok(());
+        }
+        self.rows.insert(row, order)?;
         Ok(())
     }
 
     /// Sorts the rows, by the first word in which two of them differ.
     pub(crate) fn sort(&mut self) -> Result<(), AllocError>
-        ensures sorted { OnOk result (IsSorted (slice_cmp nat_cmp) self.new) }
-        ensures once { OnOk result (IsDistinct bytes_eq self.new) }
+        ensures sorted { OnOk result (IsSorted (slice_cmp nat_cmp) (rows_in self.new)) }
+        ensures once { OnOk result (IsDistinct bytes_eq (rows_in self.new)) }
         ensures same { OnOk result (IsPermutation self.old self.new) }
     {
-        self.rows.sort()
+        self.rows.sort_keys()
     }
 }

@@ -36,7 +36,7 @@ fn are_told(alloc: Global, text: &str, most: usize, ends: usize, states: u64) ->
     let Ok(test) = read(alloc, text.as_bytes()) else {
         return false;
     };
-    match list_ends(alloc, &test, most) {
+    match list_ends(alloc, &test, most, false) {
         Ok(every) => every.len() == ends && every.states() == states,
         Err(EndsError::TooMany) => ends == 0,
         Err(EndsError::NoMemory) => false,

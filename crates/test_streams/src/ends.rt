@@ -23,6 +23,16 @@ held 1
 observation T Always 1 0
 ";
 
+const ONE_ORDERED: &[u8] = b"test T
+threads 1
+states 3
+ends 1
+* x=1 0:x7=1   P0:1 P0:2
+condition ~exists
+held 1
+observation T Always 1 0
+";
+
 // The opening, two states with one store done and two with both: four are kept at once.
 const TWO: &[u8] = b"RISCV 2+W
 { 0:x5=10; 0:x6=x; 1:x5=9; 1:x6=x; }
@@ -37,6 +47,17 @@ states 5
 ends 2
   x=9
 * x=10
+condition forall
+held 1
+observation 2+W Sometimes 1 1
+";
+
+const TWO_ORDERED: &[u8] = b"test 2+W
+threads 2
+states 5
+ends 2
+  x=9   P0:1 P1:1
+* x=10   P1:1 P0:1
 condition forall
 held 1
 observation 2+W Sometimes 1 1
@@ -61,18 +82,22 @@ held 0
 observation 2+W Never 0 2
 ";
 
-// A text, how many states may be kept, the number of the error or 0, and what is written.
-const CASES: &[(&[u8], u64, u8, &[u8])] = &[
-    (ONE, 1, 7, b""),
-    (ONE, 2, 0, ONE_END),
-    (TWO, 3, 7, b""),
-    (TWO, 4, 0, TWO_ENDS),
-    (NONE, 18446744073709551615, 0, NONE_HELD),
-    (b"RISCV\n", 4, 4, b""),
+// A text, how many states may be kept, whether orders are asked for, the number of the error or 0, and what is written.
+type Case = (&'static [u8], u64, bool, u8, &'static [u8]);
+
+const CASES: &[Case] = &[
+    (ONE, 1, false, 7, b""),
+    (ONE, 2, false, 0, ONE_END),
+    (ONE, 2, true, 0, ONE_ORDERED),
+    (TWO, 3, true, 7, b""),
+    (TWO, 4, false, 0, TWO_ENDS),
+    (TWO, 4, true, 0, TWO_ORDERED),
+    (NONE, 18446744073709551615, false, 0, NONE_HELD),
+    (b"RISCV\n", 4, true, 4, b""),
 ];
 
-fn is_listed(alloc: Global, step: usize, case: &(&[u8], u64, u8, &[u8])) -> bool {
-    let (inner, most_states, wanted, text) = *case;
+fn is_listed(alloc: Global, step: usize, case: &Case) -> bool {
+    let (inner, most_states, orders, wanted, text) = *case;
     let calls = 1000;
     let mut out = Vec::new(alloc);
     let mut source = FromRead::new(Limited { inner, step, calls });
@@ -81,7 +106,11 @@ fn is_listed(alloc: Global, step: usize, case: &(&[u8], u64, u8, &[u8])) -> bool
         step,
         calls,
     });
-    let number = match run_ends(alloc, &mut source, &mut sink, &EndsOptions { most_states }) {
+    let options = EndsOptions {
+        most_states,
+        orders,
+    };
+    let number = match run_ends(alloc, &mut source, &mut sink, &options) {
         Ok(_) => 0,
         Err(error) => error.number(),
     };

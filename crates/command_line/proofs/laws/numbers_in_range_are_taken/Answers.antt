@@ -11,4 +11,4 @@ pub returns-clause-runs : goal.returns-clause-runs
 returns-clause-runs c = λ rows options t. taken _ 1 1000000 _ options.runs t.0
 
 pub returns-clause-states : goal.returns-clause-states
-returns-clause-states c = λ rows options t. taken _ 1 4294967295 _ options.most_states t
+returns-clause-states c = λ rows options t. taken _ 1 4294967295 _ options.most_states t.0

@@ -25,6 +25,7 @@ returns-in-Ok-every_text-clause-list c =
         once = listed.once;
         states = listed.states;
         few = listed.few;
+        orders = listed.orders;
       };
       text_is = c.in-Ok-every_text.ensures;
       done = refl;

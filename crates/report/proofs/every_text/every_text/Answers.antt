@@ -12,7 +12,7 @@ returns c =
     let every = c.args.every.now in
     let held = c.in_ok-held.ensures.held in
     let head = c.in_ok-put_head.ensures ∙ ap (λ (t : List ℕ). t ++ head_text test every) c.new-out.ensures.items in
-    let ends = c.in_ok-held.ensures.lines ∙ ap (λ (t : List ℕ). t ++ flat_map (end_line test) every.values) head in
+    let ends = c.in_ok-held.ensures.lines ∙ ap (λ (t : List ℕ). t ++ flat_map (end_line test) every.ends) head in
     let condition = c.in_ok-put_condition.ensures
     ∙ ap₂ (λ (t : List ℕ) (n : ℕ). t ++ condition_text test n) ends held in
     c.in_ok-put_observation.ensures

@@ -2,17 +2,19 @@ use Rattle.std.proofs.Common.{◌≡◌, ◌+◌, ◌-◌, ◌≤◌, ◌++◌, 
 use Rattle.std.specs.List.{flat_map}
 use Rattle.litmus_reader.specs.TestViews.{test_of}
 use Rattle.report.specs.EveryText.{end_line, held_of}
+use Rattle.sequential_ends.specs.Every.{values_in}
 use Rattle.report.proofs.every_text.put_ends.Given as goal
 
 -- the lines so far and those of what is left are all, and so are the ends in which the expression holds
 abbrev pub invariant-loop-values : goal.invariant-loop-values
 invariant-loop-values l = record {
-  lines : l.out.items ++ flat_map (end_line (test_of l.test)) (drop l.number l.every.values) ≡ l.fn.out.items
-      ++ flat_map (end_line (test_of l.test)) l.every.values;
-  held : l.held + held_of (test_of l.test) (drop l.number l.every.values) ≡ held_of (test_of l.test) l.every.values;
+  lines : l.out.items ++ flat_map (end_line (test_of l.test)) (drop l.number l.every.ends) ≡ l.fn.out.items
+      ++ flat_map (end_line (test_of l.test)) l.every.ends;
+  held : l.held + held_of (test_of l.test) (drop l.number (values_in l.every))
+      ≡ held_of (test_of l.test) (values_in l.every);
   few : l.held ≤ l.number;
-  within : l.number ≤ length l.every.values;
+  within : l.number ≤ length l.every.ends;
 }
 
 abbrev pub decreases-loop-values : goal.decreases-loop-values
-decreases-loop-values l = length l.every.values - l.number
+decreases-loop-values l = length l.every.ends - l.number

@@ -4,6 +4,7 @@ use Rattle.litmus_reader.specs.Litmus.{Litmus}
 use Rattle.report_text.specs.declared.run_end.RunEnd.{RunEnd}
 use Rattle.sequential_machine.specs.SequentialMachine.{IsOutcome}
 use Rattle.worker_driver.specs.Outcomes.{HasOutcome}
+use Rattle.sequential_ends.specs.Every.{values_in}
 use Rattle.report.proofs.laws.runs_end_as_listed.Goals as goal
 
 module _ (test : Litmus) (ends : List (List ℕ)) (all : (values : List ℕ) → IsOutcome test values → Contains ends values)
@@ -20,5 +21,5 @@ module _ (test : Litmus) (ends : List (List ℕ)) (all : (values : List ℕ) →
 pub returns : goal.returns
 returns c = λ options bounds bytes text list all_done done told listed.
     let same = c.one_text_is_one_test.ensures bytes told.test listed.test told.are_runs.is_test listed.is_test in
-    are_listed listed.test listed.every.values listed.lists.all told.runs
+    are_listed listed.test (values_in listed.every) listed.lists.all told.runs
     (subst (λ (test : Litmus). AllByRecursion (HasOutcome test) told.runs) same told.are_runs.outcomes)

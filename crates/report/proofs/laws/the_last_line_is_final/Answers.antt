@@ -1,21 +1,29 @@
-use Rattle.std.proofs.Common.{◌≡◌, ℕ, Bool, List, [], Contains, ◌∙◌}
+use Rattle.std.proofs.Common.{◌≡◌, ℕ, Bool, List, [], Contains, ap, ◌∙◌, length}
 use Rattle.litmus_reader.specs.Litmus.{Litmus}
 use Rattle.litmus_reader.specs.Seen.{seen_in}
 use Rattle.litmus_reader.specs.Truth.{holds}
 use Rattle.sequential_machine.specs.SequentialMachine.{IsOutcome, value_at}
 use Rattle.report.proofs.HeldEnds.{Has, always, never, sometimes}
 use Rattle.report.proofs.LastStates.{seen_of_test, truth_at_last}
+use Rattle.std.proofs.lemmas.List.{length-map}
+use Rattle.sequential_ends.specs.Every.{Every, values_in}
+use Rattle.report.specs.EveryText.{held_of, often, often_in}
 use Rattle.report.proofs.laws.the_last_line_is_final.Goals as goal
+
+listed : (test : Litmus) (every : Every) (word : List ℕ) → often_in test every ≡ word →
+    often (held_of test (values_in every)) (length (values_in every)) ≡ word
+listed test every word is =
+    ap (often (held_of test (values_in every))) (length-map every.ends (λ (end : List ℕ × List ℕ). end.0)) ∙ is
 
 pub returns-clause-never : goal.returns-clause-never
 returns-clause-never c = λ options bytes text done told is values end.
     truth_at_last told.test (seen_of_test bytes told.test told.is_test) values end
-    ∙ never told.test told.every.values is values (told.lists.all values end)
+    ∙ never told.test (values_in told.every) (listed told.test told.every _ is) values (told.lists.all values end)
 
 pub returns-clause-always : goal.returns-clause-always
 returns-clause-always c = λ options bytes text done told is values end.
     truth_at_last told.test (seen_of_test bytes told.test told.is_test) values end
-    ∙ always told.test told.every.values is values (told.lists.all values end)
+    ∙ always told.test (values_in told.every) (listed told.test told.every _ is) values (told.lists.all values end)
 
 shown : (test : Litmus) (ends : List (List ℕ)) (held : Bool) → test.seen ≡ seen_in test.tree [] →
     ((values : List ℕ) → Contains ends values → IsOutcome test values) → Has test ends held →
@@ -25,5 +33,5 @@ shown test ends held seen outcomes has =
 
 pub returns-clause-sometimes : goal.returns-clause-sometimes
 returns-clause-sometimes c = λ options bytes text done told is held.
-    shown told.test told.every.values held (seen_of_test bytes told.test told.is_test) told.lists.outcomes
-    (sometimes told.test told.every.values is held)
+    shown told.test (values_in told.every) held (seen_of_test bytes told.test told.is_test) told.lists.outcomes
+    (sometimes told.test (values_in told.every) (listed told.test told.every _ is) held)

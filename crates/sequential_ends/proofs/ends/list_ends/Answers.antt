@@ -1,14 +1,39 @@
-use Rattle.std.proofs.Common.{◌≡◌, ℕ, suc, ◌+◌, ◌^◌, ◌≤◌, List, sym, ap, ◌∙◌, subst, arith, length, map, ⊎_elim}
+use Rattle.std.proofs.Common.{◌≡◌, ℕ, suc, ◌+◌, ◌^◌, ◌≤◌, List, [], ◌∷◌, refl, sym, ap, ◌∙◌, subst, arith, length, map, ⊎_elim}
 use Rattle.std.proofs.lemmas.Bool.{cases_eq}
-use Rattle.std.proofs.lemmas.List.{length-map}
 use Rattle.std.proofs.lemmas.Nat.{mul-le}
 use Rattle.litmus_reader.specs.TestViews.{test_of}
 use Rattle.sequential_ends.specs.Packed.{packed}
 use Rattle.sequential_ends.specs.Layers.{layer, ends_before, with_ends, kept_at, states_before}
 use Rattle.sequential_ends.proofs.Packing.{plus_one, passed_on}
 use Rattle.sequential_ends.proofs.LayerPoints.{lists_in}
-use Rattle.sequential_ends.proofs.EveryEnd.{layer_few, layer_empty, each_is_end, each_end_is, few_kept}
+use Rattle.sequential_ends.proofs.EveryEnd.{layer_few, layer_empty, layer_long, each_is_end, each_end_is, few_kept}
+use Rattle.std.proofs.lemmas.List.Elements.{All-from_recursion, recursion_from_All}
+use Rattle.std.proofs.lemmas.List.Sorted.{All-permutation}
+use Rattle.sequential_ends.specs.Orders.{IsEndOrder, AreLed, AreEndOrders}
+use Rattle.sequential_ends.specs.Rows.{rows_in, with_ordered}
+use Rattle.sequential_ends.proofs.KeptOrders.{opening_led}
 use Rattle.sequential_ends.proofs.ends.list_ends.Goals as goal
+
+pub loop-alloc-init : goal.loop-alloc-init
+loop-alloc-init c =
+    let has = c.args.has_orders in
+    let test = test_of c.args.test.now in
+    let row = c.in_ok-opening_row.field-0.items in
+    let order = c.new.result.items in
+    let is = c.in_ok-add.ensures.added
+    ∙ ap (λ (rows : List (List ℕ × List ℕ)). with_ordered rows (row, order)) c.new-layer.ensures in
+    let one = ap length is in
+    let some = c.if-most_states-eq0.false in
+    record {
+      layer_is = ap rows_in is ∙ ap (λ (ws : List ℕ). ws ∷ []) c.in_ok-opening_row.ensures;
+      rows_are = ap rows_in c.new-rows.ensures;
+      states_are = refl;
+      led = subst (λ (rows : List (List ℕ × List ℕ)). AreLed has test rows) (sym is)
+          (opening_led test has row order c.in_ok-opening_row.ensures c.new.ensures.items);
+      orders = subst (λ (ends : List (List ℕ × List ℕ)). AreEndOrders has test ends) (sym c.new-rows.ensures) tt;
+      few = omega (arith, one, some);
+      kept = λ j lt. absurd (omega (arith, lt));
+    }
 
 pub returns-in-Err-clause-many : goal.returns-in-Err-clause-many
 returns-in-Err-clause-many c = λ told.
@@ -16,7 +41,7 @@ returns-in-Err-clause-many c = λ told.
     let k = c.loop-alloc.turns in
     let inv = c.loop-alloc.invariant in
     let more = c.next_layer.ensures.many (layer test k) (inv.layer_is, lists_in test k) (c.in-Err.is ∙ passed_on _ _ told) in
-    let long = ap length inv.layer_is ∙ length-map (layer test k) packed in
+    let long = layer_long test k c.loop-alloc.layer inv.layer_is in
     let is = c.len-in-loop-alloc-2.ensures in
     let few = inv.few in (k, omega (arith, more, long, is, few))
 
@@ -42,7 +67,7 @@ loop-alloc-preserved c =
     let k = c.loop-alloc.turns in
     let inv = c.loop-alloc.invariant in
     let next = c.in-Ok.ensures in
-    let long = ap length inv.layer_is ∙ length-map (layer test k) packed in
+    let long = layer_long test k c.loop-alloc.layer inv.layer_is in
     let room = next.few in
     let is = c.len-in-loop-alloc-2.ensures in
     let few = inv.few in
@@ -57,14 +82,27 @@ loop-alloc-preserved c =
       rows_are = next.ends (layer test k) (inv.layer_is, lists_in test k)
           ∙ ap (λ (es : List (List ℕ)). with_ends test es (layer test k)) inv.rows_are ∙ ap (ends_before test) (plus_one k);
       states_are = omega (arith, sum, old, len, long, more);
+      led = next.led inv.led;
+      orders = next.orders inv.led inv.orders;
       few = omega (arith, room, few);
       kept = λ j lt.
           ⊎_elim
           (λ (e : j ≡ k). subst (λ (i : ℕ). kept_at test i ≤ c.args.most_states) (sym e)
-          (let after = ap length (next.next (layer test k) (inv.layer_is, lists_in test k))
-          ∙ length-map (layer test (suc k)) packed in omega (arith, room, few, is, long, after)))
+          (let after = layer_long test (suc k) c.in-Ok.next (next.next (layer test k) (inv.layer_is, lists_in test k)) in omega (arith, room, few, is, long, after)))
           (λ (ne : j ≡ k → ⊥). inv.kept j (omega (arith, lt, ne)))
           (cases_eq j k);
+    }
+
+pub returns-clause-states : goal.returns-clause-states
+returns-clause-states c =
+    let inv = c.loop-alloc.invariant in
+    let over = c.loop-alloc-test.false in
+    let len = c.len.ensures in
+    record {
+      last = c.loop-alloc.turns;
+      none_left = layer_empty (test_of c.args.test.now) c.loop-alloc.turns c.loop-alloc.layer inv.layer_is
+          (omega (arith, over, len));
+      count = inv.states_are;
     }
 
 pub returns-clause-outcomes : goal.returns-clause-outcomes
@@ -97,3 +135,9 @@ returns-clause-few c =
     let none = layer_empty test c.loop-alloc.turns c.loop-alloc.layer inv.layer_is (omega (arith, over, len)) in
     few_kept test c.loop-alloc.turns none c.loop-alloc.rows c.sort.new.self inv.rows_are c.in_ok-sort.ensures.same
     c.args.most_states inv.kept
+
+pub returns-clause-orders : goal.returns-clause-orders
+returns-clause-orders c =
+    let P : List ℕ × List ℕ → Type 0 = λ end. IsEndOrder c.args.has_orders (test_of c.args.test.now) end.1 end.0 in
+    recursion_from_All P c.sort.new.self (All-permutation P c.loop-alloc.rows c.sort.new.self c.in_ok-sort.ensures.same
+    (All-from_recursion P c.loop-alloc.rows c.loop-alloc.invariant.orders))

@@ -1,4 +1,4 @@
-use Rattle.std.proofs.Common.{◌≡◌, ◌+◌, [], Some, None, sym, ap, ◌∙◌, arith, length, map, drop}
+use Rattle.std.proofs.Common.{◌≡◌, ◌+◌, ℕ, List, [], Some, None, sym, ap, ◌∙◌, arith, length, map, drop}
 use Rattle.std.specs.Prelude.{slice_index_or}
 use Rattle.std.proofs.lemmas.List.{length-map}
 use Rattle.litmus_reader.specs.TestViews.{test_of}
@@ -6,10 +6,12 @@ use Rattle.litmus_reader.specs.ThreadSteps.{next_operation}
 use Rattle.sequential_machine.specs.Turns.{Point, resumed, thread_started, operation_at}
 use Rattle.sequential_ends.specs.Packed.{packed, packed_lists, IsRowOf}
 use Rattle.sequential_ends.specs.Layers.{with_turns, has_turn}
+use Rattle.sequential_ends.specs.Rows.{rows_in, with_ordered}
+use Rattle.sequential_ends.proofs.KeptOrders.{turn_led}
 use Rattle.sequential_ends.proofs.Packing.{list_next, turn_added, turns_next, has_next, or_true, or_false, passed_on}
 use Rattle.sequential_ends.proofs.LayerPoints.{turns_grow}
 use Rattle.sequential_ends.proofs.layers.add_turns.Goals as goal
-use Rattle.sequential_ends.proofs.layers.add_turns.Goals.{in-Some+in_ok-after+in_default-add, in_default}
+use Rattle.sequential_ends.proofs.layers.add_turns.Goals.{in-Some+in_ok-after+in_ok-led+in_default-add, in_default}
 
 pub returns-in-Err-clause-many : goal.returns-in-Err-clause-many
 returns-in-Err-clause-many c = λ p points is from told.
@@ -27,8 +29,11 @@ returns-in-Err-clause-many c = λ p points is from told.
     ∙ c.in-Some.is in
     let row = c.in_ok-after.ensures p t (omega (arith, lt, end, lists)) whole.0 whole.1 left in
     let more = c.add.ensures.many (c.in-Err.is ∙ passed_on _ _ told) in
-    let rows = ap length (turn_added test p t points c.in-Some.op c.loop-thread.next c.in_ok-after.after.items
-    (c.loop-thread.invariant.4 p points is from) row gives) ∙ length-map (with_turns test p (t + 1) points) packed in
+    let added = with_ordered c.loop-thread.next (c.in_ok-after.after.items, c.in_ok-led.led.items) in
+    let rows = sym (length-map added (λ (r : List ℕ × List ℕ). r.0))
+    ∙ ap length (turn_added test p t points c.in-Some.op c.loop-thread.next
+    (c.in_ok-after.after.items, c.in_ok-led.led.items) (c.loop-thread.invariant.4 p points is from) row gives)
+    ∙ length-map (with_turns test p (t + 1) points) packed in
     let grows = turns_grow test p (t + 1) c.args.test.now.threads points (omega (arith, lt, end)) in
     omega (arith, more, rows, grows)
 
@@ -57,7 +62,7 @@ loop-thread-preserved c =
     let before = c.loop-thread.invariant.0 in
     let shorter = c.first_list-in-loop-thread.ensures.shorter in
     elim c.match-next.branch [
-      | in-Some+in_ok-after+in_default-add w ↦ (
+      | in-Some+in_ok-after+in_ok-led+in_default-add w ↦ (
         omega (arith, before, shorter),
         rw (w.next-is) w.in_default-add.ensures.few,
         λ p is. (parts c p is).1,
@@ -68,9 +73,18 @@ loop-thread-preserved c =
             let left = c.loop-thread.invariant.2 p is in
             let lists = is.1 in
             let row = w.in_ok-after.ensures p t (omega (arith, lt, end, lists)) whole.0 whole.1 left in
-            w.next-is ∙ w.in_default-add.ensures.added
-            ∙ turn_added test p t points w.in-Some.op c.loop-thread.next w.in_ok-after.after.items
-            (c.loop-thread.invariant.4 p points is from) row (gives c p is ∙ w.in-Some.is),
+            ap rows_in (w.next-is ∙ w.in_default-add.ensures.added)
+            ∙ turn_added test p t points w.in-Some.op c.loop-thread.next
+            (w.in_ok-after.after.items, w.in_ok-led.led.items) (c.loop-thread.invariant.4 p points is from) row
+            (gives c p is ∙ w.in-Some.is),
+        λ p is led each.
+            let whole = c.first_list.ensures.split p.words (packed_lists p.received) is.0 in
+            let lists = is.1 in
+            let row = w.in_ok-after.ensures p t (omega (arith, lt, end, lists)) whole.0 whole.1
+            (c.loop-thread.invariant.2 p is) in
+            rw (w.next-is, w.in_default-add.ensures.added) (turn_led test c.args.has_orders c.loop-thread.next p t
+            w.in-Some.op _ c.args.order.now _ (c.loop-thread.invariant.5 p is led each) is.1 led
+            (omega (arith, lt, end)) (gives c p is ∙ w.in-Some.is) row w.in_ok-led.ensures),
       )
       | in_default w ↦ (
         omega (arith, before, shorter),
@@ -78,7 +92,8 @@ loop-thread-preserved c =
         λ p is. (parts c p is).1,
         λ p is. w.moved-is ∙ c.loop-thread.invariant.3 p is ∙ or_false (has_turn test p t)
             ∙ sym (has_next test p t None (gives c p is ∙ w.in_default.is)),
-        λ p points is from. w.next-is ∙ c.loop-thread.invariant.4 p points is from
+        λ p points is from. ap rows_in w.next-is ∙ c.loop-thread.invariant.4 p points is from
             ∙ ap (map packed) (sym (turns_next test p t points None (gives c p is ∙ w.in_default.is))),
+        λ p is led each. rw (w.next-is) (c.loop-thread.invariant.5 p is led each),
       )
     ]

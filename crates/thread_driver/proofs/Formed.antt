@@ -60,7 +60,7 @@ module _ {P : Type 0} where
         record {
           cores_dealt = subst (IsDealtInTurn cores 0 n)
               (s.cores ∙ ap (λ vs. map (λ v. v.items) vs ++ core_hands ws)
-                  (nil_from_length left.cores.items none.cores))
+              (nil_from_length left.cores.items none.cores))
               d.cores_dealt;
           programs_dealt = subst (IsDealtInTurn programs 0 n)
               (s.programs ∙ ap (λ vs. map (λ v. v.items) vs ++ program_hands ws)
@@ -68,7 +68,7 @@ module _ {P : Type 0} where
               d.programs_dealt;
           banks_dealt = subst (IsDealtInTurn banks (length cores) n)
               (s.banks ∙ ap (λ vs. map (λ v. v.items) vs ++ bank_hands ws)
-                  (nil_from_length left.banks.items none.banks))
+              (nil_from_length left.banks.items none.banks))
               d.banks_dealt;
         }
 

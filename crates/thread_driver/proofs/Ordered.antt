@@ -106,7 +106,7 @@ pub record Comes {P : Type 0} (acts : Acts P) (m : Machine) (cores : List CoreSe
 
 pub comes_of : {P : Type 0} (acts : Acts P) (m : Machine) (fair : Bool) (Many : ℕ → Type 0)
     (cores cores' : List CoreSeat) (banks banks' : List BankSeat) (programs programs' : List P) (told : Told) →
-        IssuedLaw →
+    IssuedLaw →
     AreCoresInOrder m cores → NoneOpen cores → AreBanksInOrder m banks → length programs ≡ length cores →
     SeatsGiven acts m fair Many cores banks programs told cores' banks' programs' →
     Comes acts m cores programs cores' banks' programs'

@@ -189,7 +189,7 @@ module _ {P : Type 0} where
   of_pairs [] cores' programs programs' e f g = refl
   of_pairs (p ∷ ps) (q ∷ qs) (a ∷ left) (b ∷ left') e f g =
       ap (λ x. has_stopped p.is_stopped q.is_stopped || x)
-          (of_pairs ps qs left left' (omega arith) (omega arith) (omega arith))
+      (of_pairs ps qs left left' (omega arith) (omega arith) (omega arith))
   of_pairs _ _ _ _ e f g = absurd (omega arith)
 
   pub given_report : (acts : Acts P) (m : Machine) (fair : Bool) (Many : ℕ → Type 0) (cores cores' : List CoreSeat)

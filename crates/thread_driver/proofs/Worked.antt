@@ -180,7 +180,7 @@ module _ {P : Type 0} (acts : Acts P) (m : Machine) where
 
       pub given_all : least < most → length programs' ≡ length cores' → ends_all told ≡ false →
           SeatsCounted fair (least + 1) most core_counts bank_counts cores banks programs both cores'' banks''
-              programs''
+          programs''
       given_all lt one_each goes =
           let neither = neither_ends p.core_told p.bank_told (ap ends_all (sym p.told_is) ∙ goes) in
           record {
@@ -210,7 +210,7 @@ module _ (fair : Bool) (m : Machine) (banks banks' : List BankSeat) (limit k : �
   pub bank_had_row : ends_all told ≡ false → (n j : ℕ) → slice_get ms k ≡ Some n → (had : Told) (r : BankSeat) →
       InARow (IsBankTurn fair m) (row_end limit n) n q j had r →
       PassGiven (IsBankTurn fair m) limit (k + 1) ns banks (told_by_both told had) (slice_set ms k j)
-          (slice_set banks' k r)
+      (slice_set banks' k r)
   bank_had_row goes n j count had r row =
       let next : suc k ≡ k + 1 = omega arith in
       subst (λ i. PassGiven (IsBankTurn fair m) limit i ns banks (told_by_both told had) (slice_set ms k j)

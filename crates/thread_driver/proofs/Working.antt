@@ -133,7 +133,7 @@ module _ {P : Type 0} (acts : Acts P) (m : Machine) (signals : Signals) where
 
     module _ (w u v : Worker P) (told both : Told) (was : Working rota passes cores_have banks_have w u)
         (passed : SeatsPassed acts m rota.fair u.cores.items u.banks.items u.programs.items told v.cores.items
-            v.banks.items
+        v.banks.items
         v.programs.items) {core_counts bank_counts : List ℕ}
         (counts : HasCounts acts rota.turns cores_have banks_have core_counts bank_counts passed)
         (is : both ≡ told_by_both u.told told) where

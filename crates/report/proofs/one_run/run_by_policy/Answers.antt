@@ -41,7 +41,7 @@ returns c =
     (subst (λ (k : Machine). AreServed step_acts k m c.as_mut_slice.result.now last) first
     c.run_to_end-end.ensures.served) in
     let ended = subst (λ (ts : List (List Step)).
-        EndedBy step_acts c.args.policy c.args.limit (at_start config empty) ts
+    EndedBy step_acts c.args.policy c.args.limit (at_start config empty) ts
     events m last end) (c.as_mut_slice.ensures.value ∙ c.in_ok-programs.ensures)
     (subst (λ (k : Machine). EndedBy step_acts c.args.policy c.args.limit k c.as_mut_slice.result.now events m last end)
     first c.run_to_end-end.ensures.ended.1) in

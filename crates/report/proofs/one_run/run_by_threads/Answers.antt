@@ -28,7 +28,7 @@ returns g c =
     let config_is : m.config ≡ config = c.in_ok-ran.ensures.set_up.0 in
     let opened : m.opening ≡ empty = c.in_ok-ran.ensures.set_up.1 ∙ c.new-memory.ensures in
     let run = subst (λ (ts : List (List Step)).
-        IsThreadRun step_acts c.args.fair c.args.limit ts m ran.programs.items ran.end)
+    IsThreadRun step_acts c.args.fair c.args.limit ts m ran.programs.items ran.end)
     c.in_ok-programs.ensures (record { run = ran.run; is_run = is; shows = refl }) in
     let served = subst (λ ws. AreServed step_acts (at_start config ws) m (programs_below lanes (trace_cores lanes))
     ran.programs.items) opened

@@ -20,7 +20,7 @@ returns c =
     let lanes = c.args.trace.now in
     let ran = c.in_ok-ran.ran in
     let run = subst (λ (k : Config).
-        IsTraceRun (ByPolicy c.args.policy) (limit_of options.run) k lanes ran.end ran.machine)
+    IsTraceRun (ByPolicy c.args.policy) (limit_of options.run) k lanes ran.end ran.machine)
     c.requires.config
     (subst (λ n. IsTraceRun (ByPolicy c.args.policy) n c.args.config lanes ran.end ran.machine) c.limit_of.ensures.limit
     c.in_ok-ran.ensures) in

@@ -23,9 +23,9 @@ returns g c =
     let parts = c.in_ok-ran.ensures.0 in
     let m = machine_of ran.machine parts in
     let run = subst (λ (k : Config). IsTraceRun (ByThreads c.args.fair) (limit_of options.run) k lanes ran.end m)
-        c.requires.config
+    c.requires.config
     (subst (λ n. IsTraceRun (ByThreads c.args.fair) n c.args.config lanes ran.end m) c.limit_of-limit.ensures.limit
-        c.in_ok-ran.ensures.1) in
+    c.in_ok-ran.ensures.1) in
     IfOk-weaker c.report_on.result _ _ (λ report told. record {
       good = subst (λ (config : Config). is_good config ≡ true) c.requires.config c.requires.good;
       end = ran.end;

@@ -14,7 +14,7 @@ loop-i-preserved g c = λ k p a lt at_p at_a.
     let at_v = here c.args.cores.now i v (omega arith) c.index-cores-i.is in
     let at_y = here c.args.programs.now i y (omega arith) c.index-programs-i.is in
     let both = both_none v.part.core.open_op (g.P.Program.acts.next y)
-        (sym c.is_over.ensures ∙ c.if-not-is_over.false) in
+    (sym c.is_over.ensures ∙ c.if-not-is_over.false) in
     ⊎_elim
     (λ (before : k < i). c.loop-i.invariant k p a before at_p at_a)
     (λ (not_before : i ≤ k).

@@ -8,4 +8,4 @@ abbrev pub invariant-loop-i : goal.invariant-loop-i
 invariant-loop-i g l =
     (l.count ≤ l.i)
     × (l.count + over_from g.P.Program.acts l.i (zip l.cores l.programs) ≡ over_in g.P.Program.acts
-        (zip l.cores l.programs))
+    (zip l.cores l.programs))

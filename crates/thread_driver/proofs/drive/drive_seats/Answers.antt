@@ -62,7 +62,7 @@ returns-in-Ok g c =
     let e = c.end_of-shift.ensures in
     let given = c.in-Ok.ensures.worked in
     let comes = comes_of acts m c.args.fair
-        (AtMost limit) cores s.cores.items banks s.banks.items programs s.programs.items
+    (AtMost limit) cores s.cores.items banks s.banks.items programs s.programs.items
     c.in-Ok.told c.records_of_seats_are_counted.ensures.issued c.requires.cores.0 c.requires.cores.1 c.requires.banks
     c.requires.programs given in
     record {

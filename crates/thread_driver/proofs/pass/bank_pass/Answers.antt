@@ -12,7 +12,7 @@ loop-i-init g c = (ends, refl, refl)
 pub bank_row-has-requires : goal.bank_row-has-requires
 bank_row-has-requires g c =
     next_bank c.args.fair c.args.machine.now c.args.banks.now.items c.loop-i.banks.items c.args.limit c.loop-i.i
-        c.args.had.now
+    c.args.had.now
     c.loop-i.had c.loop-i.all c.requires.seats c.loop-i.invariant.0 (omega arith) c.index_mut.result.now
     c.index_mut.ensures.value
 
@@ -27,7 +27,7 @@ loop-i-preserved g c =
     let passed = bank_had_row c.args.fair c.args.machine.now c.args.banks.now.items c.loop-i.banks.items c.args.limit i
     c.args.had.now c.loop-i.had c.loop-i.all c.requires.seats lengths.0 (omega arith) c.index_mut.result.now
     c.index_mut.ensures.value (sym c.if-ends_all.ensures)
-        (slice_index_or c.loop-i.had i 0) has before c.bank_row-has.result.0 q
+    (slice_index_or c.loop-i.had i 0) has before c.bank_row-has.result.0 q
     c.bank_row-has.ensures in (
       subst (λ t. PassGiven (IsBankTurn c.args.fair c.args.machine.now) c.args.limit
           (i + 1) c.args.had.now c.args.banks.now.items
@@ -49,9 +49,9 @@ returns-then-ends_all-clause-turns g c = (
 pub returns-after-loop-i-clause-seats : goal.returns-after-loop-i-clause-seats
 returns-after-loop-i-clause-seats g c =
     banks_passed c.args.fair c.args.machine.now c.args.banks.now.items c.loop-i.banks.items c.requires.seats
-        c.loop-i.invariant.0
+    c.loop-i.invariant.0
 
 pub returns-then-ends_all-clause-seats : goal.returns-then-ends_all-clause-seats
 returns-then-ends_all-clause-seats g c =
     banks_passed c.args.fair c.args.machine.now c.args.banks.now.items c.loop-i.banks.items c.requires.seats
-        c.loop-i.invariant.0
+    c.loop-i.invariant.0

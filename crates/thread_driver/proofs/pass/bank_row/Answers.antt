@@ -11,7 +11,7 @@ pub returns-then-not-is_followed : goal.returns-then-not-is_followed
 returns-then-not-is_followed g c =
     let turn = c.any_bank_turn-told.ensures in
     subst (λ t. InARow (IsBankTurn c.args.fair c.args.machine.now)
-        (row_end c.args.limit c.args.had) c.args.had c.args.seat.now
+    (row_end c.args.limit c.args.had) c.args.had c.args.seat.now
     (c.loop-turn.turn + 1) t c.any_bank_turn-told.new.seat) (sym c.both-all.ensures)
     (row_stops c.loop-turn.all c.loop-turn.invariant.2 (let most = c.row_end-most.ensures in omega arith)
     (record { seat = turn.seat.0; number = turn.seat.1; turn = turn.turn }) (sym c.if-not-is_followed.ensures))
@@ -32,5 +32,5 @@ pub returns : goal.returns
 returns g c =
     let most = c.row_end-most.ensures in
     subst (λ k. InARow (IsBankTurn c.args.fair c.args.machine.now)
-        (row_end c.args.limit c.args.had) c.args.had c.args.seat.now k
+    (row_end c.args.limit c.args.had) c.args.had c.args.seat.now k
     c.loop-turn.all c.loop-turn.seat) (sym c.loop-turn.invariant.1) (row_used c.loop-turn.invariant.2 (omega arith))

@@ -10,5 +10,5 @@ abbrev pub invariant-loop-turn : goal.invariant-loop-turn
 invariant-loop-turn g l =
     IsCoreSeat l.machine l.seat × IsAhead g.P.Program.acts l.seat l.program × (l.has ≡ l.turn)
     × RowSoFar (IsCoreTurn g.P.Program.acts l.machine) (row_end l.limit l.fn.had) l.fn.had
-        (l.fn.seat, l.fn.program) l.all
+    (l.fn.seat, l.fn.program) l.all
     l.turn (l.seat, l.program)

@@ -25,7 +25,7 @@ loop-number-preserved c =
     let policy = c.of_run.ensures ∙ ap (policy_of_run c.args.first) (sym i.0 ∙ place) in
     let made =
     subst (λ (f : Config). IsRun test f (ByPolicy (policy_of_run c.args.first (0 + length before))) c.args.limit run)
-        set_up
+    set_up
     (subst (λ (p : Policy). IsRun test c.in_ok-system.system.config (ByPolicy p) c.args.limit run) policy
     c.in_ok-run.ensures.run) in (
       ap length items ∙ length-append before (run ∷ []) ∙ ap (λ n. n + 1) i.0,

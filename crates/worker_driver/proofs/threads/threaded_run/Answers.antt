@@ -32,7 +32,7 @@ returns-clause-run g c =
     let is = c.in_ok-ran.ensures.run in
     let m : Machine = machine_of ran.run is.parts in
     let run_is = subst (λ (ts : List Thread).
-        IsThreadRun thread_acts c.args.fair c.args.limit ts m ran.programs.items ran.end)
+    IsThreadRun thread_acts c.args.fair c.args.limit ts m ran.programs.items ran.end)
     c.in_ok-threads.ensures (record { run = ran.run; is_run = is; shows = refl }) in
     IfOk-weaker c.told.result _ _ (λ run told. record {
       machine = m;
@@ -63,7 +63,7 @@ returns-clause-outcome g c =
     IfOk-weaker c.told.result _ _ (λ run told text text_is.
     has_outcome c.performed_histories_are_sequential.ensures test m.config m ran.programs.items
     (ap (λ (k : Config). k.cores) config_is ∙ c.requires.cores) opened
-        (c.closed_machines_are_consistent.ensures ran.run is.parts) served text
+    (c.closed_machines_are_consistent.ensures ran.run is.parts) served text
     text_is run.end (λ done. is.done (sym told.0 ∙ done)) run.state
     (subst (λ (ts : List Thread). Tells test m ts run) c.deref.ensures.value (told.1 m (is.parts, refl))).state)
     c.told.ensures

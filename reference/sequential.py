@@ -7,10 +7,10 @@ It prints for each test what `tardis ends` prints, as docs/TEXTS.md has it. With
 threads' memory instructions behind it that leads there: P0:2 is the second of thread 0. Of several orders it is the
 first by its threads' numbers.
 
-The search goes depth first, by rising threads, and keeps each state that it has seen: what each thread has received, and the memory. The
-program keeps a layer and the next, a layer being the states after one number of steps, and gives up if these are more
-than N (--states N, by default 4194304). So this search counts the states of each layer as it finds them, and gives up
-for the same tests. It keeps all layers, so it needs more memory than the program.
+The search goes depth first, by rising threads, and keeps each state that it has seen: what each thread has received,
+and the memory. The program keeps a layer and the next, a layer being the states after one number of steps, and gives up
+if these are more than N (--states N, by default 4194304). So this search counts the states of each layer as it finds
+them, and gives up for the same tests. It keeps all layers, so it needs more memory than the program.
 
 --model tso lists the ends under total store order instead: each thread's stores go through a buffer of its own. Nothing
 of that is proved, and this machine has no such ends. M0:2 is the step by which P0:2, a store, reaches the memory.

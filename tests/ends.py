@@ -5,8 +5,7 @@ Some texts were worked out by hand, and so was the least --states that they need
 step: it must lead there and leave no thread an instruction. Of a test with few orders it must be the first of those
 that lead there. `PROGRAM ends`, with --orders and without, must print what reference/sequential.py prints of the
 catalogue, of examples/outcomes, of all critical cycles of at most 8 edges and of 1,000 random tests, and refuse the
-same bounds. Under total store order
-a critical cycle is allowed exactly if it has a store before a load (PodWR).
+same bounds. Under total store order a critical cycle is allowed exactly if it has a store before a load (PodWR).
 tools/ends.py must say of each end which runs meet it, as the second program makes them one by one. Without PROGRAM
 nothing is compared, and the second program makes the tool's runs. The last line is `N tried, M wrong`.
 """
@@ -159,9 +158,10 @@ exists 1:x9=0 /\\ z=1 /\\ 1:x7=1
 WARNINGS = ["  but 1:x9 in the condition: no instruction of P1 writes x9, so it is always 0",
             "  but z in the condition: no instruction loads or stores it, so it is always 0",
             "  but 1:x8=y: no instruction of P1 uses that address"]
-# Programs: one that is older than `ends`, one that leaves out an end which each run by rounds has, and one that is
-# called like the proved one.
+# Programs: one that is older than `ends`, one that is older than orders, one that leaves out an end which each run by
+# rounds has, and one that is called like the proved one.
 OLD = """if [ "$1" = ends ]; then echo "error: unrecognized subcommand 'ends'" >&2; exit 3; fi"""
+NO_ORDERS = """case "$*" in *--orders*) echo "error: unexpected argument '--orders' found" >&2; exit 3; esac"""
 SHORT = """if [ "$1" = ends ]; then "$oracle" "$@" | grep -v '0:x7=1 1:x7=1'; exit; fi"""
 NOT_PROVED = "(listed by reference/oracle.py, not proved)"
 PROVED = "(listed by tardis ends, proved: no run has another)"
@@ -365,6 +365,7 @@ def met(tester, name, options, seeds, first):
     tester.expect((status, error) == (0, "") and lines[0].startswith(f"{name}: "), f"{name}: {status} {out} {error}")
     told, wanted = [line for line in lines[1:] if line[:4] != "    "], list(wanted_lines(path, options, seeds, first))
     tester.expect(told == wanted, f"{name}: {told}, wanted {wanted}")
+    tester.expect(out.count("\n    order ") == out.count(" not met in "), f"{name}: an end without an order: {out}")
     test, end = oracle.read_litmus(path), None
     for line in lines[1:]:
         if line.startswith("    order "):
@@ -412,13 +413,16 @@ def by_others(tester, folder):
     """What the tool says of a program that is older, that leaves an end out, or that has the proved one's name."""
     path, kept = Path(folder, "tardis"), os.environ["TARDIS"]
     few = ("--seeds", "1", "--threads", "0", SB)
-    for first, status, said in ((OLD, 0, NOT_PROVED), (SHORT, 2, "0:x7=1 1:x7=1 is met and not listed"),
-                                ("", 0, PROVED), (None, 0, NOT_PROVED)):
+    for first, status, said in ((OLD, 0, NOT_PROVED), (NO_ORDERS, 0, NOT_PROVED), ("", 0, PROVED), (None, 0, NOT_PROVED),
+                                (SHORT, 2, "0:x7=1 1:x7=1 is met and not listed")):
         path.write_text(f"#!/bin/sh\noracle='{TOP / 'reference/oracle.py'}'\n{first}\nexec \"$oracle\" \"$@\"\n")
         path.chmod(0o755)
         os.environ["TARDIS"] = str(path) if first is not None else str(TOP / "reference/oracle.py")
         got = tester.run(*few)
         tester.expect(got[0] == status and said in got[1] + got[2], f"{first}: {got}, wanted {said}")
+        # One seed meets one of three ends; the others have orders of four operations.
+        orders = re.findall(r"^    order( P[01]:[12]){4}$", got[1], re.M)
+        tester.expect(len(orders) == (0 if status else 2), f"{first}: orders: {got[1]}")
     os.environ["TARDIS"] = kept
 
 

@@ -1,16 +1,16 @@
 -- The order of a row leads to the row's point.
 use Rattle.std.proofs.Common.{◌≡◌, ℕ, zero, suc, ◌<◌, Bool, true, false, List, [], ◌∷◌, length, Some, refl, sym, ap}
-use Rattle.std.proofs.Common.{◌∙◌, subst}
+use Rattle.std.proofs.Common.{◌∙◌, subst, arith, length-append}
 use Rattle.std.proofs.lemmas.Slice.Eq.{bytes_eq-Decides}
 use Rattle.physiological_order.specs.declared.operation.Op.{Op}
 use Rattle.litmus_reader.specs.Litmus.{Litmus}
 use Rattle.sequential_machine.specs.Turns.{Point, operation_at, turned, with_received, values_at}
-use Rattle.sequential_machine.specs.Turns.{point_opened, opened as nothing_done}
+use Rattle.sequential_machine.specs.Turns.{point_opened, Reached, opened as nothing_done, turn as one_more}
 use Rattle.sequential_machine.proofs.Lemmas.{lists_count}
 use Rattle.sequential_ends.specs.Packed.{packed, IsRowOf}
 use Rattle.sequential_ends.specs.Rows.{of_one_row, with_ordered}
 use Rattle.sequential_ends.specs.Layers.{has_turn}
-use Rattle.sequential_ends.specs.Orders.{with_turn, IsOrderOf, IsEndOrder, AreLed, AreEndOrders}
+use Rattle.sequential_ends.specs.Orders.{with_turn, LedBy, IsOrderOf, IsEndOrder, AreLed, AreEndOrders}
 use Rattle.sequential_ends.specs.Orders.{opened, turn}
 use Rattle.sequential_ends.proofs.LayerPoints.{each_added, turn_over}
 
@@ -23,6 +23,12 @@ lists_stay (vs ∷ lists) zero v = refl
 lists_stay (vs ∷ lists) (suc t) v = ap suc (lists_stay lists t v)
 
 module _ (test : Litmus) where
+  pub led_reached : (order : List ℕ) (p : Point) → LedBy test order p → Reached test (length order) p
+  led_reached _ _ opened = nothing_done
+  led_reached _ _ (turn {order = order} {p = p} t op led lt e) =
+      subst (λ k. Reached test k (turned p t op)) (omega (arith, length-append order (t ∷ [])))
+      (one_more t op (led_reached order p led) lt e)
+
   order_turned : (has : Bool) (p : Point) (t : ℕ) (x : Op) (order : List ℕ) → IsOrderOf has test order p →
       t < test.threads → operation_at test p t ≡ Some x → IsOrderOf has test (with_turn has order t) (turned p t x)
   order_turned true p t x order led lt e = turn t x led lt e

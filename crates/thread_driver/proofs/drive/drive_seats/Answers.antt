@@ -37,9 +37,9 @@ returns-in-Err g c =
     let programs = c.args.programs.items in
     let comes = subst (λ (s : Shift g.row.P.Denot). Comes acts m cores programs s.cores.items s.banks.items
     s.programs.items) (sym c.in-Err.ensures.refused)
-    (comes_of acts m c.args.fair (AtMost c.args.limit) cores cores banks banks programs programs quiet
+    (comes_of acts m c.args.fair (AtMost c.args.turn_limit) cores cores banks banks programs programs quiet
     c.records_of_seats_are_counted.ensures.issued c.requires.cores.0 c.requires.cores.1 c.requires.banks
-    c.requires.programs (not_given acts m c.args.fair (AtMost c.args.limit) (omega arith) cores banks programs)) in
+    c.requires.programs (not_given acts m c.args.fair (AtMost c.args.turn_limit) (omega arith) cores banks programs)) in
     record {
       cores = comes.in_order;
       banks = comes.behind;
@@ -54,7 +54,7 @@ pub returns-in-Ok : goal.returns-in-Ok
 returns-in-Ok g c =
     let acts = g.P.Program.acts in
     let m = c.args.machine.now in
-    let limit = c.args.limit in
+    let limit = c.args.turn_limit in
     let cores = c.args.cores.items in
     let banks = c.args.banks.items in
     let programs = c.args.programs.items in

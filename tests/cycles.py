@@ -46,6 +46,12 @@ SENTENCES = {
                 "loads x; P1's load of x is before P0's store, which it misses: a ring, so no order has it."}
 # Tests that no ring forbids, and why: the first order that ends as asked; P0:2 is thread 0's second instruction. In
 # SB+yes P1 is done before P0 begins, in STALE before P0's store, in FORALL its load is before that.
+# The rings of a test that asks for several ends, by how they begin, and the end of each, by hand: the reader finds one
+# half of the stores between two loads of the same even number.
+ENDED = {"P0 swaps seq before it stores y": "1:x7=0 1:x9=0 1:x11=0 1:x12=1",
+         "P0 swaps seq before it stores x": "1:x7=0 1:x9=0 1:x11=1 1:x12=0",
+         "P0 stores x before it swaps seq": "1:x7=2 1:x9=2 1:x11=0 1:x12=1",
+         "P0 stores y before it swaps seq": "1:x7=2 1:x9=2 1:x11=1 1:x12=0"}
 FORALL = """RISCV FORALL
 { 0:x5=1; 0:x6=x; 1:x6=x; }
 P0 | P1 ;
@@ -142,8 +148,11 @@ def others(tester, scratch):
     tester.expect(status == 0 and "ld x7,0(x8) | ld x7,0(x8) ;" in out and "sw" not in out, f"--width d: {out} {error}")
     folder = TOP / "examples/litmus"
     status, out, error = tester.run("--why", str(folder / "SB.litmus"), str(folder / "SB+forall.litmus"))
-    is_good = (status, error) == (0, "") and out.count("PodWR Fre PodWR Fre") == 2
+    is_good = (status, error) == (0, "") and out.count("PodWR Fre PodWR Fre") == 2 and "ends: " not in out
     tester.expect(is_good, f"--why: {status} {out} {error}")
+    lines = tester.run("--why", str(folder / "SEQLOCK.litmus"))[1].splitlines()
+    ended = {line.strip().split(";")[0]: end.removeprefix("  ends: ") for line, end in zip(lines[1::3], lines[2::3])}
+    tester.expect(ended == ENDED, f"--why SEQLOCK: {lines}")
     status, out, error = tester.run("--why", str(folder / "SB.litmus"), str(folder / "SB+yes.litmus"))
     is_good = (status, error) == (1, "") and "PodWR Fre PodWR Fre" in out and "SB+yes.litmus: no ring: an order" in out
     tester.expect(is_good, f"--why of two: {status} {out} {error}")

@@ -19,6 +19,8 @@ So it has two Pod at least and never one behind another; Rfe Fre, Wse Wse and Fr
 asks for the end that only this cycle has: sequential consistency forbids it. The test's second line is the cycle, and
 its third the reason. --width d makes words of 8 bytes.
 
+If a test asks for several ends, --why names behind each ring the ends that have an execution with this ring.
+
 The status is 0. It is 1 if --why finds no ring, and 2 if something can't be read; standard error says so in one line.
 """
 import sys
@@ -187,14 +189,18 @@ def told_why(path):
     """The lines that say why no order ends as a test asks, or otherwise if it asks `forall`; and whether none does."""
     test = litmus_test(path, contents(path))
     try:
-        found = rings.rings_of(test)
+        found = rings.rings_and_ends(test)
     except rings.TooMany as cause:
         raise Bad(f"{path}: {cause}") from None
     if not found:
         ends = "otherwise" if test.kind == "forall" else "so"
         why = f"no values end {ends}" if found == [] else f"an order ends {ends}: {' '.join(order_of(test))}"
         return [f"{path}: no ring: {why}"], False
-    return [f"{test.name}: {rings.cycle_of(ring)}\n  {rings.reason(ring)}" for ring in found], True
+    lines, has_several = [], len(set.union(*(ends for _, ends in found))) > 1
+    for ring, ends in found:
+        lines += [f"{test.name}: {rings.cycle_of(ring)}", f"  {rings.reason(ring)}"]
+        lines += [f"  ends: {'; '.join(map(sequential.text_of, sorted(ends)))}"] * has_several
+    return lines, True
 
 
 def write_all(most, folder, width):

@@ -116,7 +116,8 @@ def values_of(test, events, sources):
 
 
 def executions(test):
-    """Those that end against the test: as `exists` and `~exists` ask, or as `forall` doesn't. Each with its events."""
+    """Those that end against the test: as `exists` and `~exists` ask, or as `forall` doesn't. Each with its events and
+    its end."""
     events = events_of(test)
     writers = {word: [one for one in events if one.writes and one.word == word] for word in test.words.values()}
     readers = [one for one in events if one.reads]
@@ -129,8 +130,9 @@ def executions(test):
         registers, written = values_of(test, events, sources)
         for order in product(*map(permutations, writers.values())):
             execution = Execution(sources, dict(zip(writers, order)))
-            if test.holds(end_of(test, execution, registers, written)) == (test.kind != "forall"):
-                yield execution, events
+            end = tuple(end_of(test, execution, registers, written))
+            if test.holds(end) == (test.kind != "forall"):
+                yield execution, events, end
 
 
 def end_of(test, execution, registers, written):
@@ -145,17 +147,23 @@ def end_of(test, execution, registers, written):
 
 
 def rings_of(test):
-    """The rings of the executions that end against the test, each ring once; None if an execution has none.
+    """The rings of the executions that end against the test, each ring once; None if an execution has none."""
+    found = rings_and_ends(test)
+    return found and [ring for ring, _ in found]
+
+
+def rings_and_ends(test):
+    """The same, each with the ends of its executions.
 
     If some of them are of several words, the others are left out: there one word's operations have no order already.
     """
     found = {}
-    for execution, events in executions(test):
+    for execution, events, end in executions(test):
         ring = execution.ring(events)
         if ring is None:
             return None
-        found[tuple((one.thread, one.place, rule) for one, rule in ring)] = ring
-    of_several = [ring for ring in found.values() if len({one.word for one, _ in ring}) > 1]
+        found.setdefault(tuple((one.thread, one.place, rule) for one, rule in ring), (ring, set()))[1].add(end)
+    of_several = [both for both in found.values() if len({one.word for one, _ in both[0]}) > 1]
     return of_several or list(found.values())
 
 

@@ -7,6 +7,7 @@ The last line is `N tried, M wrong`.
 """
 import os
 import shlex
+import subprocess
 import sys
 from pathlib import Path
 

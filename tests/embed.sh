@@ -111,7 +111,7 @@ for way in effect completion lost; do
         echo "$?" >"$work/status"
         "$embed/from_log.py" ${option:+--completion} "$work/machine.log" >"$work/machine.history"
         said=$(TARDIS=$top/reference/oracle.py "$top/tools/number.py" --out "$work" "$work/machine.history" |
-            sed -n '1 { $!N; s/\nat [^,]*\(, line [0-9]*\).*/\1/; p; }')
+            grep -v '^checked by ' | sed -n '1 { $!N; s/\nat [^,]*\(, line [0-9]*\).*/\1/; p; }')
         [ "$(tail -n 1 "$work/machine.log"), $(cat "$work/status")" = "# $said, $([ "$said" = legal ]; echo $?)" ] ||
             { echo "embed.sh: directory $seed $way: $(tail -n 1 "$work/machine.log"), not $said"; exit 1; }
         [ "$said" = legal ] || met=$seed

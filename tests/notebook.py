@@ -15,12 +15,12 @@ TOP = Path(__file__).resolve().parent.parent
 NOTEBOOK = TOP / "examples/notebooks/lease.ipynb"
 LEASES = 1, 2, 5, 10, 20, 50, 100
 COUNTS = "renewals", "flushes", "stale-hits"
+QUIET = os.environ | {"PYDEVD_DISABLE_FILE_VALIDATION": "1"}
 
 
 def printed(*words):
     """What a script of the repository prints."""
-    quiet = os.environ | {"PYDEVD_DISABLE_FILE_VALIDATION": "1"}
-    return subprocess.run(words, cwd=TOP, env=quiet, stdout=subprocess.PIPE, check=True, text=True).stdout
+    return subprocess.run(words, cwd=TOP, env=QUIET, stdout=subprocess.PIPE, check=True, text=True).stdout
 
 
 def counts():
@@ -36,7 +36,14 @@ def counts():
 def main():
     version = {}
     exec((TOP / "python/tardis/version.py").read_text(), version)
-    text = printed("jupyter-nbconvert", "--to", "notebook", "--execute", "--stdout", "--log-level", "ERROR", NOTEBOOK)
+    words = ["jupyter-nbconvert", "--to", "notebook", "--execute", "--stdout", "--log-level", "ERROR", NOTEBOOK]
+    ran = subprocess.run(words, cwd=TOP, env=QUIET, capture_output=True, text=True)
+    if "NoSuchKernel" in ran.stderr:
+        print("notebook.py: not tried: Debian's python3-ipykernel isn't there", file=sys.stderr)
+        return None
+    if ran.returncode:
+        return ran.stderr
+    text = ran.stdout
     outputs = [output for cell in json.loads(text)["cells"] for output in cell.get("outputs", [])
                if output.get("name") != "stderr"]  # there tools/page.py says if the second program played
     kinds = [output["output_type"] for output in outputs]

@@ -126,6 +126,7 @@ def all_tried(kit, crates, is_anew, builder):
     def work():
         while True:
             with lock:
+                has_ended = builder is None or builder.has_ended
                 ready = next((crate for crate in left if all(is_there(low, builder) for low in crate.below())), None)
                 if ready:
                     left.remove(ready)
@@ -133,7 +134,7 @@ def all_tried(kit, crates, is_anew, builder):
                     return
             if ready:
                 found.extend(tried(kit, ready, is_anew))
-            elif builder is not None:
+            elif not has_ended:
                 time.sleep(5)
             else:
                 sys.exit(f"refused.py: a crate below {left[0].name} isn't built")

@@ -1,7 +1,8 @@
 #!/bin/sh
 # Installs what is built for others to find: maintain/install.sh PREFIX
 # The program and the player of events (`tardis-play-events`), the library for C and C++ (static, and shared, which the
-# Python package loads, too), its headers, files for pkg-config and CMake, a page for man, and bash's completions.
+# Python package loads, too), its headers, files for pkg-config and CMake, two pages for man, and completions for bash,
+# zsh and fish.
 # `./tardis`, `./play` and `tests/embed.sh --build` build what is needed; this builds nothing, and needs rt, gcc and ar.
 # No file names PREFIX, so the folder can be moved. maintain/deb.sh makes a Debian package of it.
 case ${1-} in '' | -*) exec sed -n '2,/^[^#]/s/^# \{0,1\}//p' "$0" ;; esac
@@ -12,7 +13,8 @@ for built in "$tardis" "$events" "$library" "$memory"; do
     [ -e "$built" ] || { echo "install.sh: $built isn't built" >&2; exit 1; }
 done
 mkdir -p "$1" && cd "$1" || exit 1
-mkdir -p bin include lib/pkgconfig lib/cmake/tardis share/man/man1 share/bash-completion/completions || exit 1
+mkdir -p bin include lib/pkgconfig lib/cmake/tardis share/man/man1 share/bash-completion/completions \
+    share/zsh/site-functions share/fish/vendor_completions.d || exit 1
 install -m 755 "$tardis" bin/tardis && install -m 755 "$events" bin/tardis-play-events || exit 1
 cp "$top"/crates/tardis_c/tardis*.h* include/ || exit 1
 
@@ -65,17 +67,57 @@ commands=$(help | sed -n '/^Commands:/,/^$/s/^  \([a-z]*\) .*/\1/p')
         printf '.fi\n'
     done
 } >share/man/man1/tardis.1
+cat >share/man/man1/tardis-play-events.1 <<'END'
+.TH TARDIS-PLAY-EVENTS 1
+.SH NAME
+tardis\-play\-events \- plays examples of the Tardis coherence protocol, an event a line
+.SH SYNOPSIS
+.B tardis\-play\-events
+[\fB\-\-print\fR] [\fIFILE\fR ...]
+.br
+.B tardis\-play\-events \-\-live
+.SH DESCRIPTION
+Plays each event of the files, or of standard input, on the proved machine, and says which answers differ from those
+that the lines have. A line without an answer gets one.
+.TP
+.B \-\-print
+writes the text of one file with the answers that came.
+.TP
+.B \-\-live
+answers each call on standard input before it reads the next one.
+.SH EXIT STATUS
+0 if all answers match, 1 if one doesn't, 3 if a line or the command line can't be read, 4 if reading, writing or memory
+fails.
+.SH SEE ALSO
+.BR tardis (1)
+END
+
+# options COMMAND: those that its help names.
+options() { help "$1" | grep -o -- '^ *[a-zA-Z, -]*--[a-z-]*' | grep -o -- '--[a-z-]*' | tr '\n' ' '; }
 {
     echo '_tardis() {'
     echo '    local words'
     echo '    case ${COMP_WORDS[1]} in'
-    for command in $commands; do
-        options=$(help "$command" | grep -o -- '^ *[a-zA-Z, -]*--[a-z-]*' | grep -o -- '--[a-z-]*' | tr '\n' ' ')
-        echo "    $command) words='$options' ;;"
-    done
+    for command in $commands; do echo "    $command) words='$(options "$command")' ;;"; done
     echo "    *) words='"$commands"' ;;"
     echo '    esac'
     echo '    COMPREPLY=($(compgen -W "$words" -- "${COMP_WORDS[COMP_CWORD]}"))'
     echo '}'
     echo 'complete -o default -F _tardis tardis'
 } >share/bash-completion/completions/tardis
+{
+    echo '#compdef tardis'
+    echo '(( CURRENT > 2 )) || { compadd -- '$commands'; return }'
+    echo 'case $words[2] in'
+    for command in $commands; do echo "    $command) compadd -- $(options "$command") ;;"; done
+    echo 'esac'
+    echo '_files'
+} >share/zsh/site-functions/_tardis
+{
+    echo "complete -c tardis -n __fish_use_subcommand -f -a '"$commands"'"
+    for command in $commands; do
+        for option in $(options "$command"); do
+            echo "complete -c tardis -n '__fish_seen_subcommand_from $command' -l ${option#--}"
+        done
+    done
+} >share/fish/vendor_completions.d/tardis.fish

@@ -44,6 +44,29 @@ said=$(cd "$top/python" && python3 -c 'import tardis; print("tardis", tardis.__v
 "$top/tests/python_package.py" --library || exit 1
 ! has jupyter-nbconvert "the notebook" || "$top/tests/notebook.py" || exit 1
 
+for page in tardis tardis-play-events; do
+    grep -q '^\.SH SYNOPSIS\|^\.SH tardis' "$prefix/share/man/man1/$page.1" || fail "no page for man of $page"
+done
+# What each shell offers: the commands that begin with "li", and an option of one command that another doesn't have.
+offers() {
+    shell=$1 said=$2
+    [ "$said" = "litmus --records" ] || fail "$shell offers $said"
+}
+offers bash "$(bash -c '. "$0/share/bash-completion/completions/tardis"
+    offered() { COMP_WORDS=(tardis "$@") COMP_CWORD=$#; _tardis; echo -n "${COMPREPLY[*]}"; }
+    offered li; offered check --rec; echo -n " "; offered trace --rec' "$prefix")"
+if has fish "its completions"; then
+    offers fish "$(XDG_DATA_DIRS="$prefix/share" fish -c 'complete -C "tardis li"; complete -C "tardis check --rec"
+        complete -C "tardis trace --rec"' | tr '\n' ' ' | sed 's/ $//')"
+fi
+if has zsh "its completions"; then
+    offers zsh "$(zsh -fc 'compadd() { for each in ${@:2}; [[ $each != $words[CURRENT]* ]] || print -n "$each " }
+        _files() { }
+        file=$0/share/zsh/site-functions/_tardis
+        offered() { words=(tardis "$@") CURRENT=$(($# + 1)); . $file }
+        offered li; offered check --rec; offered trace --rec' "$prefix" | sed 's/ $//')"
+fi
+
 if has pkg-config "its file"; then
     # shellcheck disable=SC2046
     gcc -o "$work/by_pkg_config" "$embed/check.c" $(pkg-config --cflags --libs tardis) || exit 1

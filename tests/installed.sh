@@ -60,7 +60,7 @@ if has fish "its completions"; then
         complete -C "tardis trace --rec"' | tr '\n' ' ' | sed 's/ $//')"
 fi
 if has zsh "its completions"; then
-    offers zsh "$(zsh -fc 'compadd() { for each in ${@:2}; [[ $each != $words[CURRENT]* ]] || print -n "$each " }
+    offers zsh "$(zsh -fc 'compadd() { for each in ${@:2}; [[ $each != $words[CURRENT]* ]] || print -n -- "$each " }
         _files() { }
         file=$0/share/zsh/site-functions/_tardis
         offered() { words=(tardis "$@") CURRENT=$(($# + 1)); . $file }

@@ -1,7 +1,6 @@
 //! Lists every end of a litmus test, and runs the test.
-ghost use Rattle.std.specs.Prelude.{◌≡◌, ℕ, List, true, IfOk, IfSome};
+ghost use Rattle.std.specs.Prelude.{◌≡◌, true, IfOk, IfSome};
 ghost use Rattle.std.specs.List.{AllByRecursion, Contains};
-ghost use Rattle.litmus_reader.specs.Grammar.{IsTest};
 ghost use Rattle.litmus_reader.specs.TestViews.{test_of};
 ghost use Rattle.machine_table.specs.SetUp.{is_good};
 ghost use Rattle.sequential_ends.specs.Every.{values_in};
@@ -21,7 +20,7 @@ pub fn ends_and_runs(
 ) -> Result<(Ends, Vec<RunEnd>), EndsError>
     requires good { is_good config ≡ true }
     requires cores { config.cores ≡ (test_of test.now).threads }
-    ensures { IfOk result (λ found. (text : List ℕ) → IsTest text (test_of test.now) →
+    ensures { IfOk result (λ found.
         AllByRecursion (λ run. IfSome run.state (Contains (values_in found.0))) found.1.items) }
 {
     let ends = list_ends(alloc, test, MOST_STATES, false)?;

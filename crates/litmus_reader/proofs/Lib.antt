@@ -4,4 +4,7 @@ mod Fault
 mod Nothing
 mod SeenNames
 mod OpeningItems
+mod Names
+mod CellThreads
+mod WellFormedTests
 pub mod Lemmas

@@ -1,6 +1,7 @@
 pub mod Litmus
 pub mod ThreadSteps
 pub mod Seen
+pub mod WellFormed
 pub mod TestViews
 pub mod Grammar
 pub mod ReadingTest

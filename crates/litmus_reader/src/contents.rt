@@ -1,8 +1,10 @@
 //! What the text of a litmus test says.
 
-ghost use Rattle.std.specs.Prelude.{◌≡◌, ◌≤◌, ◌<◌, [], length, replicate, slice_get, option_map};
+ghost use Rattle.std.specs.Prelude.{◌≡◌, ◌≤◌, ◌<◌, [], length, replicate, slice_get, option_map, true};
+ghost use Rattle.std.specs.List.{list_all};
 ghost use Rattle.litmus_parser.specs.TreeViews.{tree_of};
 ghost use Rattle.litmus_reader.specs.Seen.{seen_in};
+ghost use Rattle.litmus_reader.specs.WellFormed.{is_of_thread, is_there};
 
 use crate::threads::ThreadState;
 use litmus_lexer::Locations;
@@ -23,6 +25,8 @@ pub struct Test {
     pub(crate) alloc: Global,
     ghost few: { (0 < threads) × (threads ≤ 16) },
     ghost all_seen: { seen.items ≡ seen_in (tree_of expr) [] },
+    ghost cells_there: { list_all (is_of_thread threads) cells.items ≡ true },
+    ghost names_there: { list_all (is_there threads (length locations)) seen.items ≡ true },
 }
 
 impl Test {

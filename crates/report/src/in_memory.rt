@@ -1,10 +1,8 @@
 //! Reports on texts in memory, for a caller that has no threads: the calling thread makes all runs.
-ghost use Rattle.std.specs.Prelude.{◌≡◌, IfErr, IfOk, List, Ok, Some, false, length, min, true};
-ghost use Rattle.std.specs.Prelude.{ℕ};
+ghost use Rattle.std.specs.Prelude.{◌≡◌, IfErr, IfOk, Ok, Some, false, length, min, true};
 ghost use Rattle.std.specs.FinMap.{empty};
 ghost use Rattle.std.specs.List.{AllByRecursion};
 ghost use Rattle.byte_streams.specs.Device.{Counts, GivesBytes};
-ghost use Rattle.litmus_reader.specs.Grammar.{IsTest};
 ghost use Rattle.litmus_reader.specs.TestViews.{test_of};
 ghost use Rattle.machine_table.specs.SetUp.{is_good};
 ghost use Rattle.physiological_order.specs.Order.{flat};
@@ -105,7 +103,7 @@ fn runs_of(
     ensures count { IfOk result (λ runs. length runs.items ≡ options.now.runs) }
     ensures each { IfOk result (λ runs. AreFrom (test_of test.now) config
         (driver_of options.now.run) (turns options.now) 0 runs.items) }
-    ensures outcomes { IfOk result (λ runs. (text : List ℕ) → IsTest text (test_of test.now) →
+    ensures outcomes { IfOk result (λ runs.
         AllByRecursion (HasOutcome (test_of test.now)) runs.items) }
 {
     let limit = limit_of(&options.run);

@@ -5,7 +5,7 @@ ghost use Rattle.std.specs.Prelude.{codes, length, slice_get};
 ghost use Rattle.std.specs.FinMap.{empty};
 ghost use Rattle.std.specs.List.{AllByRecursion, Contains};
 ghost use Rattle.litmus_parser.specs.declared.syntax.Quantifier.TheVariants.{Exists};
-ghost use Rattle.litmus_reader.specs.Grammar.{IsTest};
+ghost use Rattle.litmus_reader.specs.WellFormed.{IsWellFormed};
 ghost use Rattle.litmus_reader.specs.Litmus.{Litmus};
 ghost use Rattle.litmus_reader.specs.Truth.{holds};
 ghost use Rattle.physiological_order.specs.Order.{Legal as IsLegal, Memory, flat};
@@ -42,7 +42,7 @@ use trace_reader::laws::one_text_tells_one_list;
 /// A yes to `exists` shows a state in which steps of the sequential machine leave no thread an instruction, and in
 /// which the condition's expression is true.
 pub fn a_yes_shows_an_outcome()
-    ensures { (text : List ℕ) (test : Litmus) (runs : List RunEnd) → IsTest text test →
+    ensures { (test : Litmus) (runs : List RunEnd) → IsWellFormed test →
         AllByRecursion (HasOutcome test) runs →
         is_yes Exists (runs_held test runs) (runs_ended AllDone runs) ≡ true →
         (last : SequentialState) × Steps (sequential_opening test) last

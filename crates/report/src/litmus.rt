@@ -1,5 +1,5 @@
 //! From a source with a litmus text to a sink for its report.
-ghost use Rattle.std.specs.Prelude.{◌≡◌, ◌≢◌, ◌≤◌, ◌+◌, IfErr, IfOk, IsErrOf, List, length, true, ℕ};
+ghost use Rattle.std.specs.Prelude.{◌≡◌, ◌≢◌, ◌≤◌, ◌+◌, IfErr, IfOk, IsErrOf, length, true};
 ghost use Rattle.std.specs.List.{AllByRecursion, list_all};
 ghost use Rattle.byte_streams.specs.Whole.{TakesAtMost};
 ghost use Rattle.litmus_reader.specs.Grammar.{IsTest};
@@ -125,7 +125,7 @@ fn runs_of<R: Threads + Sync>(
     ensures count { IfOk result (λ runs. length runs.items ≡ options.now.runs) }
     ensures each { IfOk result (λ runs. AreFrom (test_of test.now) config
         (driver_of options.now.run) (turns options.now) 0 runs.items) }
-    ensures outcomes { IfOk result (λ runs. (text : List ℕ) → IsTest text (test_of test.now) →
+    ensures outcomes { IfOk result (λ runs.
         AllByRecursion (HasOutcome (test_of test.now)) runs.items) }
 {
     let run = &options.run;

@@ -16,7 +16,8 @@ use Rattle.physiological_order.specs.declared.operation.Op.{Op}
 use Rattle.litmus_reader.specs.Litmus.{Litmus}
 use Rattle.sequential_machine.specs.Turns.{Point, operation_at, turned, point_opened, Reached, opened, turn}
 use Rattle.sequential_machine.specs.Turns.{values_at, IsEnd}
-use Rattle.sequential_machine.proofs.Lemmas.{each_behind, lists_count}
+use Rattle.litmus_reader.proofs.Lemmas.{each_behind}
+use Rattle.sequential_machine.proofs.Lemmas.{lists_count}
 use Rattle.sequential_ends.specs.Packed.{packed}
 use Rattle.sequential_ends.specs.Rows.{with_row}
 use Rattle.sequential_ends.specs.Layers.{same_row}

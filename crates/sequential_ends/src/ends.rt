@@ -6,7 +6,6 @@ ghost use Rattle.std.specs.List.Sorted.{IsSorted};
 ghost use Rattle.std.specs.Ordering.{nat_cmp};
 ghost use Rattle.std.specs.Cmp.Lexicographic.{slice_cmp};
 ghost use Rattle.std.specs.Str.{bytes_eq};
-ghost use Rattle.litmus_reader.specs.Grammar.{IsTest};
 ghost use Rattle.litmus_reader.specs.TestViews.{test_of};
 ghost use Rattle.sequential_machine.specs.SequentialMachine.{IsOutcome};
 ghost use Rattle.sequential_ends.specs.Every.{values_in, CountsStates, IsTooMany};
@@ -75,9 +74,9 @@ pub fn list_ends(
     has_orders: bool,
 ) -> Result<Ends, EndsError>
     // An end is listed exactly if it is an outcome of the test.
-    ensures outcomes { IfOk result (λ every. (text values : List ℕ) → IsTest text (test_of test.now) →
+    ensures outcomes { IfOk result (λ every. (values : List ℕ) →
         Contains (values_in every) values → IsOutcome (test_of test.now) values) }
-    ensures all { IfOk result (λ every. (text values : List ℕ) → IsTest text (test_of test.now) →
+    ensures all { IfOk result (λ every. (values : List ℕ) →
         IsOutcome (test_of test.now) values → Contains (values_in every) values) }
     // The ends rise, each once.
     ensures rising { IfOk result (λ every. IsSorted (slice_cmp nat_cmp) (values_in every)) }

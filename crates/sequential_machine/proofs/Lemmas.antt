@@ -3,5 +3,3 @@
 -- A point has a list for each thread, and only so many turns lead to it.
 pub use Rattle.sequential_machine.proofs.Points.{lists_count}
 pub use Rattle.sequential_machine.proofs.TurnsLeft.{turns_few}
--- What holds of each item of a list, and of one more.
-pub use Rattle.sequential_machine.proofs.Names.{each_behind}

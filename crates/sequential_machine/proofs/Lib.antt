@@ -3,12 +3,10 @@ mod Tables
 mod ThreadSteps
 mod Runs
 mod Places
-mod Names
 mod Outcomes
 mod Steps
 mod NeverBoth
 mod Openings
-mod CellThreads
 mod Points
 mod TurnsAndSteps
 mod TurnsLeft

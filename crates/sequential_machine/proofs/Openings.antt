@@ -22,7 +22,7 @@ use Rattle.litmus_parser.specs.declared.items.Opening.TheVariants.{OfThread, OfL
 use Rattle.litmus_lexer.specs.declared.errors.Kind.TheVariants.{BadInitial}
 use Rattle.piece_forms.specs.Forms.{word, one, refused}
 use Rattle.piece_forms.proofs.Lemmas.{Leads, leads-given, leads-then, leads-known, Onto, leads-until, leads-refused}
-use Rattle.sequential_machine.proofs.Names.{leads-behind}
+use Rattle.litmus_reader.proofs.Lemmas.{leads-behind}
 use Rattle.litmus_parser.specs.declared.syntax.Name.{Name}
 use Rattle.litmus_parser.specs.declared.syntax.Name.TheVariants.{Register, Location}
 use Rattle.litmus_parser.specs.declared.syntax.Setting.{Setting}

@@ -1,9 +1,10 @@
 -- The end of a legal history of performed threads is an outcome of the sequential machine.
 use Rattle.std.proofs.Common.{◌≡◌, ℕ, ◌<◌, List, [], ◌∷◌, length, map, Option, Some, None, refl, sym, ap, ap₂, ◌∙◌}
-use Rattle.std.proofs.Common.{subst, arith}
+use Rattle.std.proofs.Common.{subst, arith, Bool, true}
 use Rattle.std.proofs.lemmas.Bool.Decides.{nat_tests}
 use Rattle.std.specs.Prelude.{slice_get, unwrap_or}
-use Rattle.std.specs.List.{AllByRecursion as Each}
+use Rattle.std.specs.List.{list_all}
+use Rattle.std.proofs.lemmas.Bool.{and_parts, ltb-true}
 use Rattle.physiological_order.specs.declared.operation.Op.{Op}
 use Rattle.physiological_order.specs.declared.operation.Record.{Record}
 use Rattle.physiological_order.specs.Order.{Memory, Arrangement, Legal, KeepsProgramOrder, ReceivesAsReplayed}
@@ -14,7 +15,7 @@ use Rattle.litmus_parser.specs.declared.syntax.Name.TheVariants.{Register, Locat
 use Rattle.litmus_reader.specs.Litmus.{Litmus}
 use Rattle.litmus_reader.specs.ThreadSteps.{Thread, next_operation}
 use Rattle.litmus_reader.specs.Truth.{end_value}
-use Rattle.litmus_reader.specs.Grammar.{IsTest}
+use Rattle.litmus_reader.specs.WellFormed.{is_there, IsWellFormed}
 use Rattle.sequential_machine.specs.SequentialMachine.{SequentialState, memory_opened, value_at, IsOutcome}
 use Rattle.sequential_machine.specs.Performed.{ArePerformed}
 use Rattle.sequential_machine.specs.Threads.{ThreadIsAt}
@@ -22,7 +23,6 @@ use Rattle.sequential_machine.proofs.Doing.{Does, does}
 use Rattle.sequential_machine.proofs.ThreadSteps.{none_left}
 use Rattle.sequential_machine.proofs.Runs.{start, whole}
 use Rattle.sequential_machine.proofs.Places.{each_permutation, same_of_core}
-use Rattle.sequential_machine.proofs.Names.{IsThere, names_there}
 
 -- a list's thread
 abbrev or_none : Option Thread → Thread
@@ -37,15 +37,18 @@ same_value : (threads : List Thread) (memory : List ℕ) (s : SequentialState) (
     ((t : ℕ) → t < n → slice_get threads t ≡ Some (thread_of threads t)) →
     ((t : ℕ) → t < n → ThreadIsAt s t (thread_of threads t)) →
     ((l : ℕ) → l < locations → slice_get memory l ≡ Some (s.memory l)) →
-    (name : Name) → IsThere n locations name → end_value threads memory name ≡ value_at s name
-same_value threads memory s n locations found stand words (Register t r) lt = grind (arith, nat_tests)
-same_value threads memory s n locations found stand words (Location l) lt =
-    ap (λ (o : Option ℕ). unwrap_or o 0) (words l lt)
+    (name : Name) → is_there n locations name ≡ true → end_value threads memory name ≡ value_at s name
+same_value threads memory s n locations found stand words (Register t r) is =
+    let lt = ltb-true t n is in grind (arith, nat_tests, lt)
+same_value threads memory s n locations found stand words (Location l) is =
+    ap (λ (o : Option ℕ). unwrap_or o 0) (words l (ltb-true l locations is))
 
-pub same_values : (f g : Name → ℕ) (P : Name → Type 0) → ((name : Name) → P name → f name ≡ g name) →
-    (names : List Name) → Each P names → map f names ≡ map g names
-same_values f g P same [] h = refl
-same_values f g P same (name ∷ names) h = ap₂ (λ v vs. v ∷ vs) (same name h.0) (same_values f g P same names h.1)
+pub same_values : (f g : Name → ℕ) (p : Name → Bool) → ((name : Name) → p name ≡ true → f name ≡ g name) →
+    (names : List Name) → list_all p names ≡ true → map f names ≡ map g names
+same_values f g p same [] h = refl
+same_values f g p same (name ∷ names) h =
+    let both = and_parts (p name) (list_all p names) h in
+    ap₂ (λ v vs. v ∷ vs) (same name both.0) (same_values f g p same names both.1)
 
 -- records that stand arranged, in which each thread's records stand as they were performed
 module _ (test : Litmus) (issued : ℕ → List Op) (records arranged : List Record) (threads : List Thread)
@@ -65,7 +68,7 @@ module _ (test : Litmus) (issued : ℕ → List Op) (records arranged : List Rec
   at_end : (t : ℕ) → t < test.threads → next_operation (thread_of threads t) ≡ None
   at_end t lt = let p = performed.performed t lt in ap (λ (o : Option Thread). next_operation (or_none o)) p.1 ∙ p.3
 
-  outcome : (memory : List ℕ) → Each (IsThere test.threads (length test.locations)) test.seen →
+  outcome : (memory : List ℕ) → list_all (is_there test.threads (length test.locations)) test.seen ≡ true →
       ReceivesAsReplayed (memory_opened test) arranged →
       ((l : ℕ) → l < length test.locations → slice_get memory l ≡ Some (replay_end (memory_opened test)
       (map (λ r. r.op) arranged) l)) → IsOutcome test (map (end_value threads memory) test.seen)
@@ -77,20 +80,20 @@ module _ (test : Litmus) (issued : ℕ → List Op) (records arranged : List Rec
         steps = r.steps;
         finished = λ t lt. none_left r.end t (thread_of threads t) (r.stand t lt) (at_end t lt);
         values_are =
-            same_values (end_value threads memory) (value_at r.end) (IsThere test.threads (length test.locations))
+            same_values (end_value threads memory) (value_at r.end) (is_there test.threads (length test.locations))
             (same_value threads memory r.end test.threads (length test.locations) found r.stand (λ l lt. words l lt
             ∙ sym (ap (λ (m : Memory). Some (m l)) r.memory)))
             test.seen names;
       }
 
-pub performed_outcome : (text : List ℕ) (test : Litmus) (issued : ℕ → List Op) (records arranged : List Record)
-    (threads : List Thread) (memory : List ℕ) → IsTest text test →
+pub performed_outcome : (test : Litmus) (issued : ℕ → List Op) (records arranged : List Record)
+    (threads : List Thread) (memory : List ℕ) → IsWellFormed test →
     Legal (memory_opened test) issued records → Arrangement records arranged →
     ArePerformed test issued records threads →
     ((l : ℕ) → l < length test.locations → slice_get memory l ≡ Some (replay_end (memory_opened test)
     (map (λ r. r.op) arranged) l)) → IsOutcome test (map (end_value threads memory) test.seen)
-performed_outcome text test issued records arranged threads memory is legal arrangement performed words =
+performed_outcome test issued records arranged threads memory is legal arrangement performed words =
     let e = one_arrangement records legal.arranged arranged legal.arrangement arrangement in
     outcome test issued records arranged threads performed arrangement (subst (KeepsProgramOrder issued) e
-    legal.program_order) memory (names_there text test is)
+    legal.program_order) memory is.names_there
     (subst (ReceivesAsReplayed (memory_opened test)) e legal.values) words

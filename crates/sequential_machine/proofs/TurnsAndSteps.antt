@@ -1,11 +1,12 @@
 -- Turns are steps of the machine, and its steps are turns.
-use Rattle.std.proofs.Common.{◌≡◌, ℕ, zero, suc, ◌<◌, ◌≤◌, List, [], ◌∷◌, ◌++◌, length}
+use Rattle.std.proofs.Common.{◌≡◌, ℕ, zero, suc, ◌<◌, ◌≤◌, true, List, [], ◌∷◌, ◌++◌, length}
 use Rattle.std.proofs.Common.{map, Option, Some, None, refl, sym, ap, ap₂, ◌∙◌, subst, arith, inl, inr, length-append}
 use Rattle.std.proofs.lemmas.Bool.Decides.{nat_tests}
 use Rattle.std.proofs.lemmas.Grind.{common_steps}
 use Rattle.std.specs.Prelude.{slice_get}
 use Rattle.std.specs.Option.{option_map_or}
-use Rattle.std.proofs.lemmas.Bool.{cases_eq, cases_lt, eq-eqb, ne_eqb}
+use Rattle.std.specs.List.{list_all}
+use Rattle.std.proofs.lemmas.Bool.{cases_eq, cases_lt, eq-eqb, ne_eqb, and_parts, ltb-true}
 use Rattle.physiological_order.specs.declared.operation.Op.{Op}
 use Rattle.physiological_order.specs.Order.{Memory, flat_after, flat_received}
 use Rattle.litmus_parser.specs.declared.syntax.Name.{Name}
@@ -14,7 +15,7 @@ use Rattle.litmus_parser.specs.declared.syntax.Cell.{Cell}
 use Rattle.litmus_parser.specs.declared.syntax.Instruction.{Instruction}
 use Rattle.litmus_parser.specs.declared.syntax.Instruction.TheVariants as does
 use Rattle.litmus_reader.specs.Litmus.{Litmus}
-use Rattle.litmus_reader.specs.Grammar.{IsTest}
+use Rattle.litmus_reader.specs.WellFormed.{is_of_thread, is_there, IsWellFormed}
 use Rattle.litmus_reader.specs.Truth.{end_value}
 use Rattle.litmus_reader.specs.ThreadSteps.{Thread, after_local, settled_thread, instruction_operation}
 use Rattle.litmus_reader.specs.ThreadSteps.{next_operation, received_by, behind_first_cell, done_with}
@@ -27,9 +28,7 @@ use Rattle.sequential_machine.specs.Turns.{point_opened, Reached, opened, turn, 
 use Rattle.sequential_machine.proofs.Tables.{here, elsewhere}
 use Rattle.sequential_machine.proofs.ThreadSteps.{joined, performs, none_left, local, first_of, on_memory}
 use Rattle.sequential_machine.proofs.Runs.{Runs, still, opens}
-use Rattle.sequential_machine.proofs.Names.{IsThere, names_there}
 use Rattle.sequential_machine.proofs.Outcomes.{same_values}
-use Rattle.sequential_machine.proofs.CellThreads.{AreBelow, cells_below}
 use Rattle.sequential_machine.proofs.Points.{memory_set, memory_opens, nothing_received, lists_count, turned_here}
 use Rattle.sequential_machine.proofs.Points.{turned_elsewhere}
 
@@ -69,15 +68,17 @@ thread_there test p (suc n) t lt =
 -- where registers and memory are the same, so are the values
 module _ (test : Litmus) (p : Point) (s : SequentialState) (memory : s.memory ≡ word_in p.words)
     (registers : (t : ℕ) → t < test.threads → s.registers t ≡ (thread_at test p t).registers) where
-  one_value : (name : Name) → IsThere test.threads (length test.locations) name →
+  one_value : (name : Name) → is_there test.threads (length test.locations) name ≡ true →
       end_value (threads_at test p test.threads) p.words name ≡ value_at s name
-  one_value (Register t r) lt = let q0 = thread_there test p test.threads t lt in grind (arith, nat_tests, q0)
-  one_value (Location l) lt = sym (ap (λ (m : Memory). m l) memory)
+  one_value (Register t r) is =
+      let lt = ltb-true t test.threads is in
+      let q0 = thread_there test p test.threads t lt in grind (arith, nat_tests, q0, lt)
+  one_value (Location l) is = sym (ap (λ (m : Memory). m l) memory)
 
-  same_at_end : (text : List ℕ) → IsTest text test → values_at test p ≡ map (value_at s) test.seen
-  same_at_end text is =
+  same_at_end : IsWellFormed test → values_at test p ≡ map (value_at s) test.seen
+  same_at_end is =
       same_values (end_value (threads_at test p test.threads) p.words) (value_at s)
-      (IsThere test.threads (length test.locations)) one_value test.seen (names_there text test is)
+      (is_there test.threads (length test.locations)) one_value test.seen is.names_there
 
 -- ---- turns are steps
 
@@ -113,16 +114,15 @@ turns_stand test _ _ (turn {k = k} {p = p} t x r lt is) =
       ];
     }
 
-pub end_outcome : (text : List ℕ) (test : Litmus) (values : List ℕ) → IsTest text test → IsEnd test values →
-    IsOutcome test values
+pub end_outcome : (test : Litmus) (values : List ℕ) → IsWellFormed test → IsEnd test values → IsOutcome test values
 unfolding Stands
-end_outcome text test values is e =
+end_outcome test values is e =
     let o = turns_stand test e.turns e.point e.reached in
     record {
       last = o.end;
       steps = o.steps;
       finished = λ t lt. none_left o.end t (thread_at test e.point t) (o.stand t lt) (e.finished t lt);
-      values_are = e.values_are ∙ same_at_end test e.point o.end o.memory (λ t lt. (o.stand t lt).registers) text is;
+      values_are = e.values_are ∙ same_at_end test e.point o.end o.memory (λ t lt. (o.stand t lt).registers) is;
     }
 
 -- ---- steps are turns
@@ -317,11 +317,14 @@ followed : (test : Litmus) (s u : SequentialState) → Steps s u → GoesOn test
 followed test s _ none g = g
 followed test s u (more {u = v} a b) g = step_followed test v u (followed test s v a g) b
 
-none_of : (n t : ℕ) (cells : List Cell) → AreBelow n cells → n ≤ t → cells_of t cells ≡ []
+none_of : (n t : ℕ) (cells : List Cell) → list_all (is_of_thread n) cells ≡ true → n ≤ t → cells_of t cells ≡ []
 none_of n t [] h le = refl
-none_of n t (c ∷ cells) h le = let q0 = none_of n t cells h.1 le in grind (arith, nat_tests, q0)
+none_of n t (c ∷ cells) h le =
+    let both = and_parts (is_of_thread n c) (list_all (is_of_thread n) cells) h in
+    let lt = ltb-true c.thread n both.0 in
+    let q0 = none_of n t cells both.1 le in grind (arith, nat_tests, q0, lt)
 
-opening_followed : (test : Litmus) → AreBelow test.threads test.cells → GoesOn test (sequential_opening test)
+opening_followed : (test : Litmus) → list_all (is_of_thread test.threads) test.cells ≡ true → GoesOn test (sequential_opening test)
 opening_followed test below = record {
   turns = 0;
   point = point_opened test;
@@ -338,11 +341,10 @@ none_next : (t : ℕ) (rs : List ℕ) (cells : List Cell) → Ready t rs cells �
 none_next t rs [] ready e = refl
 none_next t rs (c ∷ cells) ready e = absurd (not_both c (cells_of t cells) _ (first_of t c cells ready.0) e)
 
-pub outcome_end : (text : List ℕ) (test : Litmus) (values : List ℕ) → IsTest text test → IsOutcome test values →
-    IsEnd test values
+pub outcome_end : (test : Litmus) (values : List ℕ) → IsWellFormed test → IsOutcome test values → IsEnd test values
 unfolding settle
-outcome_end text test values is o =
-    let g = followed test (sequential_opening test) o.last o.steps (opening_followed test (cells_below text test is)) in
+outcome_end test values is o =
+    let g = followed test (sequential_opening test) o.last o.steps (opening_followed test is.cells_there) in
     record {
       turns = g.turns;
       point = g.point;
@@ -350,7 +352,7 @@ outcome_end text test values is o =
       finished = λ t lt. none_next t (thread_at test g.point t).registers (thread_at test g.point t).rest
           (g.follows.threads t lt).ready (sym (done g t lt).1);
       values_are = o.values_are
-          ∙ sym (same_at_end test g.point o.last g.follows.memory (λ t lt. (done g t lt).0) text is);
+          ∙ sym (same_at_end test g.point o.last g.follows.memory (λ t lt. (done g t lt).0) is);
     }
   where
     done : (g : GoesOn test o.last) (t : ℕ) → t < test.threads →

@@ -6,6 +6,7 @@ ghost use Rattle.physiological_order.specs.Order.{Legal, Arrangement, flat_after
 ghost use Rattle.litmus_parser.specs.declared.syntax.Cell.{Cell};
 ghost use Rattle.litmus_reader.specs.Litmus.{Litmus};
 ghost use Rattle.litmus_reader.specs.Grammar.{IsTest};
+ghost use Rattle.litmus_reader.specs.WellFormed.{IsWellFormed};
 ghost use Rattle.litmus_reader.specs.ThreadSteps.{Thread, done_with, next_operation, settled_thread};
 ghost use Rattle.litmus_reader.specs.Truth.{end_value};
 ghost use Rattle.sequential_machine.specs.SequentialMachine.{SequentialState, cells_of, memory_opened};
@@ -48,20 +49,19 @@ pub fn programs_are_threads()
 /// The ends of turns are the outcomes of the machine: it matters not at what instructions without memory a thread
 /// waits.
 pub fn ends_of_turns_are_outcomes()
-    ensures sound { (text : List ℕ) (test : Litmus) (values : List ℕ) →
-        IsTest text test → IsEnd test values → IsOutcome test values }
-    ensures complete { (text : List ℕ) (test : Litmus) (values : List ℕ) →
-        IsTest text test → IsOutcome test values → IsEnd test values }
+    ensures sound { (test : Litmus) (values : List ℕ) →
+        IsWellFormed test → IsEnd test values → IsOutcome test values }
+    ensures complete { (test : Litmus) (values : List ℕ) →
+        IsWellFormed test → IsOutcome test values → IsEnd test values }
 {}
 
 /// A legal history of a test in which each thread was performed to its end is a run of the
 /// sequential machine: the values that the test's names have after it, with the memory after the
 /// records in the order of their times, are an outcome of it.
 pub fn performed_histories_are_sequential()
-    ensures { (text : List ℕ) (test : Litmus) (issued : ℕ → List Op) (records arranged : List
-        Record)
+    ensures { (test : Litmus) (issued : ℕ → List Op) (records arranged : List Record)
         (threads : List Thread) (memory : List ℕ) →
-        IsTest text test → Legal (memory_opened test) issued records →
+        IsWellFormed test → Legal (memory_opened test) issued records →
         Arrangement records arranged → ArePerformed test issued records threads →
         ((l : ℕ) → l < length test.locations → slice_get memory l ≡
         Some (replay_end (memory_opened test) (map (λ r. r.op) arranged) l)) →

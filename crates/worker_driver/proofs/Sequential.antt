@@ -8,7 +8,7 @@ use Rattle.physiological_order.specs.declared.operation.Op.{Op}
 use Rattle.physiological_order.specs.declared.operation.Record.{Record}
 use Rattle.physiological_order.specs.Order.{Arrangement, Follows, Legal, flat, of_core, replay_end}
 use Rattle.litmus_reader.specs.Litmus.{Litmus}
-use Rattle.litmus_reader.specs.Grammar.{IsTest}
+use Rattle.litmus_reader.specs.WellFormed.{IsWellFormed}
 use Rattle.litmus_reader.specs.OpeningMemory.{words_opened, Words}
 use Rattle.litmus_reader.specs.ThreadSteps.{Thread, next_operation}
 use Rattle.litmus_reader.specs.Truth.{end_value}
@@ -124,8 +124,8 @@ state_of test NoMemory threads m P is = tt
 -- a legal history of a test in which each thread was performed to its end has an outcome
 abbrev pub SequentialLaw : Type 0
 SequentialLaw =
-    (text : List ℕ) (test : Litmus) (issued : ℕ → List Op) (records arranged : List Record) (threads : List Thread)
-    (memory : List ℕ) → IsTest text test → Legal (memory_opened test) issued records → Arrangement records arranged →
+    (test : Litmus) (issued : ℕ → List Op) (records arranged : List Record) (threads : List Thread)
+    (memory : List ℕ) → IsWellFormed test → Legal (memory_opened test) issued records → Arrangement records arranged →
     ArePerformed test issued records threads →
     ((l : ℕ) → l < length test.locations → slice_get memory l ≡
     Some (replay_end (memory_opened test) (map (λ r. r.op) arranged) l)) →
@@ -146,13 +146,13 @@ module _ (law : SequentialLaw) (test : Litmus) (config : Config) (m : Machine) (
   leaves = subst (λ (ws : Words). (arranged : List Record) → Arrangement m.records arranged → (word : ℕ) →
       coherent m word ≡ replay_end (flat ws) (map (λ r. r.op) arranged) word) opened consistent.coherent
 
-  pub has_outcome : (text : List ℕ) → IsTest text test → (end : End) →
+  pub has_outcome : IsWellFormed test → (end : End) →
       (end ≡ AllDone → (core : ℕ) → core < config.cores → (open_op m core ≡ None) ×
       (next_in thread_acts threads core ≡ None)) → (state : Option (List ℕ)) →
       state ≡ state_at test end threads m → IfSome state (IsOutcome test)
-  has_outcome text is end over state told =
+  has_outcome is end over state told =
       subst (λ s. IfSome s (IsOutcome test)) (sym told)
       (state_of test end threads m (IsOutcome test) (λ all.
-      law text test _ m.records legal.arranged threads _ is legal legal.arrangement
+      law test _ m.records legal.arranged threads _ is legal legal.arrangement
       (performed test config m threads cores served (over all))
       (left test config m threads cores served legal.arranged (leaves legal.arranged legal.arrangement))))

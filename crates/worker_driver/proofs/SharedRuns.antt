@@ -1,7 +1,6 @@
 -- Runs by the numbers of their jobs are the runs of a batch, one after the other.
 use Rattle.std.proofs.Common.{◌≡◌, ℕ, suc, ◌+◌, ◌<◌, List, [], ◌∷◌, length, subst, arith}
 use Rattle.std.specs.List.{AllByRecursion, slice_index_or}
-use Rattle.litmus_reader.specs.Grammar.{IsTest}
 use Rattle.litmus_reader.specs.Litmus.{Litmus}
 use Rattle.machine_table.specs.declared.config.Config.{Config}
 use Rattle.report_text.specs.declared.run_end.RunEnd.{RunEnd}
@@ -34,11 +33,10 @@ module _ (test : Litmus) (config : Config) (first : Policy) (limit : ℕ) where
   are_from i (run ∷ runs) given =
       ((first_job i run runs given).0, are_from (i + 1) runs (later_jobs i run runs given))
 
-  pub have_outcomes : (text : List ℕ) → IsTest text test → (i : ℕ) (runs : List RunEnd) → AreJobsFrom i runs →
-      AllByRecursion (HasOutcome test) runs
-  have_outcomes text is i [] given = tt
-  have_outcomes text is i (run ∷ runs) given =
-      ((first_job i run runs given).1 text is, have_outcomes text is (i + 1) runs (later_jobs i run runs given))
+  pub have_outcomes : (i : ℕ) (runs : List RunEnd) → AreJobsFrom i runs → AllByRecursion (HasOutcome test) runs
+  have_outcomes i [] given = tt
+  have_outcomes i (run ∷ runs) given =
+      ((first_job i run runs given).1, have_outcomes (i + 1) runs (later_jobs i run runs given))
 
   pub are_jobs : (runs : List RunEnd) → ((k : ℕ) (x : RunEnd) → k < length runs →
       IsJobOf test config first limit k (slice_index_or runs k x)) → AreJobsFrom 0 runs

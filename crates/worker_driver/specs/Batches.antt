@@ -1,7 +1,6 @@
 -- Runs of a litmus test as jobs by number.
 use Rattle.std.specs.Prelude.{◌≢◌, ℕ, List}
 use Rattle.std.specs.List.{AllByRecursion}
-use Rattle.litmus_reader.specs.Grammar.{IsTest}
 use Rattle.litmus_reader.specs.Litmus.{Litmus}
 use Rattle.machine_table.specs.declared.config.Config.{Config}
 use Rattle.programs.specs.declared.ends.End.TheVariants.{NoMemory}
@@ -16,8 +15,7 @@ use Rattle.worker_driver.specs.Runs.{IsRun}
 -- outcome of the sequential machine
 abbrev pub IsJobOf : Litmus → Config → Policy → ℕ → ℕ → RunEnd → Type 0
 IsJobOf test config first limit number run =
-    IsRun test config (ByPolicy (policy_of_run first number)) limit run
-    × ((text : List ℕ) → IsTest text test → HasOutcome test run)
+    IsRun test config (ByPolicy (policy_of_run first number)) limit run × HasOutcome test run
 
 -- no run ended with a failed allocation
 abbrev pub AreMade : List RunEnd → Type 0

@@ -1,7 +1,6 @@
 //! Runs of a litmus test by seeds, shared by workers; and runs of it by a policy, made by the calling thread alone.
-ghost use Rattle.std.specs.Prelude.{◌≡◌, ◌<◌, ◌≤◌, IfOk, List, length, true, ℕ};
+ghost use Rattle.std.specs.Prelude.{◌≡◌, ◌<◌, ◌≤◌, IfOk, length, true};
 ghost use Rattle.std.specs.List.{AllByRecursion};
-ghost use Rattle.litmus_reader.specs.Grammar.{IsTest};
 ghost use Rattle.litmus_reader.specs.TestViews.{test_of};
 ghost use Rattle.machine_table.specs.SetUp.{is_good};
 ghost use Rattle.schedules.specs.declared.policy.Policy.TheVariants.{Seed};
@@ -42,7 +41,7 @@ pub fn batch<R: Threads + Sync, G: Gate + Sync>(
     ensures count { IfOk result (λ runs. length runs.items ≡ count) }
     ensures each { IfOk result (λ runs.
         AreFrom (test_of test.now) config (ByPolicy (Seed first)) limit 0 runs.items) }
-    ensures outcomes { IfOk result (λ runs. (text : List ℕ) → IsTest text (test_of test.now) →
+    ensures outcomes { IfOk result (λ runs.
         AllByRecursion (HasOutcome (test_of test.now)) runs.items) }
 {
     seeded_runs(
@@ -76,7 +75,7 @@ pub fn seeded_runs<R: Threads + Sync, G: Gate + Sync>(
     ensures count { IfOk result (λ runs. length runs.items ≡ count) }
     ensures each { IfOk result (λ runs.
         AreFrom (test_of test.now) config (ByPolicy (Seed first)) limit 0 runs.items) }
-    ensures outcomes { IfOk result (λ runs. (text : List ℕ) → IsTest text (test_of test.now) →
+    ensures outcomes { IfOk result (λ runs.
         AllByRecursion (HasOutcome (test_of test.now)) runs.items) }
 {
     let runs = SharedRuns {
@@ -106,7 +105,7 @@ pub fn policy_runs(
     ensures count { IfOk result (λ runs. length runs.items ≡ count) }
     ensures each { IfOk result (λ runs.
         AreFrom (test_of test.now) config (ByPolicy first) limit 0 runs.items) }
-    ensures outcomes { IfOk result (λ runs. (text : List ℕ) → IsTest text (test_of test.now) →
+    ensures outcomes { IfOk result (λ runs.
         AllByRecursion (HasOutcome (test_of test.now)) runs.items) }
 {
     let mut runs = Vec::new(alloc);

@@ -1,7 +1,6 @@
 //! One run of a litmus test by a policy, and the machine for it.
-ghost use Rattle.std.specs.Prelude.{◌≡◌, ℕ, true, IfOk, IfSome, List, OnOk};
+ghost use Rattle.std.specs.Prelude.{◌≡◌, true, IfOk, IfSome, OnOk};
 ghost use Rattle.std.specs.FinMap.{empty};
-ghost use Rattle.litmus_reader.specs.Grammar.{IsTest};
 ghost use Rattle.litmus_reader.specs.OpeningMemory.{words_opened};
 ghost use Rattle.litmus_reader.specs.TestViews.{test_of};
 ghost use Rattle.machine_table.specs.Opening.{at_start};
@@ -66,8 +65,7 @@ pub(crate) fn run_on(
         (words_opened (test_of test.now).items empty) }
     ensures run { IfOk result (IsRun (test_of test.now) system.old.config (ByPolicy policy)
         limit) }
-    ensures outcome { IfOk result (λ run.
-        (text : List ℕ) → IsTest text (test_of test.now) → HasOutcome (test_of test.now) run) }
+    ensures outcome { IfOk result (HasOutcome (test_of test.now)) }
     ensures config { OnOk result (system.new.config ≡ system.old.config) }
 {
     every_history_is_legal();

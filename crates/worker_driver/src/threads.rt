@@ -1,7 +1,6 @@
 //! Runs of a litmus test by threads that share the machine.
-ghost use Rattle.std.specs.Prelude.{◌≡◌, ◌<◌, ◌≤◌, ℕ, true, IfOk, List, length};
+ghost use Rattle.std.specs.Prelude.{◌≡◌, ◌<◌, ◌≤◌, true, IfOk, length};
 ghost use Rattle.std.specs.List.{AllByRecursion};
-ghost use Rattle.litmus_reader.specs.Grammar.{IsTest};
 ghost use Rattle.litmus_reader.specs.TestViews.{test_of};
 ghost use Rattle.machine_table.specs.SetUp.{is_good};
 ghost use Rattle.thread_driver.specs.ThreadRuns.{IsRunFrom};
@@ -43,7 +42,7 @@ pub fn threaded_runs<R: Threads + Sync, G: Gate + Sync>(
     requires workers { (0 < workers) × (workers ≤ 16) }
     ensures count { IfOk result (λ runs. length runs.items ≡ count) }
     ensures each { IfOk result (λ runs. AreFrom (test_of test.now) config (ByThreads fair) limit 0 runs.items) }
-    ensures outcomes { IfOk result (λ runs. (text : List ℕ) → IsTest text (test_of test.now) →
+    ensures outcomes { IfOk result (λ runs.
         AllByRecursion (HasOutcome (test_of test.now)) runs.items) }
 {
     let mut runs = Vec::new(alloc);
@@ -69,8 +68,7 @@ fn threaded_run<R: Threads + Sync, G: Gate + Sync>(
     requires cores { config.cores ≡ (test_of test.now).threads }
     requires workers { (0 < workers) × (workers ≤ 16) }
     ensures run { IfOk result (IsRun (test_of test.now) config (ByThreads fair) limit) }
-    ensures outcome { IfOk result (λ run.
-        (text : List ℕ) → IsTest text (test_of test.now) → HasOutcome (test_of test.now) run) }
+    ensures outcome { IfOk result (HasOutcome (test_of test.now)) }
 {
     closed_machines_are_consistent();
     performed_histories_are_sequential();

@@ -4,6 +4,6 @@ use Rattle.guide_uses.proofs.Listed.{are_listed}
 use Rattle.guide_uses.proofs.ends.ends_and_runs.Goals as goal
 
 pub returns : goal.returns
-returns c text is =
-    are_listed _ (values_in c.in_ok-ends.ends) (λ values. c.in_ok-ends.ensures.all text values is)
-    c.in_ok-runs.runs.items (c.in_ok-runs.ensures.outcomes text is)
+returns c =
+    are_listed _ (values_in c.in_ok-ends.ends) c.in_ok-ends.ensures.all
+    c.in_ok-runs.runs.items c.in_ok-runs.ensures.outcomes

@@ -12,7 +12,7 @@ use Rattle.programs.specs.declared.ends.End.TheVariants.{AllDone, Stalled, Turns
 use Rattle.report_text.specs.declared.run_end.RunEnd.{RunEnd}
 use Rattle.sequential_machine.specs.SequentialMachine.{SequentialState, Steps, IsOutcome, sequential_opening, value_at}
 use Rattle.worker_driver.specs.Outcomes.{HasOutcome}
-use Rattle.report.proofs.LastStates.{seen_of_test, truth_at_last}
+use Rattle.report.proofs.LastStates.{truth_at_last}
 use Rattle.report.proofs.laws.a_yes_shows_an_outcome.Goals as goal
 
 module _ (test : Litmus) (seen : test.seen ≡ seen_in test.tree []) where
@@ -44,5 +44,5 @@ module _ (test : Litmus) (seen : test.seen ≡ seen_in test.tree []) where
           some)
 
 pub returns : goal.returns
-returns c = λ text test runs is each yes_. first_held test (seen_of_test text test is) runs each
+returns c = λ test runs is each yes_. first_held test is.all_seen runs each
     (subst (λ n. 0 < n) (sym (length-filter (condition_holds test) runs)) (ltb-true 0 (runs_held test runs) yes_))

@@ -4,7 +4,8 @@ use Rattle.litmus_reader.specs.Seen.{seen_in}
 use Rattle.litmus_reader.specs.Truth.{holds}
 use Rattle.sequential_machine.specs.SequentialMachine.{IsOutcome, value_at}
 use Rattle.report.proofs.HeldEnds.{Has, always, never, sometimes}
-use Rattle.report.proofs.LastStates.{seen_of_test, truth_at_last}
+use Rattle.litmus_reader.proofs.Lemmas.{text_well_formed}
+use Rattle.report.proofs.LastStates.{truth_at_last}
 use Rattle.std.proofs.lemmas.List.{length-map}
 use Rattle.sequential_ends.specs.Every.{Every, values_in}
 use Rattle.report.specs.EveryText.{held_of, often, often_in}
@@ -17,12 +18,12 @@ listed test every word is =
 
 pub returns-clause-never : goal.returns-clause-never
 returns-clause-never c = λ options bytes text done told is values end.
-    truth_at_last told.test (seen_of_test bytes told.test told.is_test) values end
+    truth_at_last told.test (text_well_formed bytes told.test told.is_test).all_seen values end
     ∙ never told.test (values_in told.every) (listed told.test told.every _ is) values (told.lists.all values end)
 
 pub returns-clause-always : goal.returns-clause-always
 returns-clause-always c = λ options bytes text done told is values end.
-    truth_at_last told.test (seen_of_test bytes told.test told.is_test) values end
+    truth_at_last told.test (text_well_formed bytes told.test told.is_test).all_seen values end
     ∙ always told.test (values_in told.every) (listed told.test told.every _ is) values (told.lists.all values end)
 
 shown : (test : Litmus) (ends : List (List ℕ)) (held : Bool) → test.seen ≡ seen_in test.tree [] →
@@ -33,5 +34,5 @@ shown test ends held seen outcomes has =
 
 pub returns-clause-sometimes : goal.returns-clause-sometimes
 returns-clause-sometimes c = λ options bytes text done told is held.
-    shown told.test (values_in told.every) held (seen_of_test bytes told.test told.is_test) told.lists.outcomes
+    shown told.test (values_in told.every) held (text_well_formed bytes told.test told.is_test).all_seen told.lists.outcomes
     (sometimes told.test (values_in told.every) (listed told.test told.every _ is) held)

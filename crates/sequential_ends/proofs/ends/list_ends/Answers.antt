@@ -2,6 +2,7 @@ use Rattle.std.proofs.Common.{◌≡◌, ℕ, suc, ◌+◌, ◌^◌, ◌≤◌, 
 use Rattle.std.proofs.lemmas.Bool.{cases_eq}
 use Rattle.std.proofs.lemmas.Nat.{mul-le}
 use Rattle.litmus_reader.specs.TestViews.{test_of}
+use Rattle.litmus_reader.proofs.Lemmas.{well_formed}
 use Rattle.sequential_ends.specs.Packed.{packed}
 use Rattle.sequential_ends.specs.Layers.{layer, ends_before, with_ends, kept_at, states_before}
 use Rattle.sequential_ends.proofs.Packing.{plus_one, passed_on}
@@ -106,25 +107,25 @@ returns-clause-states c =
     }
 
 pub returns-clause-outcomes : goal.returns-clause-outcomes
-returns-clause-outcomes c = λ text values is there.
+returns-clause-outcomes c = λ values there.
     let test = test_of c.args.test.now in
     let inv = c.loop-alloc.invariant in
     let over = c.loop-alloc-test.false in
     let len = c.len.ensures in
     let none = layer_empty test c.loop-alloc.turns c.loop-alloc.layer inv.layer_is (omega (arith, over, len)) in
-    c.ends_of_turns_are_outcomes.ensures.sound text test values is
+    c.ends_of_turns_are_outcomes.ensures.sound test values (well_formed c.args.test.now)
     (each_is_end test c.loop-alloc.turns none c.loop-alloc.rows c.sort.new.self inv.rows_are c.in_ok-sort.ensures.same
     values there)
 
 pub returns-clause-all : goal.returns-clause-all
-returns-clause-all c = λ text values is outcome.
+returns-clause-all c = λ values outcome.
     let test = test_of c.args.test.now in
     let inv = c.loop-alloc.invariant in
     let over = c.loop-alloc-test.false in
     let len = c.len.ensures in
     let none = layer_empty test c.loop-alloc.turns c.loop-alloc.layer inv.layer_is (omega (arith, over, len)) in
     each_end_is test c.loop-alloc.turns none c.loop-alloc.rows c.sort.new.self inv.rows_are c.in_ok-sort.ensures.same
-    values (c.ends_of_turns_are_outcomes.ensures.complete text test values is outcome)
+    values (c.ends_of_turns_are_outcomes.ensures.complete test values (well_formed c.args.test.now) outcome)
 
 pub returns-clause-few : goal.returns-clause-few
 returns-clause-few c =

@@ -31,7 +31,7 @@ loop-number-preserved c =
       ap length items ∙ length-append before (run ∷ []) ∙ ap (λ n. n + 1) i.0,
       subst (λ (rs : List RunEnd). AreFrom test c.args.config (ByPolicy c.args.first) c.args.limit 0 rs) (sym items)
           (one_more_run test c.args.config (ByPolicy c.args.first) c.args.limit 0 before run i.1 made),
-      λ text is. subst (AllByRecursion (HasOutcome test)) (sym items)
-          (one_more (HasOutcome test) before run (i.2 text is) (c.in_ok-run.ensures.outcome text is)),
+      subst (AllByRecursion (HasOutcome test)) (sym items)
+          (one_more (HasOutcome test) before run i.2 c.in_ok-run.ensures.outcome),
       c.in_ok-run.ensures.config ∙ set_up,
     )

@@ -16,5 +16,5 @@ returns-clause-outcomes g c =
     let a = c.args in
     let test = test_of a.test.now in
     IfOk-weaker c.run_jobs.result _ _
-    (λ runs given text is. have_outcomes test a.config (Seed a.first) a.limit text is 0
+    (λ runs given. have_outcomes test a.config (Seed a.first) a.limit 0
     runs.items (are_jobs test a.config (Seed a.first) a.limit runs.items given)) c.run_jobs.ensures.given

@@ -3,6 +3,7 @@ use Rattle.std.proofs.lemmas.Result.{IfOk-weaker}
 use Rattle.std.specs.FinMap.{empty}
 use Rattle.litmus_reader.specs.OpeningMemory.{words_opened}
 use Rattle.litmus_reader.specs.TestViews.{test_of}
+use Rattle.litmus_reader.proofs.Lemmas.{well_formed}
 use Rattle.litmus_reader.specs.ThreadSteps.{Thread}
 use Rattle.machine_table.specs.Machine.{Machine}
 use Rattle.machine_table.specs.Opening.{at_start}
@@ -68,9 +69,9 @@ returns-clause-outcome c =
     let consistent = subst IsConsistent (sym after)
     (c.every_history_is_legal.ensures.consistent config words events c.requires.good) in
     let opened = ap (λ (k : Machine). k.opening) after ∙ c.every_history_is_legal.ensures.opening config words events in
-    IfOk-weaker c.told.result _ _ (λ run told text is.
+    IfOk-weaker c.told.result _ _ (λ run told.
     has_outcome c.performed_histories_are_sequential.ensures test config m threads c.requires.cores opened consistent
-    served text is run.end (λ done core below. c.run_to_end-end.ensures.all_done (sym told.0 ∙ done) core below)
+    served (well_formed c.args.test.now) run.end (λ done core below. c.run_to_end-end.ensures.all_done (sym told.0 ∙ done) core below)
     run.state (told.1 m refl).state) c.told.ensures
 
 pub returns-clause-config : goal.returns-clause-config

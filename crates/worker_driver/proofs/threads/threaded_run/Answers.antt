@@ -3,6 +3,7 @@ use Rattle.std.proofs.lemmas.Result.{IfOk-weaker}
 use Rattle.std.specs.FinMap.{empty}
 use Rattle.litmus_reader.specs.OpeningMemory.{words_opened}
 use Rattle.litmus_reader.specs.TestViews.{test_of}
+use Rattle.litmus_reader.proofs.Lemmas.{well_formed}
 use Rattle.litmus_reader.specs.ThreadSteps.{Thread}
 use Rattle.machine_table.specs.declared.config.Config.{Config}
 use Rattle.machine_table.specs.Machine.{Machine}
@@ -60,10 +61,10 @@ returns-clause-outcome g c =
     ran.programs.items) opened
     (subst (λ (ts : List Thread). AreServed thread_acts (at_start m.config m.opening) m ts ran.programs.items)
     c.in_ok-threads.ensures is.served) in
-    IfOk-weaker c.told.result _ _ (λ run told text text_is.
+    IfOk-weaker c.told.result _ _ (λ run told.
     has_outcome c.performed_histories_are_sequential.ensures test m.config m ran.programs.items
     (ap (λ (k : Config). k.cores) config_is ∙ c.requires.cores) opened
-    (c.closed_machines_are_consistent.ensures ran.run is.parts) served text
-    text_is run.end (λ done. is.done (sym told.0 ∙ done)) run.state
+    (c.closed_machines_are_consistent.ensures ran.run is.parts) served
+    (well_formed c.args.test.now) run.end (λ done. is.done (sym told.0 ∙ done)) run.state
     (subst (λ (ts : List Thread). Tells test m ts run) c.deref.ensures.value (told.1 m (is.parts, refl))).state)
     c.told.ensures

@@ -20,6 +20,6 @@ loop-preserved g c =
       subst (λ (rs : List RunEnd). AreFrom test c.args.config (ByThreads c.args.fair) c.args.limit 0 rs) (sym items)
           (one_more_run test c.args.config
           (ByThreads c.args.fair) c.args.limit 0 before run i.1 c.in_ok-run.ensures.run),
-      λ text is. subst (AllByRecursion (HasOutcome test)) (sym items)
-          (one_more (HasOutcome test) before run (i.2 text is) (c.in_ok-run.ensures.outcome text is)),
+      subst (AllByRecursion (HasOutcome test)) (sym items)
+          (one_more (HasOutcome test) before run i.2 c.in_ok-run.ensures.outcome),
     )

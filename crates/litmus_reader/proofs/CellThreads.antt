@@ -6,7 +6,6 @@ use Rattle.std.specs.List.{AllByRecursion as Each}
 use Rattle.litmus_lexer.specs.declared.limits.TheConstants.{MOST_ROWS}
 use Rattle.litmus_lexer.specs.declared.errors.Kind.TheVariants.{TooLarge}
 use Rattle.litmus_parser.specs.Names.{address_of}
-use Rattle.litmus_parser.specs.Header.{text_pieces}
 use Rattle.litmus_parser.specs.Verdicts.{Bases}
 use Rattle.litmus_parser.specs.Table.{Rows, filled, cell, column, row, counted_row, row_or_condition, rows, table}
 use Rattle.litmus_parser.specs.declared.syntax.Cell.{Cell}
@@ -14,8 +13,8 @@ use Rattle.litmus_parser.specs.declared.syntax.Item.{Item}
 use Rattle.piece_forms.specs.Forms.{Gives, InOrder, one, either, turn, until, refused}
 use Rattle.piece_forms.proofs.Lemmas.{Leads, leads-given, leads-then, Onto, leads-until, leads-refused}
 use Rattle.litmus_reader.specs.Litmus.{Litmus}
-use Rattle.litmus_reader.specs.Grammar.{whole_test, IsTest}
-use Rattle.sequential_machine.proofs.Names.{each_behind, leads-behind}
+use Rattle.litmus_reader.specs.Grammar.{whole_test}
+use Rattle.litmus_reader.proofs.Names.{each_behind, leads-behind}
 
 abbrev pub AreBelow : ℕ → List Cell → Type 0
 AreBelow threads cells = Each (λ (c : Cell). c.thread < threads) cells
@@ -93,17 +92,14 @@ module _ (bases : Bases) (threads : ℕ) where
           on true = leads-then (counted_below t h) (λ y k. leads-given (true, y) k)
           on false = leads-given (false, t) h
 
-table_below : (items : List Item) → Leads (table items) (λ (t : ℕ × List Cell). AreBelow t.0 t.1)
+pub table_below : (items : List Item) → Leads (table items) (λ (t : ℕ × List Cell). AreBelow t.0 t.1)
 unfolding table
 table_below items =
     leads-behind (λ threads. leads-behind (λ u.
     leads-then (rows_below (address_of items) threads) (λ cells h. leads-given (threads, cells) h)))
 
-test_below : Leads whole_test (λ (test : Litmus). AreBelow test.threads test.cells)
+pub test_below : Leads whole_test (λ (test : Litmus). AreBelow test.threads test.cells)
 unfolding whole_test
 test_below =
     leads-behind (λ n. leads-behind (λ b. leads-then (table_below b.0) (λ t h.
     leads-behind (λ c. leads-given _ h))))
-
-pub cells_below : (text : List ℕ) (test : Litmus) → IsTest text test → AreBelow test.threads test.cells
-cells_below text test h = test_below.stands 1 (text_pieces text []) test h.last h.end h.stands

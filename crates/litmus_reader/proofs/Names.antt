@@ -29,14 +29,14 @@ use Rattle.litmus_reader.specs.Seen.{seen_in}
 use Rattle.litmus_reader.specs.Litmus.{Litmus}
 use Rattle.litmus_parser.specs.Verdicts.{Bases}
 use Rattle.litmus_parser.specs.Words.{location, opening}
-use Rattle.litmus_reader.specs.Grammar.{whole_test, IsTest}
+use Rattle.litmus_reader.specs.Grammar.{whole_test}
 
 abbrev pub IsThere : ℕ → ℕ → Name → Type 0
 IsThere threads locations (Register t r) = t < threads
 IsThere threads locations (Location l) = l < locations
 
 -- all names of a tree are there
-abbrev AreThere : ℕ → ℕ → Tree → Type 0
+abbrev pub AreThere : ℕ → ℕ → Tree → Type 0
 AreThere threads locations (Is name value) = IsThere threads locations name
 AreThere threads locations (Both a b) = AreThere threads locations a × AreThere threads locations b
 AreThere threads locations (Either a b) = AreThere threads locations a × AreThere threads locations b
@@ -158,7 +158,7 @@ module _ (threads : ℕ) where
       chain_there Or _ (chain_there And _ (factor_there bases (expression (factor bases threads depth))
       (expression_there bases depth) (suc depth)))
 
-condition_there : (bases : Bases) (threads : ℕ) (before : Names) → Leads (condition bases threads before)
+pub condition_there : (bases : Bases) (threads : ℕ) (before : Names) → Leads (condition bases threads before)
     (λ (x : Quantifier × Tree × Names). AreThere threads (length x.2) x.1)
 unfolding condition
 condition_there bases threads before =
@@ -166,10 +166,10 @@ condition_there bases threads before =
     leads-behind (λ u. leads-given (q, e.0, e.1.0) h.1)))
 
 -- the names in its tree are there, and those that are seen are those of its tree
-abbrev IsNamed : Litmus → Type 0
+abbrev pub IsNamed : Litmus → Type 0
 IsNamed test = AreThere test.threads (length test.locations) test.tree × (test.seen ≡ seen_in test.tree [])
 
-test_named : Leads whole_test IsNamed
+pub test_named : Leads whole_test IsNamed
 unfolding whole_test
 test_named =
     leads-behind (λ n. leads-behind (λ b. leads-behind (λ t.
@@ -179,14 +179,10 @@ pub each_behind : {X : Type 0} (P : X → Type 0) (xs : List X) (x : X) → Each
 each_behind P [] x h p = (p, tt)
 each_behind P (y ∷ xs) x h p = (h.0, each_behind P xs x h.1 p)
 
-seen_there : (threads locations : ℕ) (tree : Tree) (names : List Name) → AreThere threads locations tree →
+pub seen_there : (threads locations : ℕ) (tree : Tree) (names : List Name) → AreThere threads locations tree →
     Each (IsThere threads locations) names → Each (IsThere threads locations) (seen_in tree names)
 seen_there threads locations (Is name value) names h e = grind (arith, nat_tests, common_steps, cond_both, each_behind)
 seen_there threads locations (Both a b) names h e =
     seen_there threads locations b (seen_in a names) h.1 (seen_there threads locations a names h.0 e)
 seen_there threads locations (Either a b) names h e =
     seen_there threads locations b (seen_in a names) h.1 (seen_there threads locations a names h.0 e)
-
-pub names_there : (text : List ℕ) (test : Litmus) → IsTest text test →
-    Each (IsThere test.threads (length test.locations)) test.seen
-names_there text test h = grind (arith, nat_tests, common_steps, seen_there, test_named)

@@ -139,8 +139,8 @@ def refuse_threads(options):
 def ends_report(options):
     try:
         return sequential.report(read_litmus(options.FILE), options.states, options.orders)
-    except sequential.TooManyStates:
-        raise Refused(1, f"tardis: more than {options.states} states") from None
+    except sequential.TooManyStates as many:
+        raise Refused(1, f"tardis: {many}") from None
 
 
 def run(options):

@@ -35,7 +35,7 @@ def with_item(items, at, item):
 class Flat:
     """One flat memory, no caches and no times: a step is some thread's next memory instruction."""
 
-    name = None
+    name, steps_at_once = None, 1  # so many steps of a thread can follow
 
     def __init__(self, test):
         self.test, self.known = test, {}
@@ -76,7 +76,7 @@ class Buffered(Flat):
     its thread's buffer is empty; so does what is behind a fence of stores before loads. (TSO keeps the orders that
     other fences ask for.)"""
 
-    name = "total store order, not proved"
+    name, steps_at_once = "total store order, not proved", 2
 
     def __init__(self, test):
         super().__init__(test)
@@ -125,15 +125,26 @@ def waits_of(code):
 
 
 class TooManyStates(Exception):
-    """A layer and the next have more states than may be kept."""
+    """A layer and the next have more states than may be kept. It says how many are enough to go on."""
 
 
-def count(sizes, layer, most):
+def enough(model, most):
+    """How many states are enough for the first layer that has more than `most` with the next, and for that: each state
+    of the layer, and one more for each step that can follow."""
+    layer = {model.opening()}
+    while True:
+        following = {after for state in layer for _, after in model.steps(state)}
+        if len(layer) + len(following) > most:
+            return len(layer) * (1 + model.steps_at_once * len(model.test.threads))
+        layer = following
+
+
+def count(model, sizes, layer, most):
     """Counts a state of a layer."""
     sizes += [0] * (layer + 2 - len(sizes))
     sizes[layer] += 1
     if sizes[layer] + max(sizes[layer - 1] if layer else 0, sizes[layer + 1]) > most:
-        raise TooManyStates
+        raise TooManyStates(f"more than {most} states; {enough(model, most)} are enough to go on")
 
 
 def explored(model, most=MOST_STATES):
@@ -144,7 +155,7 @@ def explored(model, most=MOST_STATES):
         state, order = left.pop()
         if state in seen:
             continue
-        count(sizes, len(order), most)
+        count(model, sizes, len(order), most)
         seen.add(state)
         following = list(model.steps(state))
         if not following:
@@ -206,8 +217,8 @@ def main(words):
         test = litmus_test(path, contents(path))
         try:
             sys.stdout.write(report(test, int(asked.states), asked.orders, MODELS[asked.model]))
-        except TooManyStates:
-            sys.exit(f"sequential.py: {path}: more than {asked.states} states; a higher --states tries on")
+        except TooManyStates as many:
+            sys.exit(f"sequential.py: {path}: {many}")
     return 0
 
 

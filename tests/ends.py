@@ -106,6 +106,8 @@ COUNTS = {NUMBERS: (5, ["  x=9", "* x=10"], 4, "observation NUMBERS Sometimes 1 
           NOTHING: (1, ["  x=0 y=3"], 1, "observation NOTHING Never 0 1"),
           SWAPS: (65, 24, 48, "observation SWAPS Sometimes 1 23"),
           TWICE: (8, ["  1:x7=0"], 5, "observation TWICE Never 0 1")}
+# Store buffering's layers of 3 and 4 states; each of the 3 has at most one step of each of two threads.
+SIX = "more than 6 states; 9 are enough to go on\n"
 REFUSED = ("0", "-1", "many", "4294967296")
 
 # Under total store order: tests of the catalogue with their ends, and those in which the expression holds.
@@ -223,8 +225,15 @@ def first_orders(test):
     return ends
 
 
-def least_bound(sizes):
-    return max(size + after for size, after in zip(sizes, [*sizes[1:], 0]))
+def kept(sizes):
+    """How many states a layer and the next have, by layer."""
+    return [size + after for size, after in zip(sizes, [*sizes[1:], 0])]
+
+
+def refusal(most, sizes, threads):
+    """What is said if more states would be kept: the first such layer, and for each of its states one a thread."""
+    layer = next(size for size, both in zip(sizes, kept(sizes)) if both > most)
+    return f"more than {most} states; {layer * (1 + threads)} are enough to go on\n"
 
 
 def drawn(number):
@@ -281,13 +290,14 @@ def compared(case):
         tester.expect(end_of(test, order) == end, f"{name}: {order} doesn't lead to {end}")
     tester.expect(first_orders(test) in (None, ends), f"{name}: not the first orders: {ends}")
     if program:
-        bound, given = least_bound(sizes), text.encode()
+        bound, given = max(kept(sizes)), text.encode()
         for orders in ([], ["--orders"]):
             got = tester.run("ends", *orders, "--states", str(bound), "/dev/stdin", text=given)
             tester.expect(got == (0, sequential.report(test, has_orders=bool(orders)), ""), f"{name}: {orders} {got}")
         if bound > 1:
             got = tester.run("ends", "--states", str(bound - 1), "/dev/stdin", text=given)
-            tester.expect(got == (1, "", f"tardis: more than {bound - 1} states\n"), f"{name}: refused: {got}")
+            said = "tardis: " + refusal(bound - 1, sizes, len(test.threads))
+            tester.expect(got == (1, "", said), f"{name}: refused: {got}, wanted {said}")
     return tester.tried, tester.wrong
 
 
@@ -314,7 +324,7 @@ def by_hand(tester):
         tester.expect(good, f"{states}: {status} {out} {error}")
     tester.expect(f"by default {sequential.MOST_STATES})" in sequential.__doc__, "the default of the help")
     got = Tester(str(TOP / "reference/oracle.py")).run("ends", "--states", "6", str(TOP / SB))
-    tester.expect(got == (1, "", "tardis: more than 6 states\n"), f"oracle.py ends: {got}")
+    tester.expect(got == (1, "", f"tardis: {SIX}"), f"oracle.py ends: {got}")
 
 
 def buffered(text):
@@ -445,7 +455,7 @@ def of_tool(program):
             runs = sum(map(int, re.findall(rf"by threads \((\d+) of {count}\)", out)))
             tester.expect((status, error, runs) == (0, "", count), f"by threads: {status} {out} {error}")
     got = tester.run("--states", "6", SB)
-    tester.expect(got == (2, "", f"ends.py: {SB}: more than 6 states\n"), f"6 states: {got}")
+    tester.expect(got == (2, "", f"ends.py: {SB}: {SIX}"), f"6 states: {got}")
     return tester
 
 

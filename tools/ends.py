@@ -70,8 +70,8 @@ class Ends:
                 raise Bad(f"{self.path}: {refused}") from None
         try:  # the program is older than `ends --orders`
             return "oracle.py", sequential.report(self.test, self.most, has_orders=True).splitlines()
-        except sequential.TooManyStates:
-            raise Bad(f"{self.path}: more than {self.most} states") from None
+        except sequential.TooManyStates as many:
+            raise Bad(f"{self.path}: {many}") from None
 
     def first_line(self):
         by = "reference/oracle.py, not proved" if self.by == "oracle.py" else "tardis ends, proved: no run has another"

@@ -96,7 +96,7 @@ no_report options text e is = is
 
 -- and no list of ends
 no_ends : (options : EndsOptions) (text : List ℕ) (e : RunError) → HasNoTest text e → HasNoEnds options text e
-no_ends options text (TooManyStates most) is = absurd is
+no_ends options text (TooManyStates most enough) is = absurd is
 no_ends options text e is = is
 
 pub no_list : (options : EndsOptions) (text : List ℕ) (e : RunError) → HasNoTestInMemory text e →

@@ -39,6 +39,6 @@ pub record IsEndsReport (options : EndsOptions) (bytes : List ℕ) (all_done : B
 
 -- why bytes have no list of ends: they are no test, or it has a layer that has more points with the next
 abbrev pub HasNoEnds : EndsOptions → List ℕ → RunError → Type 0
-HasNoEnds options bytes (TooManyStates most) =
-    (most ≡ options.most_states) × (test : Litmus) × IsTest bytes test × IsTooMany test most
+HasNoEnds options bytes (TooManyStates most enough) =
+    (most ≡ options.most_states) × (test : Litmus) × IsTest bytes test × IsTooMany test most enough
 HasNoEnds options bytes e = HasNoTest bytes e

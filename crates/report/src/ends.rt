@@ -62,7 +62,9 @@ fn list_of(alloc: Global, bytes: &[u8], options: &EndsOptions) -> Result<Vec<u8>
     let most = options.most_states;
     let every = match list_ends(alloc, &test, most as usize, options.orders) {
         Ok(every) => every,
-        Err(EndsError::TooMany) => return Err(RunError::TooManyStates(most)),
+        Err(EndsError::TooMany(enough)) => {
+            return Err(RunError::TooManyStates(most, enough as u64));
+        }
         Err(EndsError::NoMemory) => return Err(RunError::NoMemory),
     };
     match every_text(alloc, &test, &every) {

@@ -11,9 +11,10 @@ abbrev pub fault_line : List ℕ → ℕ → ℕ → List ℕ → List ℕ
 fault_line text line number name =
     codes "tardis: " ++ text ++ codes "line " ++ decimal line ++ codes ": " ++ decimal number ++ codes " " ++ name ++ codes "\n"
 
--- tardis: more than N states
-abbrev pub states_line : ℕ → List ℕ
-states_line most = codes "tardis: more than " ++ decimal most ++ codes " states\n"
+-- tardis: more than N states; M are enough to go on
+abbrev pub states_line : ℕ → ℕ → List ℕ
+states_line most enough =
+    codes "tardis: more than " ++ decimal most ++ codes " states; " ++ decimal enough ++ codes " are enough to go on\n"
 
 abbrev pub error_line : RunError → List ℕ
 error_line Read = codes "tardis: read failed\n"
@@ -24,4 +25,4 @@ error_line (Trace e) = fault_line [] e.line (trace.number_of_trace_kind e.kind) 
 error_line (Opening e) =
     fault_line (codes "opening: ") e.line (trace.number_of_trace_kind e.kind) (trace.name_of_trace_kind e.kind)
 error_line BadConfig = codes "tardis: bad configuration\n"
-error_line (TooManyStates most) = states_line most
+error_line (TooManyStates most enough) = states_line most enough

@@ -12,7 +12,7 @@ run_number NoMemory = 3
 run_number (Litmus fault) = 4
 run_number (Trace fault) = 5
 run_number BadConfig = 6
-run_number (TooManyStates most) = 7
+run_number (TooManyStates most enough) = 7
 run_number (Opening fault) = 12
 
 -- 0 if all runs are all done; 1 if one isn't, an allocation failed, or there are too many states; 2 if the text is
@@ -20,7 +20,7 @@ run_number (Opening fault) = 12
 abbrev pub status_of : Result Done RunError → ℕ
 status_of (Ok done) = if done.all_done then 0 else 1
 status_of (Err NoMemory) = 1
-status_of (Err (TooManyStates most)) = 1
+status_of (Err (TooManyStates most enough)) = 1
 status_of (Err (Litmus fault)) = 2
 status_of (Err (Trace fault)) = 2
 status_of (Err (Opening fault)) = 2

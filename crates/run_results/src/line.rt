@@ -7,12 +7,12 @@ use crate::results::RunError;
 use arrayvec::ArrayVec;
 use itoa::Buffer;
 
-/// A line of at most 64 bytes. It allocates nothing, so it can report a failed allocation, too.
-pub type ErrorLine = ArrayVec<u8, 64>;
+/// A line of at most 96 bytes. It allocates nothing, so it can report a failed allocation, too.
+pub type ErrorLine = ArrayVec<u8, 96>;
 
 // More bytes after those of the line.
 fn put(line: &mut ErrorLine, bytes: &[u8])
-    requires { length line.old.items + length bytes.now ≤ 64 }
+    requires { length line.old.items + length bytes.now ≤ 96 }
     ensures { line.new.items ≡ line.old.items ++ bytes.now }
 {
     let _fits = line.try_extend_from_slice(bytes);
@@ -20,7 +20,7 @@ fn put(line: &mut ErrorLine, bytes: &[u8])
 
 // The line that has these bytes.
 fn line_of(bytes: &[u8]) -> ErrorLine
-    requires { length bytes.now ≤ 64 }
+    requires { length bytes.now ≤ 96 }
     ensures { result.items ≡ bytes.now }
 {
     let mut line = ErrorLine::new();
@@ -47,14 +47,16 @@ fn fault_line(text: &[u8], place: usize, number: u8, name: &str) -> ErrorLine
     line
 }
 
-// The line that says how many states are too few.
-fn states_line(most: u64) -> ErrorLine
-    ensures { result.items ≡ states_line most }
+// The line that says how many states are too few, and how many are enough to go on.
+fn states_line(most: u64, enough: u64) -> ErrorLine
+    ensures { result.items ≡ states_line most enough }
 {
     let mut digits = Buffer::new();
     let mut line = line_of(b"tardis: more than ");
     put(&mut line, digits.format(most).as_bytes());
-    put(&mut line, b" states\n");
+    put(&mut line, b" states; ");
+    put(&mut line, digits.format(enough).as_bytes());
+    put(&mut line, b" are enough to go on\n");
     line
 }
 
@@ -70,6 +72,6 @@ pub fn error_line(error: &RunError) -> ErrorLine
         RunError::Trace(e) => fault_line(b"", e.line, e.kind.number(), e.kind.name()),
         RunError::Opening(e) => fault_line(b"opening: ", e.line, e.kind.number(), e.kind.name()),
         RunError::BadConfig => line_of(b"tardis: bad configuration\n"),
-        RunError::TooManyStates(most) => states_line(*most),
+        RunError::TooManyStates(most, enough) => states_line(*most, *enough),
     }
 }

@@ -38,9 +38,10 @@ pub enum RunError {
     /// A value of the machine's configuration is out of its range.
     #[error("bad configuration")]
     BadConfig,
-    /// More states of a test would be kept at once than this number.
-    #[error("more than {0} states")]
-    TooManyStates(u64),
+    /// More states of a test would be kept at once than the first number. The second is enough for the layer at which
+    /// the list stopped, and for the next.
+    #[error("more than {0} states; {1} are enough to go on")]
+    TooManyStates(u64, u64),
 }
 
 impl RunError {
@@ -56,7 +57,7 @@ impl RunError {
             RunError::Litmus(_) => 4,
             RunError::Trace(_) => 5,
             RunError::BadConfig => 6,
-            RunError::TooManyStates(_) => 7,
+            RunError::TooManyStates(_, _) => 7,
             RunError::Opening(_) => 12,
         }
     }
@@ -71,7 +72,7 @@ pub fn exit_status(came: &Result<Done, RunError>) -> u8
         Ok(done) if done.all_done => 0,
         Ok(_) => 1,
         Err(RunError::NoMemory) => 1,
-        Err(RunError::TooManyStates(_)) => 1,
+        Err(RunError::TooManyStates(_, _)) => 1,
         Err(RunError::Litmus(_)) => 2,
         Err(RunError::Trace(_)) => 2,
         Err(RunError::Opening(_)) => 2,

@@ -1,5 +1,5 @@
 -- The ends of all layers, in any order, are the ends of the test.
-use Rattle.std.proofs.Common.{◌≡◌, ℕ, suc, ◌*◌, ◌<◌, ◌≤◌, List, [], ◌∷◌, length, map, Contains, refl, sym, ap, ◌∙◌}
+use Rattle.std.proofs.Common.{◌≡◌, ℕ, suc, ◌+◌, ◌-◌, ◌*◌, ◌^◌, ◌<◌, ◌≤◌, min, List, [], ◌∷◌, length, map, Contains, refl, sym, ap, ◌∙◌}
 use Rattle.std.proofs.Common.{subst, arith, inl, inr}
 use Rattle.std.specs.List.{list_any, AllByRecursion as Each}
 use Rattle.std.specs.List.Sorted.{IsPermutation}
@@ -15,8 +15,9 @@ use Rattle.sequential_machine.specs.Turns.{Point, Reached, IsEnd}
 use Rattle.sequential_machine.proofs.Lemmas.{turns_few}
 use Rattle.sequential_ends.specs.Packed.{packed}
 use Rattle.sequential_ends.specs.Rows.{rows_in}
+use Rattle.sequential_ends.specs.Every.{IsTooMany}
 use Rattle.sequential_ends.specs.Layers.{layer, ends_before, kept_at}
-use Rattle.sequential_ends.proofs.LayerPoints.{sound, ends_sound, every_end, empty_from}
+use Rattle.sequential_ends.proofs.LayerPoints.{sound, ends_sound, every_end, empty_from, behind_few}
 
 first_few : (test : Litmus) (k : ℕ) (points : List Point) → Each (Reached test k) points → 0 < length points →
     k ≤ test.threads * length test.cells
@@ -43,6 +44,21 @@ pub layer_empty : (test : Litmus) (k : ℕ) (rows : List (List ℕ × List ℕ))
     length rows ≤ 0 → layer test k ≡ []
 layer_empty test k rows is le =
     let long = layer_long test k rows is in no_points (layer test k) (omega (arith, le, long))
+
+-- where a list stops, and what is enough there
+pub stops : (test : Litmus) (k most enough : ℕ) → ((j : ℕ) → j < k → kept_at test j ≤ most) → most < kept_at test k →
+    most < 2 ^ 64 - 1 → enough ≡ min (length (layer test k) * (1 + test.threads)) (2 ^ 64 - 1) →
+    IsTooMany test most enough
+stops test k most enough before over small is =
+    let few = behind_few test (layer test k) in
+    record {
+      stop = k;
+      before = before;
+      over = over;
+      enough_is = is;
+      fits = omega (arith, few, is);
+      greater = omega (arith, few, over, small, is);
+    }
 
 module _ (test : Litmus) (k : ℕ) (none : layer test k ≡ []) (rows sorted : List (List ℕ × List ℕ))
     (are : rows_in rows ≡ ends_before test k) (same : IsPermutation rows sorted) where

@@ -1,5 +1,5 @@
 -- What is in the layers of a test: the points that turns reach, and no others.
-use Rattle.std.proofs.Common.{◌≡◌, ℕ, zero, suc, ◌<◌, ◌≤◌, Bool, true, false, ◌||◌, if◌then◌else◌, List, [], ◌∷◌, ◌++◌}
+use Rattle.std.proofs.Common.{◌≡◌, ℕ, zero, suc, ◌+◌, ◌*◌, ◌<◌, ◌≤◌, Bool, true, false, ◌||◌, if◌then◌else◌, List, [], ◌∷◌, ◌++◌}
 use Rattle.std.proofs.Common.{length, fold, take, Option, Some, None, refl, sym, ap, ◌∙◌, subst, arith, length-append}
 use Rattle.std.proofs.Common.{◌⊎◌, inl, inr, is_some}
 use Rattle.std.specs.Prelude.{option_map}
@@ -12,6 +12,7 @@ use Rattle.std.specs.Str.{bytes_eq}
 use Rattle.std.proofs.lemmas.Bool.{cond_both, cases_eq, cases_lt, cases_Bool}
 use Rattle.std.proofs.lemmas.List.Folds.{list_any-append}
 use Rattle.std.proofs.lemmas.Slice.Eq.{bytes_eq-Decides}
+use Rattle.std.proofs.Math.Nat.{suc-mul, mul-suc}
 use Rattle.physiological_order.specs.declared.operation.Op.{Op}
 use Rattle.litmus_reader.specs.Litmus.{Litmus}
 use Rattle.sequential_machine.specs.Turns.{Point, operation_at, turned, point_opened, Reached, opened, turn}
@@ -54,6 +55,11 @@ module _ {X : Type 0} (same : X → X → Bool) (itself : (x : X) → same x x �
   no_shorter xs x =
       cond_both (list_any (same x) xs) xs (xs ++ x ∷ []) (λ (ys : List X). length xs ≤ length ys) (λ _. omega arith)
       (λ _. let e = length-append xs (x ∷ []) in omega (arith, e))
+
+  one_more : (xs : List X) (x : X) → length (Added xs x) ≤ length xs + 1
+  one_more xs x =
+      cond_both (list_any (same x) xs) xs (xs ++ x ∷ []) (λ (ys : List X). length ys ≤ length xs + 1)
+      (λ _. omega arith) (λ _. let e = length-append xs (x ∷ []) in omega (arith, e))
 
 -- ---- points
 
@@ -102,6 +108,17 @@ module _ (test : Litmus) (p : Point) where
   some_grow : (points : List Point) (o : Option Point) → length points ≤ length (with_some points o)
   some_grow points None = omega arith
   some_grow points (Some x) = no_shorter same_row itself points x
+
+  some_few : (points : List Point) (o : Option Point) → length (with_some points o) ≤ length points + 1
+  some_few points None = omega arith
+  some_few points (Some x) = one_more same_row itself points x
+
+  turns_few : (n : ℕ) (points : List Point) → length (with_turns test p n points) ≤ length points + n
+  turns_few zero points = omega arith
+  turns_few (suc n) points =
+      let before = turns_few n points in
+      let more = some_few (with_turns test p n points) (option_map (turned p n) (operation_at test p n)) in
+      omega (arith, before, more)
 
   pub turns_grow : (m n : ℕ) (points : List Point) → m ≤ n → length (with_turns test p m points) ≤
       length (with_turns test p n points)
@@ -183,6 +200,21 @@ module _ (test : Litmus) where
   next_grow (p ∷ points) next =
       let one = turns_grow test p 0 test.threads next (omega arith) in
       let more = next_grow points (Next next p) in omega (arith, one, more)
+
+  next_few : (points next : List Point) →
+      length (fold Next next points) ≤ length next + length points * test.threads
+  next_few [] next = omega arith
+  next_few (p ∷ points) next =
+      let one = turns_few test p test.threads next in
+      let more = next_few points (Next next p) in
+      let product = suc-mul (length points) test.threads in omega (arith, one, more, product)
+
+  -- a layer and the next have so many points at most
+  pub behind_few : (points : List Point) →
+      length points + length (behind test points) ≤ length points * (1 + test.threads)
+  behind_few points =
+      let few = next_few points [] in
+      let product = mul-suc (length points) test.threads in omega (arith, few, product)
 
   pub behind_grows : (points : List Point) (i : ℕ) → length (behind test (take i points)) ≤ length (behind test points)
   behind_grows points i = from [] points i

@@ -1,5 +1,5 @@
 -- Every end of a test, in rising order.
-use Rattle.std.specs.Prelude.{◌≡◌, ℕ, ◌<◌, ◌-◌, ◌^◌, min, List, []}
+use Rattle.std.specs.Prelude.{◌≡◌, ℕ, ◌<◌, ◌≤◌, ◌+◌, ◌-◌, ◌*◌, ◌^◌, min, List, [], length}
 use Rattle.litmus_reader.specs.Litmus.{Litmus}
 use Rattle.sequential_ends.specs.Rows.{rows_in}
 use Rattle.sequential_ends.specs.Layers.{layer, kept_at, states_before}
@@ -20,6 +20,13 @@ pub record CountsStates (test : Litmus) (states : ℕ) : Type 0 where
   -- 2^64 - 1 stands for more
   pub count : states ≡ min (states_before test last) (2 ^ 64 - 1)
 
--- a layer and the next have more points than this
-abbrev pub IsTooMany : Litmus → ℕ → Type 0
-IsTooMany test most = (k : ℕ) × (most < kept_at test k)
+-- Some layer and the next have more points than this. So many are enough for the first such layer and the next: those
+-- of the layer, and one more of each of its points for each thread.
+pub record IsTooMany (test : Litmus) (most enough : ℕ) : Type 0 where
+  pub stop : ℕ
+  pub before : (k : ℕ) → k < stop → kept_at test k ≤ most
+  pub over : most < kept_at test stop
+  -- 2^64 - 1 stands for more
+  pub enough_is : enough ≡ min (length (layer test stop) * (1 + test.threads)) (2 ^ 64 - 1)
+  pub fits : min (kept_at test stop) (2 ^ 64 - 1) ≤ enough
+  pub greater : most < enough

@@ -12,7 +12,7 @@ ghost use Rattle.sequential_ends.specs.Every.{values_in, CountsStates, IsTooMany
 ghost use Rattle.sequential_ends.specs.Layers.{kept_at};
 ghost use Rattle.sequential_ends.specs.Orders.{AreEndOrders};
 
-use crate::error::EndsError;
+use crate::error::{EndsError, LayerError};
 use crate::layers::next_layer;
 use crate::points::opening_row;
 use crate::rows::Rows;
@@ -84,13 +84,14 @@ pub fn list_ends(
     // Its order leads to each, if orders are asked for; else nothing is kept.
     ensures orders { IfOk result (λ every. AreEndOrders has_orders (test_of test.now) every.ends) }
     ensures states { IfOk result (λ every. CountsStates (test_of test.now) every.states) }
-    // It is TooMany exactly if more states would be kept at once.
-    ensures many { result ≡ Err EndsError.TooMany → IsTooMany (test_of test.now) most_states }
+    // It is TooMany exactly if more states would be kept at once, with a number that is enough where it stopped.
+    ensures many { (enough : ℕ) → result ≡ Err (EndsError.TooMany enough) →
+        IsTooMany (test_of test.now) most_states enough }
     ensures few { IfOk result (λ every. (k : ℕ) → kept_at (test_of test.now) k ≤ most_states) }
 {
     ends_of_turns_are_outcomes();
     if most_states == 0 {
-        return Err(EndsError::TooMany);
+        return Err(EndsError::TooMany(1 + test.threads()));
     }
     let mut layer = Rows::new(alloc);
     layer.add(opening_row(alloc, test)?, Vec::new(alloc))?;
@@ -103,7 +104,11 @@ pub fn list_ends(
         let room = most_states - layer.len();
         layer = match next_layer(alloc, test, has_orders, &layer, &mut rows, room) {
             Ok(next) => next,
-            Err(error) => return Err(error),
+            Err(LayerError::NoMemory) => return Err(EndsError::NoMemory),
+            Err(LayerError::TooMany) => {
+                let enough = layer.len().saturating_mul(1 + test.threads());
+                return Err(EndsError::TooMany(enough));
+            }
         };
         turns += 1;
     }

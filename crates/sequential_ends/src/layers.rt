@@ -1,6 +1,6 @@
 //! From a layer of points to the next: each thread's next operation at each point.
 
-ghost use Rattle.std.specs.Prelude.{◌≡◌, ◌<◌, ◌≤◌, ℕ, List, drop, length, map, Err, IfOk, OnOk};
+ghost use Rattle.std.specs.Prelude.{◌≡◌, ◌<◌, ◌≤◌, ◌^◌, ℕ, List, drop, length, map, Err, IfOk, OnOk};
 ghost use Rattle.litmus_reader.specs.TestViews.{test_of};
 ghost use Rattle.sequential_machine.specs.Turns.{Point, turned, values_at};
 ghost use Rattle.sequential_ends.specs.Packed.{packed, packed_lists, IsRowOf, AreRowsOf};
@@ -8,7 +8,7 @@ ghost use Rattle.sequential_ends.specs.Rows.{rows_in, with_ordered, with_row};
 ghost use Rattle.sequential_ends.specs.Orders.{with_turn, IsOrderOf, AreLed, AreEndOrders};
 ghost use Rattle.sequential_ends.specs.Layers.{with_turns, has_turn, behind, with_end, with_ends};
 
-use crate::error::EndsError;
+use crate::error::LayerError;
 use crate::points::{first_list, row_with, thread_at};
 use crate::rows::Rows;
 use crate::words::performed;
@@ -17,15 +17,16 @@ use physiological_order::Op;
 use std::alloc::{AllocError, Global};
 
 // Adds a row with its order, unless there are more than `room` then.
-fn add(rows: &mut Rows, row: Vec<u64>, order: Vec<u8>, room: usize) -> Result<(), EndsError>
+fn add(rows: &mut Rows, row: Vec<u64>, order: Vec<u8>, room: usize) -> Result<(), LayerError>
     ensures added { OnOk result (rows.new ≡ with_ordered rows.old (row.items, order.items)) }
     ensures few { OnOk result (length rows.new ≤ room) }
-    ensures many { result ≡ Err EndsError.TooMany →
+    ensures many { result ≡ Err LayerError.TooMany →
         room < length (with_ordered rows.old (row.items, order.items)) }
+    ensures small { result ≡ Err LayerError.TooMany → room < 2 ^ 63 }
 {
     rows.add(row, order)?;
     if rows.len() > room {
-        return Err(EndsError::TooMany);
+        return Err(LayerError::TooMany);
     }
     Ok(())
 }
@@ -78,7 +79,7 @@ fn add_turns(
     order: &[u8],
     next: &mut Rows,
     room: usize,
-) -> Result<bool, EndsError>
+) -> Result<bool, LayerError>
     requires few { length next.old ≤ room }
     ensures few { OnOk result (length next.new ≤ room) }
     ensures turns { (p : Point) (points : List Point) → IsRowOf (test_of test.now) p row.now →
@@ -91,8 +92,9 @@ fn add_turns(
         AreLed has_orders (test_of test.now) next.old →
         OnOk result (AreLed has_orders (test_of test.now) next.new) }
     ensures many { (p : Point) (points : List Point) → IsRowOf (test_of test.now) p row.now →
-        rows_in next.old ≡ map packed points → result ≡ Err EndsError.TooMany →
+        rows_in next.old ≡ map packed points → result ≡ Err LayerError.TooMany →
         room < length (with_turns (test_of test.now) p (test_of test.now).threads points) }
+    ensures small { result ≡ Err LayerError.TooMany → room < 2 ^ 63 }
 {
     let (words, lists) = first_list(row);
     let capacity = row.len() + 1;
@@ -141,7 +143,7 @@ fn add_point(
     next: &mut Rows,
     ends: &mut Rows,
     room: usize,
-) -> Result<(), EndsError>
+) -> Result<(), LayerError>
     requires few { length next.old ≤ room }
     ensures few { OnOk result (length next.new ≤ room) }
     ensures next { (p : Point) (points : List Point) → IsRowOf (test_of test.now) p row.now →
@@ -158,8 +160,9 @@ fn add_point(
         AreEndOrders has_orders (test_of test.now) ends.old →
         OnOk result (AreEndOrders has_orders (test_of test.now) ends.new) }
     ensures many { (p : Point) (points : List Point) → IsRowOf (test_of test.now) p row.now →
-        rows_in next.old ≡ map packed points → result ≡ Err EndsError.TooMany →
+        rows_in next.old ≡ map packed points → result ≡ Err LayerError.TooMany →
         room < length (with_turns (test_of test.now) p (test_of test.now).threads points) }
+    ensures small { result ≡ Err LayerError.TooMany → room < 2 ^ 63 }
 {
     match add_turns(alloc, test, has_orders, row, order, next, room) {
         Err(error) => return Err(error),
@@ -179,7 +182,7 @@ pub(crate) fn next_layer(
     layer: &Rows,
     ends: &mut Rows,
     room: usize,
-) -> Result<Rows, EndsError>
+) -> Result<Rows, LayerError>
     ensures few { IfOk result (λ next. length next ≤ room) }
     ensures next { (points : List Point) → AreRowsOf (test_of test.now) points (rows_in layer.now) →
         IfOk result (λ next. rows_in next ≡ map packed (behind (test_of test.now) points)) }
@@ -191,7 +194,8 @@ pub(crate) fn next_layer(
         AreEndOrders has_orders (test_of test.now) ends.old →
         OnOk result (AreEndOrders has_orders (test_of test.now) ends.new) }
     ensures many { (points : List Point) → AreRowsOf (test_of test.now) points (rows_in layer.now) →
-        result ≡ Err EndsError.TooMany → room < length (behind (test_of test.now) points) }
+        result ≡ Err LayerError.TooMany → room < length (behind (test_of test.now) points) }
+    ensures small { result ≡ Err LayerError.TooMany → room < 2 ^ 63 }
 {
     let mut next = Rows::new(alloc);
     for number in 0..layer.len() {

@@ -87,7 +87,10 @@ const ERRORS: &[(RunError, &str)] = &[
     (RunError::Write, "writing failed"),
     (RunError::NoMemory, "no memory"),
     (RunError::BadConfig, "bad configuration"),
-    (RunError::TooManyStates(7), "more than 7 states"),
+    (
+        RunError::TooManyStates(7, 9),
+        "more than 7 states; 9 are enough to go on",
+    ),
     (
         RunError::Litmus(LitmusError {
             line: 4_294_967_299,
@@ -141,7 +144,7 @@ fn errors_have_these_numbers(rt: HostRuntime) {
         RunError::Litmus(cut).number(),
         RunError::Trace(fault).number(),
         RunError::BadConfig.number(),
-        RunError::TooManyStates(7).number(),
+        RunError::TooManyStates(7, 9).number(),
         RunError::Opening(fault).number(),
     ];
     assert_eq!(rt; numbers, [1, 2, 3, 4, 5, 6, 7, 12]);

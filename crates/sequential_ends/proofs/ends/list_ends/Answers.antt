@@ -1,13 +1,13 @@
-use Rattle.std.proofs.Common.{◌≡◌, ℕ, suc, ◌+◌, ◌^◌, ◌≤◌, List, [], ◌∷◌, refl, sym, ap, ◌∙◌, subst, arith, length, map, ⊎_elim}
+use Rattle.std.proofs.Common.{◌≡◌, ℕ, suc, ◌+◌, ◌-◌, ◌*◌, ◌^◌, ◌≤◌, min, Err, ap₂, List, [], ◌∷◌, refl, sym, ap, ◌∙◌, subst, arith, length, map, ⊎_elim}
 use Rattle.std.proofs.lemmas.Bool.{cases_eq}
 use Rattle.std.proofs.lemmas.Nat.{mul-le}
 use Rattle.litmus_reader.specs.TestViews.{test_of}
 use Rattle.litmus_reader.proofs.Lemmas.{well_formed}
 use Rattle.sequential_ends.specs.Packed.{packed}
 use Rattle.sequential_ends.specs.Layers.{layer, ends_before, with_ends, kept_at, states_before}
-use Rattle.sequential_ends.proofs.Packing.{plus_one, passed_on}
+use Rattle.sequential_ends.proofs.Packing.{plus_one}
 use Rattle.sequential_ends.proofs.LayerPoints.{lists_in}
-use Rattle.sequential_ends.proofs.EveryEnd.{layer_few, layer_empty, layer_long, each_is_end, each_end_is, few_kept}
+use Rattle.sequential_ends.proofs.EveryEnd.{layer_few, layer_empty, layer_long, each_is_end, each_end_is, few_kept, stops}
 use Rattle.std.proofs.lemmas.List.Elements.{All-from_recursion, recursion_from_All}
 use Rattle.std.proofs.lemmas.List.Sorted.{All-permutation}
 use Rattle.sequential_ends.specs.Orders.{IsEndOrder, AreLed, AreEndOrders}
@@ -36,29 +36,46 @@ loop-alloc-init c =
       kept = λ j lt. absurd (omega (arith, lt));
     }
 
-pub returns-in-Err-clause-many : goal.returns-in-Err-clause-many
-returns-in-Err-clause-many c = λ told.
+pub returns-then-most_states-eq0-clause-many : goal.returns-then-most_states-eq0-clause-many
+returns-then-most_states-eq0-clause-many c = λ enough told.
+    let same : 1 + c.threads.result ≡ enough = cc in
+    let none = c.if-most_states-eq0.true in
+    let threads = c.threads.ensures.count in
+    let few = c.threads.ensures.few.1 in
+    stops (test_of c.args.test.now) 0 c.args.most_states enough (λ j lt. absurd (omega (arith, lt)))
+    (omega (arith, none)) (omega (arith, none)) (omega (arith, same, threads, few))
+
+pub returns-in-Err-TooMany-clause-many : goal.returns-in-Err-TooMany-clause-many
+returns-in-Err-TooMany-clause-many c = λ enough told.
     let test = test_of c.args.test.now in
     let k = c.loop-alloc.turns in
     let inv = c.loop-alloc.invariant in
-    let more = c.next_layer.ensures.many (layer test k) (inv.layer_is, lists_in test k) (c.in-Err.is ∙ passed_on _ _ told) in
+    let refused = c.in-Err-TooMany.is ∙ ap Err c.in-Err-TooMany.field-0-is in
+    let more = c.next_layer.ensures.many (layer test k) (inv.layer_is, lists_in test k) refused in
+    let small = c.next_layer.ensures.small refused in
     let long = layer_long test k c.loop-alloc.layer inv.layer_is in
-    let is = c.len-in-loop-alloc-2.ensures in
-    let few = inv.few in (k, omega (arith, more, long, is, few))
+    let is = c.len-in-loop-alloc-2.ensures.count in
+    let short = c.len-in-loop-alloc-2.ensures.small in
+    let few = inv.few in
+    let same : c.saturating_mul-enough.result ≡ enough = cc in
+    stops test k c.args.most_states enough inv.kept (omega (arith, more, long, is, few)) (omega (arith, small, is, short))
+    (sym same ∙ c.saturating_mul-enough.ensures
+    ∙ ap₂ (λ (n threads : ℕ). min (n * (1 + threads)) (2 ^ 64 - 1)) (c.len-in-Err-TooMany.ensures.count ∙ long)
+    c.threads-in-Err-TooMany.ensures.count)
 
 pub overflow_add-turns : goal.overflow_add-turns
 overflow_add-turns c =
     let test = test_of c.args.test.now in
     let small = c.args.test.now.cells.small in
     let some = c.loop-alloc-test.true in
-    let is = c.len.ensures in
+    let is = c.len.ensures.count in
     let le = layer_few test c.loop-alloc.turns c.loop-alloc.layer c.loop-alloc.invariant.layer_is (omega (arith, some, is)) in
     let most = mul-le test.threads (length test.cells) 16 (2 ^ 63) c.args.test.now.few.1 (omega (arith, small)) in omega (arith, le, most)
 
 pub loop-alloc-smaller : goal.loop-alloc-smaller
 loop-alloc-smaller c =
     let some = c.loop-alloc-test.true in
-    let is = c.len.ensures in
+    let is = c.len.ensures.count in
     let le = layer_few (test_of c.args.test.now) c.loop-alloc.turns c.loop-alloc.layer c.loop-alloc.invariant.layer_is
     (omega (arith, some, is)) in omega (arith, le)
 
@@ -70,11 +87,11 @@ loop-alloc-preserved c =
     let next = c.in-Ok.ensures in
     let long = layer_long test k c.loop-alloc.layer inv.layer_is in
     let room = next.few in
-    let is = c.len-in-loop-alloc-2.ensures in
+    let is = c.len-in-loop-alloc-2.ensures.count in
     let few = inv.few in
     let sum = c.saturating_add-states.ensures in
     let old = inv.states_are in
-    let len = c.len-in-loop-alloc.ensures in
+    let len = c.len-in-loop-alloc.ensures.count in
     let more : states_before test (k + 1) ≡ states_before test k + length (layer test k) =
     ap (states_before test) (sym (plus_one k)) in
     record {
@@ -98,7 +115,7 @@ pub returns-clause-states : goal.returns-clause-states
 returns-clause-states c =
     let inv = c.loop-alloc.invariant in
     let over = c.loop-alloc-test.false in
-    let len = c.len.ensures in
+    let len = c.len.ensures.count in
     record {
       last = c.loop-alloc.turns;
       none_left = layer_empty (test_of c.args.test.now) c.loop-alloc.turns c.loop-alloc.layer inv.layer_is
@@ -111,7 +128,7 @@ returns-clause-outcomes c = λ values there.
     let test = test_of c.args.test.now in
     let inv = c.loop-alloc.invariant in
     let over = c.loop-alloc-test.false in
-    let len = c.len.ensures in
+    let len = c.len.ensures.count in
     let none = layer_empty test c.loop-alloc.turns c.loop-alloc.layer inv.layer_is (omega (arith, over, len)) in
     c.ends_of_turns_are_outcomes.ensures.sound test values (well_formed c.args.test.now)
     (each_is_end test c.loop-alloc.turns none c.loop-alloc.rows c.sort.new.self inv.rows_are c.in_ok-sort.ensures.same
@@ -122,7 +139,7 @@ returns-clause-all c = λ values outcome.
     let test = test_of c.args.test.now in
     let inv = c.loop-alloc.invariant in
     let over = c.loop-alloc-test.false in
-    let len = c.len.ensures in
+    let len = c.len.ensures.count in
     let none = layer_empty test c.loop-alloc.turns c.loop-alloc.layer inv.layer_is (omega (arith, over, len)) in
     each_end_is test c.loop-alloc.turns none c.loop-alloc.rows c.sort.new.self inv.rows_are c.in_ok-sort.ensures.same
     values (c.ends_of_turns_are_outcomes.ensures.complete test values (well_formed c.args.test.now) outcome)
@@ -132,7 +149,7 @@ returns-clause-few c =
     let test = test_of c.args.test.now in
     let inv = c.loop-alloc.invariant in
     let over = c.loop-alloc-test.false in
-    let len = c.len.ensures in
+    let len = c.len.ensures.count in
     let none = layer_empty test c.loop-alloc.turns c.loop-alloc.layer inv.layer_is (omega (arith, over, len)) in
     few_kept test c.loop-alloc.turns none c.loop-alloc.rows c.sort.new.self inv.rows_are c.in_ok-sort.ensures.same
     c.args.most_states inv.kept

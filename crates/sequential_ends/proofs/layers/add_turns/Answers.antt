@@ -37,6 +37,9 @@ returns-in-Err-clause-many c = λ p points is from told.
     let grows = turns_grow test p (t + 1) c.args.test.now.threads points (omega (arith, lt, end)) in
     omega (arith, more, rows, grows)
 
+pub returns-in-Err-clause-small : goal.returns-in-Err-clause-small
+returns-in-Err-clause-small c = λ told. c.add.ensures.small (c.in-Err.is ∙ passed_on _ _ told)
+
 parts : (c : goal.Joined-next) (p : Point) → IsRowOf (test_of c.args.test.now) p c.args.row.now →
     (c.first_list-in-loop-thread.result.0.now ≡ slice_index_or p.received c.loop-thread.thread [])
     × (c.first_list-in-loop-thread.result.1.now ≡ packed_lists (drop (c.loop-thread.thread + 1) p.received))

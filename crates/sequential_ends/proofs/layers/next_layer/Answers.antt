@@ -32,6 +32,9 @@ returns-in-Err-clause-many c = λ points are told.
     found.1) in
     let grows = behind_grows test points (i + 1) in omega (arith, more, next, grows)
 
+pub returns-in-Err-clause-small : goal.returns-in-Err-clause-small
+returns-in-Err-clause-small c = λ told. c.add_point-added.ensures.small (c.in-Err.is ∙ passed_on _ _ told)
+
 abbrev IsLed : Bool → Litmus → List ℕ × List ℕ → Type 0
 IsLed has test row = (p : Point) × IsRowOf test p row.0 × IsOrderOf has test row.1 p
 
@@ -64,6 +67,6 @@ loop-number-preserved c =
       )
       | in_default w ↦
           let lt = c.loop-number-test.true in
-          let end = c.len-number-end.ensures in
+          let end = c.len-number-end.ensures.count in
           absurd (none_missing c.args.layer.now i (omega (arith, lt, end)) (sym c.get.ensures ∙ ap now_of w.in_default.is))
     ]

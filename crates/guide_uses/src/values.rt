@@ -4,7 +4,7 @@ use crate::drive::first_store;
 use crate::ends::ends_and_runs;
 use crate::program::pass_message;
 use interleaving_core::{Answer, LineNo, OpenError, System};
-use litmus_reader::read;
+use litmus_reader::{Test, read};
 use physiological_order::{Op, Record, WordAddr};
 use programs::Step;
 use report::MachineOptions;
@@ -17,7 +17,7 @@ const STORE_BUFFERING: &[u8] = b"RISCV SB
  P0          | P1          ;
  sw x5,0(x6) | sw x5,0(x6) ;
  lw x7,0(x8) | lw x7,0(x8) ;
-exists (0:x7=0 /\\ 1:x7=0)
+exists (0:x7=1 /\\ 1:x7=0)
 ";
 
 // A core loads a word, advances 15 times, and loads it again.
@@ -79,15 +79,18 @@ fn is_as_told(alloc: Global) -> Result<bool, OpenError> {
     Ok(are_answered(&answers) && is_stored(&system))
 }
 
-// Whether the end of this number has these values, and no order.
-fn is_end(ends: &Ends, number: usize, values: &[u64]) -> bool {
+// Whether the end of this number has these values, and no order, and whether the condition's expression holds there.
+fn is_end(test: &Test, ends: &Ends, number: usize, values: &[u64], holds: bool) -> bool {
     match ends.get(number) {
-        Some((found, order)) => found == values && order.is_empty(),
+        Some((found, order)) => {
+            found == values && order.is_empty() && test.values_hold(found) == holds
+        }
         None => false,
     }
 }
 
-// One thread's load comes behind the other's store: the ends but that with both loads 0, in rising order.
+// One thread's load comes behind the other's store: the ends but that with both loads 0, in rising order. In one of them
+// the first thread's load is 1 and the second's 0.
 fn are_ends_of_store_buffering(alloc: Global) -> Result<bool, EndsError> {
     let Ok(test) = read(alloc, STORE_BUFFERING) else {
         return Ok(false);
@@ -98,9 +101,9 @@ fn are_ends_of_store_buffering(alloc: Global) -> Result<bool, EndsError> {
     let (ends, runs) = ends_and_runs(alloc, &test, config, 20)?;
     Ok(
         ends.len() == 3
-            && is_end(&ends, 0, &[0, 1])
-            && is_end(&ends, 1, &[1, 0])
-            && is_end(&ends, 2, &[1, 1])
+            && is_end(&test, &ends, 0, &[0, 1], false)
+            && is_end(&test, &ends, 1, &[1, 0], true)
+            && is_end(&test, &ends, 2, &[1, 1], false)
             && runs.len() == 20,
     )
 }

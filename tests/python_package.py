@@ -267,6 +267,9 @@ def ends(is_proved):
         fail(f"ends: {listed}")
     if tardis.ends(text, states=7) != listed:
         fail("ends of 7 states at once")
+    orders = [end.order for end in tardis.ends(text, orders=True).ends]
+    if orders != [("P0:1", "P0:2", "P1:1", "P1:2"), ("P1:1", "P1:2", "P0:1", "P0:2"), ("P0:1", "P1:1", "P0:2", "P1:2")]:
+        fail(f"orders: {orders}")
     refuses(tardis.TooManyStates, lambda: tardis.ends(text, states=6), "a seventh state")
     refuses(tardis.BadConfiguration, lambda: tardis.ends(text, states=0), "no state")
     refuses(tardis.BadText, lambda: tardis.ends("RISCV\n"), "no litmus test")

@@ -31,6 +31,7 @@ class End:
 
     values: dict[str, int]
     holds: bool
+    order: tuple[str, ...] = ()  # operations that lead there, if asked for: P0:2 is the second of thread 0
 
 
 @dataclass(frozen=True)
@@ -102,10 +103,16 @@ def litmus_report(text: str, is_proved: bool) -> LitmusReport:
     return LitmusReport(text, is_proved, named["test"], numbers, states, named["condition"], named["verdict"] == "yes")
 
 
+def end_of(line: str, holds: bool) -> End:
+    """An end, from its line, in which an order stands behind three spaces."""
+    values, _, order = line.partition("   ")
+    return End(values_of(values.split()), holds, tuple(order.split()))
+
+
 def ends_report(text: str, is_proved: bool) -> EndsReport:
     """A list of ends, from its text."""
     lines = text.splitlines()
-    ends = [End(values_of(line[2:].split()), line[0] == "*") for line in lines if line[:2] in ("  ", "* ")]
+    ends = [end_of(line[2:], line[0] == "*") for line in lines if line[:2] in ("  ", "* ")]
     named = {words[0]: words[1:] for words in map(str.split, lines) if words}
     return EndsReport(text, is_proved, named["test"][0], int(named["states"][0]), ends, named["condition"][0],
                       named["observation"][1])

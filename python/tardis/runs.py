@@ -52,15 +52,16 @@ def litmus(text: str | bytes, **options: Any) -> LitmusReport:
     return litmus_report(*run("litmus", text, Options(**options)))
 
 
-def ends(text: str | bytes, *, states: int = 4_194_304) -> EndsReport:
+def ends(text: str | bytes, *, states: int = 4_194_304, orders: bool = False) -> EndsReport:
     """Lists every end that a litmus test has, in any run, by the proved program. `states` may be kept at once, from 1
-    to 4294967295.
+    to 4294967295. With `orders`, each end has an order of the memory operations that leads there.
 
     Raises BadText, BadConfiguration, TooManyStates or NoMemory."""
     within("states", states, 1, 2 ** 32 - 1)
     program = found.program()
     command = [program] if program else found.second("oracle.py", "the program")
-    return ends_report(printed(command, ["ends", "--states", str(states)], in_bytes(text)), program is not None)
+    words = ["ends", "--states", str(states)] + ["--orders"] * orders
+    return ends_report(printed(command, words, in_bytes(text)), program is not None)
 
 
 @overload

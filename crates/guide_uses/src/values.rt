@@ -89,8 +89,8 @@ fn is_end(test: &Test, ends: &Ends, number: usize, values: &[u64], holds: bool) 
     }
 }
 
-// One thread's load comes behind the other's store: the ends but that with both loads 0, in rising order. In one of them
-// the first thread's load is 1 and the second's 0.
+// One thread's load comes behind the other's store: the ends but that with both loads 0, in rising order. In one
+// of them the first thread's load is 1 and the second's 0.
 fn are_ends_of_store_buffering(alloc: Global) -> Result<bool, EndsError> {
     let Ok(test) = read(alloc, STORE_BUFFERING) else {
         return Ok(false);

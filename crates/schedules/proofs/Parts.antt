@@ -66,10 +66,10 @@ module _ {P : Type 0} (acts : Acts P) where
   made_keeps {p} {q} {xs} h = ap is_some h.notes ∙ kept_as p.log.events (events_of acts (standing p false) xs)
 
   pub none_made : (p : Point P) → IsMade acts [] p p false
-  none_made p = record { leads = refl; notes = noted_none p.log.events }
+  none_made p = record { leads = refl; notes = noted_none p.log.events; asked = λ asked. asked }
 
   pub list_made : (p : Point P) → IsMade acts (Lists ∷ []) p p false
-  list_made p = record { leads = refl; notes = noted_none p.log.events }
+  list_made p = record { leads = refl; notes = noted_none p.log.events; asked = λ asked. asked }
 
   pub list_refused : (p : Point P) (xs : List Action) → IsRefused acts (Lists ∷ xs) p p
   list_refused p xs =
@@ -85,6 +85,7 @@ module _ {P : Type 0} (acts : Acts P) where
         ∙ ap (λ (l : List Event). option_map (λ events. events ++ l) p.log.events)
         (ap (λ (s : Standing P). events_of acts (standing p false) xs ++ events_of acts s ys) (sym h.leads)
         ∙ sym (events_both (standing p false) xs ys));
+    asked = λ asked. k.asked (h.asked asked);
   }
 
   made_out : {p q : Point P} (xs ys : List Action) → IsMade acts xs p q true → IsMade acts (xs ++ ys) p q true
@@ -97,6 +98,7 @@ module _ {P : Type 0} (acts : Acts P) where
         ∙ ap (λ (s : Standing P). events_of acts (standing p false) xs ++ events_of acts s ys) h.leads
         ∙ ap (λ (l : List Event). events_of acts (standing p false) xs ++ l) (is_silent q ys)
         ∙ append-nil (events_of acts (standing p false) xs)));
+    asked = h.asked;
   }
 
   refused_first : {p q : Point P} (xs ys : List Action) → IsRefused acts xs p q → IsRefused acts (xs ++ ys) p q

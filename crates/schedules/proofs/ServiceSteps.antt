@@ -1,6 +1,6 @@
 -- What a run keeps of its start: each program was told of its core's records, and gives next what is still open; a core
 -- without a program has neither.
-use Rattle.std.proofs.Common.{◌≡◌, ◌≢◌, ◌⊎◌, inl, inr, ℕ, ◌<◌, List, [], ◌∷◌, ◌++◌, Option, Some, None, IfSome, refl}
+use Rattle.std.proofs.Common.{◌≡◌, ◌≢◌, inl, inr, ℕ, ◌<◌, List, [], ◌∷◌, ◌++◌, Option, Some, None, IfSome, refl}
 use Rattle.std.proofs.Common.{sym, ap, ◌∙◌, subst, append-nil, append_assoc}
 use Rattle.std.specs.Prelude.{slice_get}
 use Rattle.std.specs.List.{AllByRecursion}
@@ -40,7 +40,7 @@ module _ {P : Type 0} (acts : Acts P) where
       ap (λ (o : Option P). slice_get (done_of acts programs c received o) c) at ∙ get-set_same programs c
       (acts.done q received) q at
 
-  done_there : (programs : List P) (c : ℕ) (received : Option ℕ) (k : ℕ) → k ≢ c →
+  pub done_there : (programs : List P) (c : ℕ) (received : Option ℕ) (k : ℕ) → k ≢ c →
       slice_get (done_in acts programs c received) k ≡ slice_get programs k
   done_there programs c received k other = by_program (slice_get programs c)
     where

@@ -1,6 +1,7 @@
 -- How a run notes the events that it makes.
-use Rattle.std.specs.Prelude.{◌≡◌, ℕ, Bool, true, false, ◌||◌, List, [], ◌∷◌, ◌++◌, Option, is_some, option_map, IsTrue}
-use Rattle.std.specs.Prelude.{Some, None, Result, Ok, Err}
+use Rattle.std.specs.Prelude.{◌≡◌, ℕ, ◌<◌, Bool, true, false, ◌||◌, List, [], ◌∷◌, ◌++◌, Option, is_some, option_map}
+use Rattle.std.specs.Prelude.{Some, None, Result, Ok, Err, IsTrue, if◌then◌else◌}
+use Rattle.std.specs.Int.{bit_at}
 use Rattle.physiological_order.specs.declared.operation.Record.{Record}
 use Rattle.machine_table.specs.declared.event.Event.{Event}
 use Rattle.machine_table.specs.declared.event.Answer.{Answer}
@@ -13,26 +14,41 @@ use Rattle.interleaving_core.specs.PartChanges.{answer_in}
 use Rattle.interleaving_core.specs.StepAnswers.{asks_memory}
 use Rattle.programs.specs.declared.ends.End.{End}
 use Rattle.programs.specs.declared.ends.End.TheVariants.{AllDone, Stalled, TurnsUsed, Exhausted, NoMemory}
-use Rattle.programs.specs.Acts.{Acts}
+use Rattle.programs.specs.Acts.{Acts, next_in}
 use Rattle.schedules.specs.Parts.{Action, Standing, Part, after_actions, events_of, is_progress, is_times_end}
 use Rattle.schedules.specs.Runs.{AsksMemory}
 
--- the events so far, if they are kept, whether an answer of this turn was progress, and how many more can be noted
--- before the next allocation
+-- the events so far, if they are kept, whether an answer of this turn was progress, a bit for each core whose program
+-- has a next step, and how many more events can be noted before the next allocation
 pub record Log : Type 0 where
   pub events : Option (List Event)
   pub has_progressed : Bool
+  pub unfinished : ℕ
   pub reserved : ℕ
 
 -- an answered event is noted
 pub record IsNoted (log : Log) (event : Event) (answer : Answer) (after : Log) : Type 0 where
   pub events : after.events ≡ option_map (λ events. events ++ event ∷ []) log.events
   pub has_progressed : after.has_progressed ≡ (log.has_progressed || is_progress answer)
+  pub unfinished : after.unfinished ≡ log.unfinished
 
 -- nothing is noted
 pub record IsSame (log after : Log) : Type 0 where
   pub events : after.events ≡ log.events
   pub has_progressed : after.has_progressed ≡ log.has_progressed
+  pub unfinished : after.unfinished ≡ log.unfinished
+
+-- the bits are those of the first 64 cores whose programs have a next step
+abbrev pub IsAsked : {P : Type 0} → Acts P → List P → ℕ → Type 0
+IsAsked acts programs mask =
+    (core : ℕ) → core < 64 → bit_at mask core ≡ (if is_some (next_in acts programs core) then 1 else 0)
+
+-- programs are told something, and only whether they have a next step is noted
+pub record IsTold {P : Type 0} (acts : Acts P) (programs : List P) (log : Log) (told : List P) (after : Log) :
+    Type 0 where
+  pub events : after.events ≡ log.events
+  pub has_progressed : after.has_progressed ≡ log.has_progressed
+  pub asked : IsAsked acts programs log.unfinished → IsAsked acts told after.unfinished
 
 abbrev pub is_refused : Answer → Bool
 is_refused (Refused why) = true
@@ -81,10 +97,12 @@ standing p out = record {
 abbrev pub KeepsAs : Log → Log → Type 0
 KeepsAs log after = is_some after.events ≡ is_some log.events
 
--- actions lead from the one point to the other, where times may be exhausted, and their events are noted
+-- actions lead from the one point to the other, where times may be exhausted, and their events are noted, and which
+-- programs have a next step
 pub record IsMade {P : Type 0} (acts : Acts P) (actions : List Action) (p q : Point P) (out : Bool) : Type 0 where
   pub leads : after_actions acts (standing p false) actions ≡ standing q out
   pub notes : q.log.events ≡ option_map (λ events. events ++ events_of acts (standing p false) actions) p.log.events
+  pub asked : IsAsked acts p.programs p.log.unfinished → IsAsked acts q.programs q.log.unfinished
 
 -- memory was refused behind some of the actions, where the next one asks for some
 pub record IsRefused {P : Type 0} (acts : Acts P) (actions : List Action) (p q : Point P) : Type 0 where

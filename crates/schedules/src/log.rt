@@ -1,23 +1,26 @@
-//! The events that a run made, each noted when it is answered.
-ghost use Rattle.std.specs.Prelude.{◌≡◌, ◌<◌, ◌++◌, ◌∷◌, [], false, ◌||◌, IsSome, List, None, OnErr, OnOk, Some};
-ghost use Rattle.std.specs.Prelude.{is_some, option_map, true};
+//! The events that a run made, each noted when it is answered, and which programs have a next step.
+ghost use Rattle.std.specs.Prelude.{◌≡◌, ◌≢◌, ◌<◌, ◌++◌, ◌∷◌, [], ℕ, false, ◌||◌, IsSome, List, None, OnErr, OnOk};
+ghost use Rattle.std.specs.Prelude.{Some, if◌then◌else◌, is_some, option_map, true};
+ghost use Rattle.std.specs.Int.{bit_at};
 ghost use Rattle.interleaving_core.specs.PartChanges.{answer_in};
-ghost use Rattle.schedules.specs.Notes.{Noted, answered, is_no_memory, is_refused};
+ghost use Rattle.schedules.specs.Notes.{IsSame, Noted, answered, is_no_memory, is_refused};
 ghost use Rattle.schedules.specs.Parts.{is_advanced, is_times_end, is_held, is_evicted, is_progress, is_no_room};
 
-use interleaving_core::{Event, PlainAnswer, Refusal, System};
+use interleaving_core::{Event, PlainAnswer, Refusal, System, with_bit};
 use machine_table::laws::every_answer_keeps_its_word;
 use physiological_order::{Op, Record};
 use programs::End;
 use std::alloc::{AllocError, Global};
 use std::marker::Model;
 
-// The events of a run so far, if it keeps them, and whether one of them was progress in this turn.
+// The events of a run so far, if it keeps them, whether one of them was progress in this turn, and the cores whose
+// programs have a next step: core c is one exactly if bit c is set.
 #[derive(Drop)]
 pub(crate) struct Log {
     events: Vec<Event>,
     keeps: bool,
     has_progressed: bool,
+    unfinished: u64,
 }
 
 impl Model for Log {
@@ -29,6 +32,7 @@ impl Model for Log {
     ghost view = { λ a. record {
       events = if a.keeps then Some a.events.items else None;
       has_progressed = a.has_progressed;
+      unfinished = a.unfinished;
       reserved = if a.keeps then vec_capacity a.events - vec_len a.events else 1;
     } };
 }
@@ -99,6 +103,7 @@ impl Log {
             events: Vec::new(alloc),
             keeps: true,
             has_progressed: false,
+            unfinished: 0,
         }
     }
 
@@ -111,6 +116,7 @@ impl Log {
             events: Vec::new(alloc),
             keeps: false,
             has_progressed: false,
+            unfinished: 0,
         }
     }
 
@@ -128,6 +134,33 @@ impl Log {
         self.has_progressed
     }
 
+    // The cores whose programs have a next step, as was noted.
+    #[inline(always)]
+    pub(crate) fn unfinished(&self) -> u64
+        ensures { result ≡ self.now.unfinished }
+    {
+        self.unfinished
+    }
+
+    // The cores whose programs have a next step are noted.
+    pub(crate) fn note_all(&mut self, unfinished: u64)
+        ensures { self.new ≡ record self.old { unfinished = unfinished } }
+    {
+        self.unfinished = unfinished;
+    }
+
+    // Whether a core's program has a next step is noted.
+    #[inline(always)]
+    pub(crate) fn note_next(&mut self, core: u32, has_next: bool)
+        requires { core < 64 }
+        ensures same { self.new ≡ record self.old { unfinished = self.new.unfinished } }
+        ensures here { bit_at self.new.unfinished core ≡ (if has_next then 1 else 0) }
+        ensures elsewhere { (i : ℕ) → i ≢ core →
+            bit_at self.new.unfinished i ≡ bit_at self.old.unfinished i }
+    {
+        self.unfinished = with_bit(self.unfinished, core, has_next);
+    }
+
     // The events, which were kept.
     pub(crate) fn into_events(self) -> Vec<Event>
         requires { IsSome self.events }
@@ -139,8 +172,7 @@ impl Log {
     // Reserves memory for one more event.
     #[inline(always)]
     fn reserve(&mut self) -> Result<(), AllocError>
-        ensures events { self.new.events ≡ self.old.events }
-        ensures progressed { self.new.has_progressed ≡ self.old.has_progressed }
+        ensures same { IsSame self.old self.new }
         ensures ok { OnOk result (0 < self.new.reserved) }
         ensures refused { OnErr result (is_some self.old.events ≡ true) }
     {
@@ -157,6 +189,7 @@ impl Log {
         ensures events { self.new.events ≡
             option_map (λ events. events ++ event.now ∷ []) self.old.events }
         ensures progressed { self.new.has_progressed ≡ self.old.has_progressed }
+        ensures unfinished { self.new.unfinished ≡ self.old.unfinished }
     {
         // The check finds the parts of an event only where the function names an operation's type.
         let _op: Option<Op> = None;
@@ -174,6 +207,7 @@ impl Log {
             option_map (λ events. events ++ event.now ∷ []) self.old.events }
         ensures progressed { (records : List Record) → self.new.has_progressed ≡
             (self.old.has_progressed || is_progress (answer_in records plain.now)) }
+        ensures unfinished { self.new.unfinished ≡ self.old.unfinished }
     {
         self.keep(event);
         if !self.has_progressed {

@@ -1,13 +1,14 @@
 //! What a run looks up in the machine and the programs, and what it gives these.
 ghost use Rattle.std.specs.Prelude.{◌≡◌, List};
+ghost use Rattle.schedules.specs.Notes.{IsAsked, IsTold};
 ghost use Rattle.interleaving_core.specs.PartChanges.{answer_in};
 ghost use Rattle.machine_table.specs.Machine.{open_op};
 ghost use Rattle.programs.specs.Acts.{next_in, done_in};
 ghost use Rattle.schedules.specs.Parts.{programs_told, told_advance};
 ghost use Rattle.schedules.specs.Runs.{are_over, is_over};
 
-use crate::log::is_advanced;
-use interleaving_core::{PlainAnswer, System};
+use crate::log::{Log, is_advanced};
+use interleaving_core::{PlainAnswer, System, with_bit};
 use physiological_order::Record;
 use programs::Step;
 use programs::program::Program;
@@ -23,8 +24,20 @@ pub(crate) fn next_in<P: Program>(programs: &[P], core: u32) -> Option<Step>
     programs[at].next()
 }
 
-// Tells a core's program what its next step received.
-fn tell_done<P: Program>(programs: &mut [P], core: u32, received: Option<u64>)
+// The cores whose programs have a next step, of the first 64: core c is one exactly if bit c is set.
+pub(crate) fn unfinished<P: Program>(programs: &[P]) -> u64
+    ensures { IsAsked P.acts programs.now result }
+{
+    let mut mask = 0;
+    for core in 0..programs.len().min(64) as u32 {
+        mask = with_bit(mask, core, next_in(programs, core).is_some());
+    }
+    mask
+}
+
+// Gives a core's program what its next step received.
+#[inline(always)]
+fn give_done<P: Program>(programs: &mut [P], core: u32, received: Option<u64>)
     ensures { programs.new ≡ done_in P.acts programs.old core received }
 {
     let at = core as usize;
@@ -33,27 +46,53 @@ fn tell_done<P: Program>(programs: &mut [P], core: u32, received: Option<u64>)
     }
 }
 
+// Tells a core's program what its next step received, and asks whether it has another one.
+fn tell_done<P: Program>(programs: &mut [P], log: &mut Log, core: u32, received: Option<u64>)
+    ensures done { programs.new ≡ done_in P.acts programs.old core received }
+    ensures told { IsTold P.acts programs.old log.old programs.new log.new }
+{
+    give_done(programs, core, received);
+    if core >= 64 {
+        return;
+    }
+    log.note_next(core, next_in(programs, core).is_some());
+}
+
 // Tells a core's program of a completion, which the machine's last record is of.
-pub(crate) fn tell<P: Program>(system: &System, programs: &mut [P], plain: &Option<PlainAnswer>)
-    ensures { programs.new ≡ programs_told P.acts programs.old
+pub(crate) fn tell<P: Program>(
+    system: &System,
+    programs: &mut [P],
+    log: &mut Log,
+    plain: &Option<PlainAnswer>,
+)
+    ensures done { programs.new ≡ programs_told P.acts programs.old
         (answer_in system.now.records plain.now) }
+    ensures told { IsTold P.acts programs.old log.old programs.new log.new }
 {
     if plain.is_some() {
         return;
     }
-    if let Some(record) = system.records().last() {
-        tell_done(programs, record.core, record.received);
-    }
+    let Some(record) = system.records().last() else {
+        return;
+    };
+    tell_done(programs, log, record.core, record.received);
 }
 
 // Tells a core's program that it has advanced.
-pub(crate) fn tell_advance<P: Program>(programs: &mut [P], core: u32, plain: &Option<PlainAnswer>)
-    ensures { (records : List Record) → programs.new ≡
+pub(crate) fn tell_advance<P: Program>(
+    programs: &mut [P],
+    log: &mut Log,
+    core: u32,
+    plain: &Option<PlainAnswer>,
+)
+    ensures done { (records : List Record) → programs.new ≡
         told_advance P.acts programs.old core (answer_in records plain.now) }
+    ensures told { IsTold P.acts programs.old log.old programs.new log.new }
 {
-    if is_advanced(plain) {
-        tell_done(programs, core, None);
+    if !is_advanced(plain) {
+        return;
     }
+    tell_done(programs, log, core, None);
 }
 
 // Whether a core has no open operation and its program no next step.
@@ -66,8 +105,21 @@ fn is_over<P: Program>(system: &System, programs: &[P], core: u32) -> bool
     next_in(programs, core).is_none()
 }
 
+// Whether that is so of all cores. While a program has a next step, the cores aren't asked.
+#[inline(always)]
+pub(crate) fn are_over<P: Program>(system: &System, programs: &[P], log: &Log) -> bool
+    requires { IsAsked P.acts programs.now log.now.unfinished }
+    ensures { result ≡ are_over P.acts system.now programs.now system.now.config.cores }
+{
+    let cores = system.cores();
+    if log.unfinished().trailing_zeros() < cores {
+        return false;
+    }
+    are_below_over(system, programs, cores)
+}
+
 // Whether that is so of all cores below a number.
-pub(crate) fn are_over<P: Program>(system: &System, programs: &[P], cores: u32) -> bool
+fn are_below_over<P: Program>(system: &System, programs: &[P], cores: u32) -> bool
     ensures { result ≡ are_over P.acts system.now programs.now cores }
 {
     for core in 0..cores {

@@ -4,7 +4,7 @@ ghost use Rattle.schedules.specs.Notes.{KeepsAs};
 ghost use Rattle.schedules.specs.Runs.{Finishes, initial_position, plan_of};
 
 use crate::log::Log;
-use crate::look_ups::are_over;
+use crate::look_ups::{are_over, unfinished};
 use crate::schedule::Schedule;
 use interleaving_core::System;
 use programs::End;
@@ -33,8 +33,9 @@ pub(crate) fn run<P: Program, S: Schedule<P>>(
         log.new.events system.new programs.new result }
     ensures kept { KeepsAs log.old log.new }
 {
+    log.note_all(unfinished(programs));
     for _made in 0..limit {
-        if are_over(system, programs, system.cores()) {
+        if are_over(system, programs, log) {
             return End::AllDone;
         }
         log.begin_turn();
@@ -45,7 +46,7 @@ pub(crate) fn run<P: Program, S: Schedule<P>>(
             return End::Stalled;
         }
     }
-    if are_over(system, programs, system.cores()) {
+    if are_over(system, programs, log) {
         End::AllDone
     } else {
         End::TurnsUsed

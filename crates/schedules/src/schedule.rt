@@ -1,6 +1,6 @@
 //! Schedules: the turns of a run.
 ghost use Rattle.std.specs.Prelude.{◌≡◌, OnOk};
-ghost use Rattle.schedules.specs.Notes.{Did, at};
+ghost use Rattle.schedules.specs.Notes.{Did, IsAsked, at};
 
 use crate::log::Log;
 use interleaving_core::System;
@@ -14,8 +14,9 @@ pub(crate) trait Schedule<P: Program> {
     // How its turns go.
     ghost rule: { Schedule P Self };
 
-    // A turn, to its end or to the end of the run.
+    // A turn, to its end or to the end of the run. Which programs have a next step was noted.
     fn turn(&mut self, system: &mut System, programs: &mut [P], log: &mut Log) -> Result<(), End>
+        requires { IsAsked P.acts programs.old log.old.unfinished }
         ensures did { Did P.acts (rule.turn self.old) (at system.old programs.old log.old) result
             (at system.new programs.new log.new) }
         ensures next { OnOk result (self.new ≡ rule.next self.old) };

@@ -1,18 +1,17 @@
 //! The seeded schedule: each turn draws two words, the first for a list of events, the second for the entry of it that
 //! is made. No list of events is built: the schedule knows the cores that do something, counts the other entries, and
 //! looks the drawn one up.
-ghost use Rattle.std.specs.Prelude.{◌≡◌, ◌∷◌, [], ◌<◌, ◌≤◌, ◌+◌, ◌%◌, ◌*◌, ◌^◌, ◌&&◌, ℕ, List, length, IfOk};
+ghost use Rattle.std.specs.Prelude.{◌≡◌, ◌∷◌, [], ◌<◌, ◌≤◌, ◌+◌, ◌%◌, ◌*◌, ◌^◌, ℕ, List, length, IfOk};
 ghost use Rattle.std.specs.Prelude.{Some};
-ghost use Rattle.std.specs.Prelude.{count_ones, is_some, slice_get};
+ghost use Rattle.std.specs.Prelude.{count_ones, slice_get};
 ghost use Rattle.std.specs.Int.{bit_at};
-ghost use Rattle.interleaving_core.specs.CoreMasks.{IsMask, is_idle};
 ghost use Rattle.interleaving_core.specs.LookUps.{entries, free_copies};
 ghost use Rattle.machine_table.specs.Machine.{open_op};
 ghost use Rattle.ranked_lines.specs.Rising.{sorted};
 ghost use Rattle.programs.specs.Acts.{next_in};
 ghost use Rattle.schedules.specs.SeedSchedule.{advances, core_step, core_steps, choice_at, chosen, drawn, line_events};
 ghost use Rattle.schedules.specs.SeedSchedule.{of_seed, steps};
-ghost use Rattle.schedules.specs.Notes.{Did, at};
+ghost use Rattle.schedules.specs.Notes.{Did, IsAsked, at};
 ghost use Rattle.schedules.specs.SeedViews.{IsLine};
 
 use crate::log::Log;
@@ -233,31 +232,17 @@ fn evict<P: Program, H: Holder>(
     make(system, programs, log, &H::eviction(holder, line))
 }
 
-// The cores that have no open operation and whose programs have a step: core c is one exactly if bit c is set.
-fn issuing<P: Program>(system: &System, programs: &[P]) -> u64
-    ensures { IsMask result (λ core. is_idle system.now core
-        && is_some (next_in P.acts programs.now core)) }
-{
-    let mut ready = 0;
-    let mut left = system.idle_cores();
-    while left != 0 {
-        let core = left.trailing_zeros();
-        ready = with_bit(ready, core, next_in(programs, core).is_some());
-        left = with_bit(left, core, false);
-    }
-    ready
-}
-
-// The cores that do something next, in the same way.
+// The cores that do something next: core c is one exactly if bit c is set.
 #[inline(always)]
-fn ready_cores<P: Program>(system: &System, programs: &[P]) -> u64
+fn ready_cores<P: Program>(system: &System, _programs: &[P], log: &Log) -> u64
+    requires { IsAsked P.acts _programs.now log.now.unfinished }
     ensures each { (core : ℕ) → core < system.now.config.cores → bit_at result core ≡ length
-        (core_step core (open_op system.now core) (next_in P.acts programs.now core)) }
-    ensures count { count_ones result ≡ length (core_steps P.acts system.now programs.now
+        (core_step core (open_op system.now core) (next_in P.acts _programs.now core)) }
+    ensures count { count_ones result ≡ length (core_steps P.acts system.now _programs.now
         system.now.config.cores) }
 {
     let _cores = system.cores();
-    system.trying_cores() | issuing(system, programs)
+    system.trying_cores() | system.idle_cores() & log.unfinished()
 }
 
 // The core that does something after so many others that do: the lowest one, once these are left out.
@@ -309,10 +294,11 @@ fn step<P: Program>(
     log: &mut Log,
     b: u32,
 ) -> Result<(), End>
+    requires { IsAsked P.acts programs.old log.old.unfinished }
     ensures { Did P.acts (chosen P.acts (choice_at (steps P.acts system.old programs.old) b))
         (at system.old programs.old log.old) result (at system.new programs.new log.new) }
 {
-    let ready = ready_cores(system, programs);
+    let ready = ready_cores(system, programs, log);
     let count = ready.count_ones();
     let total = u128::from(count) + u128::from(system.messages());
     if total == 0 {
@@ -338,6 +324,7 @@ fn make_drawn<P: Program>(
     a: u32,
     b: u32,
 ) -> Result<(), End>
+    requires { IsAsked P.acts programs.old log.old.unfinished }
     ensures { Did P.acts (drawn P.acts a b) (at system.old programs.old log.old) result
         (at system.new programs.new log.new) }
 {

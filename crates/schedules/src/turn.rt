@@ -24,7 +24,7 @@ pub(crate) fn make<P: Program>(
         (at system.new programs.new log.new) }
 {
     let plain = step(log, system, event)?;
-    tell(system, programs, &plain);
+    tell(system, programs, log, &plain);
     Ok(())
 }
 
@@ -45,7 +45,7 @@ pub(crate) fn attempt<P: Program>(
         evict::<P>(system, log, core)?;
         return Ok(true);
     }
-    tell(system, programs, &plain);
+    tell(system, programs, log, &plain);
     Ok(false)
 }
 
@@ -123,7 +123,7 @@ fn advance<P: Program>(
         (at system.new programs.new log.new) }
 {
     let plain = step(log, system, &Event::Advance(core))?;
-    tell_advance(programs, core, &plain);
+    tell_advance(programs, log, core, &plain);
     Ok(())
 }
 

@@ -1,8 +1,11 @@
-use Rattle.std.proofs.Common.{sym}
-use Rattle.schedules.proofs.Over.{not_over}
+use Rattle.std.proofs.Common.{sym, arith}
+use Rattle.schedules.proofs.ReadyCores.{one_unfinished}
 use Rattle.schedules.proofs.look_ups.are_over.Goals as goal
 
-pub returns-then-not-is_over : goal.returns-then-not-is_over
-returns-then-not-is_over g c =
-    sym (not_over g.P.Program.acts c.args.system.now c.args.programs.now c.args.cores c.loop-core.core
-    c.loop-core-test.true (sym c.if-not-is_over.ensures))
+pub returns-then-unfinished-cores : goal.returns-then-unfinished-cores
+returns-then-unfinished-cores g c =
+    let a = c.args in
+    let cores = c.cores-cores.ensures in
+    sym (one_unfinished g.P.Program.acts a.system.now a.programs.now c.unfinished.result
+    (rw c.unfinished.ensures c.requires) a.system.now.config.cores (omega arith)
+    (omega (arith, cores.cores, cores.most)) (omega (arith, cores.cores, c.if-unfinished-cores.true)))

@@ -1,5 +1,5 @@
 use Rattle.schedules.specs.Runs.{initial_position, plan_of}
-use Rattle.schedules.specs.Notes.{KeepsAs, at}
+use Rattle.schedules.specs.Notes.{IsAsked, KeepsAs, at}
 use Rattle.schedules.proofs.RunTurns.{IsAt}
 use Rattle.schedules.proofs.run.run.Given as goal
 
@@ -10,4 +10,5 @@ invariant-loop-made g l = record {
       (initial_position g.P.Program.acts l.fn.system l.fn.programs l.fn.schedule) l._made
       (at l.system l.programs l.log) l.schedule;
   kept : KeepsAs l.fn.log l.log;
+  asked : IsAsked g.P.Program.acts l.programs l.log.unfinished;
 }

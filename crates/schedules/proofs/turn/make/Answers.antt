@@ -13,5 +13,4 @@ pub returns : goal.returns
 returns g c =
     let a = c.args in
     event_made g.P.Program.acts a.system.now a.programs.now a.log.now a.event.now _ c.step.new.system
-    c.tell.new.programs
-    c.step.new.log c.in_ok-plain.ensures c.tell.ensures
+    c.tell.new.programs c.step.new.log c.tell.new.log c.in_ok-plain.ensures c.tell.ensures.done c.tell.ensures.told

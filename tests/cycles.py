@@ -48,16 +48,31 @@ SENTENCES = {
 # SB+yes P1 is done before P0 begins, in STALE before P0's store, in FORALL its load is before that.
 # The rings of a test that asks for several ends, by how they begin, and the end of each, by hand: the reader finds one
 # half of the stores between two loads of the same even number.
-ENDED = {"P0 swaps seq before it stores y": "1:x7=0 1:x9=0 1:x11=0 1:x12=1",
-         "P0 swaps seq before it stores x": "1:x7=0 1:x9=0 1:x11=1 1:x12=0",
-         "P0 stores x before it swaps seq": "1:x7=2 1:x9=2 1:x11=0 1:x12=1",
-         "P0 stores y before it swaps seq": "1:x7=2 1:x9=2 1:x11=1 1:x12=0"}
+ENDED = {"P0's first swap of seq is before its store of y": "1:x7=0 1:x9=0 1:x11=0 1:x12=1",
+         "P0's first swap of seq is before its store of x": "1:x7=0 1:x9=0 1:x11=1 1:x12=0",
+         "P0's store of x is before its second swap of seq": "1:x7=2 1:x9=2 1:x11=0 1:x12=1",
+         "P0's store of y is before its second swap of seq": "1:x7=2 1:x9=2 1:x11=1 1:x12=0"}
 FORALL = """RISCV FORALL
 { 0:x5=1; 0:x6=x; 1:x6=x; }
 P0 | P1 ;
 sw x5,0(x6) | lw x7,0(x6) ;
 forall (1:x7=1)
 """
+# Each thread does the same to x several times: P0 stores 1 and 2, and P1's third load misses 1 behind a load of y that
+# sees P0's only store there; P1's fourth load may see anything.
+OFTEN = """RISCV OFTEN
+{ 0:x5=1; 0:x6=x; 0:x7=2; 0:x8=y; 1:x6=x; 1:x8=y; }
+P0 | P1 ;
+sw x5,0(x6) | lw x9,0(x6) ;
+sw x5,0(x8) | lw x10,0(x6) ;
+sw x7,0(x6) | lw x11,0(x8) ;
+ | lw x12,0(x6) ;
+ | lw x13,0(x6) ;
+exists (1:x11=1 /\\ 1:x12=0)
+"""
+OFTEN_SAID = ("P0's first store of x is before its store of y; P0's store of y is before P1's load, which sees it; "
+              "P1's load of y is before its third load of x; P1's third load of x is before P0's first store, which it "
+              "misses: a ring, so no order has it.")
 UNRINGED = {"SB+yes": "an order ends so: P1:1 P1:2 P0:1 P0:2",
             "STALE": "an order ends so: P0:1 P1:1 P1:2 P1:3 P1:4 P0:2", "RENEW": "no values end otherwise",
             "FORALL": "an order ends otherwise: P1:1 P0:1"}
@@ -150,6 +165,9 @@ def others(tester, scratch):
     status, out, error = tester.run("--why", str(folder / "SB.litmus"), str(folder / "SB+forall.litmus"))
     is_good = (status, error) == (0, "") and out.count("PodWR Fre PodWR Fre") == 2 and "ends: " not in out
     tester.expect(is_good, f"--why: {status} {out} {error}")
+    Path(scratch, "OFTEN.litmus").write_text(OFTEN)
+    said = tester.run("--why", f"{scratch}/OFTEN.litmus")
+    tester.expect(said == (0, f"OFTEN: PodWW Rfe PodRR Fre\n  {OFTEN_SAID}\n", ""), f"--why OFTEN: {said}")
     lines = tester.run("--why", str(folder / "SEQLOCK.litmus"))[1].splitlines()
     ended = {line.strip().split(";")[0]: end.removeprefix("  ends: ") for line, end in zip(lines[1::3], lines[2::3])}
     tester.expect(ended == ENDED, f"--why SEQLOCK: {lines}")

@@ -94,6 +94,7 @@ class Step:
         self.edge, self.thread, self.name, self.word = edge, thread, word, word
         self.kind = KINDS[EDGES[edge][0]]
         self.value = None  # what it stores or sees
+        self.which = None  # its thread does this once
 
 
 class Cycle:

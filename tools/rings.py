@@ -16,6 +16,7 @@ from math import factorial, prod
 
 MOST = 200_000  # executions that are tried
 VERBS = {"load": "loads", "store": "stores", "swap": "swaps"}
+ORDINALS = ("first", "second", "third")
 
 
 class TooMany(Exception):
@@ -23,7 +24,8 @@ class TooMany(Exception):
 
 
 class Event:
-    """A memory instruction: its thread, its place there, and what it does."""
+    """A memory instruction: its thread, its place there, and what it does. `which` is its number among its thread's
+    that do the same to the word, from 0; None if it is the only one."""
 
     def __init__(self, test, thread, place, instruction):
         self.thread, self.place = thread, place
@@ -31,6 +33,9 @@ class Event:
         self.is_asked = self.kind != "store" and f"{thread}:{target}" in test.seen
         self.reads, self.writes = self.kind != "store", self.kind != "load"
         self.name = next(name for name, word in test.words.items() if word == self.word)
+        alike = [other for other, code in enumerate(test.threads[thread])
+                 if code[0] == self.kind and code[3] == self.word]
+        self.which = alike.index(place) if len(alike) > 1 else None
 
     def __lt__(self, other):
         return (self.thread, self.place) < (other.thread, other.place)
@@ -185,27 +190,27 @@ def role(one, rule, is_left):
 
 def told(ring):
     """Each step of the ring in words."""
-    listed = {one for one, _ in ring}
     for at, (one, rule) in enumerate(ring):
         other = ring[(at + 1) % len(ring)][0]
+        near, its = f"P{one.thread}'s {ordinal(one)}{one.kind} of {one.name}", f"its {ordinal(other)}{other.kind}"
         if rule.startswith("Po") and one.word == other.word and one.kind == other.kind:
-            yield f"P{one.thread}'s first {one.kind} of {one.name} is before its second"
-            continue
-        if rule.startswith("Po"):
+            yield f"{near} is before its {ordinal(other)}".rstrip()
+        elif rule.startswith("Po") and one.which is other.which is None:
             name = "it" if one.word == other.word else other.name
             yield f"P{one.thread} {VERBS[one.kind]} {one.name} before it {VERBS[other.kind]} {name}"
-            continue
-        near = f"P{one.thread}'s {ordinal(one, listed)}{one.kind} of {one.name}"
-        far = f"its {ordinal(other, listed)}{other.kind}" if one.thread == other.thread else \
-            f"P{other.thread}'s {ordinal(other, listed)}{other.kind}"
-        why = {"Rf": "which sees it", "Ws": "which overwrites it", "Fr": "which it misses"}[rule[:2]]
-        yield f"{near} is before {far}, {why}"
+        elif rule.startswith("Po"):
+            yield f"{near} is before {its} of {other.name}"
+        else:
+            far = its if one.thread == other.thread else f"P{other.thread}'s {ordinal(other)}{other.kind}"
+            why = {"Rf": "which sees it", "Ws": "which overwrites it", "Fr": "which it misses"}[rule[:2]]
+            yield f"{near} is before {far}, {why}"
 
 
-def ordinal(one, listed):
-    """first or second, of a thread that has two such operations in the ring."""
-    alike = sorted(two for two in listed if (two.thread, two.kind, two.word) == (one.thread, one.kind, one.word))
-    return "" if len(alike) == 1 else ("first ", "second ")[alike.index(one)]
+def ordinal(one):
+    """Which it is, where its thread does the same to the word more than once."""
+    if one.which is None:
+        return ""
+    return (ORDINALS[one.which] if one.which < len(ORDINALS) else f"{one.which + 1}th") + " "
 
 
 def reason(ring):

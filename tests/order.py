@@ -28,7 +28,7 @@ from tools.number import numbered  # noqa: E402
 from tools.order import confirmed  # noqa: E402
 from tools.orders import search, solver, witness  # noqa: E402
 from tools.orders.answer import answer  # noqa: E402
-from tools.orders.forced import Forced, NoOrder  # noqa: E402
+from tools.orders.forced import Forced, NoOrder, TimeUp  # noqa: E402
 from tools.orders.history import Operation, read_history, words_of  # noqa: E402
 from tools.orders.problem import Problem  # noqa: E402
 
@@ -36,6 +36,7 @@ TOOL = TOP / "tools/order.py"
 EXAMPLES = TOP / "examples/histories"
 SECONDS = 20
 ORDERS = 600  # drawn histories that have an order
+BRANCHES = 4000  # of the search on 600 operations
 
 
 def programs_of(operations):
@@ -545,6 +546,19 @@ def drawn_orders(tester):
         tester.expect(found.order is not None, f"30 operations drawn by the seed {seed}: {found.lines}")
 
 
+def branches(tester):
+    """Of three cores' 600 operations an order is found in few branches, though few values are repeated."""
+    for words, values, seed in [(6, 2, seed) for seed in range(1, 5)] + [(2, 4, seed) for seed in range(1, 5)]:
+        problem = Problem(read_history(drawn_text(600, 3, words, values, seed)))
+        looked = search.Search(problem, Forced(problem), time.monotonic() + SECONDS)
+        try:
+            is_found = looked.run() is not None
+        except TimeUp:
+            is_found = False
+        tester.expect(is_found and looked.states <= BRANCHES,
+                      f"600 on {words} words, {values} values, drawn by the seed {seed}: {looked.states} branches")
+
+
 def sizes(tester, is_large):
     """With an order and, where a value is changed, without: the answer in the time that is promised."""
     rows = [(2000, 4, 64, 0, 0, 10), (600, 3, 4, 3, 0, 5), (2000, 4, 16, 0, 3, 10)]
@@ -688,6 +702,7 @@ def main():
         told(tester)
         orders_of_buffers(tester)
         drawn_orders(tester)
+        branches(tester)
         sizes(tester, given.large)
         numbers(tester)
         kept(tester)

@@ -2,72 +2,79 @@
 
 A load that can be performed is performed at once: that takes nothing from what follows. So is a write that every
 order performs first of those of its word that are left. Otherwise the writes of one word are tried in turn, if one of
-these must come next there and all can; else all that can. States from which no way led to the end aren't tried again.
+these must come next there and all can; else all that can. States from which no way led to the end aren't tried again,
+and none is tried from which the chains come to a halt even if no write takes a value away.
 If that takes many branches, the search begins anew and tries writes in a drawn order, then in the first one again, and
 so on, with ever more branches. What one try learns of states serves the next.
 """
 import random
 import time
 from array import array
-from bisect import bisect_left
+from collections import defaultdict
 
 from tools.orders.forced import TimeUp
 from tools.orders.history import FENCE
 
 
 FIRST_BRANCHES = 10  # of the first try and the second, for each operation; twice as many of the next two, and so on
+AHEAD = 40           # operations of a chain that `halts` looks at
 
 
 class Search:
-    """`run` returns an order, as a list of nodes, or None if there is none."""
+    """`run` returns an order, as a list of nodes, or None if there is none.
+
+    `next_on`: of each word and chain, the next operation there, or -1; `slot`: where it has an operation; `behind`:
+    what then stands there. `asked`: what a read receives from memory for sure; `turned`: the reads of which an earlier
+    operation of their chain leaves another value."""
 
     def __init__(self, problem, forced, deadline=float("inf")):
         self.problem, self.forced, self.deadline = problem, forced, deadline
-        self.at = [0] * len(problem.chains)
-        self.words = {address: word for word, address in enumerate(
-            sorted({one.address for one in problem.operations if one.kind != FENCE}))}
-        self.values, self.memory, self.loads, self.reads, self.stores = {}, [], [], [], []
-        self.word, self.written, self.received = [None] * len(problem.operations), *(
-            [None] * len(problem.operations) for _ in range(2))
-        self.number_values()
-        self.writes = [[] for _ in self.words]
-        for address, chains in problem.writes.items():
-            self.writes[self.words[address]] = list(chains.items())
+        self.at, self.count = [0] * len(problem.chains), len(problem.chains)
+        # The last place of these, -1, is of no operation.
+        self.word, self.written, self.received = ([None] * (len(problem.operations) + 1) for _ in range(3))
+        self.memory = self.number_values()
+        # Under total store order a load may also see its own core's store.
+        self.asked = [None if own is not None else value for own, value in zip([*problem.own, None], self.received)]
+        self.next_on, self.turned = [-1] * (len(self.memory) * self.count + 1), set()
+        self.slot, self.behind = [-1] * len(self.word), [-1] * len(self.word)
+        self.link()
         self.needs = [[(problem.chain[one], problem.place[one]) for one in into] for into in forced.into]
         self.ranks = self.rank = ranks(problem, forced)
         self.tries, self.last_branch = 0, FIRST_BRANCHES * len(problem.nodes)
-        # Of each branch on the way: how much was performed, what is to be tried yet, and the state.
+        # Of each state on the way: how much was performed, what is to be tried yet, and the state.
         self.order, self.undo, self.frames = [], [], []
         self.dead, self.states, self.most = set(), 0, 0
 
     def number_values(self):
-        """Numbers for the pairs of a word and a value, and how many loads, reads and writes of each are left."""
-        problem = self.problem
-        for word, address in enumerate(self.words):
-            self.memory.append(self.value_number(word, problem.opening.get(address, 0)))
+        """Numbers for the words and for the pairs of a word and a value; of each word, the one that it opens with."""
+        problem, values = self.problem, {}
+
+        def number(address, value):
+            return None if value is None else values.setdefault((address, value), len(values))
+        words = {address: word for word, address in enumerate(
+            sorted({one.address for one in problem.operations if one.kind != FENCE}))}
         for node in problem.nodes:
             operation = problem.operations[node]
-            if operation.kind == FENCE:
-                continue
-            word = self.word[node] = self.words[operation.address]
-            if operation.written is not None:
-                self.written[node] = self.value_number(word, operation.written)
-                self.stores[self.written[node]] += 1
-            if operation.received is not None:
-                self.received[node] = self.value_number(word, operation.received)
-                self.reads[self.received[node]] += 1
-                self.loads[self.received[node]] += operation.written is None
+            if operation.kind != FENCE:
+                self.word[node] = words[operation.address]
+                self.written[node] = number(operation.address, operation.written)
+                self.received[node] = number(operation.address, operation.received)
+        return [number(address, problem.opening.get(address, 0)) for address in words]
 
-    def value_number(self, word, value):
-        number = self.values.setdefault((word, value), len(self.values))
-        if number == len(self.loads):
-            for counts in (self.loads, self.reads, self.stores):
-                counts.append(0)
-        return number
+    def link(self):
+        """What is next on each word, what is behind each operation, and which reads are turned."""
+        for chain, nodes in enumerate(self.problem.chains):
+            for node in reversed(nodes):
+                if self.word[node] is not None:
+                    self.slot[node] = self.word[node] * self.count + chain
+                    then = self.behind[node] = self.next_on[self.slot[node]]
+                    left = self.received[node] if self.written[node] is None else self.written[node]
+                    if self.asked[then] not in (None, left):
+                        self.turned.add(then)
+                    self.next_on[self.slot[node]] = node
 
-    def is_ready(self, node):
-        """All that comes before it has been performed."""
-        at = self.at
+    def is_ready(self, node, at):
+        """All that comes before it has been performed, where the chains are."""
         for chain, place in self.needs[node]:
             if at[chain] <= place:
                 return False
@@ -83,35 +90,22 @@ class Search:
             return self.written[own] == received
         return self.memory[self.word[node]] == received
 
-    def loses(self, write):
-        """It would overwrite a value that is still to be received, and nothing would write it again."""
-        value, written, received = self.memory[self.word[write]], self.written[write], self.received[write]
-        return value != written and self.reads[value] > (received == value) and self.stores[value] == 0
-
     def perform(self, node):
         self.order.append(node)
         self.at[self.problem.chain[node]] += 1
-        received, written = self.received[node], self.written[node]
-        if received is not None:
-            self.reads[received] -= 1
-            self.loads[received] -= written is None
-        if written is not None:
+        self.next_on[self.slot[node]] = self.behind[node]
+        if self.written[node] is not None:
             self.undo.append(self.memory[self.word[node]])
-            self.memory[self.word[node]] = written
-            self.stores[written] -= 1
+            self.memory[self.word[node]] = self.written[node]
 
     def take_back(self, length):
         """Undoes what was performed beyond the first `length` operations."""
         while len(self.order) > length:
             node = self.order.pop()
             self.at[self.problem.chain[node]] -= 1
-            received, written = self.received[node], self.written[node]
-            if received is not None:
-                self.reads[received] += 1
-                self.loads[received] += written is None
-            if written is not None:
+            self.next_on[self.slot[node]] = node
+            if self.written[node] is not None:
                 self.memory[self.word[node]] = self.undo.pop()
-                self.stores[written] += 1
 
     def perform_loads(self):
         """Performs loads and fences while there are some; the ready writes that stand next are returned."""
@@ -122,7 +116,7 @@ class Search:
                 place = at[chain]
                 while place < len(nodes):
                     node = nodes[place]
-                    if not fits(node) or not is_ready(node):
+                    if not fits(node) or not is_ready(node, at):
                         break
                     if written[node] is not None:
                         writes.append(node)
@@ -131,44 +125,64 @@ class Search:
                     is_more, place = True, place + 1
         return writes
 
-    def first_writes(self, word, writes):
-        """The ready writes of a word, if one of these must be performed next there; else None. No load must receive
-        what the word has now. Each other write that could be next must come behind a ready one."""
-        problem, at, ready, others = self.problem, self.at, [], []
-        for chain, places in self.writes[word]:
-            index = bisect_left(places, at[chain])
-            if index < len(places):
-                node = problem.chains[chain][places[index]]
-                if node in writes:
-                    ready.append(node)
-                elif self.received[node] is None or self.received[node] == self.memory[word]:
-                    others.append(node)
-        for other in others:
-            before = self.forced.before[other]
-            if not any(before[problem.chain[node]] > problem.place[node] for node in ready):
-                return None
-        return ready
+    def first_writes(self, word):
+        """The writes of a word of which one must be next there; none if a load may receive before what the word has.
+        A chain has none before a read that waits for another value."""
+        found = []
+        for node in self.next_on[word * self.count:(word + 1) * self.count]:
+            if node >= 0 and self.received[node] in (None, self.memory[word]):
+                if self.written[node] is None:
+                    return []
+                found.append(node)
+        return found
 
     def choices(self, writes):
-        """Of the writes that can be performed now, those that must be tried."""
-        best, writes = None, set(writes)
-        able = {node for node in writes if not self.loses(node)}
+        """Of the writes that can be performed now, those that must be tried. Each other write that could be next on
+        their word must come behind one of them."""
+        best, before, chain, place = writes, self.forced.before, self.problem.chain, self.problem.place
         for word in {self.word[node] for node in writes}:
-            if self.loads[self.memory[word]]:
-                continue
-            first = self.first_writes(word, writes)
-            if first is not None:
-                first = [node for node in first if node in able]
-                if len(first) < 2:
-                    return first
-                if best is None or len(first) < len(best):
-                    best = first
-        return sorted(able if best is None else best, key=self.rank.__getitem__)
+            first = self.first_writes(word)
+            ready = [node for node in first if node in writes]
+            if ready and len(ready) < len(best) and all(
+                    node in ready or any(before[node][chain[one]] > place[one] for one in ready) for node in first):
+                best = ready
+        return sorted(best, key=self.rank.__getitem__)
+
+    def halts(self):
+        """Whether all chains come to a halt soon, though no write takes a value away: where a read needs another value
+        than its word has, or than its chain left there, other chains must write that once more."""
+        chains, at, given, used, is_more = self.problem.chains, self.at[:], defaultdict(int), defaultdict(int), True
+        while is_more:
+            is_more = False
+            for chain, nodes in enumerate(chains):
+                place, end = at[chain], min(self.at[chain] + AHEAD, len(nodes))
+                while place < end:
+                    node = nodes[place]
+                    value, written = self.asked[node], self.written[node]
+                    if self.needs[node] and not self.is_ready(node, at):
+                        break
+                    if value is not None and (self.memory[self.word[node]] != value
+                                              if self.next_on[self.slot[node]] == node else node in self.turned):
+                        if given[value] <= used[value, chain]:
+                            break
+                        used[value, chain] += 1
+                    if written is not None:
+                        given[written] += 1
+                        used[written, chain] += 1
+                    place += 1
+                if place == end < len(nodes):
+                    return False
+                if place > at[chain]:
+                    at[chain], is_more = place, True
+        return any(place < len(nodes) for place, nodes in zip(at, chains))
 
     def state(self):
-        """What all that follows depends on: a value that nobody is to receive is as good as any other."""
-        memory = [value if self.reads[value] else 0xffffffff for value in self.memory]
-        return array("I", self.at).tobytes() + array("I", memory).tobytes()
+        """What all that follows depends on: a value that no chain is to receive next is as good as any other."""
+        state, count = array("i", self.at), self.count
+        for word, value in enumerate(self.memory):
+            is_sought = value in [self.received[node] for node in self.next_on[word * count:(word + 1) * count]]
+            state.append(value if is_sought else -1)
+        return state.tobytes()
 
     def run(self):
         """After `TimeUp` it can be called again, with a later deadline, and goes on."""
@@ -179,19 +193,13 @@ class Search:
             self.most = max(self.most, len(self.order))
             if len(self.order) == count:
                 return self.order
-            if len(choices) > 1:
-                if self.states >= self.last_branch:
-                    self.begin_anew()
-                    continue
-                self.states += 1
-                state = self.state()
-                if state in self.dead:
-                    choices = []
-                else:
-                    frames.append((len(self.order), choices[::-1], state))
-            if len(choices) == 1:
-                self.perform(choices[0])
+            if self.states >= self.last_branch:
+                self.begin_anew()
                 continue
+            state = self.state()
+            if choices and state not in self.dead and not self.halts():
+                self.states += len(choices) > 1
+                frames.append((len(self.order), choices[::-1], state))
             while frames and not frames[-1][1]:
                 self.dead.add(frames.pop()[2])
             if not frames:

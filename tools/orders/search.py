@@ -24,8 +24,7 @@ class Search:
     """`run` returns an order, as a list of nodes, or None if there is none.
 
     `next_on`: of each word and chain, the next operation there, or -1; `slot`: where it has an operation; `behind`:
-    what then stands there. `asked`: what a read receives from memory for sure; `turned`: the reads of which an earlier
-    operation of their chain leaves another value."""
+    what then stands there; `steps`: of each chain, what `halts` asks."""
 
     def __init__(self, problem, forced, deadline=float("inf")):
         self.problem, self.forced, self.deadline = problem, forced, deadline
@@ -33,12 +32,11 @@ class Search:
         # The last place of these, -1, is of no operation.
         self.word, self.written, self.received = ([None] * (len(problem.operations) + 1) for _ in range(3))
         self.memory = self.number_values()
-        # Under total store order a load may also see its own core's store.
-        self.asked = [None if own is not None else value for own, value in zip([*problem.own, None], self.received)]
-        self.next_on, self.turned = [-1] * (len(self.memory) * self.count + 1), set()
+        self.next_on = [-1] * (len(self.memory) * self.count + 1)
         self.slot, self.behind = [-1] * len(self.word), [-1] * len(self.word)
-        self.link()
         self.needs = [[(problem.chain[one], problem.place[one]) for one in into] for into in forced.into]
+        self.steps = [[] for _ in problem.chains]
+        self.link()
         self.ranks = self.rank = ranks(problem, forced)
         self.tries, self.last_branch = 0, FIRST_BRANCHES * len(problem.nodes)
         # Of each state on the way: how much was performed, what is to be tried yet, and the state.
@@ -62,20 +60,31 @@ class Search:
         return [number(address, problem.opening.get(address, 0)) for address in words]
 
     def link(self):
-        """What is next on each word, what is behind each operation, and which reads are turned."""
+        """What is next on each word, what is behind each operation, and each chain's steps."""
         for chain, nodes in enumerate(self.problem.chains):
-            for node in reversed(nodes):
-                if self.word[node] is not None:
-                    self.slot[node] = self.word[node] * self.count + chain
-                    then = self.behind[node] = self.next_on[self.slot[node]]
-                    left = self.received[node] if self.written[node] is None else self.written[node]
-                    if self.asked[then] not in (None, left):
-                        self.turned.add(then)
-                    self.next_on[self.slot[node]] = node
+            last = {}
+            for node in nodes:
+                word, previous = self.word[node], last.get(self.word[node], -1)
+                if word is not None:
+                    self.slot[node], last[word] = word * self.count + chain, node
+                    if previous >= 0:
+                        self.behind[previous] = node
+                    else:
+                        self.next_on[self.slot[node]] = node
+                self.steps[chain].append(self.step(chain, node, previous))
 
-    def is_ready(self, node, at):
-        """All that comes before it has been performed, where the chains are."""
-        for chain, place in self.needs[node]:
+    def step(self, chain, node, previous):
+        """What `halts` asks of an operation: what it needs; of a read its value, its word, where its chain last had
+        that, and whether it left another value there; of a write its value. Under total store order a load may see its
+        own core's store."""
+        value, written, place = self.received[node], self.written[node], self.problem.place
+        left = self.received[previous] if self.written[previous] is None else self.written[previous]
+        return (self.needs[node], value if self.problem.own[node] is None else None, self.word[node],
+                place[previous] if previous >= 0 else -1, value != left, (value, chain), written, (written, chain))
+
+    def is_ready(self, needs, at):
+        """All that these name has been performed, where the chains are."""
+        for chain, place in needs:
             if at[chain] <= place:
                 return False
         return True
@@ -109,14 +118,14 @@ class Search:
 
     def perform_loads(self):
         """Performs loads and fences while there are some; the ready writes that stand next are returned."""
-        at, written, is_ready, fits, is_more = self.at, self.written, self.is_ready, self.fits, True
+        at, written, needs, is_ready, fits, is_more = self.at, self.written, self.needs, self.is_ready, self.fits, True
         while is_more:
             is_more, writes = False, []
             for chain, nodes in enumerate(self.problem.chains):
                 place = at[chain]
                 while place < len(nodes):
                     node = nodes[place]
-                    if not fits(node) or not is_ready(node, at):
+                    if not fits(node) or not is_ready(needs[node], at):
                         break
                     if written[node] is not None:
                         writes.append(node)
@@ -151,30 +160,27 @@ class Search:
     def halts(self):
         """Whether all chains come to a halt soon, though no write takes a value away: where a read needs another value
         than its word has, or than its chain left there, other chains must write that once more."""
-        chains, at, given, used, is_more = self.problem.chains, self.at[:], defaultdict(int), defaultdict(int), True
+        memory, at, given, used, is_more = self.memory, self.at[:], defaultdict(int), defaultdict(int), True
         while is_more:
             is_more = False
-            for chain, nodes in enumerate(chains):
-                place, end = at[chain], min(self.at[chain] + AHEAD, len(nodes))
-                while place < end:
-                    node = nodes[place]
-                    value, written = self.asked[node], self.written[node]
-                    if self.needs[node] and not self.is_ready(node, at):
+            for chain, steps in enumerate(self.steps):
+                first, place = self.at[chain], at[chain]
+                for needs, value, word, previous, is_turned, key, written, own_key in steps[place:first + AHEAD]:
+                    if needs and not self.is_ready(needs, at):
                         break
-                    if value is not None and (self.memory[self.word[node]] != value
-                                              if self.next_on[self.slot[node]] == node else node in self.turned):
-                        if given[value] <= used[value, chain]:
+                    if value is not None and (memory[word] != value if previous < first else is_turned):
+                        if given[value] <= used[key]:
                             break
-                        used[value, chain] += 1
+                        used[key] += 1
                     if written is not None:
                         given[written] += 1
-                        used[written, chain] += 1
+                        used[own_key] += 1
                     place += 1
-                if place == end < len(nodes):
+                if place == first + AHEAD < len(steps):
                     return False
                 if place > at[chain]:
                     at[chain], is_more = place, True
-        return any(place < len(nodes) for place, nodes in zip(at, chains))
+        return any(place < len(steps) for place, steps in zip(at, self.steps))
 
     def state(self):
         """What all that follows depends on: a value that no chain is to receive next is as good as any other."""

@@ -12,12 +12,14 @@ that is measured, too. Of the same machines, some must starve where the turns ar
 to nine lines of one set of a bank: by fair threads they end, by 1 to 16 workers.
 
 PROGRAM is the built crate tardis: its report and its records of each run must be the second program's, byte for byte.
-Without it, or with thousands of machines, the script measures. The last lines are what was tried, the greatest gap of
-rounds, and the most turns a step.
+By rounds, it must starve on each of four traces, of up to 70,000 operations. By fair rounds these must be all done,
+within twice the rounds that they take by rounds where banks have room. Without PROGRAM, or with thousands of machines,
+the script measures. The last line has what was tried, the greatest gap of rounds, and the most turns a step.
 """
 import argparse
 import random
 import sys
+from bisect import bisect_left
 from pathlib import Path
 from types import SimpleNamespace
 
@@ -36,6 +38,7 @@ MOST_ROUNDS = MOST_TURNS = 16
 MACHINES, SMALL, STARVES = 300, 40, 500
 # Nine cores, which each store to the nine lines of one set of eight ways, in turn.
 NINE = [[("store", 256 * ((core + step) % 9), step + 1) for step in range(10)] for core in range(9)]
+MOST = 2 ** 17  # of the rounds that a trace may take
 
 
 class Measured(Run):
@@ -77,6 +80,32 @@ def options_of(draw):
     return machine(few, draw.random() < 0.5)
 
 
+def skewed(operations, opened):
+    """A trace of 16 cores on 65,536 words, the first of which are used most; seven loads, two stores, a swap in ten."""
+    state, lines = (opened * 2654435761 + 88172645463325252) % 2 ** 64, []
+
+    def drawn():
+        nonlocal state
+        state ^= (state << 13) % 2 ** 64
+        state ^= state >> 7
+        state ^= (state << 17) % 2 ** 64
+        return state
+
+    for number in range(1, operations + 1):
+        core, word, kind = drawn() % 16, int((drawn() // 2 ** 11 / 2 ** 53) ** 4 * 65536), drawn() // 2 ** 20 % 10
+        lines.append(f"{core} R 0x{8 * word:x}" if kind < 7 else f"{core} {'WWS'[kind - 7]} 0x{8 * word:x} {number}")
+    return "\n".join(lines).encode()
+
+
+def starved():
+    """Traces that starve, each with the options that it does so by, and those of a machine whose bank has room."""
+    kept = Path(__file__).resolve().parent.parent / "examples/traces"
+    return (((kept / "LIVELOCK.trace").read_bytes(), "--bank-sets 1 --bank-ways 1", "--bank-sets 1 --bank-ways 2"),
+            ((kept / "STARVED.trace").read_bytes(), "--line-words 8", "--line-words 8 --bank-ways 16"),
+            (skewed(20000, 1), "--line-words 8", "--line-words 8 --bank-ways 16"),
+            (skewed(70000, 5), "", "--bank-ways 16"))
+
+
 def machine(named, private_write=False):
     """The default machine but for the options that are named, by fair rounds."""
     usual = {name.replace("-", "_"): number for name, (number, _) in NUMBERS.items()}
@@ -97,7 +126,7 @@ def words_of(options):
 class Fair(Tester):
     """Runs that are made twice: by the second program, and by the program, if there is one."""
 
-    gap = crowd = again = most = starved = 0
+    gap = crowd = again = most = starved = times = 0
 
     def run_of(self, text, options):
         trace = Trace(text)
@@ -148,6 +177,21 @@ class Fair(Tester):
             good = (status, error) == (0, "") and "\ncompleted 90\nend all-done\n" in out
             self.expect(good, f"nine cores by {workers} workers: {status} {error} {out}")
 
+    def rounds(self, text, options):
+        """How many rounds a run makes until all is done, or MOST."""
+        def is_done(limit):
+            return self.run("trace", *options.split(), "--limit", str(limit), "/dev/stdin", text=text)[0] == 0
+
+        return bisect_left(range(MOST), True, 1, key=is_done)
+
+    def end_in_time(self):
+        """By fair rounds, traces that starve end in at most twice the rounds that they take where banks have room."""
+        for text, few, roomy in starved() if self.program else ():
+            starves, fair, wanted = (self.rounds(text, options) for options in (few, few + " --fair", roomy))
+            self.times = max(self.times, fair / wanted)
+            self.expect(fair <= 2 * wanted < MOST == starves,
+                        f"{starves} rounds, {fair} fair ones, {wanted} where banks have room: {few} {text[:80]}")
+
     def stalls(self, draw, cores):
         """A run with a request of each core, and no place for what a bank would send."""
         options = options_of(draw)
@@ -173,12 +217,14 @@ def main():
     tester.by_threads(machine({}), NINE)
     tester.expect(starved and tester.starved > starved, f"{tester.starved} starve where turns aren't fair")
     tester.by_workers()
+    tester.end_in_time()
     for _ in range(SMALL):
         tester.stalls(draw, draw.choice([2, 3, 8, 64]))
     tester.expect(tester.again > 0, "no message was delivered twice in a round")
+    times = f"traces that starve take at most {tester.times:.2f} times the rounds of a machine with room in banks; "
     print(f"{tester.tried} tried, {tester.wrong} wrong; at most {tester.gap} rounds from one step done to the next, "
-          f"{tester.again} second deliveries; at most {tester.most:.1f} turns of a seat for each step and one more, "
-          f"{tester.starved} starve by turns that aren't fair")
+          f"{tester.again} second deliveries; {times if tester.program else ''}at most {tester.most:.1f} turns of a "
+          f"seat for each step and one more, {tester.starved} starve by turns that aren't fair")
     return int(tester.wrong > 0)
 
 

@@ -16,7 +16,7 @@ version=$(sed -n 's/^Version: //p' usr/lib/pkgconfig/tardis.pc)
 architecture=$(dpkg --print-architecture)
 
 strip --strip-unneeded usr/bin/* usr/lib/libtardis.so && strip --strip-debug usr/lib/libtardis.a || exit 1
-gzip -9n usr/share/man/man1/tardis.1 || exit 1
+gzip -9n usr/share/man/man1/*.1 || exit 1
 about=usr/share/doc/$name
 mkdir -p "$about" DEBIAN && cp "$top/LICENSE" "$about/copyright" || exit 1
 printf '%s (%s) unstable; urgency=medium\n\n  * The repository'\''s version.\n\n -- %s  %s\n' \

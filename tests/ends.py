@@ -350,6 +350,10 @@ def total_store_order(tester):
     status, out, error = tester.run("--model", "tso", str(TOP / SB))
     tester.expect((status, error) == (0, "") and out.startswith("model total store order, not proved\ntest SB\n")
                   and "\n* 0:x7=0 1:x7=0\n" in out, f"TSO: {status} {out} {error}")
+    # Its second layer has 2 states, and a thread may perform an operation or drain a store: 2 * (1 + 2 * 2).
+    got = tester.run("--model", "tso", "--states", "3", str(TOP / SB))
+    said = f"sequential.py: {TOP / SB}: more than 3 states; 10 are enough to go on\n"
+    tester.expect(got == (1, "", said), f"TSO, too many states: {got}")
 
 
 def wanted_lines(path, options, seeds, first):

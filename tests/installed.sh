@@ -45,7 +45,7 @@ said=$(cd "$top/python" && python3 -c 'import tardis; print("tardis", tardis.__v
 ! has jupyter-nbconvert "the notebook" || "$top/tests/notebook.py" || exit 1
 
 for page in tardis tardis-play-events; do
-    grep -q '^\.SH SYNOPSIS\|^\.SH tardis' "$prefix/share/man/man1/$page.1" || fail "no page for man of $page"
+    zgrep -qs '^\.SH SYNOPSIS\|^\.SH tardis' "$prefix/share/man/man1/$page.1"* || fail "no page for man of $page"
 done
 # What each shell offers: the commands that begin with "li", and an option of one command that another doesn't have.
 offers() {

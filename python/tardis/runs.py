@@ -60,7 +60,7 @@ def ends(text: str | bytes, *, states: int = 4_194_304, orders: bool = False) ->
     within("states", states, 1, 2 ** 32 - 1)
     program = found.program()
     command = [program] if program else found.second("oracle.py", "the program")
-    words = ["ends", "--states", str(states)] + ["--orders"] * orders
+    words = ["ends", "--states", str(states), *(["--orders"] if orders else [])]
     return ends_report(printed(command, words, in_bytes(text)), program is not None)
 
 

@@ -116,8 +116,8 @@ pub(crate) fn measure(alloc: Global, [events, cores, words, machines]: [u32; 4])
     Some(u64::from(events))
 }
 
-/// Checks no records on an opening memory of `words` words, and opens a machine of `banks` banks with it (one, if that is
-/// 0); the value of its last word.
+/// Checks no records on an opening memory of `words` words, and opens a machine of `banks` banks with it (one, if that
+/// is 0); the value of its last word.
 pub(crate) fn opened(alloc: Global, [words, banks, _, _]: [u32; 4]) -> Option<u64> {
     let mut memory = Memory::new(alloc);
     for word in 0..u64::from(words) {

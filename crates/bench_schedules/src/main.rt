@@ -3,9 +3,9 @@
 //!
 //! The words are `round`, `forgotten`, `seed`, `large_seed`, `round_events` and `seed_events`, and three numbers follow
 //! each: cores, words, and operations of a core. Several may stand one after the other. Each prints how many operations
-//! were completed; the last two keep the events and print how many there were. With `forgotten` the machine began to keep
-//! its lines in order and gave that up before its rounds. `large_seed` has the most banks, and the largest caches and
-//! banks, that there may be.
+//! were completed; the last two keep the events and print how many there were. With `forgotten` the machine began to
+//! keep its lines in order and gave that up before its rounds. `large_seed` has the most banks, and the largest caches
+//! and banks, that there may be.
 #![tactic(auto)]
 
 ghost use Rattle.std.specs.Prelude.{◌≡◌, length};

@@ -2,9 +2,9 @@
 //! completed their operations. docs/BENCHMARKS.md has the table.
 //!
 //! The word `seats` is followed by four numbers: cores, banks, operations of a core, and threads. The word `rounds`
-//! and the first three make the same operations by rounds, on a machine that isn't shared. The word `opened` is followed
-//! by cores, banks, words of opening memory, and threads, and makes no operation. Several may stand one after the other.
-//! Each prints how many operations were completed; after the word `time`, each prints its nanoseconds, too.
+//! and the first three make the same operations by rounds, on a machine that isn't shared. The word `opened` is
+//! followed by cores, banks, words of opening memory, and threads, and makes no operation. Several may stand one after
+//! the other. Each prints how many operations were completed; after the word `time`, each prints its nanoseconds, too.
 #![tactic(auto)]
 
 mod loads;

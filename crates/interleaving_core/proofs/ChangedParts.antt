@@ -26,7 +26,7 @@ use Rattle.machine_table.proofs.Lemmas.{Fits, FitsTried}
 use Rattle.machine_table.specs.Transition.{changed, deliver_to, gets, if_there, tried}
 use Rattle.machine_theorem.specs.Cases.{has_case_at, takes}
 use Rattle.interleaving_core.specs.PartChanges.{applied, applied_attempt, stops, with_record}
-use Rattle.interleaving_core.proofs.Only.{IsPlain, kept_plain, made_plain}
+use Rattle.interleaving_core.proofs.Only.{kept_plain, made_plain}
 
 -- a list in which what is there is put where it is
 pub set_same : {X : Type 0} (xs : List X) (i : ℕ) (x : X) → slice_get xs i ≡ Some x → set xs i x ≡ xs
@@ -77,10 +77,6 @@ module _ {S : Type 0} {m : Machine} {to : Node} {parts : List S} {k : ℕ} {has_
           stops x.0 || m.is_stopped;
     },
   )
-
-  made_so : (why : Answer) → IsPlain why → (new : S) (mail : Mail) → after (why, new, mail) ≡
-      (why, record (put new) { mail = mail })
-  made_so why plain new mail = grind (arith, nat_tests)
 
   kept_so : (mail : Mail) (records : List Record) (b : Bool) (answer : Answer) →
       ◌≡◌ {A = Answer × Machine} (answer, record (put part) { mail = mail; records = records; is_stopped = b })

@@ -2,13 +2,12 @@
 use Rattle.std.proofs.Common.{◌≡◌, ℕ, Bool, option_map, Option, Some, None, arith}
 use Rattle.std.proofs.lemmas.Bool.Decides.{nat_tests}
 use Rattle.physiological_order.specs.declared.operation.Op.{Op}
-use Rattle.physiological_order.specs.declared.operation.Op.TheVariants.{Load}
 use Rattle.core_pts.specs.declared.attempt.Attempt.{Attempt}
 use Rattle.core_pts.specs.declared.attempt.Attempt.TheVariants.{Completed}
 use Rattle.network.specs.declared.message.Body.{Body}
 use Rattle.network.specs.Mail.{Mail}
 use Rattle.core_pts.specs.CoreTable as core_table
-use Rattle.core_pts.specs.CoreTable.{CoreState, attempt, need}
+use Rattle.core_pts.specs.CoreTable.{CoreState, attempt}
 use Rattle.machine_table.specs.Step as step
 use Rattle.machine_table.specs.Step.{Does}
 use Rattle.interleaving_core.specs.PartChanges.{applied, applied_attempt}
@@ -17,10 +16,6 @@ use Rattle.interleaving_core.specs.PartChanges.{applied, applied_attempt}
 abbrev pub Closes : Option Attempt × CoreState → Type 0
 Closes (Some (Completed received ts), after) = after.open_op ≡ None
 Closes _ = Unit {0}
-
-need_closes : (core : CoreState) (pts : ℕ) (op : Op) (version : Option ℕ) → Closes (Some (need pts op version), core)
-need_closes core pts (Load a) version = tt
-need_closes core pts _ version = tt
 
 pub attempt_closes : (core : CoreState) → Closes (attempt core)
 attempt_closes core = grind (arith, nat_tests)

@@ -40,7 +40,7 @@ impl Model for MachineState {
 
     ghost view = { λ a. record { config = a.config; opening = a.opening; cores = a.cores.items; banks = a.banks.items; drams = a.drams.items; mail = a.flight.mail; issued = a.issued.items; records = a.records.items; is_stopped = a.is_stopped } };
 
-    // The messages in flight are those of this machine, there is capacity for the record of each open operation, and the
-    // masks are those of the cores.
+    // The messages in flight are those of this machine, there is capacity for the record of each open operation, and
+    // the masks are those of the cores.
     ghost invariant = { λ a. IsFitted a.config a.flight a.cores.items a.records.items (vec_capacity a.records) a.masks };
 }

@@ -1,7 +1,8 @@
 -- Laws of lists of pairs, each of a cell and what it has, for callers of the arena: what a look-up finds, and what a
 -- list is, after each change.
 use Rattle.std.specs.Prelude.{◌≡◌, ◌≢◌, ℕ, ◌+◌, ◌<◌, List, [], ◌∷◌, ◌++◌, drop, map, length, get_or, IsSome, Some, None}
-use Rattle.line_arena.specs.CellLists.{find_cell, look_up, first_cell, next_in, next_cell, append_to, without, rewritten}
+use Rattle.line_arena.specs.CellLists.{find_cell, look_up, first_cell, next_in, next_cell, append_to, without}
+use Rattle.line_arena.specs.CellLists.{rewritten}
 use Rattle.line_arena.specs.Arenas.{IsOnce}
 
 module _ {A : Type 0} where

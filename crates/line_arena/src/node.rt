@@ -1,7 +1,8 @@
 //! What the arena keeps of a cell and of a list.
 
-/// A cell that was used: its neighbours, its list, and its value. A neighbour that isn't below the number of cells is the
-/// end of the list. A free cell has no value, the number of lists as its list, and the next free cell as its next one.
+/// A cell that was used: its neighbours, its list, and its value. A neighbour that isn't below the number of cells is
+/// the end of the list. A free cell has no value, the number of lists as its list, and the next free cell as its next
+/// one.
 #[derive(Drop)]
 pub struct Node<T> {
     pub(crate) prev: u32,

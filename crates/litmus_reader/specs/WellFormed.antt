@@ -1,4 +1,4 @@
--- What holds of every test that is read from a text.
+-- What whole runs of a test rest on: it holds of every test that is read from a text.
 use Rattle.std.specs.Prelude.{◌≡◌, ℕ, Bool, true, nat_lt, List, [], length}
 use Rattle.std.specs.List.{list_all}
 use Rattle.litmus_parser.specs.declared.syntax.Name.{Name}

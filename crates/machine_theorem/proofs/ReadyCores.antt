@@ -1,7 +1,8 @@
 -- A core whose copy serves its open operation: its next attempt completes it, and no other event changes that. So it is
 -- once a reply has come.
 use Rattle.std.proofs.Common.{arith, ◌+◌}
-use Rattle.std.proofs.Common.{◌≡◌, ◌≢◌, ℕ, ◌-◌, ◌^◌, ◌<◌, Bool, true, false, ◌&&◌, cond, eqb, nat_lt, List, [], ◌∷◌, length}
+use Rattle.std.proofs.Common.{◌≡◌, ◌≢◌, ℕ, ◌-◌, ◌^◌, ◌<◌, Bool, true, false, ◌&&◌, cond, eqb, nat_lt, List, [], ◌∷◌}
+use Rattle.std.proofs.Common.{length}
 use Rattle.std.proofs.Common.{Option, Some, None, Ok, Err, ◌⊎◌, inl, inr, refl, sym, ap, ◌∙◌, subst, ⊎_elim, set}
 use Rattle.std.specs.Prelude.{option_map}
 use Rattle.std.specs.Ordering.{nat_cmp}
@@ -43,7 +44,8 @@ use Rattle.machine_table.specs.Posted.{can_post, posted}
 use Rattle.machine_table.specs.Runs.{after_all}
 use Rattle.machine_table.specs.SetUp.{is_good}
 use Rattle.machine_table.specs.Step as step
-use Rattle.machine_table.specs.Step.{Step, Tried, Completes, Does, Getting, Attempting, attempted, copy_evicted, reacted}
+use Rattle.machine_table.specs.Step.{Step, Tried, Completes, Does, Getting, Attempting, attempted, copy_evicted}
+use Rattle.machine_table.specs.Step.{reacted}
 use Rattle.machine_table.specs.Step.{core_step, record_of}
 use Rattle.machine_table.specs.Transition.{changed, deliver_to, gets, if_there, issued, on_event, refused, tried}
 use Rattle.machine_table.specs.Transition.{transition}

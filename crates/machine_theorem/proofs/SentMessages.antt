@@ -1,6 +1,7 @@
--- What parts send as they get messages, and as lines leave: no request, and a lease only to a reader that asks, for as long
--- as it asks or longer.
-use Rattle.std.proofs.Common.{◌≡◌, ℕ, ◌+◌, ◌≤◌, Bool, true, false, ◌&&◌, cond, List, Option, Some, None, Ok, refl, sym, subst, arith}
+-- What parts send as they get messages, and as lines leave: no request, and a lease only to a reader that asks, for as
+-- long as it asks or longer.
+use Rattle.std.proofs.Common.{◌≡◌, ℕ, ◌+◌, ◌≤◌, Bool, true, false, ◌&&◌, cond, List, Option, Some, None, Ok, refl, sym}
+use Rattle.std.proofs.Common.{subst, arith}
 use Rattle.std.specs.Ordering.{nat_cmp}
 use Rattle.std.specs.FinMap.{FinMap}
 use Rattle.std.proofs.lemmas.Bool.{cond_both}

@@ -1,7 +1,8 @@
 -- Each request to read and each reply in flight serves the operation of the core that waits: no time is too early, as
 -- long as cores advance only between operations.
 use Rattle.std.proofs.Common.{◌≡◌, ◌≢◌, ℕ, ◌+◌, ◌-◌, ◌^◌, ◌≤◌, Bool, true, false, cond, eqb, nat_lt, List, []}
-use Rattle.std.proofs.Common.{◌∷◌, ◌++◌, Option, Some, None, Ok, Err, refl, sym, ap, ◌∙◌, subst, arith, le_refl, le_trans}
+use Rattle.std.proofs.Common.{◌∷◌, ◌++◌, Option, Some, None, Ok, Err, refl, sym, ap, ◌∙◌, subst, arith, le_refl}
+use Rattle.std.proofs.Common.{le_trans}
 use Rattle.std.specs.Prelude.{IfSome}
 use Rattle.std.specs.List.{slice_get, AllByRecursion as Each}
 use Rattle.std.proofs.lemmas.Bool.{cond_both, cond-true, eq-eqb}
@@ -58,7 +59,8 @@ use Rattle.machine_theorem.proofs.Events.{any_transition}
 use Rattle.machine_theorem.proofs.Lookups.{each_at_number}
 use Rattle.machine_theorem.proofs.PartChanges.{itself, core_put}
 use Rattle.machine_theorem.proofs.Parts.{core_shape}
-use Rattle.machine_theorem.proofs.SentMessages.{AsksFor, Leases, SentAs, Sends, bank_gets, copy_leaves, core_gets, dram_gets}
+use Rattle.machine_theorem.proofs.SentMessages.{AsksFor, Leases, SentAs, Sends, bank_gets, copy_leaves, core_gets}
+use Rattle.machine_theorem.proofs.SentMessages.{dram_gets}
 use Rattle.machine_theorem.proofs.SentMessages.{line_leaves}
 
 -- while its request is out, the core reads at a time that isn't past this one

@@ -87,13 +87,6 @@ module _ (text : List ℕ) (error : LitmusError) where
         λ kind n before. (early kind n before).0 lacks,
       )
 
--- what is no test has no report in memory
-pub no_report : (options : LitmusOptions) (text : List ℕ) (e : RunError) → HasNoTestInMemory text e →
-    HasNoReportInMemory options text e
-no_report options text NoMemory allocates = inl allocates
-no_report options text BadConfig is = absurd is
-no_report options text e is = is
-
 -- and no list of ends
 no_ends : (options : EndsOptions) (text : List ℕ) (e : RunError) → HasNoTest text e → HasNoEnds options text e
 no_ends options text (TooManyStates most enough) is = absurd is

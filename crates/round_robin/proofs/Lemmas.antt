@@ -1,7 +1,8 @@
 -- What the proofs of this crate give to the crates above: they import this file and no other of this folder.
 
 -- Of dealt lists: where an item is, that the hands tell the list, what lengths hands have, and what holds of each item.
-pub use Rattle.round_robin.proofs.Deals.{item_at, item_of, same_list, lengths_of, same_lengths, related, each_item, each_hand}
+pub use Rattle.round_robin.proofs.Deals.{item_at, item_of, same_list, lengths_of, same_lengths, related, each_item}
+pub use Rattle.round_robin.proofs.Deals.{each_hand}
 -- Of hands that are Vecs, or whatever has a list f: the list of one, and that they can be gathered.
 pub use Rattle.round_robin.proofs.Steps.{hand_read, lengths_of_hands}
 -- Of hands that were changed item by item: that they can be gathered, and what is so of the list that is gathered.

@@ -8,8 +8,8 @@ use Rattle.schedules.specs.Parts.{Action, Does, Advances, Standing, Part, after_
 use Rattle.schedules.specs.Schedules.{Schedule}
 
 module _ {P : Type 0} (acts : Acts P) (Draws : Type 0) where
-  -- an issue, and an advance of which the program is told, is the next step of a core without an open operation; another
-  -- advance is drawn
+  -- an issue, and an advance of which the program is told, is the next step of a core without an open operation;
+  -- another advance is drawn
   abbrev pub IsGiven : Standing P → Action → Type 0
   IsGiven s (Does (event.Issue core op)) =
       (open_op s.machine core ≡ None) × (next_in acts s.programs core ≡ Some (step.Op op))

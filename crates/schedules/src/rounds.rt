@@ -42,7 +42,7 @@ pub fn drive_round<P: Program>(
 
 /// Drives the machine by fair rounds (docs/SCHEDULES.md), as `drive_round` does by rounds. In these, if the eviction
 /// that makes room for a held message is answered Evicted, the message is delivered once more at once. So no younger
-/// request takes the place. A second Held is followed by no eviction.
+/// request takes the place, unless the network is full. A second Held is followed by no eviction.
 pub fn drive_fair_round<P: Program>(
     alloc: Global,
     system: &mut System,

@@ -48,8 +48,8 @@ impl Ends {
         self.rows.len()
     }
 
-    /// The values of the end of this number, if there is one, and its order: for each operation the number of its thread,
-    /// or nothing at all if no orders are asked for. Ends are numbered from 0.
+    /// The values of the end of this number, if there is one, and its order: for each operation the number of its
+    /// thread, or nothing at all if no orders are asked for. Ends are numbered from 0.
     pub fn get(&self, number: usize) -> Option<(&[u64], &[u8])>
         ensures { option_map (λ end. (end.0.now, end.1.now)) result ≡ slice_get self.now.ends number }
     {

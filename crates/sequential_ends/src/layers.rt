@@ -132,8 +132,8 @@ fn values_at(alloc: Global, test: &Test, row: &[u64]) -> Result<Vec<u64>, AllocE
     Vec::from_slice(alloc, state.values())
 }
 
-// Adds what each thread's next operation leads to from a point, or to the ends what the names have there, if there is no
-// such operation.
+// Adds what each thread's next operation leads to from a point, or to the ends what the names have there, if there is
+// no such operation.
 fn add_point(
     alloc: Global,
     test: &Test,

@@ -46,8 +46,8 @@ pub(crate) fn opening_row(alloc: Global, test: &Test) -> Result<Vec<u64>, AllocE
     Ok(row)
 }
 
-/// A row with one value more in one of its lists: the words, the lists before it, the list, the value and what is behind
-/// the list. It has memory for `capacity` words at first.
+/// A row with one value more in one of its lists: the words, the lists before it, the list, the value and what is
+/// behind the list. It has memory for `capacity` words at first.
 pub(crate) fn row_with(
     alloc: Global,
     capacity: usize,

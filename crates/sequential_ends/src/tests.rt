@@ -1,6 +1,6 @@
 //! Store buffering: three ends, thirteen points in layers of 1, 2, 3, 4 and 3, of which seven are kept at once. And
-//! seven swaps of one word: each order of the threads is an end, and k turns lead to 7!/(7 - k)! points, in layers of 1,
-//! 7, 42, 210, 840, 2,520, 5,040 and 5,040.
+//! seven swaps of one word: each order of the threads is an end, and k turns lead to 7!/(7 - k)! points, in layers of
+//! 1, 7, 42, 210, 840, 2,520, 5,040 and 5,040.
 use crate::{EndsError, MOST_STATES, list_ends};
 use litmus_reader::read;
 use std::alloc::Global;
@@ -21,8 +21,8 @@ const SWAPS: &str = "RISCV SWAPS\n\
     amoswap.w x7,x5,(x6) | amoswap.w x7,x5,(x6) | amoswap.w x7,x5,(x6) ;\n\
     exists (0:x7=0 /\\ 1:x7=1 /\\ 2:x7=2 /\\ 3:x7=3 /\\ 4:x7=4 /\\ 5:x7=5 /\\ 6:x7=6)\n";
 
-// How many states of a test may be kept, and how many ends and states there are then. If there are too many, no end, and
-// how many are enough to go on.
+// How many states of a test may be kept, and how many ends and states there are then. If there are too many, no end,
+// and how many are enough to go on.
 const COUNTS: &[(&str, usize, usize, u64)] = &[
     (BUFFERING, 0, 0, 3),
     (BUFFERING, 6, 0, 9),

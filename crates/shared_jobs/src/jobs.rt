@@ -44,8 +44,8 @@ pub fn run_one<X: Drop, S: Drop, J: Jobs<X, S>, G: Gate>(
     done
 }
 
-/// Runs the job of this number, whose result no worker has in front, by the state that there is, or by one that the call
-/// opens.
+/// Runs the job of this number, whose result no worker has in front, by the state that there is, or by one that the
+/// call opens.
 pub fn run_left<X: Drop, S: Drop, J: Jobs<X, S>, G: Gate>(
     jobs: &J,
     gate: &G,

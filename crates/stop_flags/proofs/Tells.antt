@@ -9,7 +9,8 @@ use Rattle.atomic_table.specs.Table.{State, Me, keeps, Allows, Splits, Joins, op
 use Rattle.seat_views.specs.declared.views.View.{View}
 use Rattle.seat_views.specs.Seated.{over, with_value_at, with_hold, Shown, one_more, knows, seat_view, spent_view}
 use Rattle.seat_views.specs.Seated.{first_view}
-use Rattle.seat_views.proofs.Lemmas.{within, shown_first, shown_set, shown_split, shown_join, at_put, over_put, put_here}
+use Rattle.seat_views.proofs.Lemmas.{within, shown_first, shown_set, shown_split, shown_join, at_put, over_put}
+use Rattle.seat_views.proofs.Lemmas.{put_here}
 use Rattle.stop_flags.specs.declared.words.Look.{Look}
 use Rattle.stop_flags.specs.declared.words.Said.{Said}
 use Rattle.stop_flags.specs.declared.words.Voice.{Voice}

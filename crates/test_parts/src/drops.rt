@@ -1,4 +1,5 @@
-//! Values left on the lists of an arena are dropped once, by `clear` or with the arena; one that was taken off, with it.
+//! Values left on the lists of an arena are dropped once, by `clear` or with the arena; one that was taken off, with
+//! it.
 use line_arena::Arena;
 use std::alloc::{AllocError, Global};
 use std::rc::Rc;

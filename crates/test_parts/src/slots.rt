@@ -49,8 +49,8 @@ fn load() -> Message
     }
 }
 
-/// Whether the oldest message from core 1 to the bank is the first one that it sent and, once that is taken, the second;
-/// whether a message to DRAM is found, and none the other way; and whether a message is taken once.
+/// Whether the oldest message from core 1 to the bank is the first one that it sent and, once that is taken, the
+/// second; whether a message to DRAM is found, and none the other way; and whether a message is taken once.
 fn are_in_order(alloc: Global) -> Result<bool, AllocError> {
     let (core, bank, dram) = (Node::Core(1), Node::Bank(0), Node::Dram(0));
     let mut flight = InFlight::new(alloc, 2, 1, 3)?;

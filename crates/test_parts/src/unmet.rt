@@ -54,8 +54,8 @@ fn endpoints_are_those_of_each_kind(rt: HostRuntime) {
     assert_eq!(rt; first_wrong(), None);
 }
 
-/// Whether a set of two ways takes two lines, refuses the third, and keeps the two; whether it takes the first one again,
-/// which then is the most recently used.
+/// Whether a set of two ways takes two lines, refuses the third, and keeps the two; whether it takes the first one
+/// again, which then is the most recently used.
 fn is_full(alloc: Global) -> Result<bool, AllocError> {
     let mut cache = Cache::new(alloc, Geometry { sets: 1, ways: 2 })?;
     for (line, filled) in [

@@ -162,8 +162,8 @@ fn a_run_by_threads_passes_the_gate(rt: HostRuntime) -> Result<(), Fail> {
 }
 
 // Each run gives two cores and a bank one turn each, or two, and isn't made again. At the last time no store fits: core
-// 0 stops in its fourth turn, where it would be done. Before, core 1 had two turns, and the bank ten: four that load and
-// grant a line, twice, one that puts the last grant, and one that does nothing.
+// 0 stops in its fourth turn, where it would be done. Before, core 1 had two turns, and the bank ten: four that load
+// and grant a line, twice, one that puts the last grant, and one that does nothing.
 #[test]
 fn all_runs_by_threads_pass_the_gate(rt: HostRuntime) -> Result<(), Fail> {
     for (time, limit, workers, turns) in [

@@ -12,9 +12,9 @@ use std::thread;
 use std::thread::Threads;
 use thread_driver::{ThreadRun, run_threads};
 
-/// A gate of a core, seat 0, and of a bank, seat 1, each with a worker of its own. A turn of the bank neither begins nor
-/// ends before three more turns of the core have ended, or the program has learned of a step. The gate keeps the first
-/// turn of the bank at whose end that was so.
+/// A gate of a core, seat 0, and of a bank, seat 1, each with a worker of its own. A turn of the bank neither begins
+/// nor ends before three more turns of the core have ended, or the program has learned of a step. The gate keeps the
+/// first turn of the bank at whose end that was so.
 #[derive(Drop)]
 struct HeldBank {
     ended: AtomicU64,

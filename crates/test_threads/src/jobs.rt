@@ -41,8 +41,8 @@ impl<'a> Jobs<u64, u64> for Counts<'a> {
     }
 }
 
-// The results of so many jobs by so many workers, of which so many are refused a state, if each job is done once, so that
-// so many of the first two see the other; none otherwise.
+// The results of so many jobs by so many workers, of which so many are refused a state, if each job is done once, so
+// that so many of the first two see the other; none otherwise.
 fn results_of<R: Threads + Sync>(
     rt: &R,
     alloc: Global,

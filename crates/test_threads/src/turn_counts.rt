@@ -1,5 +1,5 @@
-//! A gate that counts the turns of each seat, and at which the first turns of seats 0 and 1 wait for each other; and one
-//! that counts calls.
+//! A gate that counts the turns of each seat, and at which the first turns of seats 0 and 1 wait for each other; and
+//! one that counts calls.
 use shared_jobs::Gate;
 use std::alloc::{AllocError, Global};
 use std::sync::atomic::{AtomicU64, Ordering};

@@ -73,12 +73,13 @@ const NO_LEASE: Case = Case {
 /// A case, its workers, how many times first turns look for each other, how it ends, how many turns the first seats
 /// have, and how many of two first turns see the other.
 ///
-/// A worker alone sees at once that programs without steps are all done. A core asks for its line in its first turn, and
-/// waits in its second. The bank loads the line in three turns, grants it in its fourth, puts that in its fifth, which
-/// takes the next request, and has one more. In pass 2 the core takes the grant in its third turn, stores in its fourth,
-/// and has one more, and so has the bank. Each of the 999 operations behind the store, on the line that the core owns,
-/// takes one turn: 14 of them in pass 2, which has 16 turns of the core; 976 in 61 passes; and 9. A seat that stops ends
-/// the pass. Two workers give turns at the same time. One gives one turn after the other, so the first one looks in vain.
+/// A worker alone sees at once that programs without steps are all done. A core asks for its line in its first turn,
+/// and waits in its second. The bank loads the line in three turns, grants it in its fourth, puts that in its fifth,
+/// which takes the next request, and has one more. In pass 2 the core takes the grant in its third turn, stores in its
+/// fourth, and has one more, and so has the bank. Each of the 999 operations behind the store, on the line that the
+/// core owns, takes one turn: 14 of them in pass 2, which has 16 turns of the core; 976 in 61 passes; and 9. A seat
+/// that stops ends the pass. Two workers give turns at the same time. One gives one turn after the other, so the first
+/// one looks in vain.
 const GIVEN: &[(Case, u32, u32, End, [u64; 3], u64)] = &[
     (NO_TURN, 1, 0, End::TurnsUsed, [0, 0, 0], 0),
     (NO_TURN, 2, 0, End::TurnsUsed, [0, 0, 0], 0),
@@ -133,9 +134,9 @@ const ONE_PLACE: Case = Case {
     fair: false,
 };
 
-// If the bank makes room before its turn, a line goes before the load of it is served, until all turns are used. By fair
-// turns there are four passes: core 0 has 2, 4, 1 and 1 turns in them, core 1 has 2, 1, 3 and 1, core 2 has 2, 1, 1 and 3,
-// and the bank has 7, 4, 8 and 1.
+// If the bank makes room before its turn, a line goes before the load of it is served, until all turns are used. By
+// fair turns there are four passes: core 0 has 2, 4, 1 and 1 turns in them, core 1 has 2, 1, 3 and 1, core 2 has 2, 1,
+// 1 and 3, and the bank has 7, 4, 8 and 1.
 #[test]
 fn fair_turns_serve_before_a_line_goes(rt: HostRuntime) -> Result<(), Fail> {
     for (fair, end, counts) in [

@@ -53,9 +53,6 @@ steps-push k (t ∷ told) core s =
       | inr e ↦ rw e (steps-push k told core s)
     ]
 
-pub bycore-none : IsByCore [] []
-bycore-none = (refl, λ core. refl)
-
 -- one more step of a core
 pub bycore-push : (told : List (ℕ × Step)) (old new : List (List Step)) (core : ℕ) (s : Step) → IsByCore told old →
     length new ≡ max (suc core) (length old) →

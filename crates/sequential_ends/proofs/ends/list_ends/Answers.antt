@@ -1,4 +1,5 @@
-use Rattle.std.proofs.Common.{◌≡◌, ℕ, suc, ◌+◌, ◌-◌, ◌*◌, ◌^◌, ◌≤◌, min, Err, ap₂, List, [], ◌∷◌, refl, sym, ap, ◌∙◌, subst, arith, length, map, ⊎_elim}
+use Rattle.std.proofs.Common.{◌≡◌, ℕ, suc, ◌+◌, ◌-◌, ◌*◌, ◌^◌, ◌≤◌, min, Err, ap₂, List, [], ◌∷◌, refl, sym, ap, ◌∙◌}
+use Rattle.std.proofs.Common.{subst, arith, length, map, ⊎_elim}
 use Rattle.std.proofs.lemmas.Bool.{cases_eq}
 use Rattle.std.proofs.lemmas.Nat.{mul-le}
 use Rattle.litmus_reader.specs.TestViews.{test_of}
@@ -7,7 +8,8 @@ use Rattle.sequential_ends.specs.Packed.{packed}
 use Rattle.sequential_ends.specs.Layers.{layer, ends_before, with_ends, kept_at, states_before}
 use Rattle.sequential_ends.proofs.Packing.{plus_one}
 use Rattle.sequential_ends.proofs.LayerPoints.{lists_in}
-use Rattle.sequential_ends.proofs.EveryEnd.{layer_few, layer_empty, layer_long, each_is_end, each_end_is, few_kept, stops}
+use Rattle.sequential_ends.proofs.EveryEnd.{layer_few, layer_empty, layer_long, each_is_end, each_end_is, few_kept}
+use Rattle.sequential_ends.proofs.EveryEnd.{stops}
 use Rattle.std.proofs.lemmas.List.Elements.{All-from_recursion, recursion_from_All}
 use Rattle.std.proofs.lemmas.List.Sorted.{All-permutation}
 use Rattle.sequential_ends.specs.Orders.{IsEndOrder, AreLed, AreEndOrders}

@@ -4,6 +4,7 @@
 pub mod cause;
 pub mod event_counts;
 pub mod kind_counts;
+pub mod laws;
 pub mod part_counts;
 #[cfg(test)]
 mod tests;

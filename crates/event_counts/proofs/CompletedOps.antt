@@ -37,7 +37,8 @@ use Rattle.event_counts.specs.declared.part_counts.CoreCounts.{CoreCounts}
 use Rattle.event_counts.specs.Counts.{EventCounts, asked, at_core, at_node, changed_at, completed, core_sent}
 use Rattle.event_counts.specs.Counts.{evicted_copy, hits_and_misses, more, no_core_counts, no_counts, operations}
 use Rattle.event_counts.specs.Counts.{HasCompleted, sent, with_end, with_one, with_op}
-use Rattle.event_counts.specs.Counting.{all_seen, answered, cause_of, evicted, requested, seen}
+use Rattle.schedules.specs.Watches.{watched}
+use Rattle.event_counts.specs.Counting.{answered, counts_events, cause_of, evicted, requested, seen}
 
 -- one core
 more_is : (n : ℕ) → n < 2 ^ 64 - 1 → more n ≡ n + 1
@@ -208,7 +209,7 @@ event_counts c m e n few has =
 
 all_done : (c : ℕ) (m : Machine) (events : List Event) (n : EventCounts) →
     records_of c m + length events < 2 ^ 64 → Done c (records_of c m) n →
-    Done c (records_of c (after_all m events)) (all_seen n m events)
+    Done c (records_of c (after_all m events)) (watched counts_events n m events)
 all_done c m [] n few has = has
 all_done c m (e ∷ events) n few has =
     let next = transition m e in let one = event_counts c m e n (omega (arith, few)) has in
@@ -223,7 +224,7 @@ at_zeros (suc cores) (suc c) there = at_zeros cores c (omega (arith, there))
 pub all_completed : (config : Config) (memory : FinMap nat_cmp ℕ) (cores banks c : ℕ) (events : List Event) →
     c < cores → length events < 2 ^ 64 → let m = at_start config memory in
     HasCompleted (length (of_core c (after_all m events).records))
-    (slice_get (all_seen (no_counts cores banks) m events).cores c)
+    (slice_get (watched counts_events (no_counts cores banks) m events).cores c)
 all_completed config memory cores banks c events there few =
     all_done c (at_start config memory) events (no_counts cores banks) (omega (arith, few))
     (subst (HasCompleted 0) (sym (at_zeros cores c there)) (refl, refl))

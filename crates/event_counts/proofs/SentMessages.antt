@@ -19,7 +19,8 @@ use Rattle.machine_table.specs.Step.{Step, Makes, Drops}
 use Rattle.machine_table.specs.Transition.{changed, refused, transition}
 use Rattle.machine_table.proofs.Lemmas.{Outcome, core_steps, bank_steps, dram_steps, transition_outcome}
 use Rattle.event_counts.specs.Counts.{EventCounts, more, sent}
-use Rattle.event_counts.specs.Counting.{all_seen, answered, evicted, requested, seen}
+use Rattle.schedules.specs.Watches.{watched}
+use Rattle.event_counts.specs.Counting.{answered, counts_events, evicted, requested, seen}
 
 module _ {X : Type 0} where
   -- a number that nothing has is still free where something is taken
@@ -138,7 +139,7 @@ seen_next n m e a =
 
 -- counts that have all messages sent so far have all that a list of events sends
 pub all_counted : (m : Machine) (events : List Event) (n : EventCounts) → IsOpen m.mail → n.next ≡ m.mail.next →
-    (all_seen n m events).next ≡ (after_all m events).mail.next
+    (watched counts_events n m events).next ≡ (after_all m events).mail.next
 all_counted m [] n opened has = has
 all_counted m (e ∷ events) n opened has =
     let next = transition m e in let sends = event_sends m opened e in

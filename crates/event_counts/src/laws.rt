@@ -10,7 +10,8 @@ ghost use Rattle.machine_table.specs.Opening.{at_start};
 ghost use Rattle.machine_table.specs.Runs.{after_all};
 ghost use Rattle.machine_table.specs.Transition.{transition};
 ghost use Rattle.event_counts.specs.Counts.{HasCompleted, no_counts};
-ghost use Rattle.event_counts.specs.Counting.{all_seen};
+ghost use Rattle.event_counts.specs.Counting.{counts_events};
+ghost use Rattle.schedules.specs.Watches.{watched};
 
 /// An event sends one message at most. After any events since a machine opened, as many messages are counted as were
 /// sent.
@@ -19,7 +20,7 @@ pub fn every_message_is_counted()
         (transition m event).1.mail.next ≤ m.mail.next + 1 }
     ensures all { (config : Config) (memory : FinMap nat_cmp ℕ) (cores banks : ℕ)
         (events : List Event) → let m = at_start config memory in
-        (all_seen (no_counts cores banks) m events).next ≡ (after_all m events).mail.next }
+        (watched counts_events (no_counts cores banks) m events).next ≡ (after_all m events).mail.next }
 {}
 
 /// After fewer than 2^64 events since a machine opened, the operations of a core that are counted as completed are as
@@ -29,5 +30,5 @@ pub fn every_record_is_counted()
         (events : List Event) → core < cores → length events < 2 ^ 64 →
         let m = at_start config memory in
         HasCompleted (length (of_core core (after_all m events).records))
-        (slice_get (all_seen (no_counts cores banks) m events).cores core) }
+        (slice_get (watched counts_events (no_counts cores banks) m events).cores core) }
 {}

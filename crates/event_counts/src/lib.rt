@@ -8,6 +8,7 @@ pub mod laws;
 pub mod part_counts;
 #[cfg(test)]
 mod tests;
+mod watching;
 
 pub use cause::Cause;
 pub use event_counts::EventCounts;

@@ -211,8 +211,8 @@ fn find_full(
     find_in_part(machine, seat, number, slots, link, slot, column)
 }
 
-// Moves the message out of the slot that is out with the seat into the hand, and gives the slot back empty. It is a call
-// of its own, so that a take that finds nothing makes no room for a message.
+// Moves the message out of the slot that is out with the seat into the hand, and gives the slot back empty. It is a
+// call of its own, so that a take that finds nothing makes no room for a message.
 #[inline(never)]
 fn fill_hand(
     machine: &Machine,

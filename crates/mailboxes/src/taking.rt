@@ -1,8 +1,13 @@
 //! A seat takes messages out of slots.
-ghost use Rattle.std.specs.Prelude.{◌≡◌, ℕ, ◌+◌, ◌*◌, ◌%◌, ◌<◌, ◌≤◌, [], false, IfSome, MatchOption};
-ghost use Rattle.seat_rule.specs.declared.views.Stage.TheVariants.{Idle};
+ghost use Rattle.std.specs.Prelude.{◌≡◌, ℕ, ◌+◌, ◌*◌, ◌%◌, ◌<◌, ◌≤◌, [], ◌∷◌, false, IfSome, None, Some, MatchOption};
+ghost use Rattle.network.specs.declared.message.Message.{Message};
+ghost use Rattle.inbox.specs.Inboxes.{inbox};
+ghost use Rattle.seat_views.specs.Seated.{with_hold};
+ghost use Rattle.seat_rule.specs.declared.views.Stage.TheVariants.{Idle, Reading};
+ghost use Rattle.seat_rule.specs.Rule.{seat_count, slot_count};
+ghost use Rattle.seat_rule.specs.Plays.{Standing, take_hold};
 ghost use Rattle.mailboxes.specs.Incoming.{AreIncoming};
-ghost use Rattle.mailboxes.specs.Places.{incoming, incoming_count};
+ghost use Rattle.mailboxes.specs.Places.{Belongs, incoming, incoming_count};
 ghost use Rattle.mailboxes.specs.BoxMoves.{FindsFull, FindsNone, IsAt, Stands, Stays, Takes, hold};
 
 use crate::ends::Slots;
@@ -10,7 +15,8 @@ use crate::machine::Machine;
 use crate::mailbox::Mailbox;
 use crate::steps::{SlotSeat, look_in, receive};
 use crate::taken::Take;
-use network::Body;
+use inbox::Inbox;
+use network::{Body, Message};
 use seat_rule::laws::slots_are_few;
 use seat_rule::parts::seats_stand;
 
@@ -87,6 +93,41 @@ fn find_in_link(
     None
 }
 
+// The same. A cursor mostly stands behind the first slot of a link, so that three slots are left of it, and then one:
+// loops of a known length have no counter in the built program.
+#[inline(always)]
+fn find_in_part(
+    machine: &Machine,
+    seat: &mut SlotSeat,
+    number: u32,
+    slots: &Slots,
+    place: usize,
+    slot: usize,
+    looks: usize,
+) -> Option<(usize, usize)>
+    requires table { seat.old.table_id ≡ machine.now.table.shared.table_id }
+    requires number { (number < machine.now.set_up.config.cores + machine.now.set_up.config.banks) ×
+        (seat.old.me.0.number ≡ number) }
+    requires idle { (seat.old.me.0.spent ≡ false) × (seat.old.me.0.mine.stage ≡ Idle) ×
+        (seat.old.me.1 ≡ []) }
+    requires slots { AreIncoming machine.now.set_up.config.cores machine.now.set_up.config.banks
+        number slots.now }
+    requires place { (place < slots.now.count) × (place % 4 + looks ≤ 4) }
+    requires slot { slot ≡ incoming machine.now.set_up.config.cores
+        machine.now.set_up.config.banks number place }
+    ensures table { (seat.new.table_id ≡ seat.old.table_id) × (seat.new.id ≡ seat.old.id) }
+    ensures found { MatchOption result
+        (FindsNone machine.now.set_up number place looks seat.old.me seat.new.me)
+        (λ f. FindsFull machine.now.set_up number place looks f seat.old.me seat.new.me) }
+    ensures within { IfSome result (λ f. f.1 < 256) }
+{
+    match looks {
+        1 => find_in_link(machine, seat, number, slots, place, slot, 1),
+        3 => find_in_link(machine, seat, number, slots, place, slot, 3),
+        _ => find_in_link(machine, seat, number, slots, place, slot, looks),
+    }
+}
+
 // The same of so many links, one after the other.
 #[inline(always)]
 fn find_in_links(
@@ -156,7 +197,7 @@ fn find_full(
     let link = start - column;
     let slot = first_slot(machine, number, slots, start / 4);
     let at = slot + column;
-    if let Some(found) = find_in_link(machine, seat, number, slots, start, at, 4 - column) {
+    if let Some(found) = find_in_part(machine, seat, number, slots, start, at, 4 - column) {
         return Some(found);
     }
     let later = slots.count / 4 - start / 4 - 1;
@@ -167,7 +208,36 @@ fn find_full(
     if let Some(found) = find_in_links(machine, seat, number, slots, 0, slots.first, start / 4) {
         return Some(found);
     }
-    find_in_link(machine, seat, number, slots, link, slot, column)
+    find_in_part(machine, seat, number, slots, link, slot, column)
+}
+
+// Moves the message out of the slot that is out with the seat into the hand, and gives the slot back empty. It is a
+// call of its own, so that a take that finds nothing makes no room for a message.
+#[inline(never)]
+fn fill_hand(
+    machine: &Machine,
+    seat: &mut SlotSeat,
+    came_in: &mut Inbox<Message>,
+    slot: usize,
+) -> Take
+    requires table { Belongs seat.old.table_id machine.now.table.shared.table_id
+        machine.now.table.shared.key }
+    requires slot { (slot < slot_count machine.now.table.shared.key) ×
+        (seat.old.me.0.spent ≡ false) × (seat.old.me.0.mine.hand ≡ None) × (came_in.old.hand ≡ None) }
+    requires reading { (m : Message) × (seat.old.me.0.mine.stage ≡ Reading slot m) ×
+        (seat.old.me.1 ≡ (slot, Some m) ∷ []) }
+    ensures table { (seat.new.table_id ≡ seat.old.table_id) × (seat.new.id ≡ seat.old.id) }
+    ensures taken { (m : Message) × (seat.old.me.0.mine.stage ≡ Reading slot m) × (seat.new.me ≡
+        (with_hold seat.old.me.0 (take_hold seat.old.me.0.mine slot m), [])) ×
+        (came_in.new ≡ inbox (Some m) came_in.old.held) ×
+        Standing machine.now.table.shared.key (seat_count machine.now.table.shared.key)
+        seat.old.me.0.number (take_hold seat.old.me.0.mine slot m) }
+    ensures answer { result ≡ Take.Taken }
+{
+    let message = receive(&machine.table.shared, seat, slot);
+    let _body: Body = message.body;
+    came_in.fill_hand(message);
+    Take::Taken
 }
 
 impl Mailbox {
@@ -195,10 +265,7 @@ impl Mailbox {
         let Some((slot, after)) = found else {
             return Take::Nothing;
         };
-        let message = receive(&machine.table.shared, &mut self.seat, slot);
-        let _body: Body = message.body;
-        self.inbox.fill_hand(message);
         self.cursor = after;
-        Take::Taken
+        fill_hand(machine, &mut self.seat, &mut self.inbox, slot)
     }
 }

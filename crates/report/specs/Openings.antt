@@ -13,7 +13,8 @@ use Rattle.trace_reader.specs.Reading.{opening_in, opening_read}
 use Rattle.report.specs.Refusals.{IsFault}
 use Rattle.report.specs.Verdicts.{HasNoVerdict, IsCheckReport}
 
--- the words that were read, with their values: their text is all that the source had, if that is known
+-- The words that were read, with their values: their text is all that the source had, if that is known. Of a source
+-- whose bytes aren't known this says nothing.
 abbrev pub IsOpened : Option (List ℕ) → FinMap nat_cmp ℕ → Type 0
 IsOpened known words = IfSome known (λ bytes. IsOpening bytes words)
 

@@ -10,7 +10,8 @@ use Rattle.programs.specs.declared.steps.Step.{Step}
 use Rattle.trace_reader.specs.Grammar.{IsTrace}
 use Rattle.trace_reader.specs.Outcomes.{IsOfLine}
 
--- the trace that was read: its text is all that the source had, if that is known
+-- The trace that was read: its text is all that the source had, if that is known. Of a source whose bytes aren't known
+-- this says nothing.
 abbrev pub IsRead : Option (List ℕ) → List (List Step) → Type 0
 IsRead known lanes = IfSome known (λ bytes. IsTrace bytes lanes)
 

@@ -22,7 +22,8 @@ use Rattle.report.specs.Reports.{IsTraceFault}
 use Rattle.trace_reader.specs.Steps.{trace_ops}
 use Rattle.trace_texts.specs.Verdicts.{check_text, lack_text}
 
--- the records that were read: their text is all that the source had, if that is known
+-- The records that were read: their text is all that the source had, if that is known. Of a source whose bytes aren't
+-- known this says nothing.
 abbrev pub AreRead : Option (List ℕ) → List Record → Type 0
 AreRead known records = IfSome known (λ bytes. AreRecords bytes records)
 

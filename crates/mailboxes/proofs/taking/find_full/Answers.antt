@@ -6,7 +6,7 @@ pub returns-in-Some-clause-found : goal.returns-in-Some-clause-found
 returns-in-Some-clause-found c =
     let slots = c.requires.slots in
     rest_full c.args.machine.now.set_up c.args.number c.args.cursor c.place_of-start.result c.args.slots.now.count
-    c.place_of-start.ensures slots.some slots.count c.args.seat.now.me c.in-Some.found c.find_in_link.new.seat.me
+    c.place_of-start.ensures slots.some slots.count c.args.seat.now.me c.in-Some.found c.find_in_part.new.seat.me
     c.requires.idle.1 c.requires.idle.2 c.in-Some.ensures.found
 
 pub returns-in-Some-find_in_links-clause-found : goal.returns-in-Some-find_in_links-clause-found
@@ -15,10 +15,10 @@ returns-in-Some-find_in_links-clause-found c =
     let slots = c.requires.slots in
     let start : ℕ = c.place_of-start.result in
     let so = rest_none z c.args.number c.args.cursor start c.args.slots.now.count c.place_of-start.ensures slots.some
-    slots.count c.args.seat.now.me c.find_in_link.new.seat.me c.requires.idle.1 c.requires.idle.2
+    slots.count c.args.seat.now.me c.find_in_part.new.seat.me c.requires.idle.1 c.requires.idle.2
     c.in_default.ensures.found in
     later_full z c.args.number c.args.cursor start c.args.slots.now.count c.place_of-start.ensures slots.some
-    slots.count c.args.seat.now.me c.in-Some-find_in_links.found c.find_in_link.new.seat.me
+    slots.count c.args.seat.now.me c.in-Some-find_in_links.found c.find_in_part.new.seat.me
     c.find_in_links.new.seat.me so c.in-Some-find_in_links.ensures.found
 
 pub returns-in-Some-find_in_links-2-clause-found : goal.returns-in-Some-find_in_links-2-clause-found
@@ -27,10 +27,10 @@ returns-in-Some-find_in_links-2-clause-found c =
     let slots = c.requires.slots in
     let start : ℕ = c.place_of-start.result in
     let so = rest_none z c.args.number c.args.cursor start c.args.slots.now.count c.place_of-start.ensures slots.some
-    slots.count c.args.seat.now.me c.find_in_link.new.seat.me c.requires.idle.1 c.requires.idle.2
+    slots.count c.args.seat.now.me c.find_in_part.new.seat.me c.requires.idle.1 c.requires.idle.2
     c.in_default.ensures.found in
     let next = later_none z c.args.number c.args.cursor start c.args.slots.now.count c.place_of-start.ensures slots.some
-    slots.count c.args.seat.now.me c.find_in_link.new.seat.me c.find_in_links.new.seat.me so
+    slots.count c.args.seat.now.me c.find_in_part.new.seat.me c.find_in_links.new.seat.me so
     c.in_default-find_in_links.ensures.found in
     early_full z c.args.number c.args.cursor start c.args.slots.now.count c.place_of-start.ensures slots.some
     slots.count c.args.seat.now.me c.in-Some-find_in_links-2.found c.find_in_links.new.seat.me
@@ -42,14 +42,14 @@ returns-clause-found c =
     let slots = c.requires.slots in
     let start : ℕ = c.place_of-start.result in
     let so = rest_none z c.args.number c.args.cursor start c.args.slots.now.count c.place_of-start.ensures slots.some
-    slots.count c.args.seat.now.me c.find_in_link.new.seat.me c.requires.idle.1 c.requires.idle.2
+    slots.count c.args.seat.now.me c.find_in_part.new.seat.me c.requires.idle.1 c.requires.idle.2
     c.in_default.ensures.found in
     let next = later_none z c.args.number c.args.cursor start c.args.slots.now.count c.place_of-start.ensures slots.some
-    slots.count c.args.seat.now.me c.find_in_link.new.seat.me c.find_in_links.new.seat.me so
+    slots.count c.args.seat.now.me c.find_in_part.new.seat.me c.find_in_links.new.seat.me so
     c.in_default-find_in_links.ensures.found in
     let last = early_none z c.args.number c.args.cursor start c.args.slots.now.count c.place_of-start.ensures slots.some
     slots.count c.args.seat.now.me c.find_in_links.new.seat.me c.find_in_links-2.new.seat.me next
     c.in_default-find_in_links-2.ensures.found in
     last_found z c.args.number c.args.cursor start c.args.slots.now.count c.place_of-start.ensures slots.some
-    slots.count c.args.seat.now.me c.find_in_link-2.result c.find_in_links-2.new.seat.me
-    c.find_in_link-2.new.seat.me last c.find_in_link-2.ensures.found
+    slots.count c.args.seat.now.me c.find_in_part-2.result c.find_in_links-2.new.seat.me
+    c.find_in_part-2.new.seat.me last c.find_in_part-2.ensures.found

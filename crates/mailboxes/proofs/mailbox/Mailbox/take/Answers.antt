@@ -7,8 +7,8 @@ use Rattle.mailboxes.proofs.EmptySlots.{place_ends}
 use Rattle.mailboxes.proofs.OwnMessages.{own_after}
 use Rattle.mailboxes.proofs.mailbox.Mailbox.take.Goals as goal
 
-pub receive-message-requires-clause-slot : goal.receive-message-requires-clause-slot
-receive-message-requires-clause-slot c =
+pub fill_hand-requires-clause-slot : goal.fill_hand-requires-clause-slot
+fill_hand-requires-clause-slot c =
     let p = c.args.self.now in
     let m = c.args.machine.now in
     let z = m.set_up in
@@ -20,6 +20,7 @@ receive-message-requires-clause-slot c =
       subst (λ (y : SetUp). c.in-Some.slot < slot_count y) (sym m.keyed) ends.1.0,
       ap (λ (s : SeatState). s.0.spent) f.6 ∙ p.tied.live,
       search rules,
+      search rules,
     )
 
 pub invariant_of-self-2-clause-own : goal.invariant_of-self-2-clause-own
@@ -28,6 +29,5 @@ invariant_of-self-2-clause-own c =
     let z = c.args.machine.now.set_up in
     own_after z p.cores p.number p.cursor (incoming_count z.config.cores z.config.banks p.number)
     (c.in-Some.slot, c.in-Some.after) p.seat.me c.find_full-found.new.seat.me
-    c.receive-message.result p.inbox c.fill_hand.new.self c.requires.seat.2 c.in-Some.ensures.found
-    c.receive-message.ensures.taken.0 p.own
-    c.fill_hand.ensures
+    c.fill_hand.ensures.taken.0 p.inbox c.fill_hand.new.came_in c.requires.seat.2 c.in-Some.ensures.found
+    c.fill_hand.ensures.taken.1 p.own c.fill_hand.ensures.taken.3

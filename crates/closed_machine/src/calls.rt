@@ -12,14 +12,16 @@ ghost use Rattle.closed_machine.specs.RunParts.{Parts, state_of_run};
 use crate::numbered::find;
 use crate::run::Run;
 use crate::values::{value_left, values_left};
-use machine_theorem::move_laws::{places_count_records, records_are_in_order};
+use machine_theorem::move_laws::{
+    places_count_records, reached_states_have_the_invariant, records_are_in_order,
+};
 use physiological_order::{Op, Record, WordAddr};
 use std::alloc::{AllocError, Global};
 
 impl Run {
     /// The records of all completed operations, by number. Of a run that `close` gave, they are a legal history of the
     /// opening memory and of what the cores were issued. Each core was issued the operations of its records, in their
-    /// order, and then its open one.
+    /// order, and then its open one. Nothing was issued to a core that isn't there.
     pub fn records(&self) -> &[Record]
         ensures records { result.now ≡ self.now.records.items }
         ensures legal { (parts : Parts self.now) → Legal (flat self.now.set_up.memory)
@@ -29,8 +31,11 @@ impl Run {
             core < self.now.set_up.config.cores →
             IsIssued ((state_of_run self.now parts).issued core)
             (of_core core result.now) ((state_of_run self.now parts).cores core).open_op }
+        ensures beyond { (parts : Parts self.now) (core : ℕ) →
+            self.now.set_up.config.cores ≤ core → (state_of_run self.now parts).issued core ≡ [] }
     {
         places_count_records();
+        reached_states_have_the_invariant();
         records_are_in_order();
         self.records.as_slice()
     }

@@ -1,5 +1,5 @@
 //! The machine as it opens, with all its seats.
-ghost use Rattle.std.specs.Prelude.{◌≡◌, ℕ, ◌+◌, ◌<◌, ◌≤◌, true, false, [], length, IfOk, IfErr};
+ghost use Rattle.std.specs.Prelude.{◌≡◌, ℕ, ◌+◌, ◌<◌, ◌≤◌, true, false, [], length, IfOk, IsErrOf};
 ghost use Rattle.std.specs.FinMap.{entries};
 ghost use Rattle.machine_table.specs.SetUp.{is_good};
 ghost use Rattle.mailboxes.specs.Seats.{AllNewCores, AllNewBanks, IsNewCore, HasMade};
@@ -30,8 +30,8 @@ pub fn open(
         AllNewCores r.0 0 r.1.items) }
     ensures banks { IfOk result (λ r. (length r.2.items ≡ config.banks) ×
         AllNewBanks r.0 config.cores r.2.items) }
-    ensures bad { is_good config ≡ false → IfErr result (λ e. e ≡ OpenError.BadConfig) }
-    ensures not_bad { IfErr result (λ e. e ≡ OpenError.BadConfig → is_good config ≡ false) }
+    ensures bad { is_good config ≡ false → IsErrOf result OpenError.BadConfig }
+    ensures not_bad { IsErrOf result OpenError.BadConfig → is_good config ≡ false }
 {
     if !config.is_good() {
         return Err(OpenError::BadConfig);

@@ -1,4 +1,4 @@
-use Rattle.std.proofs.Common.{List, sym, subst}
+use Rattle.std.proofs.Common.{List, sym, subst, ◌∙◌}
 use Rattle.physiological_order.specs.declared.operation.Record.{Record}
 use Rattle.physiological_order.specs.Order.{of_core}
 use Rattle.physiological_order.specs.StaleHits.{RisesByNumber}
@@ -24,3 +24,12 @@ returns-clause-issued c =
     (sym c.as_slice.ensures.value)
     (c.places_count_records.ensures.issued run.set_up.config run.set_up.memory state parts.good parts.whole.reached core
     below)
+
+pub returns-clause-beyond : goal.returns-clause-beyond
+returns-clause-beyond c =
+    λ parts core past.
+    let z = c.args.self.now.set_up in
+    let state = state_of_run c.args.self.now parts in
+    let law = c.reached_states_have_the_invariant.ensures in
+    (law.shows z.config z.memory state parts.good parts.whole.reached).same.issued core
+    ∙ (law.invariant z.config z.memory state parts.good parts.whole.reached).kept.shape.lists_beyond core past

@@ -37,9 +37,8 @@ returns-in-Some-job_of-clause-job c =
 pub returns-clause-refused : goal.returns-clause-refused
 returns-clause-refused c =
     let e = c.in-Ok.ensures.app in
-    c.unfair.ensures (map (λ w. w.now) c.args.words.now) (
-      (c.in-Some.name.now, rows_of (found_of c.in-Some.inner.now)),
-      are_taken _ e.0 (map (λ w. w.now) c.args.words.now) _ _ _ e.1 e.2 c.in-Ok-try_get_matches_from.ensures.kinds
-          c.in-Ok-try_get_matches_from.ensures.matches c.in-Some.ensures.name c.in-Some.ensures.rows,
-      c.in-None.ensures.unfair refl,
-    )
+    c.refused_for.ensures (map (λ w. w.now) c.args.words.now)
+    (c.in-Some.name.now, rows_of (found_of c.in-Some.inner.now))
+    (are_taken _ e.0 (map (λ w. w.now) c.args.words.now) _ _ _ e.1 e.2 c.in-Ok-try_get_matches_from.ensures.kinds
+        c.in-Ok-try_get_matches_from.ensures.matches c.in-Some.ensures.name c.in-Some.ensures.rows)
+    c.in-Err-job_of.ensures.conflict

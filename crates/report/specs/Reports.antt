@@ -1,15 +1,10 @@
 -- The report on the text of a trace, and why a text has none.
 use Rattle.std.specs.Prelude.{◌≡◌, ◌⊎◌, ◌≤◌, ℕ, Bool, true, false, ◌&&◌, not, List, [], ◌++◌, length, Option}
-use Rattle.std.specs.FinMap.{empty}
 use Rattle.machine_table.specs.declared.config.Config.{Config}
-use Rattle.machine_table.specs.declared.event.Event.{Event}
 use Rattle.machine_table.specs.Machine.{Machine}
-use Rattle.machine_table.specs.Opening.{at_start}
 use Rattle.machine_table.specs.SetUp.{is_good}
-use Rattle.event_counts.specs.Counting.{all_seen, no_counts}
+use Rattle.event_counts.specs.Counting.{EventCounts, counts_events, no_counts}
 use Rattle.physiological_order.specs.declared.operation.Record.{Record}
-use Rattle.schedules.specs.declared.policy.Policy.{Policy}
-use Rattle.schedules.specs.Policies.{EndedBy}
 use Rattle.worker_driver.specs.SetUp.{config_of, driver_of, limit_of}
 use Rattle.worker_driver.specs.declared.set_up.Driver.{Driver}
 use Rattle.worker_driver.specs.declared.set_up.Driver.TheVariants.{ByPolicy, ByThreads}
@@ -28,7 +23,7 @@ use Rattle.report.specs.Refusals.{IsFault, IsRead}
 use Rattle.trace_reader.specs.Outcomes.{WantsMemory}
 use Rattle.trace_reader.specs.Steps.{trace_cores}
 use Rattle.trace_texts.specs.CountLines.{event_counts_text}
-use Rattle.report.specs.Runs.{IsTraceRun, is_all_done, programs_below, run_text, step_acts}
+use Rattle.report.specs.Runs.{IsTraceRun, IsWatched, is_all_done, run_text}
 
 -- the text has a line for each record, and if there are no more records than a text may have, it is the text of the
 -- records
@@ -44,20 +39,11 @@ pub record TellsOf (records : Bool) (lanes : List (List Step)) (end : End) (mach
   pub read_back : records ≡ true → TellsRecords text machine.records
   pub done : all_done ≡ is_all_done end
 
--- What stands behind a report: nothing, or what the events of the run did, in numbers. These lead by the policy from
--- the machine, as it opens, to the one that is reported.
-pub record IsCounted (policy : Policy) (limit : ℕ) (config : Config) (lanes : List (List Step)) (end : End)
-    (machine : Machine) (behind : List ℕ) : Type 0 where
-  pub events : List Event
-  pub programs : List (List Step)
-  pub ended : EndedBy step_acts policy limit (at_start config empty) (programs_below lanes (trace_cores lanes)) events
-      machine programs end
-  pub told : behind ≡ event_counts_text (all_seen (no_counts config.cores config.banks) (at_start config empty) events)
-
--- the run of a policy is counted if that is asked for; a run by threads isn't
+-- what stands behind a report: what the run did, in numbers, if that is asked for of a run by a policy; else nothing
 abbrev pub StandsBehind : Bool → Driver → ℕ → Config → List (List Step) → End → Machine → List ℕ → Type 0
-StandsBehind true (ByPolicy policy) limit config lanes end machine behind =
-    IsCounted policy limit config lanes end machine behind
+StandsBehind true (ByPolicy policy) limit config lanes end machine behind = (counts : EventCounts)
+    × IsWatched counts_events (no_counts config.cores config.banks) policy limit config lanes end machine counts
+    × (behind ≡ event_counts_text counts)
 StandsBehind true (ByThreads fair) limit config lanes end machine behind = behind ≡ []
 StandsBehind false driver limit config lanes end machine behind = behind ≡ []
 

@@ -132,7 +132,7 @@ pub(crate) fn told_by_policy(
     if options.counts && !options.records {
         return told_counted(alloc, trace, config, policy, options);
     }
-    let ran = run_by_policy(alloc, trace, config, policy, limit_of(&options.run), &mut ())?;
+    let (ran, _) = run_by_policy(alloc, trace, config, policy, limit_of(&options.run), ())?;
     report_on(alloc, trace, &ran, options.records)
 }
 
@@ -151,9 +151,9 @@ fn told_counted(
     ensures { IfOk result (λ report.
         TellsTraceRun options.now trace.now report.all_done report.text.items) }
 {
-    let mut counts = EventCounts::new(alloc, config.cores, config.banks)?;
+    let counts = EventCounts::new(alloc, config.cores, config.banks)?;
     let limit = limit_of(&options.run);
-    let ran = run_by_policy(alloc, trace, config, policy, limit, &mut counts)?;
+    let (ran, counts) = run_by_policy(alloc, trace, config, policy, limit, counts)?;
     let mut report = report_on(alloc, trace, &ran, false)?;
     put_event_counts(&mut report.text, &counts)?;
     Ok(report)

@@ -1,0 +1,192 @@
+-- The counts of a run as data, and how each of them goes up.
+use Rattle.std.specs.Prelude.{ℕ, ◌+◌, ◌-◌, ◌^◌, max, nat_lt, List, [], ◌∷◌, Option, Some, None, if◌then◌else◌}
+use Rattle.std.specs.Prelude.{replicate, slice_get, slice_set}
+use Rattle.physiological_order.specs.declared.operation.Op.{Op}
+use Rattle.physiological_order.specs.declared.operation.Op.TheVariants.{Load, Store, Swap}
+use Rattle.physiological_order.specs.declared.operation.Record.{Record}
+use Rattle.network.specs.declared.message.Body.{Body}
+use Rattle.network.specs.declared.message.Body.TheVariants.{ShReq, ExReq, ShRep, ExRep, RenewRep, UpgradeRep}
+use Rattle.network.specs.declared.message.Body.TheVariants.{FlushReq, WbReq, FlushRep, WbRep}
+use Rattle.network.specs.declared.message.Body.TheVariants.{DramLd, DramLdRep, DramSt, DramStRep}
+use Rattle.network.specs.declared.message.Message.{Message}
+use Rattle.network.specs.declared.message.Node.{Node}
+use Rattle.network.specs.declared.message.Node.TheVariants as node
+use Rattle.event_counts.specs.declared.cause.Cause.{Cause}
+use Rattle.event_counts.specs.declared.cause.Cause.TheVariants.{Absent, Ended, Shared}
+use Rattle.event_counts.specs.declared.kind_counts.KindCounts.{KindCounts}
+use Rattle.event_counts.specs.declared.part_counts.CoreCounts.{CoreCounts}
+use Rattle.event_counts.specs.declared.part_counts.BankCounts.{BankCounts}
+
+-- one more; at its greatest value, 2 ^ 64 - 1, a count stays
+abbrev pub more : ℕ → ℕ
+more count = if nat_lt count (2 ^ 64 - 1) then count + 1 else count
+
+-- no messages
+abbrev pub no_kinds : KindCounts
+no_kinds = record {
+  sh_req = 0;
+  ex_req = 0;
+  sh_rep = 0;
+  ex_rep = 0;
+  renew_rep = 0;
+  upgrade_rep = 0;
+  flush_req = 0;
+  wb_req = 0;
+  flush_rep = 0;
+  wb_rep = 0;
+  dram_ld = 0;
+  dram_ld_rep = 0;
+  dram_st = 0;
+  dram_st_rep = 0;
+}
+
+-- a message counts by its kind
+abbrev pub with_kind : KindCounts → Body → KindCounts
+with_kind n (ShReq pts version) = record n { sh_req = more n.sh_req }
+with_kind n (ExReq version) = record n { ex_req = more n.ex_req }
+with_kind n (ShRep line) = record n { sh_rep = more n.sh_rep }
+with_kind n (ExRep line) = record n { ex_rep = more n.ex_rep }
+with_kind n (RenewRep rts) = record n { renew_rep = more n.renew_rep }
+with_kind n (UpgradeRep rts) = record n { upgrade_rep = more n.upgrade_rep }
+with_kind n FlushReq = record n { flush_req = more n.flush_req }
+with_kind n (WbReq rts) = record n { wb_req = more n.wb_req }
+with_kind n (FlushRep line) = record n { flush_rep = more n.flush_rep }
+with_kind n (WbRep line) = record n { wb_rep = more n.wb_rep }
+with_kind n DramLd = record n { dram_ld = more n.dram_ld }
+with_kind n (DramLdRep words) = record n { dram_ld_rep = more n.dram_ld_rep }
+with_kind n (DramSt words) = record n { dram_st = more n.dram_st }
+with_kind n DramStRep = record n { dram_st_rep = more n.dram_st_rep }
+
+-- kind by kind, the messages that were sent less those that are still in flight: the others were delivered or dropped
+abbrev pub without : KindCounts → KindCounts → KindCounts
+without n m = record {
+  sh_req = n.sh_req - m.sh_req;
+  ex_req = n.ex_req - m.ex_req;
+  sh_rep = n.sh_rep - m.sh_rep;
+  ex_rep = n.ex_rep - m.ex_rep;
+  renew_rep = n.renew_rep - m.renew_rep;
+  upgrade_rep = n.upgrade_rep - m.upgrade_rep;
+  flush_req = n.flush_req - m.flush_req;
+  wb_req = n.wb_req - m.wb_req;
+  flush_rep = n.flush_rep - m.flush_rep;
+  wb_rep = n.wb_rep - m.wb_rep;
+  dram_ld = n.dram_ld - m.dram_ld;
+  dram_ld_rep = n.dram_ld_rep - m.dram_ld_rep;
+  dram_st = n.dram_st - m.dram_st;
+  dram_st_rep = n.dram_st_rep - m.dram_st_rep;
+}
+
+-- nothing is counted of a core, or of a bank
+abbrev pub no_core_counts : CoreCounts
+no_core_counts = record {
+  loads = 0;
+  stores = 0;
+  swaps = 0;
+  hits = 0;
+  absent = 0;
+  ended = 0;
+  shared = 0;
+  asked = None;
+  evicted = 0;
+  last_time = 0;
+  sent = no_kinds;
+}
+
+abbrev pub no_bank_counts : BankCounts
+no_bank_counts = record { evicted = 0; sent = no_kinds }
+
+-- an operation counts by its kind
+abbrev pub with_op : CoreCounts → Op → CoreCounts
+with_op n (Load a) = record n { loads = more n.loads }
+with_op n (Store a v) = record n { stores = more n.stores }
+with_op n (Swap a v) = record n { swaps = more n.swaps }
+
+-- it is a hit if no request was sent for it, and a miss by the cause of its first request if one was
+abbrev pub with_end : CoreCounts → Option Cause → CoreCounts
+with_end n None = record n { hits = more n.hits }
+with_end n (Some Absent) = record n { absent = more n.absent }
+with_end n (Some Ended) = record n { ended = more n.ended }
+with_end n (Some Shared) = record n { shared = more n.shared }
+
+-- an operation completes
+abbrev pub completed : Record → CoreCounts → CoreCounts
+completed done n =
+    record (with_op (with_end n n.asked) done.op) { asked = None; last_time = max n.last_time done.ts }
+
+-- a request is sent; the cause of the first one for the operation stays
+abbrev pub first_cause : Option Cause → Cause → Cause
+first_cause None cause = cause
+first_cause (Some first) cause = first
+
+abbrev pub asked : Cause → CoreCounts → CoreCounts
+asked cause n = record n { asked = Some (first_cause n.asked cause) }
+
+-- a copy, or an entry, is evicted
+abbrev pub evicted_copy : CoreCounts → CoreCounts
+evicted_copy n = record n { evicted = more n.evicted }
+
+abbrev pub evicted_entry : BankCounts → BankCounts
+evicted_entry n = record n { evicted = more n.evicted }
+
+-- a message was sent by a core or to it, or by a bank or to it
+abbrev pub core_sent : Body → CoreCounts → CoreCounts
+core_sent body n = record n { sent = with_kind n.sent body }
+
+abbrev pub bank_sent : Body → BankCounts → BankCounts
+bank_sent body n = record n { sent = with_kind n.sent body }
+
+-- the counts of a run
+pub record EventCounts : Type 0 where
+  pub cores : List CoreCounts
+  pub banks : List BankCounts
+  -- the events; the deliveries that were held, and those that were dropped
+  pub events : ℕ
+  pub held : ℕ
+  pub dropped : ℕ
+  -- the messages with smaller numbers are counted
+  pub next : ℕ
+
+-- nothing is counted, of so many cores and banks
+abbrev pub no_counts : ℕ → ℕ → EventCounts
+no_counts cores banks = record {
+  cores = replicate cores no_core_counts;
+  banks = replicate banks no_bank_counts;
+  events = 0;
+  held = 0;
+  dropped = 0;
+  next = 0;
+}
+
+-- what is at an index changes, if something is there
+abbrev pub with_one : {X : Type 0} → List X → ℕ → (X → X) → Option X → List X
+with_one xs at change None = xs
+with_one xs at change (Some x) = slice_set xs at (change x)
+
+abbrev pub changed_at : {X : Type 0} → List X → ℕ → (X → X) → List X
+changed_at xs at change = with_one xs at change (slice_get xs at)
+
+abbrev pub at_core : EventCounts → ℕ → (CoreCounts → CoreCounts) → EventCounts
+at_core n core change = record n { cores = changed_at n.cores core change }
+
+abbrev pub at_bank : EventCounts → ℕ → (BankCounts → BankCounts) → EventCounts
+at_bank n bank change = record n { banks = changed_at n.banks bank change }
+
+-- a message counts at a node, if that is a core or a bank
+abbrev pub at_node : EventCounts → Node → Body → EventCounts
+at_node n (node.Core core) body = at_core n core (core_sent body)
+at_node n (node.Bank bank) body = at_bank n bank (bank_sent body)
+at_node n (node.Dram bank) body = n
+
+-- a message counts at its core, if it has one, and at its bank
+abbrev pub at_ends : EventCounts → Message → EventCounts
+at_ends n message = at_node (at_node n message.from message.body) message.to message.body
+
+-- the message with the next number, if it is in flight, was sent by the last event
+abbrev pub sent : EventCounts → Option Message → EventCounts
+sent n None = n
+sent n (Some message) = record (at_ends n message) { next = more n.next }
+
+-- messages in flight, one after the other
+abbrev pub all_sent : EventCounts → List (ℕ × Message) → EventCounts
+all_sent n [] = n
+all_sent n (message ∷ messages) = all_sent (sent n (Some message.1)) messages

@@ -1,0 +1,96 @@
+//! Messages counted by their kinds.
+ghost use Rattle.std.specs.Prelude.{◌≡◌};
+ghost use Rattle.event_counts.specs.Counts.{more, with_kind, without};
+
+use network::Body;
+
+/// How many messages of each kind, in the order of docs/PROTOCOL.md.
+#[derive(Clone, Copy, Debug, PartialEq, Eq)]
+pub struct KindCounts {
+    pub sh_req: u64,
+    pub ex_req: u64,
+    pub sh_rep: u64,
+    pub ex_rep: u64,
+    pub renew_rep: u64,
+    pub upgrade_rep: u64,
+    pub flush_req: u64,
+    pub wb_req: u64,
+    pub flush_rep: u64,
+    pub wb_rep: u64,
+    pub dram_ld: u64,
+    pub dram_ld_rep: u64,
+    pub dram_st: u64,
+    pub dram_st_rep: u64,
+}
+
+impl KindCounts {
+    /// No messages.
+    pub const NONE: KindCounts = KindCounts {
+        sh_req: 0,
+        ex_req: 0,
+        sh_rep: 0,
+        ex_rep: 0,
+        renew_rep: 0,
+        upgrade_rep: 0,
+        flush_req: 0,
+        wb_req: 0,
+        flush_rep: 0,
+        wb_rep: 0,
+        dram_ld: 0,
+        dram_ld_rep: 0,
+        dram_st: 0,
+        dram_st_rep: 0,
+    };
+
+    /// One more message with this body.
+    pub(crate) fn add(&mut self, body: &Body)
+        ensures { self.new ≡ with_kind self.old body.now }
+    {
+        match body {
+            Body::ShReq { .. } => self.sh_req = more(self.sh_req),
+            Body::ExReq { .. } => self.ex_req = more(self.ex_req),
+            Body::ShRep(_) => self.sh_rep = more(self.sh_rep),
+            Body::ExRep(_) => self.ex_rep = more(self.ex_rep),
+            Body::RenewRep { .. } => self.renew_rep = more(self.renew_rep),
+            Body::UpgradeRep { .. } => self.upgrade_rep = more(self.upgrade_rep),
+            Body::FlushReq => self.flush_req = more(self.flush_req),
+            Body::WbReq { .. } => self.wb_req = more(self.wb_req),
+            Body::FlushRep(_) => self.flush_rep = more(self.flush_rep),
+            Body::WbRep(_) => self.wb_rep = more(self.wb_rep),
+            Body::DramLd => self.dram_ld = more(self.dram_ld),
+            Body::DramLdRep(_) => self.dram_ld_rep = more(self.dram_ld_rep),
+            Body::DramSt(_) => self.dram_st = more(self.dram_st),
+            Body::DramStRep => self.dram_st_rep = more(self.dram_st_rep),
+        }
+    }
+
+    /// What is left, kind by kind, without others; 0 where those are more.
+    pub fn without(&self, other: &KindCounts) -> KindCounts
+        ensures { result ≡ without self.now other.now }
+    {
+        KindCounts {
+            sh_req: self.sh_req.saturating_sub(other.sh_req),
+            ex_req: self.ex_req.saturating_sub(other.ex_req),
+            sh_rep: self.sh_rep.saturating_sub(other.sh_rep),
+            ex_rep: self.ex_rep.saturating_sub(other.ex_rep),
+            renew_rep: self.renew_rep.saturating_sub(other.renew_rep),
+            upgrade_rep: self.upgrade_rep.saturating_sub(other.upgrade_rep),
+            flush_req: self.flush_req.saturating_sub(other.flush_req),
+            wb_req: self.wb_req.saturating_sub(other.wb_req),
+            flush_rep: self.flush_rep.saturating_sub(other.flush_rep),
+            wb_rep: self.wb_rep.saturating_sub(other.wb_rep),
+            dram_ld: self.dram_ld.saturating_sub(other.dram_ld),
+            dram_ld_rep: self.dram_ld_rep.saturating_sub(other.dram_ld_rep),
+            dram_st: self.dram_st.saturating_sub(other.dram_st),
+            dram_st_rep: self.dram_st_rep.saturating_sub(other.dram_st_rep),
+        }
+    }
+}
+
+/// One more; at its greatest value, 2^64 - 1, a count stays.
+#[inline(always)]
+pub(crate) fn more(count: u64) -> u64
+    ensures { result ≡ more count }
+{
+    if count < u64::MAX { count + 1 } else { count }
+}

@@ -1,0 +1,14 @@
+//! What a run does, in numbers: each answered event is counted as the run goes. docs/COUNTS.md says what is counted.
+#![tactic(auto)]
+
+pub mod cause;
+pub mod event_counts;
+pub mod kind_counts;
+pub mod part_counts;
+#[cfg(test)]
+mod tests;
+
+pub use cause::Cause;
+pub use event_counts::EventCounts;
+pub use kind_counts::KindCounts;
+pub use part_counts::{BankCounts, CoreCounts};

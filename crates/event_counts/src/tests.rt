@@ -1,0 +1,294 @@
+//! Runs whose counts were worked out by hand, from docs/COUNTS.md and docs/PROTOCOL.md.
+use crate::event_counts::EventCounts;
+use crate::kind_counts::KindCounts;
+use crate::part_counts::{BankCounts, CoreCounts};
+use interleaving_core::{Config, Event, LineNo, MsgNo, System};
+use physiological_order::{Memory, Op, WordAddr};
+use std::alloc::Global;
+use std::test::Fail;
+
+// Two cores with one way each, a bank, lines of one word, and leases of three.
+const TWO_CORES: Config = Config {
+    cores: 2,
+    banks: 1,
+    sets: 1,
+    ways: 1,
+    bank_sets: 1,
+    bank_ways: 4,
+    line_words: 1,
+    lease: 3,
+    messages: 16,
+    opening_time: 0,
+    private_write: false,
+};
+
+fn load(core: u32, word: u64) -> Event {
+    Event::Issue(core, Op::Load(WordAddr::at(word % 8)))
+}
+
+fn store(core: u32, word: u64) -> Event {
+    Event::Issue(core, Op::Store(WordAddr::at(word % 8), 7))
+}
+
+fn deliver(number: u64) -> Event {
+    Event::Deliver(MsgNo(number))
+}
+
+// What is expected: the cores and the bank, and the deliveries that were held and dropped.
+#[derive(Drop)]
+struct Wanted {
+    cores: [CoreCounts; 2],
+    bank: BankCounts,
+    held: u64,
+    dropped: u64,
+}
+
+const NO_CORE: CoreCounts = CoreCounts::NONE;
+
+const NO_KINDS: KindCounts = KindCounts::NONE;
+
+// The counts of a machine that has just opened and made these events; `None` if an allocation failed.
+fn counted(alloc: Global, system: &mut System, events: &[Event]) -> Option<EventCounts> {
+    let mut counts = EventCounts::new(alloc, system.cores(), system.banks()).ok()?;
+    for event in events {
+        let plain = system.step_plain(*event);
+        counts.see(system, event, &plain);
+    }
+    Some(counts)
+}
+
+// Whether a run of these events is counted so.
+fn is_counted(alloc: Global, events: &[Event], wanted: &Wanted) -> Option<bool> {
+    let mut system = System::new(alloc, TWO_CORES, Memory::new(alloc)).ok()?;
+    let counts = counted(alloc, &mut system, events)?;
+    let are_parts = counts.cores() == wanted.cores.as_slice()
+        && counts.banks() == [wanted.bank].as_slice();
+    let are_numbers = counts.events() == events.len() as u64
+        && counts.held() == wanted.held
+        && counts.dropped() == wanted.dropped;
+    Some(are_parts && are_numbers)
+}
+
+// The run of docs/COUNTS.md, event by event. While the bank loads the line, the request is delivered once more, and
+// held; an attempt finds that it waits, and counts nowhere.
+#[test]
+fn a_first_store_is_counted(rt: HostRuntime) {
+    let events = [
+        store(0, 0),
+        Event::Attempt(0),
+        deliver(0),
+        deliver(0),
+        Event::Attempt(0),
+        deliver(1),
+        deliver(2),
+        deliver(0),
+        deliver(3),
+        Event::Attempt(0),
+    ];
+    let sent = KindCounts {
+        ex_req: 1,
+        ex_rep: 1,
+        ..NO_KINDS
+    };
+    let wanted = Wanted {
+        cores: [
+            CoreCounts {
+                stores: 1,
+                absent: 1,
+                last_time: 1,
+                sent,
+                ..NO_CORE
+            },
+            NO_CORE,
+        ],
+        bank: BankCounts {
+            evicted: 0,
+            sent: KindCounts {
+                dram_ld: 1,
+                dram_ld_rep: 1,
+                ..sent
+            },
+        },
+        held: 1,
+        dropped: 0,
+    };
+    assert_eq!(rt; is_counted(rt.alloc(), &events, &wanted), Some(true));
+}
+
+// Core 1 reads a word, core 0 stores to it, core 1 hits under its lease up to 3, advances to 4, and needs a request: the
+// bank has core 0 write the line back.
+#[test]
+fn an_ended_lease_and_a_write_back_are_counted(rt: HostRuntime) {
+    let events = [
+        load(1, 0),
+        Event::Attempt(1),
+        deliver(0),
+        deliver(1),
+        deliver(2),
+        deliver(0),
+        deliver(3),
+        Event::Attempt(1),
+        store(0, 0),
+        Event::Attempt(0),
+        deliver(4),
+        deliver(5),
+        Event::Attempt(0),
+        load(1, 0),
+        Event::Attempt(1),
+        Event::Advance(1),
+        Event::Advance(1),
+        Event::Advance(1),
+        Event::Advance(1),
+        load(1, 0),
+        Event::Attempt(1),
+        deliver(6),
+        deliver(7),
+        deliver(8),
+        deliver(6),
+        deliver(9),
+        Event::Attempt(1),
+    ];
+    let wanted = Wanted {
+        cores: [
+            CoreCounts {
+                stores: 1,
+                absent: 1,
+                last_time: 4,
+                sent: KindCounts {
+                    ex_req: 1,
+                    ex_rep: 1,
+                    wb_req: 1,
+                    wb_rep: 1,
+                    ..NO_KINDS
+                },
+                ..NO_CORE
+            },
+            CoreCounts {
+                loads: 3,
+                hits: 1,
+                absent: 1,
+                ended: 1,
+                last_time: 4,
+                sent: KindCounts {
+                    sh_req: 2,
+                    sh_rep: 2,
+                    ..NO_KINDS
+                },
+                ..NO_CORE
+            },
+        ],
+        bank: BankCounts {
+            evicted: 0,
+            sent: KindCounts {
+                sh_req: 2,
+                sh_rep: 2,
+                ex_req: 1,
+                ex_rep: 1,
+                wb_req: 1,
+                wb_rep: 1,
+                dram_ld: 1,
+                dram_ld_rep: 1,
+                ..NO_KINDS
+            },
+        },
+        held: 0,
+        dropped: 0,
+    };
+    assert_eq!(rt; is_counted(rt.alloc(), &events, &wanted), Some(true));
+}
+
+// Core 0 reads a word and stores to it. The bank recalls the line, and core 0 evicts its copy first: so the recall is
+// dropped. The bank evicts the entry, which is dirty.
+#[test]
+fn evictions_and_a_dropped_recall_are_counted(rt: HostRuntime) {
+    let events = [
+        load(0, 0),
+        Event::Attempt(0),
+        deliver(0),
+        deliver(1),
+        deliver(2),
+        deliver(0),
+        deliver(3),
+        Event::Attempt(0),
+        store(0, 0),
+        Event::Attempt(0),
+        deliver(4),
+        deliver(5),
+        Event::Attempt(0),
+        Event::EvictBank(0, LineNo(0)),
+        Event::EvictCache(0, LineNo(0)),
+        deliver(6),
+        deliver(7),
+        Event::EvictBank(0, LineNo(0)),
+        deliver(8),
+        deliver(9),
+    ];
+    let sent = KindCounts {
+        sh_req: 1,
+        sh_rep: 1,
+        ex_req: 1,
+        upgrade_rep: 1,
+        flush_req: 1,
+        flush_rep: 1,
+        ..NO_KINDS
+    };
+    let wanted = Wanted {
+        cores: [
+            CoreCounts {
+                loads: 1,
+                stores: 1,
+                absent: 1,
+                shared: 1,
+                evicted: 1,
+                last_time: 4,
+                sent,
+                ..NO_CORE
+            },
+            NO_CORE,
+        ],
+        bank: BankCounts {
+            evicted: 1,
+            sent: KindCounts {
+                dram_ld: 1,
+                dram_ld_rep: 1,
+                dram_st: 1,
+                dram_st_rep: 1,
+                ..sent
+            },
+        },
+        held: 0,
+        dropped: 1,
+    };
+    assert_eq!(rt; is_counted(rt.alloc(), &events, &wanted), Some(true));
+}
+
+// What the run of two cores with a request each has delivered when the first request is, as their bank's counts say.
+fn delivered(alloc: Global) -> Option<(KindCounts, u64)> {
+    let mut system = System::new(alloc, TWO_CORES, Memory::new(alloc)).ok()?;
+    let events = [
+        load(0, 0),
+        Event::Attempt(0),
+        load(1, 1),
+        Event::Attempt(1),
+        deliver(0),
+        deliver(2),
+        deliver(3),
+        deliver(0),
+    ];
+    let counts = counted(alloc, &mut system, &events)?;
+    let left = EventCounts::in_flight(alloc, &system).ok()?;
+    let (all, here) = (counts.banks().first()?, left.banks().first()?);
+    Some((all.sent.without(&here.sent), left.messages()))
+}
+
+// Messages 1, core 1's request, and 4, the reply to core 0, are in flight.
+#[test]
+fn what_is_not_in_flight_was_delivered(rt: HostRuntime) {
+    let wanted = KindCounts {
+        sh_req: 1,
+        dram_ld: 1,
+        dram_ld_rep: 1,
+        ..NO_KINDS
+    };
+    assert!(rt; delivered(rt.alloc()) == Some((wanted, 2)));
+}

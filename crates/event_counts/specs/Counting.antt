@@ -11,6 +11,7 @@ use Rattle.machine_table.specs.declared.event.Event.TheVariants.{Attempt, EvictC
 use Rattle.machine_table.specs.declared.event.Answer.{Answer}
 use Rattle.machine_table.specs.declared.event.Answer.TheVariants.{Completed, Requested, Evicted, Held, Dropped}
 use Rattle.machine_table.specs.Machine.{Machine}
+use Rattle.schedules.specs.Watches.{Watches, sees_by}
 use Rattle.machine_table.specs.Transition.{transition}
 use Rattle.event_counts.specs.declared.cause.Cause.{Cause}
 use Rattle.event_counts.specs.declared.cause.Cause.TheVariants.{Absent, Ended, Shared}
@@ -60,8 +61,6 @@ seen n m event answer =
     let told = answered (record n { events = more n.events }) m event answer in
     sent told (at_number n.next m.mail.messages)
 
--- what a list of events adds, from a machine on
-abbrev pub all_seen : EventCounts → Machine → List Event → EventCounts
-all_seen n m [] = n
-all_seen n m (event ∷ events) =
-    let next = transition m event in all_seen (seen n next.1 event next.0) next.1 events
+-- the counts watch a run
+abbrev pub counts_events : Watches EventCounts
+counts_events = sees_by seen

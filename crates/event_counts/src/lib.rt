@@ -5,6 +5,7 @@ pub mod cause;
 pub mod event_counts;
 pub mod kind_counts;
 pub mod part_counts;
+mod watching;
 #[cfg(test)]
 mod tests;
 

@@ -3,7 +3,7 @@
 ghost use Rattle.std.specs.Prelude.{◌≡◌, ◌⊎◌, codes, map, IfOk, IfErr, List};
 ghost use Rattle.clap.specs.Words.{Row, Text, found_of, kind_of, rows_of};
 ghost use Rattle.command_line.specs.Job.{AreTaken, AskForConflict, GivesJob, IsAskedBy, IsFaulty};
-ghost use Rattle.command_line.specs.Job.{IsRefusedFor, words_number};
+ghost use Rattle.command_line.specs.Job.{IsRefusedFor, conflict_text, words_number};
 
 use crate::app::command;
 use crate::options::{counts_in_vain, ends_options, flag, litmus_options, path_of, trace_options};
@@ -70,11 +70,10 @@ enum Conflict {
 }
 
 /// What is said of it.
-fn refused_for(alloc: Global, why: Conflict) -> WordsError
-    ensures { (words : List Text) (found : Text × List Row) → AreTaken words found →
-        AskForConflict found.0 found.1 why → IsRefusedFor words result }
+fn conflict_text(why: Conflict) -> &'static str
+    ensures { result.now ≡ conflict_text why }
 {
-    let said = match why {
+    match why {
         Conflict::Fair => {
             "error: '--fair' needs '--schedule round' or '--schedule threads'\n\nFor more information, try '--help'.\n"
         }
@@ -82,7 +81,15 @@ fn refused_for(alloc: Global, why: Conflict) -> WordsError
             "error: '--counts' needs '--schedule round' or '--schedule seed', and no '--records'\n\n\
             For more information, try '--help'.\n"
         }
-    };
+    }
+}
+
+/// The refusal of it.
+fn refused_for(alloc: Global, why: Conflict) -> WordsError
+    ensures { (words : List Text) (found : Text × List Row) → AreTaken words found →
+        AskForConflict found.0 found.1 why → IsRefusedFor words result }
+{
+    let said = conflict_text(why);
     match format!(in alloc; "{said}") {
         Ok(text) => WordsError::Refused(text),
         Err(_) => WordsError::NoMemory,

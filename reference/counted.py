@@ -5,6 +5,9 @@ NAMES = {"load": "loads", "store": "stores", "swap": "swaps"}
 KINDS = ("ShReq", "ExReq", "ShRep", "ExRep", "RenewRep", "UpgradeRep", "FlushReq", "WbReq", "FlushRep", "WbRep",
          "DramLd", "DramLdRep", "DramSt", "DramStRep")
 OF_CORE = ("loads", "stores", "swaps", "hits", "misses", "stale", "evicted", "time")
+CAUSES = ("absent", "ended", "shared")
+# What the program counts of a core, and of the run.
+OF_PROGRAM, OF_RUN = (*OF_CORE[:4], *CAUSES, "evicted", "time"), ("events", "held", "dropped")
 
 
 class Part:
@@ -12,7 +15,7 @@ class Part:
 
     def __init__(self):
         self.number, self.sent, self.delivered = Counter(), Counter(), Counter()
-        self.has_asked = False  # of a core: whether a request for its open operation went out
+        self.cause = None  # of a core: why the first request for its open operation went out, if one did
 
     def told(self, names):
         yield from (f"{name} {self.number[name]}" for name in names)
@@ -24,6 +27,7 @@ class Counts:
 
     def __init__(self, machine):
         self.machine, self.written = machine, {}  # by word the greatest time of a write so far
+        self.whole = Counter()
         self.parts = {("core", core): Part() for core in range(machine.o.cores)}
         self.parts |= {("bank", bank): Part() for bank in range(machine.o.banks)}
 
@@ -39,6 +43,7 @@ class Counts:
         machine, (name, *of) = self.machine, event
         message, sent = machine.flight.get(of[0]) if name == "Deliver" else None, machine.sent
         answer = machine.step(event)
+        self.whole.update(["events", answer])
         if answer in ("Delivered", "Dropped"):
             for part in self.parts_of(message):
                 part.delivered[message.kind] += 1
@@ -46,19 +51,28 @@ class Counts:
             for part in self.parts_of(machine.flight[number]):
                 part.sent[machine.flight[number].kind] += 1
         if answer == "Requested":
-            self.parts["core", of[0]].has_asked = True
+            part = self.parts["core", of[0]]
+            part.cause = part.cause or self.cause(of[0])
         if answer == "Evicted":
             self.parts["core" if name == "EvictCache" else "bank", of[0]].number["evicted"] += 1
         if answer == "Completed":
             self.complete(machine.records[-1])
         return answer
 
+    def cause(self, core):
+        """Why a core needs a request, by its copy of the line."""
+        kind, word, _ = self.machine.cores[core].op
+        line = self.machine.line(word)
+        if not self.machine.find(line, self.machine.cache_set(core, line))[0]:
+            return "absent"
+        return "ended" if kind == "load" else "shared"
+
     def complete(self, record):
         part, newest = self.parts["core", record.core], self.written.get(record.word, 0)
         part.number[NAMES[record.kind]] += 1
-        part.number["misses" if part.has_asked else "hits"] += 1
+        part.number.update(["misses", part.cause] if part.cause else ["hits"])
         part.number["time"] = max(part.number["time"], record.time)
-        part.has_asked = False
+        part.cause = None
         if record.kind == "load":
             part.number["stale"] += newest > record.time
         else:
@@ -69,3 +83,12 @@ class Counts:
         told = [" ".join([what, str(number), *part.told(OF_CORE if what == "core" else ["evicted"])])
                 for (what, number), part in self.parts.items()]
         return "; ".join([*told, f"turns {turns}"])
+
+    def lines(self):
+        """The lines of the program's counts."""
+        yield from (f"{name} {self.whole[name if name == 'events' else name.title()]}" for name in OF_RUN)
+        for (what, number), part in self.parts.items():
+            names = OF_PROGRAM if what == "core" else ["evicted"]
+            told = [f"{name} {part.number[name]}" for name in names]
+            told += [f"{kind} {part.sent[kind]}" for kind in KINDS if part.sent[kind]]
+            yield " ".join([what, str(number), *told])

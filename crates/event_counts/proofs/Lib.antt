@@ -1,0 +1,2 @@
+mod CompletedOps
+mod SentMessages

@@ -1,5 +1,5 @@
 -- What each answered event of a run adds to the counts, by the machine after it.
-use Rattle.std.specs.Prelude.{ℕ, List, [], ◌∷◌, Option, Some, None, slice_get}
+use Rattle.std.specs.Prelude.{Option, Some, None, slice_get}
 use Rattle.physiological_order.specs.declared.operation.Op.{Op}
 use Rattle.physiological_order.specs.declared.operation.Op.TheVariants.{Load, Store, Swap}
 use Rattle.network.specs.NumberedMessages.{at_number}
@@ -12,7 +12,6 @@ use Rattle.machine_table.specs.declared.event.Answer.{Answer}
 use Rattle.machine_table.specs.declared.event.Answer.TheVariants.{Completed, Requested, Evicted, Held, Dropped}
 use Rattle.machine_table.specs.Machine.{Machine}
 use Rattle.schedules.specs.Watches.{Watches, sees_by}
-use Rattle.machine_table.specs.Transition.{transition}
 use Rattle.event_counts.specs.declared.cause.Cause.{Cause}
 use Rattle.event_counts.specs.declared.cause.Cause.TheVariants.{Absent, Ended, Shared}
 pub use Rattle.event_counts.specs.Counts.{EventCounts, no_counts}

@@ -1,6 +1,6 @@
 -- The counts of a run as data, and how each of them goes up.
-use Rattle.std.specs.Prelude.{ℕ, ◌+◌, ◌-◌, ◌^◌, max, nat_lt, List, [], ◌∷◌, Option, Some, None, if◌then◌else◌}
-use Rattle.std.specs.Prelude.{replicate, slice_get, slice_set}
+use Rattle.std.specs.Prelude.{◌≡◌, ℕ, zero, suc, ◌+◌, ◌-◌, ◌^◌, max, nat_lt, List, Option, Some, None, if◌then◌else◌}
+use Rattle.std.specs.Prelude.{map, replicate, slice_get, slice_set}
 use Rattle.physiological_order.specs.declared.operation.Op.{Op}
 use Rattle.physiological_order.specs.declared.operation.Op.TheVariants.{Load, Store, Swap}
 use Rattle.physiological_order.specs.declared.operation.Record.{Record}
@@ -11,6 +11,7 @@ use Rattle.network.specs.declared.message.Body.TheVariants.{DramLd, DramLdRep, D
 use Rattle.network.specs.declared.message.Message.{Message}
 use Rattle.network.specs.declared.message.Node.{Node}
 use Rattle.network.specs.declared.message.Node.TheVariants as node
+use Rattle.network.specs.NumberedMessages.{at_number}
 use Rattle.event_counts.specs.declared.cause.Cause.{Cause}
 use Rattle.event_counts.specs.declared.cause.Cause.TheVariants.{Absent, Ended, Shared}
 use Rattle.event_counts.specs.declared.kind_counts.KindCounts.{KindCounts}
@@ -186,7 +187,27 @@ abbrev pub sent : EventCounts → Option Message → EventCounts
 sent n None = n
 sent n (Some message) = record (at_ends n message) { next = more n.next }
 
--- messages in flight, one after the other
-abbrev pub all_sent : EventCounts → List (ℕ × Message) → EventCounts
-all_sent n [] = n
-all_sent n (message ∷ messages) = all_sent (sent n (Some message.1)) messages
+-- the message at a place in the list of those in flight: it is that of the number there
+abbrev pub of_number : List (ℕ × Message) → Option ℕ → Option Message
+of_number messages None = None
+of_number messages (Some number) = at_number number messages
+
+abbrev pub message_at : List (ℕ × Message) → ℕ → Option Message
+message_at messages place = of_number messages (slice_get (map (λ x. x.0) messages) place)
+
+-- the messages in flight count as sent, those at the first places, one after the other
+abbrev pub first_sent : EventCounts → List (ℕ × Message) → ℕ → EventCounts
+first_sent n messages zero = n
+first_sent n messages (suc places) = sent (first_sent n messages places) (message_at messages places)
+
+-- the operations of a core that completed, by their kinds; and the hits with the misses
+abbrev pub operations : CoreCounts → ℕ
+operations n = n.loads + n.stores + n.swaps
+
+abbrev pub hits_and_misses : CoreCounts → ℕ
+hits_and_misses n = n.hits + n.absent + n.ended + n.shared
+
+-- a core that is counted completed so many operations, and each was a hit or a miss
+abbrev pub HasCompleted : ℕ → Option CoreCounts → Type 0
+HasCompleted done None = ⊥
+HasCompleted done (Some n) = (operations n ≡ done) × (hits_and_misses n ≡ done)

@@ -1,10 +1,11 @@
 //! Why an operation needs a request.
-ghost use Rattle.std.specs.Prelude.{◌≡◌, option_copied};
-ghost use Rattle.event_counts.specs.Counting.{cause_of, cause_on};
+ghost use Rattle.std.specs.Prelude.{◌≡◌, Some, slice_get};
+ghost use Rattle.private_cache.specs.declared.line_copy.LineCopy.{LineCopy};
+ghost use Rattle.event_counts.specs.Counting.{cause_of, cause_on, cause_open};
 
 use core_pts::Core;
+use interleaving_core::System;
 use physiological_order::Op;
-use private_cache::LineCopy;
 
 /// Why a core needs a request for its open operation: what copy of the line it has.
 #[derive(Clone, Copy, Debug, PartialEq, Eq)]
@@ -17,13 +18,10 @@ pub enum Cause {
     Shared,
 }
 
-// The cause by the copy of the operation's line.
-fn cause_on(op: &Op, copy: Option<&LineCopy>) -> Cause
-    ensures { result ≡ cause_on op.now (option_copied copy) }
+// The cause of an operation whose line has a copy.
+fn cause_on_copy(op: &Op) -> Cause
+    ensures { (copy : LineCopy) → result ≡ cause_on op.now (Some copy) }
 {
-    if copy.is_none() {
-        return Cause::Absent;
-    }
     match *op {
         Op::Load(_) => Cause::Ended,
         Op::Store(_, _) => Cause::Shared,
@@ -31,15 +29,26 @@ fn cause_on(op: &Op, copy: Option<&LineCopy>) -> Cause
     }
 }
 
-// The cause of a core that was answered Requested: its copy is as it was.
-pub(crate) fn cause_of(core: Option<&Core>) -> Cause
-    ensures { result ≡ cause_of (option_copied core) }
+// The cause of a core's open operation.
+fn cause_open(core: &Core) -> Cause
+    ensures { result ≡ cause_open core.now core.now.open_op }
 {
-    let Some(core) = core else {
-        return Cause::Absent;
-    };
     let Some((op, _)) = core.open_op() else {
         return Cause::Absent;
     };
-    cause_on(&op, core.copy(core.line_of(op)))
+    let line = core.line_of(op);
+    match core.copy(line) {
+        None => Cause::Absent,
+        Some(_) => cause_on_copy(&op),
+    }
+}
+
+// The cause of a core that was answered Requested: its copy is as it was.
+pub(crate) fn cause_of(system: &System, core: u32) -> Cause
+    ensures { result ≡ cause_of (slice_get system.now.cores core) }
+{
+    match system.core(core) {
+        None => Cause::Absent,
+        Some(core) => cause_open(core),
+    }
 }

@@ -1,10 +1,10 @@
 //! The counts of a run.
-ghost use Rattle.std.specs.Prelude.{◌≡◌, IfOk, None, Some};
+ghost use Rattle.std.specs.Prelude.{◌≡◌, IfOk, None, Some, length};
 ghost use Rattle.machine_table.specs.declared.event.Event.{Event};
 ghost use Rattle.machine_table.specs.Machine.{Machine};
 ghost use Rattle.interleaving_core.specs.PartChanges.{answer_in};
-ghost use Rattle.event_counts.specs.Counts.{all_sent, asked, at_bank, at_core, at_node, bank_sent, completed, core_sent};
-ghost use Rattle.event_counts.specs.Counts.{evicted_copy, evicted_entry, no_counts, sent};
+ghost use Rattle.event_counts.specs.Counts.{asked, at_bank, at_core, at_node, bank_sent, completed, core_sent};
+ghost use Rattle.event_counts.specs.Counts.{evicted_copy, evicted_entry, first_sent, message_at, no_counts, sent};
 ghost use Rattle.event_counts.specs.Counting.{answered, evicted, requested, seen};
 
 use crate::cause::{Cause, cause_of};
@@ -44,8 +44,8 @@ impl Model for EventCounts {
 }
 
 impl EventCounts {
-    /// The counts of a machine that has just opened, with so many cores and banks: nothing is counted. All memory is
-    /// allocated here.
+    /// The counts of a machine that has just opened, with this number of cores and banks: nothing is counted. All memory
+    /// is allocated here.
     pub fn new(alloc: Global, cores: u32, banks: u32) -> Result<EventCounts, AllocError>
         ensures { IfOk result (λ counts. counts ≡ no_counts cores banks) }
     {
@@ -118,7 +118,7 @@ impl EventCounts {
         ensures { self.new ≡ requested self.old system.now event.now }
     {
         if let Event::Attempt(core) = event {
-            self.ask(*core, cause_of(system.core(*core)));
+            self.ask(*core, cause_of(system, *core));
         }
     }
 
@@ -245,20 +245,28 @@ impl EventCounts {
         self.next
     }
 
+    // Counts the message at a place in the list of those in flight as sent.
+    fn see_nth(&mut self, system: &System, place: u32)
+        ensures { self.new ≡ sent self.old (message_at system.now.mail.messages place) }
+    {
+        let Some(number) = system.message(place) else {
+            return;
+        };
+        if let Some(message) = system.look(number) {
+            self.see_sent(message);
+        }
+    }
+
     /// The messages of a machine that are in flight, counted as if they had just been sent, one after the other: by
     /// core and by bank. What `KindCounts::without` leaves of those that were sent was delivered or dropped.
     pub fn in_flight(alloc: Global, system: &System) -> Result<EventCounts, AllocError>
-        ensures { IfOk result (λ counts. counts ≡ all_sent
+        ensures { IfOk result (λ counts. counts ≡ first_sent
             (no_counts system.now.config.cores system.now.config.banks)
-            system.now.mail.messages) }
+            system.now.mail.messages (length system.now.mail.messages)) }
     {
         let mut counts = EventCounts::new(alloc, system.cores(), system.banks())?;
-        for at in 0..system.messages() {
-            if let Some(number) = system.message(at) {
-                if let Some(message) = system.look(number) {
-                    counts.see_sent(message);
-                }
-            }
+        for place in 0..system.messages() {
+            counts.see_nth(system, place);
         }
         Ok(counts)
     }

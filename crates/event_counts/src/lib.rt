@@ -4,10 +4,12 @@
 pub mod cause;
 pub mod event_counts;
 pub mod kind_counts;
+pub mod laws;
 pub mod part_counts;
 mod watching;
 #[cfg(test)]
 mod tests;
+mod watching;
 
 pub use cause::Cause;
 pub use event_counts::EventCounts;

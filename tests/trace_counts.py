@@ -65,7 +65,7 @@ class Counted:
         self.is_whole = [(what, int(number)) for what, number, _ in parts] == wanted
         self.is_whole &= list(self.run) == ["events", "held", "dropped"]
         self.is_whole &= all(tuple(core)[:9] == OF_CORE for core in self.cores)
-        self.is_whole &= all(0 not in bank.values() or set(bank) - {"evicted"} == set() for bank in self.banks)
+        self.is_whole &= all(part[kind] for part in [*self.cores, *self.banks] for kind in KINDS if kind in part)
 
     def rows(self):
         """The rows of docs/COUNTS.md that the lines have, but for those that are 0: the sum, and by part."""

@@ -28,7 +28,7 @@ class Counts:
     def __init__(self, machine):
         self.machine, self.written = machine, {}  # by word the greatest time of a write so far
         self.whole = Counter()
-        self.parts = {("core", core): Part() for core in range(machine.o.cores)}
+        self.parts = {("core", core): Part() for core in range(len(machine.cores))}
         self.parts |= {("bank", bank): Part() for bank in range(machine.o.banks)}
 
     def parts_of(self, message):

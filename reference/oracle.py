@@ -7,7 +7,7 @@ status 2.
 
     reference/oracle.py litmus [--schedule seed --seed N] [--runs N] [--fair] [--lease N] .. [--private-write] FILE
     reference/oracle.py ends [--states N] [--orders] FILE
-    reference/oracle.py trace [--records] [--schedule seed --seed N] [--fair] [--lease N] .. FILE
+    reference/oracle.py trace [--records | --counts] [--schedule seed --seed N] [--fair] [--lease N] .. FILE
     reference/oracle.py check [--complete] [--opening FILE] TRACE RECORDS
     reference/oracle.py --rows <ROWS
     reference/oracle.py --self-test
@@ -79,6 +79,7 @@ def words():
         command.add_argument("FILE")
     commands.choices["litmus"].add_argument("--runs", type=number("runs", 1, 1_000_000), default=1)
     commands.choices["trace"].add_argument("--records", action="store_true")
+    commands.choices["trace"].add_argument("--counts", action="store_true")
     command = commands.add_parser("ends", allow_abbrev=False)
     command.add_argument("--states", type=number("states", 1, sequential.GREATEST), default=sequential.MOST_STATES)
     command.add_argument("--orders", action="store_true")
@@ -128,6 +129,12 @@ def refuse_fair(options):
         raise Refused(3, f"error: '--fair' needs '--schedule round' or '--schedule threads'{MORE}")
 
 
+def refuse_counts(options):
+    """Runs by threads aren't counted, and counts have no place beside records."""
+    if options.command == "trace" and options.counts and (options.records or options.schedule == "threads"):
+        raise Refused(3, f"error: '--counts' needs '--schedule round' or '--schedule seed', and no '--records'{MORE}")
+
+
 def refuse_threads(options):
     """Runs by several threads differ from one time to the next, and those by threads have no list of events."""
     if options.workers > 1:
@@ -146,6 +153,7 @@ def ends_report(options):
 def run(options):
     """What is printed, and the status."""
     refuse_fair(options)
+    refuse_counts(options)
     if options.command == "check":
         opening = opening_of(options.opening)
         issued = read_trace(options.TRACE).issued()
@@ -174,7 +182,7 @@ def run(options):
     if options.command == "litmus":
         text, all_done = litmus_report(read, options, options.tell and tell, after)
     else:
-        text, all_done = trace_report(read, options, options.tell and tell, after)
+        text, all_done = trace_report(read, options, options.tell and tell, after, options.counts)
     return "".join(events) if options.events else text, int(not all_done)
 
 

@@ -1,4 +1,5 @@
 from reference import order
+from reference.counted import Counts
 from reference.machine import COUNTED, Machine
 from reference.schedules import Run, by_rounds, by_seed
 from reference.traces import record_line
@@ -8,11 +9,11 @@ from reference.workers import by_one_worker
 ENDS = ("all-done", "stalled", "limit", "exhausted", "memory")
 
 
-def drive(options, programs, memory, seed, tell=None, kind=Run):
+def drive(options, programs, memory, seed, tell=None, kind=Run, machine=Machine):
     """A run by the schedule of the options, and its end."""
     if options.schedule == "threads":
         return by_one_worker(options, programs, memory, tell)
-    run = kind(Machine(options, len(programs), memory), programs, tell)
+    run = kind(machine(options, len(programs), memory), programs, tell)
     if options.schedule == "seed":
         return run, by_seed(run, options.limit, seed)
     return run, by_rounds(run, options.limit, options.fair)
@@ -72,15 +73,21 @@ def litmus_report(test, options, tell=None, after=None):
     return batch.text(), batch.ends["all-done"] == options.runs
 
 
-def trace_report(trace, options, tell=None, after=None):
-    """The report or the records' text, and whether the run was all done."""
-    run, end = drive(options, trace.programs(), {}, options.seed, tell)
+def trace_report(trace, options, tell=None, after=None, counts=False):
+    """The report, with counts or without, or the records' text; and whether the run was all done."""
+    run, end = drive(options, trace.programs(), {}, options.seed, tell, machine=counted if counts else Machine)
     if after:
         after(run, end, options.seed)
     records = run.machine.records
     if options.records:
         return "".join(record_line(record) + "\n" for record in records), end == "all-done"
-    return "".join(line + "\n" for line in trace_lines(trace, run, end)), end == "all-done"
+    lines = [*trace_lines(trace, run, end), *(run.machine.lines() if counts else [])]
+    return "".join(line + "\n" for line in lines), end == "all-done"
+
+
+def counted(options, cores, memory):
+    """A machine whose events are counted."""
+    return Counts(Machine(options, cores, memory))
 
 
 def trace_lines(trace, run, end):

@@ -85,9 +85,11 @@ ends_app =
     (number_rule (codes "states") (codes "4194304") (up_to 4294967295) ∷ flag_rule (codes "orders")
     ∷ file_rule (codes "FILE") ∷ [])
 
--- a trace may be run with its records reported
+-- a trace may be run with its records reported, or counted
 abbrev pub trace_app : ValueParser → App
-trace_app p = with_run_and_file (with_rule (new_app (codes "trace")) (flag_rule (codes "records"))) p
+trace_app p =
+    with_run_and_file
+    (with_rules (new_app (codes "trace")) (flag_rule (codes "records") ∷ flag_rule (codes "counts") ∷ [])) p
 
 -- a check needs two files, may ask for all records, and may name a file with an opening
 abbrev pub check_app : App

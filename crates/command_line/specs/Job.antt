@@ -1,11 +1,15 @@
 -- What a job has of the words, and why words are refused.
-use Rattle.std.specs.Prelude.{◌≡◌, ◌⊎◌, ℕ, List, [], Some, None, codes, option_map, string_bytes}
+use Rattle.std.specs.Prelude.{◌≡◌, ◌⊎◌, ℕ, true, false, List, [], ◌++◌, Some, None, codes, option_map, string_bytes}
 use Rattle.clap.specs.Words.{IsAmong, Row, Text, fault_of, subcommand_of}
 use Rattle.clap.specs.declared.error.kind.ErrorKind.{ErrorKind}
 use Rattle.command_line.specs.App.{NameSchedules, Parsers, tardis_app}
 use Rattle.command_line.specs.Options.{HasPath, HasWord, IsFlag, IsOrder, TellsEnds, TellsLitmus, TellsTrace}
+use Rattle.command_line.specs.Options.{counts_in_vain}
+use Rattle.command_line.specs.declared.words.Conflict.{Conflict}
+use Rattle.command_line.specs.declared.words.Conflict.TheVariants.{Fair, Counts}
 use Rattle.command_line.specs.declared.words.Job.{Job}
 use Rattle.command_line.specs.declared.words.Job.TheVariants.{Litmus, Ends, Trace, Check}
+use Rattle.run_options.specs.declared.options.TraceOptions.{TraceOptions}
 use Rattle.command_line.specs.declared.words.WordsError.{WordsError}
 use Rattle.command_line.specs.declared.words.WordsError.TheVariants.{NoMemory, Refused}
 
@@ -16,7 +20,8 @@ GivesJob command rows (Litmus options file) =
 GivesJob command rows (Ends options file) =
     (command ≡ codes "ends") × TellsEnds rows options × HasWord rows (codes "FILE") file.now
 GivesJob command rows (Trace options file) =
-    (command ≡ codes "trace") × TellsTrace rows options × HasWord rows (codes "FILE") file.now
+    (command ≡ codes "trace") × TellsTrace rows options × (counts_in_vain options ≡ false)
+    × HasWord rows (codes "FILE") file.now
 GivesJob command rows (Check complete opening trace records) =
     (command ≡ codes "check") × IsFlag rows (codes "complete") complete
     × HasPath rows (codes "opening") (option_map (λ path. path.now) opening)
@@ -28,27 +33,35 @@ AreTaken words found =
     (p : Parsers) × NameSchedules p × (fault_of (tardis_app p) words ≡ [])
     × (subcommand_of (tardis_app p) words ≡ Some found)
 
+abbrev pub more_text : Text
+more_text = codes "For more information, try '--help'.\n"
+
 -- the words are taken, and name the command that has the job's options and files
 abbrev pub IsAskedBy : List Text → Job → Type 0
 IsAskedBy words job = (found : Text × List Row) × AreTaken words found × GivesJob found.0 found.1 job
 
--- the words are taken, and ask for a fair run that can't be
-abbrev pub AskUnfairly : List Text → Type 0
-AskUnfairly words = (found : Text × List Row) × AreTaken words found × IsOrder found.1 None
+-- the command asks for a fair run that can't be, or for counts in vain
+abbrev pub AskForConflict : Text → List Row → Conflict → Type 0
+AskForConflict command rows Fair = IsOrder rows None
+AskForConflict command rows Counts =
+    (command ≡ codes "trace") × (options : TraceOptions) × TellsTrace rows options × (counts_in_vain options ≡ true)
 
 -- what is said then
-abbrev pub unfair_text : Text
-unfair_text = codes "error: '--fair' needs '--schedule round' or '--schedule threads'\n\nFor more information, try '--help'.\n"
+abbrev pub conflict_text : Conflict → Text
+conflict_text Fair = codes "error: '--fair' needs '--schedule round' or '--schedule threads'\n\n" ++ more_text
+conflict_text Counts =
+    codes "error: '--counts' needs '--schedule round' or '--schedule seed', and no '--records'\n\n" ++ more_text
 
 -- clap's rules find a fault of this kind in the words
 abbrev pub IsFaulty : List Text → ErrorKind → Type 0
 IsFaulty words kind = (p : Parsers) × NameSchedules p × IsAmong kind (fault_of (tardis_app p) words)
 
--- words are refused only for a fault that clap's rules find in them, or for a fair run that can't be
+-- words are refused only for a fault that clap's rules find in them, or for what can't be had together
 abbrev pub IsRefusedFor : List Text → WordsError → Type 0
 IsRefusedFor words NoMemory = Unit {0}
 IsRefusedFor words (Refused text) = ((kind : ErrorKind) × IsFaulty words kind)
-    ⊎ (AskUnfairly words × (string_bytes text ≡ unfair_text))
+    ⊎ ((why : Conflict) × (found : Text × List Row) × AreTaken words found × AskForConflict found.0 found.1 why
+    × (string_bytes text ≡ conflict_text why))
 
 -- the numbers of the refusals
 abbrev pub words_number : WordsError → ℕ

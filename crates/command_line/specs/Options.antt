@@ -1,5 +1,6 @@
 -- What the options say in the matches.
-use Rattle.std.specs.Prelude.{◌≡◌, ◌⊎◌, ℕ, ◌≤◌, Bool, true, false, List, [], Option, Some, None, codes, unwrap_or}
+use Rattle.std.specs.Prelude.{◌≡◌, ◌⊎◌, ℕ, ◌≤◌, Bool, true, false, ◌&&◌, ◌||◌, List, [], Option, Some, None, codes}
+use Rattle.std.specs.Prelude.{unwrap_or}
 use Rattle.std.specs.Str.Parse.{IsNumeral, digits_value, without_leading_plus}
 use Rattle.clap.specs.Words.{Row, Text, first_of, one_of}
 use Rattle.run_options.specs.declared.options.TheConstants.EndsOptions.{DEFAULT as ends_default}
@@ -115,6 +116,19 @@ TellsEnds rows options =
     HasNumber rows (codes "states") 1 4294967295 ends_default.most_states options.most_states
     × IsFlag rows (codes "orders") options.orders
 
--- whether the records of a trace are asked for, and how it is run
+-- whether the records of a trace are asked for, or counts, and how it is run
 abbrev pub TellsTrace : List Row → TraceOptions → Type 0
-TellsTrace rows options = IsFlag rows (codes "records") options.records × TellsRun rows options.run
+TellsTrace rows options =
+    IsFlag rows (codes "records") options.records × IsFlag rows (codes "counts") options.counts
+    × TellsRun rows options.run
+
+abbrev pub is_shared : Schedule → Bool
+is_shared Round = false
+is_shared FairRound = false
+is_shared Seed = false
+is_shared Threads = true
+is_shared FairThreads = true
+
+-- counts are asked for of a run by threads, which isn't counted, or beside records, where they have no place
+abbrev pub counts_in_vain : TraceOptions → Bool
+counts_in_vain options = options.counts && (options.records || is_shared options.run.schedule)

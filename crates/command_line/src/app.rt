@@ -63,6 +63,9 @@ const MESSAGES: &str =
 
 const RECORDS: &str = "Writes the records of the completed operations in place of the report";
 
+const COUNTS: &str =
+    "Puts what the run did, in numbers, behind the report; not by schedule threads, nor with --records";
+
 const COMPLETE: &str = "Asks for a record of each operation of the trace";
 
 const OPENING: &str = "The file with the values that words open with; all others open with 0";
@@ -245,7 +248,8 @@ fn trace_command<'a>(alloc: Global) -> Result<Command<'a>, AllocError>
     let about = "Runs a trace and reports what came of it, or its records";
     let named = empty(alloc, "trace", about);
     let recorded = with(named, flag(alloc, "records", RECORDS));
-    with_run(recorded, alloc, TRACE_FILE)
+    let counted = with(recorded, flag(alloc, "counts", COUNTS));
+    with_run(counted, alloc, TRACE_FILE)
 }
 
 /// The command `check`.

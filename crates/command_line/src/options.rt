@@ -4,7 +4,7 @@ ghost use Rattle.std.specs.Prelude.{◌≡◌, IfSome, None, option_map};
 ghost use Rattle.clap.specs.Words.{found_of, rows_of};
 ghost use Rattle.command_line.specs.Options.{HasPath, HasWord, HasAnyNumber, IsFlag, HasNumber, IsOrder};
 ghost use Rattle.command_line.specs.Options.{IsSchedule, TellsEnds, TellsLitmus, TellsMachine, TellsRun};
-ghost use Rattle.command_line.specs.Options.{TellsTrace, fairly};
+ghost use Rattle.command_line.specs.Options.{TellsTrace, counts_in_vain, fairly};
 
 use clap::ArgMatches;
 use run_options::{EndsOptions, LitmusOptions, MachineOptions, RunOptions, Schedule, TraceOptions};
@@ -147,6 +147,18 @@ pub(crate) fn trace_options(matches: &ArgMatches<'_>) -> Option<TraceOptions>
     let run = run_of(matches)?;
     Some(TraceOptions {
         records: flag(matches, "records"),
+        counts: flag(matches, "counts"),
         run,
     })
+}
+
+/// Whether counts are asked for in vain: of a run by threads, or beside records.
+pub(crate) fn counts_in_vain(options: &TraceOptions) -> bool
+    ensures { result ≡ counts_in_vain options.now }
+{
+    let is_shared = matches!(
+        options.run.schedule,
+        Schedule::Threads | Schedule::FairThreads
+    );
+    options.counts && (options.records || is_shared)
 }

@@ -1,13 +1,13 @@
 //! The words of a command line, and the job that they ask for.
 
-ghost use Rattle.std.specs.Prelude.{◌≡◌, ◌⊎◌, codes, map, IfOk, IfErr, IfSome, List, None};
-ghost use Rattle.clap.specs.Words.{Text, found_of, kind_of, rows_of};
-ghost use Rattle.command_line.specs.Job.{AskUnfairly, GivesJob, IsAskedBy, IsFaulty, IsRefusedFor};
-ghost use Rattle.command_line.specs.Job.{words_number};
-ghost use Rattle.command_line.specs.Options.{IsOrder};
+ghost use Rattle.std.specs.Prelude.{◌≡◌, ◌⊎◌, codes, map, IfOk, IfErr, List};
+ghost use Rattle.clap.specs.Words.{Row, Text, found_of, kind_of, rows_of};
+ghost use Rattle.command_line.specs.Job.{AreTaken, AskForConflict, GivesJob, IsAskedBy, IsFaulty};
+ghost use Rattle.command_line.specs.Job.{IsRefusedFor, conflict_text, words_number};
 
 use crate::app::command;
-use crate::options::{ends_options, flag, litmus_options, path_of, trace_options, word_of};
+use crate::options::{counts_in_vain, ends_options, flag, litmus_options, path_of, trace_options};
+use crate::options::{word_of};
 use clap::error::ErrorKind;
 use clap::{ArgMatches, Error};
 use run_options::{EndsOptions, LitmusOptions, TraceOptions};
@@ -30,8 +30,9 @@ pub enum Job<'a> {
 /// Why words are no job.
 #[derive(Debug, Drop)]
 pub enum WordsError {
-    /// The command line doesn't take the words, or they ask for help, or for a fair schedule that is seed. This is the
-    /// text to show, in whole lines.
+    /// The command line doesn't take the words, or they ask for help, or for what can't be had together: a fair
+    /// schedule that is seed, or counts of a run by threads or beside records. This is the text to show, in whole
+    /// lines.
     Refused(String),
     /// Allocation failed.
     NoMemory,
@@ -59,36 +60,63 @@ fn refused(alloc: Global, error: &Error) -> WordsError
     }
 }
 
-/// What is said of a fair run by a seed.
-fn unfair(alloc: Global) -> WordsError
-    ensures { (words : List Text) → AskUnfairly words → IsRefusedFor words result }
+/// What can't be had together.
+#[derive(Clone, Copy, Debug)]
+enum Conflict {
+    /// A fair run by a seed.
+    Fair,
+    /// Counts of a run by threads, or beside records.
+    Counts,
+}
+
+/// What is said of it.
+fn conflict_text(why: Conflict) -> &'static str
+    ensures { result.now ≡ conflict_text why }
 {
-    let said =
-        "error: '--fair' needs '--schedule round' or '--schedule threads'\n\nFor more information, try '--help'.\n";
+    match why {
+        Conflict::Fair => {
+            "error: '--fair' needs '--schedule round' or '--schedule threads'\n\nFor more information, try '--help'.\n"
+        }
+        Conflict::Counts => {
+            "error: '--counts' needs '--schedule round' or '--schedule seed', and no '--records'\n\n\
+            For more information, try '--help'.\n"
+        }
+    }
+}
+
+/// The refusal of it.
+fn refused_for(alloc: Global, why: Conflict) -> WordsError
+    ensures { (words : List Text) (found : Text × List Row) → AreTaken words found →
+        AskForConflict found.0 found.1 why → IsRefusedFor words result }
+{
+    let said = conflict_text(why);
     match format!(in alloc; "{said}") {
         Ok(text) => WordsError::Refused(text),
         Err(_) => WordsError::NoMemory,
     }
 }
 
-/// The job of a command that the program has; none if it asks for a fair run by a seed.
-fn job_of<'a>(name: &str, matches: &ArgMatches<'a>) -> Option<Job<'a>>
+/// The job of a command that the program has, or what it asks for that can't be had together.
+fn job_of<'a>(name: &str, matches: &ArgMatches<'a>) -> Result<Job<'a>, Conflict>
     requires { (name.now ≡ codes "litmus") ⊎ (name.now ≡ codes "ends") ⊎ (name.now ≡ codes "trace")
         ⊎ (name.now ≡ codes "check") }
-    ensures job { IfSome result (GivesJob name.now (rows_of (found_of matches.now))) }
-    ensures unfair { result ≡ None → IsOrder (rows_of (found_of matches.now)) None }
+    ensures job { IfOk result (GivesJob name.now (rows_of (found_of matches.now))) }
+    ensures conflict { IfErr result (AskForConflict name.now (rows_of (found_of matches.now))) }
 {
     match name {
         "litmus" => {
-            let options = litmus_options(matches)?;
-            Some(Job::Litmus(options, word_of(matches, "FILE")))
+            let options = litmus_options(matches).ok_or(Conflict::Fair)?;
+            Ok(Job::Litmus(options, word_of(matches, "FILE")))
         }
-        "ends" => Some(Job::Ends(ends_options(matches), word_of(matches, "FILE"))),
+        "ends" => Ok(Job::Ends(ends_options(matches), word_of(matches, "FILE"))),
         "trace" => {
-            let options = trace_options(matches)?;
-            Some(Job::Trace(options, word_of(matches, "FILE")))
+            let options = trace_options(matches).ok_or(Conflict::Fair)?;
+            if counts_in_vain(&options) {
+                return Err(Conflict::Counts);
+            }
+            Ok(Job::Trace(options, word_of(matches, "FILE")))
         }
-        _ => Some(Job::Check(
+        _ => Ok(Job::Check(
             flag(matches, "complete"),
             path_of(matches, "opening"),
             word_of(matches, "TRACE"),
@@ -114,7 +142,7 @@ pub fn read_words<'a>(alloc: Global, words: &'a [&'a str]) -> Result<Job<'a>, Wo
         unreachable!()
     };
     match job_of(name, inner) {
-        Some(job) => Ok(job),
-        None => Err(unfair(alloc)),
+        Ok(job) => Ok(job),
+        Err(why) => Err(refused_for(alloc, why)),
     }
 }

@@ -6,6 +6,7 @@ pub mod event_counts;
 pub mod kind_counts;
 pub mod laws;
 pub mod part_counts;
+mod watching;
 #[cfg(test)]
 mod tests;
 mod watching;

@@ -1,9 +1,13 @@
 -- The report on the text of a trace, and why a text has none.
-use Rattle.std.specs.Prelude.{◌≡◌, ◌⊎◌, ◌≤◌, ℕ, Bool, true, false, List, length, Option}
+use Rattle.std.specs.Prelude.{◌≡◌, ◌⊎◌, ◌≤◌, ℕ, Bool, true, false, ◌&&◌, not, List, [], ◌++◌, length, Option}
+use Rattle.machine_table.specs.declared.config.Config.{Config}
 use Rattle.machine_table.specs.Machine.{Machine}
 use Rattle.machine_table.specs.SetUp.{is_good}
+use Rattle.event_counts.specs.Counting.{EventCounts, counts_events, no_counts}
 use Rattle.physiological_order.specs.declared.operation.Record.{Record}
 use Rattle.worker_driver.specs.SetUp.{config_of, driver_of, limit_of}
+use Rattle.worker_driver.specs.declared.set_up.Driver.{Driver}
+use Rattle.worker_driver.specs.declared.set_up.Driver.TheVariants.{ByPolicy, ByThreads}
 use Rattle.programs.specs.declared.ends.End.{End}
 use Rattle.run_options.specs.declared.options.TraceOptions.{TraceOptions}
 use Rattle.run_results.specs.declared.results.RunError.{RunError}
@@ -18,7 +22,8 @@ use Rattle.trace_reader.specs.Reading.{steps_in, steps_read}
 use Rattle.report.specs.Refusals.{IsFault, IsRead}
 use Rattle.trace_reader.specs.Outcomes.{WantsMemory}
 use Rattle.trace_reader.specs.Steps.{trace_cores}
-use Rattle.report.specs.Runs.{IsTraceRun, is_all_done, run_text}
+use Rattle.trace_texts.specs.CountLines.{event_counts_text}
+use Rattle.report.specs.Runs.{IsTraceRun, IsWatched, is_all_done, run_text}
 
 -- the text has a line for each record, and if there are no more records than a text may have, it is the text of the
 -- records
@@ -34,6 +39,14 @@ pub record TellsOf (records : Bool) (lanes : List (List Step)) (end : End) (mach
   pub read_back : records ≡ true → TellsRecords text machine.records
   pub done : all_done ≡ is_all_done end
 
+-- what stands behind a report: what the run did, in numbers, if that is asked for of a run by a policy; else nothing
+abbrev pub StandsBehind : Bool → Driver → ℕ → Config → List (List Step) → End → Machine → List ℕ → Type 0
+StandsBehind true (ByPolicy policy) limit config lanes end machine behind = (counts : EventCounts)
+    × IsWatched counts_events (no_counts config.cores config.banks) policy limit config lanes end machine counts
+    × (behind ≡ event_counts_text counts)
+StandsBehind true (ByThreads fair) limit config lanes end machine behind = behind ≡ []
+StandsBehind false driver limit config lanes end machine behind = behind ≡ []
+
 -- it reports a run of the trace on a good machine
 pub record TellsTraceRun (options : TraceOptions) (lanes : List (List Step)) (all_done : Bool) (text : List ℕ)
     : Type 0 where
@@ -42,7 +55,12 @@ pub record TellsTraceRun (options : TraceOptions) (lanes : List (List Step)) (al
   pub machine : Machine
   pub run : IsTraceRun (driver_of options.run) (limit_of options.run)
       (config_of options.run.machine (trace_cores lanes)) lanes end machine
-  pub told : TellsOf options.records lanes end machine all_done text
+  pub report : List ℕ
+  pub told : TellsOf options.records lanes end machine all_done report
+  pub behind : List ℕ
+  pub counted : StandsBehind (options.counts && not options.records) (driver_of options.run) (limit_of options.run)
+      (config_of options.run.machine (trace_cores lanes)) lanes end machine behind
+  pub text_is : text ≡ report ++ behind
 
 -- it reports a run of the trace that the source had
 abbrev pub IsTraceReport : TraceOptions → Option (List ℕ) → Bool → List ℕ → Type 0

@@ -4,7 +4,9 @@ use Rattle.std.specs.Prelude.{slice_index_or}
 use Rattle.std.specs.Ordering.{nat_cmp}
 use Rattle.std.specs.FinMap.{FinMap, empty, entries, insert}
 use Rattle.machine_table.specs.declared.config.Config.{Config}
+use Rattle.machine_table.specs.declared.event.Event.{Event}
 use Rattle.machine_table.specs.Machine.{Machine}
+use Rattle.machine_table.specs.Opening.{at_start}
 use Rattle.machine_theorem.specs.Coherence.{coherent}
 use Rattle.physiological_order.specs.declared.operation.Op.{Op}
 use Rattle.physiological_order.specs.declared.operation.Record.{Record}
@@ -12,6 +14,9 @@ use Rattle.physiological_order.specs.declared.verdict.Verdict.TheVariants.{Legal
 use Rattle.physiological_order.specs.Order.{address, flat, Legal, Arrangement, replay_end}
 use Rattle.physiological_order.specs.StaleHits.{RisesByNumber, stale_count}
 use Rattle.trace_texts.specs.Records.{AreComplete, records_text}
+use Rattle.schedules.specs.declared.policy.Policy.{Policy}
+use Rattle.schedules.specs.Policies.{EndedBy}
+use Rattle.schedules.specs.Watches.{Watches, watched}
 use Rattle.worker_driver.specs.Orders.{LeadsTo}
 use Rattle.programs.specs.declared.ends.End.{End}
 use Rattle.programs.specs.declared.ends.End.TheVariants.{AllDone, Stalled, TurnsUsed, Exhausted, NoMemory}
@@ -44,6 +49,16 @@ pub record IsTraceRun (driver : Driver) (limit : ℕ) (config : Config) (lanes :
   pub complete : AreComplete machine.records
   pub left : (arranged : List Record) → Arrangement machine.records arranged → (word : ℕ) →
       coherent machine word ≡ replay_end (flat empty) (map (λ r. r.op) arranged) word
+
+-- By the policy the events of such a run lead from the machine, as it opens, to this one, and they are what a watcher
+-- has seen after it.
+pub record IsWatched {W : Type 0} (watches : Watches W) (before : watches.Seen) (policy : Policy) (limit : ℕ)
+    (config : Config) (lanes : List (List Step)) (end : End) (machine : Machine) (after : watches.Seen) : Type 0 where
+  pub events : List Event
+  pub programs : List (List Step)
+  pub ended : EndedBy step_acts policy limit (at_start config empty) (programs_below lanes (trace_cores lanes)) events
+      machine programs end
+  pub seen : after ≡ watched watches before (at_start config empty) events
 
 -- how many operations the cores below a number were issued
 abbrev pub issued_below : Machine → ℕ → ℕ

@@ -11,7 +11,7 @@ ghost use Rattle.thread_driver.specs.ThreadRuns.{machine_of};
 ghost use Rattle.worker_driver.specs.declared.set_up.Driver.TheVariants.{ByPolicy, ByThreads};
 ghost use Rattle.report.specs.Reports.{TellsRecords};
 ghost use Rattle.trace_reader.specs.Steps.{trace_cores, trace_ops};
-ghost use Rattle.report.specs.Runs.{IsTraceRun, trace_end_of, run_text};
+ghost use Rattle.report.specs.Runs.{IsTraceRun, IsWatched, trace_end_of, run_text};
 
 use crate::trace_programs::programs_of;
 use crate::words::{issued_below, values_of};
@@ -20,7 +20,7 @@ use machine_theorem::laws::every_history_is_legal;
 use mailboxes::Run;
 use physiological_order::{Memory, stale_hits};
 use programs::End;
-use schedules::{Policy, run_to_end};
+use schedules::{Policy, Watcher, run_watched};
 use shared_jobs::Free;
 use std::alloc::{AllocError, Global};
 use std::thread::Threads;
@@ -36,18 +36,23 @@ pub(crate) struct Ran<M: Drop> {
     pub(crate) end: End,
 }
 
-/// A run of the trace over a memory of zeros, by this policy, with at most so many turns.
-pub(crate) fn run_by_policy(
+/// A run of the trace over a memory of zeros, by this policy, with at most so many turns, and its watcher, which takes
+/// no memory.
+pub(crate) fn run_by_policy<W: Watcher + Drop>(
     alloc: Global,
     trace: &Trace,
     config: Config,
     policy: Policy,
     limit: u32,
-) -> Result<Ran<System>, AllocError>
+    watcher: W,
+) -> Result<(Ran<System>, W), AllocError>
     requires good { is_good config ≡ true }
     requires cores { config.cores ≡ trace_cores trace.now }
-    ensures { IfOk result (λ ran. IsTraceRun (ByPolicy policy) limit config trace.now ran.end
-        ran.machine) }
+    requires watcher { W.watches.asks ≡ false }
+    ensures run { IfOk result (λ r. IsTraceRun (ByPolicy policy) limit config trace.now r.0.end
+        r.0.machine) }
+    ensures watched { IfOk result (λ r. IsWatched W.watches (W.watches.seen watcher) policy limit
+        config trace.now r.0.end r.0.machine (W.watches.seen r.1)) }
 {
     every_history_is_legal();
     // Its contract says how few cores there are.
@@ -56,13 +61,15 @@ pub(crate) fn run_by_policy(
         return Err(AllocError);
     };
     let mut programs = programs_of(alloc, trace)?;
-    let end = run_to_end(alloc, &mut system, programs.as_mut_slice(), policy, limit);
+    let steps = programs.as_mut_slice();
+    let (end, watcher) = run_watched(alloc, &mut system, steps, watcher, policy, limit);
     // Its contract says that they rise by number.
     let _rising = system.records();
-    Ok(Ran {
+    let ran = Ran {
         machine: system,
         end,
-    })
+    };
+    Ok((ran, watcher))
 }
 
 /// A run of the trace over a memory of zeros, by so many threads, with at most so many turns of each core and bank,

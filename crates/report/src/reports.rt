@@ -18,6 +18,7 @@ use crate::one_run::{Ran, run_by_policy, run_by_threads, text_of};
 use crate::outputs::{Report, put_out};
 use crate::texts::trace_of;
 use byte_streams::{Sink, Source};
+use event_counts::EventCounts;
 use interleaving_core::Config;
 use programs::End;
 use run_options::TraceOptions;
@@ -26,6 +27,7 @@ use schedules::Policy;
 use std::alloc::{AllocError, Global};
 use std::thread::Threads;
 use trace_reader::Trace;
+use trace_texts::put_event_counts;
 use worker_driver::{Driver, Finished, config_of, driver_of, limit_of, workers_of};
 
 /// Reads a trace from the source, to its end if it is accepted, runs it over a memory of zeros as the options say, and
@@ -127,8 +129,34 @@ pub(crate) fn told_by_policy(
     ensures { IfOk result (λ report.
         TellsTraceRun options.now trace.now report.all_done report.text.items) }
 {
-    let ran = run_by_policy(alloc, trace, config, policy, limit_of(&options.run))?;
+    if options.counts && !options.records {
+        return told_counted(alloc, trace, config, policy, options);
+    }
+    let (ran, _) = run_by_policy(alloc, trace, config, policy, limit_of(&options.run), ())?;
     report_on(alloc, trace, &ran, options.records)
+}
+
+// The same run, with what it did in numbers behind its report.
+fn told_counted(
+    alloc: Global,
+    trace: &Trace,
+    config: Config,
+    policy: Policy,
+    options: &TraceOptions,
+) -> Result<Report, AllocError>
+    requires good { is_good config ≡ true }
+    requires config { config ≡ config_of options.now.run.machine (trace_cores trace.now) }
+    requires policy { driver_of options.now.run ≡ ByPolicy policy }
+    requires counted { (options.now.counts ≡ true) × (options.now.records ≡ false) }
+    ensures { IfOk result (λ report.
+        TellsTraceRun options.now trace.now report.all_done report.text.items) }
+{
+    let counts = EventCounts::new(alloc, config.cores, config.banks)?;
+    let limit = limit_of(&options.run);
+    let (ran, counts) = run_by_policy(alloc, trace, config, policy, limit, counts)?;
+    let mut report = report_on(alloc, trace, &ran, false)?;
+    put_event_counts(&mut report.text, &counts)?;
+    Ok(report)
 }
 
 // A run of the trace by threads, as it is told, with fair turns of banks or not.

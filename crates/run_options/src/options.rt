@@ -125,6 +125,9 @@ impl EndsOptions {
 pub struct TraceOptions {
     /// Whether the records are written in place of the report.
     pub records: bool,
+    /// Whether what the run did, in numbers, stands behind the report; of no effect by threads, and where the records
+    /// are written.
+    pub counts: bool,
     pub run: RunOptions,
 }
 
@@ -132,6 +135,7 @@ impl TraceOptions {
     /// The run of a trace if no option says otherwise.
     pub const DEFAULT: TraceOptions = TraceOptions {
         records: false,
+        counts: false,
         run: RunOptions::DEFAULT,
     };
 }

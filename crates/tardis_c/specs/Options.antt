@@ -1,5 +1,5 @@
 -- What the options of C stand for.
-use Rattle.std.specs.Prelude.{ℕ, Bool, if◌then◌else◌, nat_lt}
+use Rattle.std.specs.Prelude.{ℕ, Bool, false, if◌then◌else◌, nat_lt}
 use Rattle.run_options.specs.declared.options.LitmusOptions.{LitmusOptions}
 use Rattle.run_options.specs.declared.options.RunOptions.{RunOptions}
 use Rattle.run_options.specs.declared.options.Schedule.TheVariants.{Round, FairRound, Seed}
@@ -35,4 +35,4 @@ abbrev pub litmus_options : PlainOptions → LitmusOptions
 litmus_options plain = record { runs = plain.runs; run = run_options plain }
 
 abbrev pub trace_options : PlainOptions → TraceOptions
-trace_options plain = record { records = is_set plain.records; run = run_options plain }
+trace_options plain = record { records = is_set plain.records; counts = false; run = run_options plain }

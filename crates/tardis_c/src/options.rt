@@ -104,6 +104,7 @@ pub(crate) fn trace_options(plain: &PlainOptions) -> TraceOptions
 {
     TraceOptions {
         records: plain.records != 0,
+        counts: false,
         run: run_options(plain),
     }
 }

@@ -113,7 +113,12 @@ fn litmus(alloc: Global, text: &[u8], runs: u64, run: RunOptions) -> Result<Repo
 fn trace(alloc: Global, text: &[u8], records: bool, run: RunOptions) -> Result<Report, RunError>
     requires { FollowsPolicy run }
 {
-    trace_report(alloc, text, &TraceOptions { records, run })
+    let options = TraceOptions {
+        records,
+        run,
+        ..TraceOptions::DEFAULT
+    };
+    trace_report(alloc, text, &options)
 }
 
 fn is_told(came: &Result<Report, RunError>, all_done: bool, text: &[u8]) -> bool {

@@ -1,3 +1,4 @@
 pub mod Records
 pub mod Reports
+pub mod CountLines
 pub mod Verdicts

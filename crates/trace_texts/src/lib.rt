@@ -2,12 +2,14 @@
 //! the line of a verdict.
 #![tactic(auto)]
 
+mod count_lines;
 mod fields;
 pub mod laws;
 mod records;
 mod reports;
 mod verdicts;
 
+pub use count_lines::put_event_counts;
 pub use records::records_text;
 pub use reports::{TraceEnd, legal_trace_text, trace_text};
 pub use verdicts::{check_text, lack_text};

@@ -14,4 +14,4 @@ pub returns-clause-ends : goal.returns-clause-ends
 returns-clause-ends c = λ rows options t. in_range _ 1 4294967295 _ options.most_states (omega arith) (omega arith) t.0
 
 pub returns-clause-trace : goal.returns-clause-trace
-returns-clause-trace c = λ rows options t. run_in_range rows options.run t.1
+returns-clause-trace c = λ rows options t. run_in_range rows options.run t.2

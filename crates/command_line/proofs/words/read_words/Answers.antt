@@ -25,21 +25,20 @@ job_of-requires c =
     (found_is _ e.0 _ _ _ _ e.2 c.in-Ok-try_get_matches_from.ensures.matches c.in-Some.ensures.name
     c.in-Some.ensures.rows)
 
-pub returns-in-Some-job_of-clause-job : goal.returns-in-Some-job_of-clause-job
-returns-in-Some-job_of-clause-job c =
+pub returns-in-Ok-job_of-clause-job : goal.returns-in-Ok-job_of-clause-job
+returns-in-Ok-job_of-clause-job c =
     let e = c.in-Ok.ensures.app in (
       (c.in-Some.name.now, rows_of (found_of c.in-Some.inner.now)),
       are_taken _ e.0 (map (λ w. w.now) c.args.words.now) _ _ _ e.1 e.2 c.in-Ok-try_get_matches_from.ensures.kinds
           c.in-Ok-try_get_matches_from.ensures.matches c.in-Some.ensures.name c.in-Some.ensures.rows,
-      c.in-Some-job_of.ensures.job,
+      c.in-Ok-job_of.ensures.job,
     )
 
 pub returns-clause-refused : goal.returns-clause-refused
 returns-clause-refused c =
     let e = c.in-Ok.ensures.app in
-    c.unfair.ensures (map (λ w. w.now) c.args.words.now) (
-      (c.in-Some.name.now, rows_of (found_of c.in-Some.inner.now)),
-      are_taken _ e.0 (map (λ w. w.now) c.args.words.now) _ _ _ e.1 e.2 c.in-Ok-try_get_matches_from.ensures.kinds
-          c.in-Ok-try_get_matches_from.ensures.matches c.in-Some.ensures.name c.in-Some.ensures.rows,
-      c.in-None.ensures.unfair refl,
-    )
+    c.refused_for.ensures (map (λ w. w.now) c.args.words.now)
+    (c.in-Some.name.now, rows_of (found_of c.in-Some.inner.now))
+    (are_taken _ e.0 (map (λ w. w.now) c.args.words.now) _ _ _ e.1 e.2 c.in-Ok-try_get_matches_from.ensures.kinds
+        c.in-Ok-try_get_matches_from.ensures.matches c.in-Some.ensures.name c.in-Some.ensures.rows)
+    c.in-Err-job_of.ensures.conflict

@@ -1,6 +1,7 @@
 //! Words, operations and records as C has them, and what is wrong with them.
 ghost use Rattle.std.specs.Prelude.{◌≡◌};
 ghost use Rattle.tardis_c.specs.Plain.{address_fault, op_of, operation_fault, record_fault, record_of, store_of};
+ghost use Rattle.tardis_c.specs.Plain.{word_fault};
 
 use physiological_order::{Op, Record, WordAddr};
 
@@ -148,4 +149,28 @@ pub(crate) fn record_of(plain: &PlainRecord) -> Record
         ts: plain.time,
         number: plain.number,
     }
+}
+
+/// What is wrong with a word, as a check of a history tells it; 0 for nothing.
+#[unsafe(no_mangle)]
+pub extern "C" fn tardis_c_word_fault(plain: &PlainWord) -> u32
+    ensures { result ≡ word_fault plain.now }
+{
+    plain.fault() as u32
+}
+
+/// What is wrong with an operation, as a check of a history tells it; 0 for nothing.
+#[unsafe(no_mangle)]
+pub extern "C" fn tardis_c_operation_fault(plain: &PlainOperation) -> u32
+    ensures { result ≡ operation_fault plain.now }
+{
+    plain.fault() as u32
+}
+
+/// What is wrong with a record, as a check of a history tells it; 0 for nothing.
+#[unsafe(no_mangle)]
+pub extern "C" fn tardis_c_record_fault(plain: &PlainRecord) -> u32
+    ensures { result ≡ record_fault plain.now }
+{
+    plain.fault() as u32
 }

@@ -1,9 +1,9 @@
 #!/usr/bin/env python3
 """Compares histories that grow with the second program's answers, number for number: tests/histories.py COMMAND..
 
-Each command reads lines as examples/embed/history.c does. The histories are drawn: legal ones, on up to 90 cores of any
-numbers and with an opening memory, in which mostly one thing is changed then. Items come in any order, some are refused,
-and the verdict is asked on the way.
+Each command reads lines as examples/embed/history.c does. The histories are drawn: legal ones, on up to 90 cores of
+any numbers and with an opening memory, in which mostly one thing is changed then. Items come in any order, some are
+refused, and the verdict is asked on the way.
 """
 import random
 import subprocess
@@ -17,9 +17,10 @@ from reference.order import check, expected  # noqa: E402
 HISTORIES = 60
 MOST_CORES = 1_048_576
 LETTERS = {"load": "R", "store": "W", "swap": "S"}
-REFUSED = ("word 0x9 5", 12), ("word 0xc 5", 12), (f"issue {MOST_CORES} R 0x0 0", 10), ("issue 4294967295 R 0x0 0", 10), \
-    ("issue 0 X 0x0 0", 10), ("issue 70 W 0x4 1", 10), (f"record {MOST_CORES} 0 R 0x0 0 0 0 0", 11), \
-    ("record 0 4294967296 R 0x0 0 0 0 0", 11), ("record 0 0 X 0x0 0 0 0 0", 11), ("record 0 0 R 0x7 0 0 0 0", 11)
+REFUSED = ("word 0x9 5", 12), ("word 0xc 5", 12), (f"issue {MOST_CORES} R 0x0 0", 10), \
+    ("issue 4294967295 R 0x0 0", 10), ("issue 0 X 0x0 0", 10), ("issue 70 W 0x4 1", 10), \
+    (f"record {MOST_CORES} 0 R 0x0 0 0 0 0", 11), ("record 0 4294967296 R 0x0 0 0 0 0", 11), \
+    ("record 0 0 X 0x0 0 0 0 0", 11), ("record 0 0 R 0x7 0 0 0 0", 11)
 
 
 class Record(NamedTuple):
@@ -120,9 +121,9 @@ def main(commands):
         met |= {"".join(letter for letter in line if not letter.isdigit()) for line in wanted}
         for command in commands:
             came = subprocess.run([command], input="\n".join(lines) + "\n", text=True, capture_output=True)
-            if (came.returncode, came.stdout.splitlines()) != (0, wanted):
-                sys.exit(f"histories.py: {command}: history {seed}: status {came.returncode}: {came.stdout}{came.stderr}"
-                         f"and not\n" + "\n".join(wanted))
+            if (came.returncode, came.stderr, came.stdout.splitlines()) != (0, "", wanted):
+                sys.exit(f"histories.py: {command}: history {seed}: status {came.returncode}: {came.stdout}"
+                         f"{came.stderr}and not\n" + "\n".join(wanted))
     lacks = {"legal", "bad number ", "out of program order ", "wrong value : expected  of the opening memory",
              "wrong value : expected  of record ", "number "} - met
     if lacks:

@@ -95,8 +95,8 @@ class History {
     int complete(const tardis_record &record) {
         return added(records, record, tardis_c_record_fault(&record), TARDIS_BAD_RECORD);
     }
-    // The verdict on all that there is so far, and with a wrong value what was expected and who wrote it. Each call goes
-    // through the whole history: asked after each of n records, it takes time in proportion to n * n.
+    // The verdict on all that there is so far, and with a wrong value what was expected and who wrote it. Each call
+    // goes through the whole history: asked after each of n records, it takes time in proportion to n * n.
     std::pair<int, tardis_found> verdict() const {
         tardis_found found{};
         const int number = tardis_check_history(opening.data(), opening.size(), operations.data(), operations.size(),
@@ -115,8 +115,8 @@ class History {
     std::vector<tardis_record> records;
 };
 
-// A message in flight: its number, kind (ShReq, ..) and ends (core 1, bank 0, dram 0), its line's byte address, and what
-// it carries (`wts 0 rts 10 words 0`).
+// A message in flight: its number, kind (ShReq, ..) and ends (core 1, bank 0, dram 0), its line's byte address, and
+// what it carries (`wts 0 rts 10 words 0`).
 struct Message {
     uint64_t number;
     std::string kind, sender, receiver;

@@ -1,5 +1,5 @@
-/* A history that grows, from standard input: each line adds an item, or asks for the verdict on all so far, which goes to
-   standard output. Values are decimal, addresses 0x and hexadecimal digits; R is a load, W a store and S a swap.
+/* A history that grows, from standard input: each line adds an item, or asks for the verdict on all so far, which goes
+   to standard output. Values are decimal, addresses 0x and hexadecimal digits; R is a load, W a store and S a swap.
 
        word ADDRESS VALUE                       what a word holds before all operations; else it holds 0
        issue CORE KIND ADDRESS WRITTEN          the next operation of a core; of a load, WRITTEN is 0

@@ -384,7 +384,7 @@ static struct tardis_found of(uint64_t kind, uint64_t number, uint64_t expected,
     return all;
 }
 
-/* What a word opens with is expected, and of two values for one word the later; a word that isn't named opens with 0. */
+/* What a word opens with is expected, and of two values for one word the later; one that isn't named opens with 0. */
 static void opened_words(void) {
     struct tardis_word opening[3] = {{0x8, 5}, {0x10, 6}, {0x8, 7}};
     struct tardis_operation load = {0, TARDIS_LOAD, 0x8, 0};
@@ -473,7 +473,8 @@ static void grows(void) {
     static struct tardis_history history;
     struct tardis_word word = {0, 9};
     struct tardis_operation load = {70, TARDIS_LOAD, 0, 0}, store = {71, TARDIS_STORE, 0, 1};
-    struct tardis_record loaded = {{70, TARDIS_LOAD, 0, 0}, 0, 9, 0, 0}, stored = {{71, TARDIS_STORE, 0, 1}, 0, 0, 1, 1};
+    struct tardis_record loaded = {{70, TARDIS_LOAD, 0, 0}, 0, 9, 0, 0};
+    struct tardis_record stored = {{71, TARDIS_STORE, 0, 1}, 0, 0, 1, 1};
     uint64_t at;
     MUST(tardis_history_verdict(&history, &found) == TARDIS_DONE);
     MUST(tardis_history_open(&history, &word) == TARDIS_DONE && tardis_history_issue(&history, &load) == TARDIS_DONE);

@@ -12,5 +12,5 @@ from tardis.runs import check, ends, litmus, trace
 from tardis.version import VERSION as __version__
 
 __all__ = ["Answer", "BadConfiguration", "BadText", "End", "EndsReport", "History", "LitmusReport",
-           "Machine", "Message", "NoMemory", "Record", "Records", "State", "TardisError", "TooManyStates", "TraceReport",
-           "Verdict", "__version__", "check", "ends", "litmus", "trace"]
+           "Machine", "Message", "NoMemory", "Record", "Records", "State", "TardisError", "TooManyStates",
+           "TraceReport", "Verdict", "__version__", "check", "ends", "litmus", "trace"]

@@ -44,7 +44,8 @@ later faulty r rs None is after h = (
   Contains-push rs r,
   is,
   All-push (λ s. IsEarlier faulty s → NotAfter s r) rs r
-      (All-weaker (λ s. IsEarlier faulty s → ⊥) (λ s. IsEarlier faulty s → NotAfter s r) (λ s out e. absurd (out e)) rs h)
+      (All-weaker (λ s. IsEarlier faulty s → ⊥) (λ s. IsEarlier faulty s → NotAfter s r)
+      (λ s out e. absurd (out e)) rs h)
       (λ e. not_after-itself r),
 )
 later faulty r rs (Some w) is after h = (

@@ -1,6 +1,7 @@
 -- What a record meets in its word: what the last write before it wrote, or the opening memory's value.
 use Rattle.std.proofs.Common.{◌≡◌, ℕ, zero, suc, ◌⊎◌, Bool, true, false, cond, List, [], ◌∷◌, ◌++◌, map, Contains}
-use Rattle.std.proofs.Common.{Option, Some, None, IfSome, refl, sym, ap, subst, ◌∙◌, inl, inr, arith, true≢false, All, Any}
+use Rattle.std.proofs.Common.{Option, Some, None, IfSome, refl, sym, ap, subst, ◌∙◌, inl, inr, arith, true≢false}
+use Rattle.std.proofs.Common.{All, Any}
 use Rattle.std.specs.List.{AllByRecursion as Each}
 use Rattle.std.proofs.lemmas.List.Elements.{All-contains, All-from_recursion, recursion_from_All, Contains-append_cases}
 use Rattle.std.proofs.lemmas.List.Elements.{Contains-append_right}
@@ -10,7 +11,8 @@ use Rattle.physiological_order.specs.declared.operation.Op.TheVariants.{Load, St
 use Rattle.physiological_order.specs.declared.operation.Record.{Record}
 use Rattle.physiological_order.specs.declared.verdict.Verdict.TheVariants.{WrongValue}
 use Rattle.physiological_order.specs.Faults.{IsVerdict}
-use Rattle.physiological_order.specs.Order.{Arrangement, Before, Memory, NotAfter, Rises, address, flat_after, replay_end}
+use Rattle.physiological_order.specs.Order.{Arrangement, Before, Memory, NotAfter, Rises, address, flat_after}
+use Rattle.physiological_order.specs.Order.{replay_end}
 use Rattle.physiological_order.proofs.Lemmas.{each_weaker}
 use Rattle.tardis_c.specs.declared.expected.Found.{Found}
 use Rattle.tardis_c.specs.Histories.{IsFound, writer_after, wrong_value}
@@ -147,7 +149,8 @@ found m records arranged number faulty None f a here named is none some =
     let rises = subst Rises s.2 a.rises in
     let word = address faulty.op in
     let out = each_front (λ r. IsEarlier faulty r → ⊥) s.0 (faulty ∷ s.1)
-    (subst (Each (λ r. IsEarlier faulty r → ⊥)) s.2 (each_arranged (λ r. IsEarlier faulty r → ⊥) records arranged a is)) in
+    (subst (Each (λ r. IsEarlier faulty r → ⊥)) s.2
+    (each_arranged (λ r. IsEarlier faulty r → ⊥) records arranged a is)) in
     let met = none_written m None word s.0
     (each_both (λ r. Before r faulty) (λ r. IsEarlier faulty r → ⊥) (λ r. writes word r.op ≡ false)
     (λ r before isnt. not_true (writes word r.op) (λ does. isnt (record { writes = does; before = before })))
@@ -179,7 +182,8 @@ found m records arranged number faulty (Some w) f a here named is none some =
     let met = last_written m None word w s.0 (Rises-front s.0 (faulty ∷ s.1) rises) there is.1.writes
     (each_both (λ r. Before r faulty) (λ r. IsEarlier faulty r → NotAfter r w)
     (λ r. writes word r.op ≡ true → NotAfter r w)
-    (λ r before le does. le (record { writes = does; before = before })) s.0 (all_before s.0 faulty s.1 rises) latest) in (
+    (λ r before le does. le (record { writes = does; before = before })) s.0 (all_before s.0 faulty s.1 rises)
+    latest) in (
       written w.op,
       Some w.number,
       record {

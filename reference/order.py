@@ -35,6 +35,19 @@ def check(opening, issued, records):
     return "legal"
 
 
+def expected(opening, records, number):
+    """What the record of this number should have received, and the number of the last record before it that wrote its
+    word; None if no one did, and the value is that of the opening memory."""
+    memory, writers = dict(opening), {}
+    for record in arrange(records):
+        if record.number == number:
+            return memory.get(record.word, 0), writers.get(record.word)
+        flat_step(memory, record)
+        if record.kind != "load":
+            writers[record.word] = record.number
+    return None
+
+
 def first_lack(issued, records):
     """The line on legal records that lack those of some core; None if each operation has its record."""
     for core, operations in enumerate(issued):

@@ -2,7 +2,7 @@
 # Builds callers of the static library of crates/tardis_c in C, C++ and Rust (examples/embed), and tries them:
 # tests/embed.sh [--build | --kept]. Each number that a call answers is met once, by hand; the examples are run, and
 # records checked, through the library, with the reports that the program must give, and at a cost that hardly grows
-# with the cores. It needs gcc, g++, valgrind and the Rattle kit, whose C file for memory is linked; without rustc it
+# with the cores. Histories that grow are compared with the second program (tests/histories.py). It needs gcc, g++, valgrind and the Rattle kit, whose C file for memory is linked; without rustc it
 # says so and leaves out the caller in Rust. At its end tests/installed.sh tries what is installed.
 #
 # With --build the library is proved and built first, with all below it. That takes two minutes where ./tardis is built,
@@ -44,6 +44,8 @@ strict="-O1 -Wall -Wextra -Werror -I$crate"
     g++ -x c++ -std=c++11 -pedantic $strict $memory -o "$work/numbers_cpp" "$embed/numbers.c" -x none $library &&
     gcc -std=c11 -pedantic $strict -o "$work/check" "$embed/check.c" $library &&
     gcc -std=c11 -pedantic $strict -o "$work/directory" "$embed/directory.c" $library &&
+    gcc -std=c11 -pedantic $strict -o "$work/history_c" "$embed/history.c" $library &&
+    g++ -std=c++17 -pedantic $strict -o "$work/history_cpp" "$embed/history.cpp" $library &&
     g++ -std=c++17 -pedantic $strict -o "$work/tardis" "$embed/tardis.cpp" $library &&
     g++ -std=c++17 -pedantic $strict -Wl,--wrap=tardis_c_trace -o "$work/reports" "$top/tests/reports.cpp" $library
 } || exit 1
@@ -54,6 +56,8 @@ for each in numbers_c reports; do
     timeout 300 valgrind -q --leak-check=full --show-leak-kinds=all "$work/$each" >"$work/said" 2>&1 &&
         [ ! -s "$work/said" ] || { echo "embed.sh: $each:"; cat "$work/said"; exit 1; }
 done
+
+"$top/tests/histories.py" "$work/history_c" "$work/history_cpp" || exit 1
 
 # checks TRACE RECORDS STATUS LINE: what the check of two files prints, on either stream, and its status.
 checks() {

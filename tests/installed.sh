@@ -41,7 +41,7 @@ legal tardis "$prefix/bin/tardis" check
 version=$("$prefix/bin/tardis" --version 2>&1)
 said=$(cd "$top/python" && python3 -c 'import tardis; print("tardis", tardis.__version__)')
 [ "$version" = "$said" ] || fail "$version, and in Python $said"
-"$top/tests/python_package.py" --library || exit 1
+"$top/tests/python_package.py" --library && "$top/tests/histories.py" "$embed/history.py" || exit 1
 ! has jupyter-nbconvert "the notebook" || "$top/tests/notebook.py" || exit 1
 
 for page in tardis tardis-play-events; do

@@ -253,6 +253,65 @@ def runs(is_proved):
             fail(f"a verdict: {told}, not {wanted}")
     faults(is_proved)
     ends(is_proved)
+    histories(is_proved)
+
+
+def of_cores(cores, received):
+    """A history in which each core stores its number plus 1 to one word, in turn, and the last one loads."""
+    grown = tardis.History()
+    for core in range(cores):
+        place = grown.issue(core, "W", 0x8, core + 1)
+        grown.add(tardis.Record(core, place, "W", 0x8, core + 1, None, 7, core))
+    place = grown.issue(cores - 1, "R", 0x8)
+    grown.add(tardis.Record(cores - 1, place, "R", 0x8, None, received, 7, cores))
+    return grown
+
+
+def histories(is_proved):
+    """Histories by hand: of 65 and of 1,000 cores, over an opening memory, and empty ones."""
+    def must(grown, *wanted):
+        if grown.verdict() != tardis.Verdict(wanted[0], is_proved, *wanted[1:]):
+            fail(f"a history: {grown.verdict()}, not {wanted}")
+
+    must(tardis.History(), "legal")
+    must(tardis.History({0x8: 5}), "legal")
+    for cores in (65, 1000):
+        must(of_cores(cores, cores), "legal")
+        must(of_cores(cores, 5), f"wrong value {cores}", cores, cores, cores - 1)
+    grown = tardis.History({0x8: 9})
+    grown.open(0x8, 5)
+    loaded = tardis.Record(70, 0, "R", 0x8, None, 4, 1, 0)
+    grown.add(loaded)
+    must(grown, "out of program order 0", 0)
+    if grown.issue(70, "R", 0x8) != 0 or grown.issue(70, "S", 0x10, 2) != 1 or grown.issue(71, "W", 0x8, 4) != 0:
+        fail("places in program order")
+    must(grown, "wrong value 0", 0, 5, None)
+    grown.add(tardis.Record(71, 0, "W", 0x8, 4, None, 0, 1))  # which comes before the load
+    must(grown, "legal")
+    refused(grown, loaded)
+    must(grown, "legal")
+    grown.add(tardis.Record(70, 1, "S", 0x10, 2, 0, 2, 3))
+    must(grown, "bad number 2", 2)
+
+
+def refused(grown, loaded):
+    """What a history refuses, by an error that names the argument."""
+    for kind, named, make in (
+            (ValueError, "core", lambda: grown.issue(1_048_576, "R", 8)),
+            (TypeError, "core", lambda: grown.issue(1.0, "R", 8)),
+            (ValueError, "kind", lambda: grown.issue(0, "X", 8)),
+            (ValueError, "address", lambda: grown.issue(0, "R", 4)),
+            (ValueError, "address", lambda: grown.open(2 ** 64, 1)),
+            (ValueError, "value", lambda: grown.open(8, 2 ** 64)),
+            (ValueError, "value", lambda: grown.issue(0, "W", 8)),
+            (ValueError, "value", lambda: grown.issue(0, "R", 8, 1)),
+            (ValueError, "place", lambda: grown.add(loaded._replace(place=2 ** 32))),
+            (ValueError, "received", lambda: grown.add(loaded._replace(received=None))),
+            (ValueError, "received", lambda: grown.add(loaded._replace(kind="W", value=1))),
+            (ValueError, "time", lambda: grown.add(loaded._replace(time=-1))),
+            (TypeError, "number", lambda: grown.add(loaded._replace(number=None)))):
+        if not str(refuses(kind, make, named)).startswith(f"{named} is "):
+            fail(f"an error that names {named}")
 
 
 def ends(is_proved):
@@ -287,6 +346,7 @@ import tardis
 report: tardis.TraceReport = tardis.trace("0 R 0x0", lease=5)
 records: tardis.Records = tardis.trace("0 R 0x0", records=True)
 listed: list[tardis.End] = tardis.ends("").ends
+wrote: int | None = tardis.History({8: 5}).verdict().writer
 with tardis.Machine(cores=2) as machine:
     sent: tardis.Message | None = machine.message(0)
 """

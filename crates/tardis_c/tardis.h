@@ -17,6 +17,7 @@
 
 #include <stddef.h>
 #include <stdint.h>
+#include <stdlib.h>
 
 #ifdef __cplusplus
 extern "C" {
@@ -36,7 +37,7 @@ enum tardis_number {
     TARDIS_NULL = 9,         /* a pointer is null: nothing was done, and nothing is written */
     TARDIS_BAD_OPERATION = 10, /* an operation of an array has a fault */
     TARDIS_BAD_RECORD = 11,    /* a record of an array has a fault, and no operation has one */
-    TARDIS_BAD_OPENING = 12    /* the text is no opening */
+    TARDIS_BAD_OPENING = 12    /* the text is no opening; a word of an array has a fault */
 };
 
 /* The options of a run. Those named flags are set by any number but 0. */
@@ -62,9 +63,19 @@ struct tardis_options {
 
 enum tardis_kind { TARDIS_LOAD = 0, TARDIS_STORE = 1, TARDIS_SWAP = 2 };
 
+/* Histories are of cores with numbers below this. A check keeps some 40 bytes for each number up to the greatest that
+   was issued an operation: 40 MB if that is the last one. */
+#define TARDIS_MOST_CORES 1048576
+
+/* A word of the opening memory: what it holds before all operations. Words that aren't named hold 0. */
+struct tardis_word {
+    uint64_t address; /* a multiple of 8 */
+    uint64_t value;
+};
+
 /* An operation that a core was issued. */
 struct tardis_operation {
-    uint32_t core;    /* 0 to 63 */
+    uint32_t core;    /* below TARDIS_MOST_CORES */
     uint32_t kind;    /* enum tardis_kind */
     uint64_t address; /* of a word: a multiple of 8 */
     uint64_t value;   /* what is written; a load's isn't looked at */
@@ -97,6 +108,23 @@ struct tardis_told {
     uint64_t number;
 };
 
+/* Where a value comes from. */
+enum tardis_source {
+    TARDIS_NOTHING_EXPECTED = 0,
+    TARDIS_OPENING_MEMORY = 1,
+    TARDIS_A_RECORD = 2
+};
+
+/* What is wrong with a history: as in `struct tardis_told`, and on TARDIS_BAD_OPENING. With TARDIS_WRONG_VALUE also what
+   the record should have received, and who wrote that; else all of this is 0. */
+struct tardis_found {
+    uint64_t kind; /* enum tardis_told_kind */
+    uint64_t number;
+    uint64_t expected;
+    uint64_t source; /* enum tardis_source */
+    uint64_t writer; /* the number of the record, on TARDIS_A_RECORD */
+};
+
 /* The exports. A slice is a pointer, which is never null, and then how many items there are, below 2^63 bytes. */
 uint32_t tardis_c_version(void);
 void tardis_c_defaults(struct tardis_options *options);
@@ -111,6 +139,12 @@ uint32_t tardis_c_check_opened(const uint8_t *opening, size_t opening_length, co
                                size_t size, size_t *length);
 uint32_t tardis_c_check_arrays(const struct tardis_operation *operations, size_t operation_count,
                                const struct tardis_record *records, size_t record_count, struct tardis_told *told);
+uint32_t tardis_c_check_history(const struct tardis_word *opening, size_t opening_count,
+                                const struct tardis_operation *operations, size_t operation_count,
+                                const struct tardis_record *records, size_t record_count, struct tardis_found *found);
+uint32_t tardis_c_word_fault(const struct tardis_word *word);
+uint32_t tardis_c_operation_fault(const struct tardis_operation *operation);
+uint32_t tardis_c_record_fault(const struct tardis_record *record);
 
 /* What stands at no address: nothing is read there. */
 static uint64_t tardis_nothing;
@@ -174,11 +208,7 @@ static inline int tardis_check_opened(const char *opening, size_t opening_length
 }
 
 /* Checks records against what cores were issued, each core's operations in its order, over a memory of zeros. Look at
-   the number first: what is told says nothing on TARDIS_NO_MEMORY and TARDIS_NULL.
-
-   A history may grow: append operations and records to your arrays, and ask again. Each call goes through all of it.
-   The verdict is on what is there. If no later record comes before one of these by time and number, a wrong value or a
-   fault of program order stays one. Else a later record may mend it, or break what was legal. */
+   the number first: what is told says nothing on TARDIS_NO_MEMORY and TARDIS_NULL. */
 static inline int tardis_check_records(const struct tardis_operation *operations, size_t operation_count,
                                        const struct tardis_record *records, size_t record_count,
                                        struct tardis_told *told) {
@@ -188,6 +218,96 @@ static inline int tardis_check_records(const struct tardis_operation *operations
     if (!operations) operations = (const struct tardis_operation *)&tardis_nothing;
     if (!records) records = (const struct tardis_record *)&tardis_nothing;
     return (int)tardis_c_check_arrays(operations, operation_count, records, record_count, told);
+}
+
+/* Does so over the memory that opens with these words, of which the later of two for one address counts; and finds
+   what was expected in place of a wrong value, and who wrote it. A fault of a word takes precedence over one of an
+   operation, and that over one of a record.
+
+   The verdict is on what is there. If no later record comes before one of these by time and number, a wrong value or a
+   fault of program order stays one. Else a later record may mend it, or break what was legal. */
+static inline int tardis_check_history(const struct tardis_word *opening, size_t opening_count,
+                                       const struct tardis_operation *operations, size_t operation_count,
+                                       const struct tardis_record *records, size_t record_count,
+                                       struct tardis_found *found) {
+    if (tardis_is_null(opening, opening_count) || tardis_is_null(operations, operation_count)) return TARDIS_NULL;
+    if (tardis_is_null(records, record_count) || !found) return TARDIS_NULL;
+    found->kind = found->number = found->expected = found->source = found->writer = 0;
+    if (!opening) opening = (const struct tardis_word *)&tardis_nothing;
+    if (!operations) operations = (const struct tardis_operation *)&tardis_nothing;
+    if (!records) records = (const struct tardis_record *)&tardis_nothing;
+    return (int)tardis_c_check_history(opening, opening_count, operations, operation_count, records, record_count,
+                                       found);
+}
+
+/* A history that grows: begin with one of all zeros, as `struct tardis_history history = {0}`, and end it with
+   tardis_history_free. What is added is copied. An item with a fault is refused: TARDIS_BAD_OPENING,
+   TARDIS_BAD_OPERATION or TARDIS_BAD_RECORD. Then, and on TARDIS_NO_MEMORY, the history stays as it was. */
+struct tardis_history {
+    struct tardis_word *opening;
+    struct tardis_operation *operations;
+    struct tardis_record *records;
+    size_t opening_count, operation_count, record_count;
+};
+
+/* Items with room for one more; null if memory was refused, and then they stay where they are. They have room for as
+   many as the least power of two that isn't below their count. */
+static inline void *tardis_grown(void *items, size_t count, size_t size) {
+    if (count & (count - 1)) return items;
+    if (count > (size_t)-1 / 2 / size) return NULL;
+    return realloc(items, (count ? 2 * count : 1) * size);
+}
+
+/* A word's value before all operations. */
+static inline int tardis_history_open(struct tardis_history *history, const struct tardis_word *word) {
+    void *grown;
+    if (!history || !word) return TARDIS_NULL;
+    if (tardis_c_word_fault(word)) return TARDIS_BAD_OPENING;
+    if (!(grown = tardis_grown(history->opening, history->opening_count, sizeof *word))) return TARDIS_NO_MEMORY;
+    history->opening = (struct tardis_word *)grown;
+    history->opening[history->opening_count++] = *word;
+    return TARDIS_DONE;
+}
+
+/* The next operation of its core. */
+static inline int tardis_history_issue(struct tardis_history *history, const struct tardis_operation *operation) {
+    void *grown;
+    if (!history || !operation) return TARDIS_NULL;
+    if (tardis_c_operation_fault(operation)) return TARDIS_BAD_OPERATION;
+    grown = tardis_grown(history->operations, history->operation_count, sizeof *operation);
+    if (!grown) return TARDIS_NO_MEMORY;
+    history->operations = (struct tardis_operation *)grown;
+    history->operations[history->operation_count++] = *operation;
+    return TARDIS_DONE;
+}
+
+/* A record of an operation, which may be added before its operation and in any order. */
+static inline int tardis_history_complete(struct tardis_history *history, const struct tardis_record *record) {
+    void *grown;
+    if (!history || !record) return TARDIS_NULL;
+    if (tardis_c_record_fault(record)) return TARDIS_BAD_RECORD;
+    if (!(grown = tardis_grown(history->records, history->record_count, sizeof *record))) return TARDIS_NO_MEMORY;
+    history->records = (struct tardis_record *)grown;
+    history->records[history->record_count++] = *record;
+    return TARDIS_DONE;
+}
+
+/* The verdict on all that there is so far, as of tardis_check_history. Each call goes through the whole history: asked
+   after each of n records, it takes time in proportion to n * n. */
+static inline int tardis_history_verdict(const struct tardis_history *history, struct tardis_found *found) {
+    if (!history) return TARDIS_NULL;
+    return tardis_check_history(history->opening, history->opening_count, history->operations,
+                                history->operation_count, history->records, history->record_count, found);
+}
+
+/* Gives the memory back; the history is empty then. */
+static inline void tardis_history_free(struct tardis_history *history) {
+    static const struct tardis_history none = {NULL, NULL, NULL, 0, 0, 0};
+    if (!history) return;
+    free(history->opening);
+    free(history->operations);
+    free(history->records);
+    *history = none;
 }
 
 #ifdef __cplusplus

@@ -80,27 +80,43 @@ inline Report check(std::string_view trace, std::string_view records, std::strin
     });
 }
 
-// What cores were issued, each core's operations in its order, and records of what is completed, over a memory of
-// zeros.
+// What words open with, what cores were issued, each core's operations in its order, and records of what is completed.
+// It grows: an item is added if it has no fault; else the number says so, and nothing changes. Words that aren't opened
+// hold 0, and a word that is opened again opens with the later value.
 class History {
   public:
-    void issue(const tardis_operation &operation) { operations.push_back(operation); }
-    void complete(const tardis_record &record) { records.push_back(record); }
-    // The verdict on all that there is so far: each call goes through the whole history.
-    std::pair<int, tardis_told> verdict() const {
-        tardis_told found{};
-        const int number =
-            tardis_check_records(operations.data(), operations.size(), records.data(), records.size(), &found);
+    int open(uint64_t address, uint64_t value) {
+        const tardis_word word{address, value};
+        return added(opening, word, tardis_c_word_fault(&word), TARDIS_BAD_OPENING);
+    }
+    int issue(const tardis_operation &operation) {
+        return added(operations, operation, tardis_c_operation_fault(&operation), TARDIS_BAD_OPERATION);
+    }
+    int complete(const tardis_record &record) {
+        return added(records, record, tardis_c_record_fault(&record), TARDIS_BAD_RECORD);
+    }
+    // The verdict on all that there is so far, and with a wrong value what was expected and who wrote it. Each call
+    // goes through the whole history: asked after each of n records, it takes time in proportion to n * n.
+    std::pair<int, tardis_found> verdict() const {
+        tardis_found found{};
+        const int number = tardis_check_history(opening.data(), opening.size(), operations.data(), operations.size(),
+                                                records.data(), records.size(), &found);
         return {number, found};
     }
 
   private:
+    template <class Item> static int added(std::vector<Item> &items, const Item &item, uint32_t fault, int number) {
+        if (fault != 0) return number;
+        items.push_back(item);
+        return TARDIS_DONE;
+    }
+    std::vector<tardis_word> opening;
     std::vector<tardis_operation> operations;
     std::vector<tardis_record> records;
 };
 
-// A message in flight: its number, kind (ShReq, ..) and ends (core 1, bank 0, dram 0), its line's byte address, and what
-// it carries (`wts 0 rts 10 words 0`).
+// A message in flight: its number, kind (ShReq, ..) and ends (core 1, bank 0, dram 0), its line's byte address, and
+// what it carries (`wts 0 rts 10 words 0`).
 struct Message {
     uint64_t number;
     std::string kind, sender, receiver;

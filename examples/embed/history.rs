@@ -25,12 +25,24 @@ mod tardis {
         pub number: u64,
     }
 
-    /// The kind of a verdict or of a fault, and a number or an index.
+    /// A word, and what it opens with.
+    #[repr(C)]
+    #[derive(Clone, Copy)]
+    pub struct Word {
+        pub address: u64,
+        pub value: u64,
+    }
+
+    /// The kind of a verdict or of a fault, and a number or an index; with a wrong value what was expected, from where
+    /// (1 the opening memory, 2 a record), and that record's number.
     #[repr(C)]
     #[derive(Clone, Copy, Debug, Default, PartialEq)]
-    pub struct Told {
+    pub struct Found {
         pub kind: u64,
         pub number: u64,
+        pub expected: u64,
+        pub source: u64,
+        pub writer: u64,
     }
 
     /// The options of a run.
@@ -65,12 +77,14 @@ mod tardis {
             size: usize,
             length: *mut usize,
         ) -> u32;
-        fn tardis_c_check_arrays(
+        fn tardis_c_check_history(
+            opening: *const Word,
+            opening_count: usize,
             operations: *const Operation,
             operation_count: usize,
             records: *const Record,
             record_count: usize,
-            told: *mut Told,
+            found: *mut Found,
         ) -> u32;
     }
 
@@ -105,24 +119,30 @@ mod tardis {
         }
     }
 
-    /// The number that the call answers, and what it tells.
-    pub fn check_records(operations: &[Operation], records: &[Record]) -> (u32, Told) {
-        let mut told = Told::default();
+    /// The number that the call answers, and what it finds.
+    pub fn check_history(
+        opening: &[Word],
+        operations: &[Operation],
+        records: &[Record],
+    ) -> (u32, Found) {
+        let mut found = Found::default();
         // SAFETY: pointers and lengths are those of slices and values that are borrowed for the call.
         let number = unsafe {
-            tardis_c_check_arrays(
+            tardis_c_check_history(
+                opening.as_ptr(),
+                opening.len(),
                 operations.as_ptr(),
                 operations.len(),
                 records.as_ptr(),
                 records.len(),
-                &mut told,
+                &mut found,
             )
         };
-        (number, told)
+        (number, found)
     }
 }
 
-use tardis::{Operation, Record};
+use tardis::{Operation, Record, Word};
 
 /// Core 0 stores a message and then a flag; core 1 loads the flag, which is up, and then the message.
 fn history(message: u64) -> (Vec<Operation>, Vec<Record>) {
@@ -152,12 +172,19 @@ fn history(message: u64) -> (Vec<Operation>, Vec<Record>) {
 fn main() {
     for message in [1, 0] {
         let (issued, records) = history(message);
-        let (number, told) = tardis::check_records(&issued, &records);
+        let (number, found) = tardis::check_history(&[], &issued, &records);
         println!(
-            "the message {message}: number {number}, kind {} with {}",
-            told.kind, told.number
+            "the message {message}: number {number}, kind {} with {}, expected {} of source {}, record {}",
+            found.kind, found.number, found.expected, found.source, found.writer
         );
     }
+    // Core 1 loads the message alone, which was there before.
+    let (issued, mut records) = history(5);
+    records[3].place = 0;
+    records[3].number = 0;
+    let opening = [Word { address: 0x0, value: 5 }];
+    let (number, found) = tardis::check_history(&opening, &issued[3..], &records[3..]);
+    println!("an opening of 5: number {number}, kind {}", found.kind);
     let text = b"RISCV ONE\n{ 0:x5=1; 0:x6=x; }\n P0 ;\n sw x5,0(x6) ;\nexists (x=1)\n";
     let (number, report) = tardis::run_litmus(text, &tardis::defaults());
     println!("a test: number {number}");

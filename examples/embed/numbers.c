@@ -74,7 +74,12 @@ static void types(void) {
                          size_t *) = tardis_check_opened;
     uint32_t (*c_checks_opened)(const uint8_t *, size_t, const uint8_t *, size_t, const uint8_t *, size_t, uint32_t,
                                 uint8_t *, size_t, size_t *) = tardis_c_check_opened;
+    int (*checks_history)(const struct tardis_word *, size_t, const struct tardis_operation *, size_t,
+                          const struct tardis_record *, size_t, struct tardis_found *) = tardis_check_history;
+    uint32_t (*c_checks_history)(const struct tardis_word *, size_t, const struct tardis_operation *, size_t,
+                                 const struct tardis_record *, size_t, struct tardis_found *) = tardis_c_check_history;
     (void)checks_records, (void)checks_arrays, (void)checks_opened, (void)c_checks_opened, (void)c_version;
+    (void)checks_history, (void)c_checks_history;
 }
 
 static const char TRACE[] = "0 W 0x0 1\n1 R 0x0\n";
@@ -107,7 +112,8 @@ static void names(void) {
     MUST(TARDIS_LEGAL == 0 && TARDIS_MISSING_NUMBER == 1 && TARDIS_OUT_OF_PROGRAM_ORDER == 2);
     MUST(TARDIS_WRONG_VALUE == 3 && TARDIS_BAD_CORE == 4 && TARDIS_BAD_KIND == 5);
     MUST(TARDIS_BAD_ADDRESS == 6 && TARDIS_BAD_PLACE == 7);
-    MUST(TARDIS_LOAD == 0 && TARDIS_STORE == 1 && TARDIS_SWAP == 2);
+    MUST(TARDIS_LOAD == 0 && TARDIS_STORE == 1 && TARDIS_SWAP == 2 && TARDIS_MOST_CORES == 1048576);
+    MUST(TARDIS_NOTHING_EXPECTED == 0 && TARDIS_OPENING_MEMORY == 1 && TARDIS_A_RECORD == 2);
 }
 
 static void checks(void) {
@@ -215,6 +221,7 @@ static void runs(void) {
 static void nulls(void) {
     struct tardis_options options;
     struct tardis_told told;
+    struct tardis_found found = {7, 7, 7, 7, 7};
     tardis_defaults(&options);
     length = told.kind = told.number = 7;
     MUST(tardis_defaults(NULL) == TARDIS_NULL);
@@ -240,6 +247,11 @@ static void nulls(void) {
     MUST(tardis_check_records(NULL, 1, NULL, 0, &told) == TARDIS_NULL);
     MUST(tardis_check_records(NULL, 0, NULL, 1, &told) == TARDIS_NULL);
     MUST(tardis_check_records(NULL, 0, NULL, 0, NULL) == TARDIS_NULL);
+    MUST(tardis_check_history(NULL, 1, NULL, 0, NULL, 0, &found) == TARDIS_NULL);
+    MUST(tardis_check_history(NULL, 0, NULL, 1, NULL, 0, &found) == TARDIS_NULL);
+    MUST(tardis_check_history(NULL, 0, NULL, 0, NULL, 1, &found) == TARDIS_NULL);
+    MUST(tardis_check_history(NULL, 0, NULL, 0, NULL, 0, NULL) == TARDIS_NULL);
+    MUST(found.kind == 7 && found.number == 7 && found.expected == 7 && found.source == 7 && found.writer == 7);
     MUST(length == 7 && told.kind == 7 && told.number == 7); /* nothing is written */
     length = 0;
     MUST(has(""));
@@ -276,7 +288,7 @@ static void arrays(void) {
     MUST(answers(issued, 3, done, 3, TARDIS_NOT_DONE, TARDIS_OUT_OF_PROGRAM_ORDER, 2));
     done[0].place = 4294967296;
     MUST(answers(issued, 3, done, 3, TARDIS_BAD_RECORD, TARDIS_BAD_PLACE, 0));
-    done[2].operation.core = 64;
+    done[2].operation.core = TARDIS_MOST_CORES;
     done[2].operation.kind = 3;
     done[2].operation.address = 4;
     done[2].place = 4294967296;
@@ -340,7 +352,7 @@ static void wide(void) {
     MUST(answers(wide_issued, 2, wide_done, 2, TARDIS_NOT_DONE, TARDIS_MISSING_NUMBER, 1));
     wide_issued[1].kind = 65536;
     MUST(answers(wide_issued, 2, wide_done, 2, TARDIS_BAD_OPERATION, TARDIS_BAD_KIND, 1));
-    wide_issued[1].core = 65536;
+    wide_issued[1].core = TARDIS_MOST_CORES;
     MUST(answers(wide_issued, 2, wide_done, 2, TARDIS_BAD_OPERATION, TARDIS_BAD_CORE, 1));
     for (at = 0; at < sizeof sizes / sizeof *sizes; at++) {
         tardis_defaults(&options);
@@ -355,6 +367,204 @@ static void wide(void) {
     growths = 0;
     MUST(litmus(TEST, &options, 1000) == TARDIS_NO_MEMORY && has("tardis: no memory\n"));
     refused_at = 0;
+}
+
+static struct tardis_found found;
+
+/* Whether a check of a history answers this number, and finds this. */
+static int finds(const struct tardis_word *opening, size_t opening_count, const struct tardis_operation *operations,
+                 size_t operation_count, const struct tardis_record *records, size_t record_count, int wanted,
+                 struct tardis_found expected) {
+    int got = tardis_check_history(opening, opening_count, operations, operation_count, records, record_count, &found);
+    return got == wanted && !memcmp(&found, &expected, sizeof found);
+}
+
+static struct tardis_found of(uint64_t kind, uint64_t number, uint64_t expected, uint64_t source, uint64_t writer) {
+    struct tardis_found all = {kind, number, expected, source, writer};
+    return all;
+}
+
+/* What a word opens with is expected, and of two values for one word the later; one that isn't named opens with 0. */
+static void opened_words(void) {
+    struct tardis_word opening[3] = {{0x8, 5}, {0x10, 6}, {0x8, 7}};
+    struct tardis_operation load = {0, TARDIS_LOAD, 0x8, 0};
+    struct tardis_record record = {{0, TARDIS_LOAD, 0x8, 0}, 0, 5, 0, 0};
+    MUST(finds(NULL, 0, NULL, 0, NULL, 0, TARDIS_DONE, of(0, 0, 0, 0, 0)));
+    MUST(finds(opening, 2, NULL, 0, NULL, 0, TARDIS_DONE, of(0, 0, 0, 0, 0)));
+    MUST(finds(opening, 2, &load, 1, &record, 1, TARDIS_DONE, of(0, 0, 0, 0, 0)));
+    MUST(finds(opening, 3, &load, 1, &record, 1, TARDIS_NOT_DONE, of(TARDIS_WRONG_VALUE, 0, 7, 1, 0)));
+    MUST(finds(opening + 1, 1, &load, 1, &record, 1, TARDIS_NOT_DONE, of(TARDIS_WRONG_VALUE, 0, 0, 1, 0)));
+    record.number = 1;
+    MUST(finds(opening, 3, &load, 1, &record, 1, TARDIS_NOT_DONE, of(TARDIS_MISSING_NUMBER, 0, 0, 0, 0)));
+    record.number = 0;
+    MUST(finds(opening, 3, NULL, 0, &record, 1, TARDIS_NOT_DONE, of(TARDIS_OUT_OF_PROGRAM_ORDER, 0, 0, 0, 0)));
+    /* A fault of a word comes before one of an operation, and that before one of a record. */
+    record.place = 4294967296;
+    MUST(finds(opening, 3, &load, 1, &record, 1, TARDIS_BAD_RECORD, of(TARDIS_BAD_PLACE, 0, 0, 0, 0)));
+    load.core = TARDIS_MOST_CORES;
+    MUST(finds(opening, 3, &load, 1, &record, 1, TARDIS_BAD_OPERATION, of(TARDIS_BAD_CORE, 0, 0, 0, 0)));
+    opening[1].address = 0x14;
+    opening[2].address = 0x14;
+    MUST(finds(opening, 3, &load, 1, &record, 1, TARDIS_BAD_OPENING, of(TARDIS_BAD_ADDRESS, 1, 0, 0, 0)));
+}
+
+/* The write that a value should come from is the last one of its word by time and number, before the record. */
+static void writers(void) {
+    static const struct tardis_operation issued[5] = {{0, TARDIS_STORE, 0, 1}, {1, TARDIS_STORE, 0, 2},
+        {2, TARDIS_SWAP, 0, 3}, {3, TARDIS_STORE, 8, 4}, {4, TARDIS_LOAD, 0, 0}};
+    /* In order: the store of 2 (number 1, time 3), that to another word, the swap (number 3, time 4), which receives 2,
+       the load (number 4, time 4), and the store of 1 (number 0, time 5). */
+    struct tardis_record done[5] = {{{0, TARDIS_STORE, 0, 1}, 0, 0, 5, 0}, {{4, TARDIS_LOAD, 0, 0}, 0, 3, 4, 4},
+        {{2, TARDIS_SWAP, 0, 3}, 0, 2, 4, 3}, {{3, TARDIS_STORE, 8, 4}, 0, 0, 4, 2},
+        {{1, TARDIS_STORE, 0, 2}, 0, 0, 3, 1}};
+    MUST(finds(NULL, 0, issued, 5, done, 5, TARDIS_DONE, of(0, 0, 0, 0, 0)));
+    done[1].received = 1;
+    MUST(finds(NULL, 0, issued, 5, done, 5, TARDIS_NOT_DONE, of(TARDIS_WRONG_VALUE, 4, 3, 2, 3)));
+    done[2].received = 0;
+    MUST(finds(NULL, 0, issued, 5, done, 5, TARDIS_NOT_DONE, of(TARDIS_WRONG_VALUE, 3, 2, 2, 1)));
+    done[2].time = 2; /* now the swap is the first of its word */
+    MUST(finds(NULL, 0, issued, 5, done, 5, TARDIS_NOT_DONE, of(TARDIS_WRONG_VALUE, 4, 2, 2, 1)));
+    done[1].time = 6; /* and the load the last */
+    MUST(finds(NULL, 0, issued, 5, done, 5, TARDIS_DONE, of(0, 0, 0, 0, 0)));
+    done[1].received = 3;
+    MUST(finds(NULL, 0, issued, 5, done, 5, TARDIS_NOT_DONE, of(TARDIS_WRONG_VALUE, 4, 1, 2, 0)));
+}
+
+/* Each core stores its number plus 1 to one word, in turn; then the last one loads. */
+static void many_cores(uint32_t cores) {
+    static struct tardis_operation stores[1001];
+    static struct tardis_record stored[1001];
+    uint32_t core;
+    for (core = 0; core < cores; core++) {
+        struct tardis_operation store = {core, TARDIS_STORE, 0, 0};
+        struct tardis_record record = {{0, 0, 0, 0}, 0, 0, 7, 0};
+        store.value = core + 1;
+        record.operation = stores[core] = store;
+        record.number = core;
+        stored[core] = record;
+    }
+    stores[cores] = stores[cores - 1];
+    stores[cores].kind = TARDIS_LOAD;
+    stored[cores] = stored[cores - 1];
+    stored[cores].operation = stores[cores];
+    stored[cores].number = stored[cores].received = cores;
+    stored[cores].place = 1;
+    MUST(finds(NULL, 0, stores, cores + 1, stored, cores + 1, TARDIS_DONE, of(0, 0, 0, 0, 0)));
+    MUST(answers(stores, cores + 1, stored, cores + 1, TARDIS_DONE, 0, 0));
+    stored[cores].received = 1;
+    MUST(finds(NULL, 0, stores, cores + 1, stored, cores + 1, TARDIS_NOT_DONE,
+               of(TARDIS_WRONG_VALUE, cores, cores, 2, cores - 1)));
+    stored[cores].operation.core = 0; /* which wasn't issued a second operation */
+    MUST(finds(NULL, 0, stores, cores + 1, stored, cores + 1, TARDIS_NOT_DONE,
+               of(TARDIS_OUT_OF_PROGRAM_ORDER, cores, 0, 0, 0)));
+}
+
+/* The last core that there may be; a record of a core above all that were issued an operation. */
+static void last_core(void) {
+    struct tardis_operation load = {TARDIS_MOST_CORES - 1, TARDIS_LOAD, 0, 0};
+    struct tardis_record record = {{TARDIS_MOST_CORES - 1, TARDIS_LOAD, 0, 0}, 0, 0, 0, 0};
+    MUST(finds(NULL, 0, &load, 1, &record, 1, TARDIS_DONE, of(0, 0, 0, 0, 0)));
+    load.core = 0;
+    MUST(finds(NULL, 0, &load, 1, &record, 1, TARDIS_NOT_DONE, of(TARDIS_OUT_OF_PROGRAM_ORDER, 0, 0, 0, 0)));
+}
+
+/* A history that grows, asked after each record; what is refused changes nothing. */
+static void grows(void) {
+    static struct tardis_history history;
+    struct tardis_word word = {0, 9};
+    struct tardis_operation load = {70, TARDIS_LOAD, 0, 0}, store = {71, TARDIS_STORE, 0, 1};
+    struct tardis_record loaded = {{70, TARDIS_LOAD, 0, 0}, 0, 9, 0, 0};
+    struct tardis_record stored = {{71, TARDIS_STORE, 0, 1}, 0, 0, 1, 1};
+    uint64_t at;
+    MUST(tardis_history_verdict(&history, &found) == TARDIS_DONE);
+    MUST(tardis_history_open(&history, &word) == TARDIS_DONE && tardis_history_issue(&history, &load) == TARDIS_DONE);
+    MUST(tardis_history_complete(&history, &loaded) == TARDIS_DONE);
+    MUST(tardis_history_verdict(&history, &found) == TARDIS_DONE);
+    word.address = 4;
+    load.kind = 3;
+    loaded.place = 4294967296;
+    MUST(tardis_history_open(&history, &word) == TARDIS_BAD_OPENING);
+    MUST(tardis_history_issue(&history, &load) == TARDIS_BAD_OPERATION);
+    MUST(tardis_history_complete(&history, &loaded) == TARDIS_BAD_RECORD);
+    load.kind = TARDIS_LOAD;
+    load.core = loaded.operation.core = TARDIS_MOST_CORES;
+    loaded.place = 0;
+    MUST(tardis_history_issue(&history, &load) == TARDIS_BAD_OPERATION);
+    MUST(tardis_history_complete(&history, &loaded) == TARDIS_BAD_RECORD);
+    MUST(tardis_history_open(&history, NULL) == TARDIS_NULL && tardis_history_issue(&history, NULL) == TARDIS_NULL);
+    MUST(tardis_history_complete(&history, NULL) == TARDIS_NULL);
+    MUST(tardis_history_verdict(&history, NULL) == TARDIS_NULL && tardis_history_verdict(NULL, &found) == TARDIS_NULL);
+    MUST(tardis_history_open(NULL, &word) == TARDIS_NULL && tardis_history_issue(NULL, &load) == TARDIS_NULL);
+    MUST(tardis_history_complete(NULL, &loaded) == TARDIS_NULL);
+    MUST(history.opening_count == 1 && history.operation_count == 1 && history.record_count == 1);
+    MUST(tardis_history_issue(&history, &store) == TARDIS_DONE);
+    MUST(tardis_history_complete(&history, &stored) == TARDIS_DONE);
+    MUST(tardis_history_verdict(&history, &found) == TARDIS_DONE);
+    load.core = loaded.operation.core = 70;
+    for (at = 2; at < 10; at++) { /* loads of what was stored, and in the end of what was there before */
+        loaded.place = at - 1;
+        loaded.time = loaded.number = at;
+        loaded.received = at == 9 ? 9 : 1;
+        MUST(tardis_history_issue(&history, &load) == TARDIS_DONE);
+        MUST(tardis_history_complete(&history, &loaded) == TARDIS_DONE);
+        MUST(tardis_history_verdict(&history, &found) == (at == 9 ? TARDIS_NOT_DONE : TARDIS_DONE));
+    }
+    found.kind ^= TARDIS_WRONG_VALUE;
+    MUST(found.kind == 0 && found.number == 9 && found.expected == 1 && found.source == 2 && found.writer == 1);
+    tardis_history_free(&history);
+    MUST(!history.opening && !history.operations && !history.records && history.record_count == 0);
+    tardis_history_free(NULL);
+}
+
+/* The items of a history are refused memory, and are added once there is some. */
+static void refused_items(void) {
+    static struct tardis_history history;
+    static const struct tardis_word word = {0, 9};
+    size_t at;
+    for (at = 0; at < 5; at++) {
+        refused_at = 1;
+        growths = 0;
+        MUST(tardis_history_open(&history, &word) == (growths ? TARDIS_NO_MEMORY : TARDIS_DONE));
+        growths = 0;
+        MUST(tardis_history_issue(&history, issued) == (growths ? TARDIS_NO_MEMORY : TARDIS_DONE));
+        growths = 0;
+        MUST(tardis_history_complete(&history, done) == (growths ? TARDIS_NO_MEMORY : TARDIS_DONE));
+        refused_at = 0;
+        if (at != 3) { /* there was no room for one more, in none of the three */
+            MUST(history.opening_count == at && history.operation_count == at && history.record_count == at);
+            MUST(tardis_history_open(&history, &word) == TARDIS_DONE);
+            MUST(tardis_history_issue(&history, issued) == TARDIS_DONE);
+            MUST(tardis_history_complete(&history, done) == TARDIS_DONE);
+        }
+        MUST(history.opening_count == at + 1 && history.operation_count == at + 1 && history.record_count == at + 1);
+        MUST(!memcmp(&history.opening[at], &word, sizeof word));
+        MUST(!memcmp(&history.operations[at], issued, sizeof *issued));
+        MUST(!memcmp(&history.records[at], done, sizeof *done));
+    }
+    tardis_history_free(&history);
+}
+
+/* Checks of a legal history, and of one with a wrong value, are refused each growth of memory in turn. */
+static void refused_histories(void) {
+    static const struct tardis_word opening[2] = {{0, 9}, {8, 9}};
+    static const struct tardis_found nothing = {0, 0, 0, 0, 0};
+    const uint64_t received = done[0].received;
+    int number, is_wrong, wanted;
+    for (is_wrong = 0; is_wrong < 2; is_wrong++) {
+        done[0].received = received + (uint64_t)is_wrong;
+        wanted = is_wrong ? TARDIS_NOT_DONE : TARDIS_DONE;
+        for (refused_at = 1;; refused_at++) {
+            growths = 0;
+            number = tardis_check_history(opening, 2, issued, 3, done, 3, &found);
+            if (growths < refused_at) break;
+            /* a call that can do without what was refused goes on */
+            if (number == wanted) continue;
+            MUST(number == TARDIS_NO_MEMORY && !memcmp(&found, &nothing, sizeof found));
+        }
+        MUST(refused_at > 6 && number == wanted);
+    }
+    done[0].received = received;
+    refused_items();
 }
 
 /* Each growth of memory is refused in turn, until a call asks for no more. */
@@ -384,6 +594,7 @@ static void refusals(void) {
         MUST(number == TARDIS_NO_MEMORY && told.kind == 0 && told.number == 0);
     }
     MUST(refused_at > 1 && number == TARDIS_DONE);
+    refused_histories();
     refused_at = 1;
     growths = 0;
     MUST(trace(TRACE, &options, 1000) == TARDIS_NO_MEMORY && has("tardis: no memory\n"));
@@ -404,6 +615,12 @@ int main(void) {
     many();
     wide();
     one_list();
+    opened_words();
+    writers();
+    many_cores(65);
+    many_cores(1000);
+    last_core();
+    grows();
     refusals();
     return 0;
 }

@@ -1,15 +1,16 @@
 """The proved simulator of the Tardis coherence protocol, and its checker of histories, from Python (python/README.md).
 
-`litmus`, `trace` and `check` call the proved library, and `ends` the proved program. `Machine` drives the
+`litmus`, `trace`, `check` and `History` call the proved library, and `ends` the proved program. `Machine` drives the
 proved machine event by event, through the player of events. Where one isn't built, the second program answers, with a
 warning: it isn't proved.
 """
 from tardis.errors import BadConfiguration, BadText, NoMemory, TardisError, TooManyStates
+from tardis.history import History, Verdict
 from tardis.machine import Answer, Machine, Message
 from tardis.reports import End, EndsReport, LitmusReport, Record, Records, State, TraceReport
 from tardis.runs import check, ends, litmus, trace
 from tardis.version import VERSION as __version__
 
-__all__ = ["Answer", "BadConfiguration", "BadText", "End", "EndsReport", "LitmusReport", "Machine",
-           "Message", "NoMemory", "Record", "Records", "State", "TardisError", "TooManyStates", "TraceReport",
-           "__version__", "check", "ends", "litmus", "trace"]
+__all__ = ["Answer", "BadConfiguration", "BadText", "End", "EndsReport", "History", "LitmusReport",
+           "Machine", "Message", "NoMemory", "Record", "Records", "State", "TardisError", "TooManyStates",
+           "TraceReport", "Verdict", "__version__", "check", "ends", "litmus", "trace"]

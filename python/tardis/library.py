@@ -7,7 +7,7 @@ from tardis import found, version
 from tardis.errors import BadConfiguration, BadText, NoMemory, TardisError
 from tardis.options import MOST, Options
 
-NO_MEMORY, BAD_TEST, BAD_LINE, BAD_MACHINE, SHORT_BUFFER, BAD_OPENING = 3, 4, 5, 6, 8, 12
+DONE, NO_MEMORY, BAD_TEST, BAD_LINE, BAD_MACHINE, NOT_DONE, SHORT_BUFFER, BAD_OPENING = 0, 3, 4, 5, 6, 7, 8, 12
 ERRORS = {NO_MEMORY: NoMemory, BAD_TEST: BadText, BAD_LINE: BadText, BAD_MACHINE: BadConfiguration,
           BAD_OPENING: BadText}
 FIELDS = ("lease", "time", "banks", "sets", "ways", "bank_sets", "bank_ways", "line_words", "messages", "private_write",
@@ -18,6 +18,12 @@ class TardisOptions(ctypes.Structure):
     """struct tardis_options."""
 
     _fields_ = [(name, ctypes.c_uint64) for name in FIELDS]
+
+
+class TardisFound(ctypes.Structure):
+    """struct tardis_found."""
+
+    _fields_ = [(name, ctypes.c_uint64) for name in ("kind", "number", "expected", "source", "writer")]
 
 
 @functools.cache
@@ -31,9 +37,11 @@ def loaded() -> Any:
     library.tardis_c_defaults(fields)
     if list(fields) != [*(int(getattr(Options(), name, 0)) for name in FIELDS), *[MOST] * 8]:
         raise TardisError(f"{path} is of another version: its options are others")
-    if not hasattr(library, "tardis_c_version") or library.tardis_c_version() != version.number():
+    calls = "tardis_c_litmus", "tardis_c_trace", "tardis_c_check_opened", "tardis_c_check_history"
+    if not all(hasattr(library, name) for name in ("tardis_c_version", *calls)) \
+            or library.tardis_c_version() != version.number():
         raise TardisError(f"{path} is of another version than {version.VERSION}")
-    for name in ("tardis_c_litmus", "tardis_c_trace", "tardis_c_check_opened"):
+    for name in calls:
         getattr(library, name).restype = ctypes.c_uint32
     return library
 
@@ -80,3 +88,21 @@ def check(opening: bytes, trace: bytes, records: bytes, complete: bool) -> str:
     """The line of the verdict on records."""
     return told(loaded().tardis_c_check_opened, 100, *text_argument(opening), *text_argument(trace),
                 *text_argument(records), ctypes.c_uint32(complete))[1]
+
+
+def items_argument(items: bytearray, size: int) -> tuple[Any, ctypes.c_size_t]:
+    """An array of structures of this size, whose bytes these are."""
+    return ctypes.byref((ctypes.c_char * len(items)).from_buffer(items)), ctypes.c_size_t(len(items) // size)
+
+
+def check_history(opening: bytearray, operations: bytearray, records: bytearray) -> tuple[int, int, int, int, int]:
+    """What is found of a history, as arrays of struct tardis_word, tardis_operation and tardis_record: kind, number,
+    expected, source and writer."""
+    found = TardisFound()
+    number = loaded().tardis_c_check_history(*items_argument(opening, 16), *items_argument(operations, 24),
+                                             *items_argument(records, 56), ctypes.byref(found))
+    if number == NO_MEMORY:
+        raise NoMemory("tardis: no memory")
+    if number not in (DONE, NOT_DONE):
+        raise TardisError(f"number {number}")
+    return found.kind, found.number, found.expected, found.source, found.writer

@@ -1,1 +1,3 @@
+mod LastWrites
+mod MetValues
 mod Told

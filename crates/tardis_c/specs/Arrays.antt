@@ -5,10 +5,8 @@ use Rattle.physiological_order.specs.declared.verdict.Verdict.{Verdict}
 use Rattle.physiological_order.specs.declared.verdict.Verdict.TheVariants.{Legal, BadNumber, OutOfProgramOrder}
 use Rattle.physiological_order.specs.declared.verdict.Verdict.TheVariants.{WrongValue}
 use Rattle.physiological_order.specs.Faults.{IsVerdict}
-use Rattle.physiological_order.specs.Order.{flat}
-use Rattle.programs.specs.declared.steps.Step.{Step}
-use Rattle.trace_reader.specs.Steps.{IsByCore, trace_ops}
-use Rattle.tardis_c.specs.Plain.{operation_fault, record_fault, record_of, step_of}
+use Rattle.physiological_order.specs.Order.{Memory, flat}
+use Rattle.tardis_c.specs.Plain.{issued_of, operation_fault, record_fault, record_of}
 use Rattle.tardis_c.specs.declared.arrays.Told.{Told}
 use Rattle.tardis_c.specs.declared.plain.PlainOperation.{PlainOperation}
 use Rattle.tardis_c.specs.declared.plain.PlainRecord.{PlainRecord}
@@ -34,17 +32,17 @@ abbrev pub verdict_number : Verdict → ℕ
 verdict_number Legal = 0
 verdict_number verdict = 7
 
--- the verdict on the records, for what the cores were issued over a memory of zeros
-abbrev pub IsVerdictOn : List PlainOperation → List PlainRecord → Verdict → Type 0
-IsVerdictOn operations records verdict = (lanes : List (List Step)) × IsByCore (map step_of operations) lanes
-    × IsVerdict (flat empty) (trace_ops lanes) (map record_of records) verdict
+-- the verdict on the records, for what the cores were issued over a memory that opens like this
+abbrev pub IsVerdictOn : Memory → List PlainOperation → List PlainRecord → Verdict → Type 0
+IsVerdictOn opening operations records verdict =
+    IsVerdict opening (issued_of operations) (map record_of records) verdict
 
 -- 10 for the first operation that has a fault; else 11 for the first record that has one; else the number of the
--- verdict, or 3 if an allocation for it failed
+-- verdict over a memory of zeros, or 3 if an allocation for it failed
 abbrev pub IsChecked : List PlainOperation → List PlainRecord → (old new : Told) → (number : ℕ) → Type 0
 IsChecked operations records old new number =
     (HasFirst operation_fault operations new.kind new.number × (number ≡ 10))
     ⊎ (HaveNone operation_fault operations × HasFirst record_fault records new.kind new.number × (number ≡ 11))
     ⊎ (HaveNone operation_fault operations × HaveNone record_fault records
-    × (((verdict : Verdict) × IsVerdictOn operations records verdict × (new ≡ verdict_told verdict)
+    × (((verdict : Verdict) × IsVerdictOn (flat empty) operations records verdict × (new ≡ verdict_told verdict)
     × (number ≡ verdict_number verdict)) ⊎ ((new ≡ old) × (number ≡ 3))))

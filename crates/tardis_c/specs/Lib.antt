@@ -1,4 +1,6 @@
 pub mod Answers
 pub mod Arrays
+pub mod Histories
 pub mod Options
 pub mod Plain
+pub mod Writes

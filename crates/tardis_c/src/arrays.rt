@@ -1,14 +1,14 @@
 //! A check of records against operations, both as arrays.
-ghost use Rattle.std.specs.Prelude.{◌≡◌, None, IfOk, IfSome, map};
-ghost use Rattle.trace_reader.specs.Steps.{IsByCore};
+ghost use Rattle.std.specs.Prelude.{◌≡◌, ◌≤◌, ℕ, None, IfOk, IfSome, OnOk, length, map};
+ghost use Rattle.std.specs.FinMap.{empty};
+ghost use Rattle.physiological_order.specs.Faults.{IsVerdict, issued_by};
+ghost use Rattle.physiological_order.specs.Order.{flat};
 ghost use Rattle.tardis_c.specs.Arrays.{HasFirst, HaveNone, IsChecked, IsVerdictOn, verdict_number, verdict_told};
-ghost use Rattle.tardis_c.specs.Plain.{operation_fault, record_fault, record_of, step_of};
+ghost use Rattle.tardis_c.specs.Plain.{issued_of, record_fault, record_of};
 
 use crate::plain::{Plain, PlainOperation, PlainRecord, op_of, record_of};
 use physiological_order::{Memory, Op, Record, Verdict, check};
-use programs::Step;
 use std::alloc::{AllocError, Global};
-use trace_reader::Trace;
 
 /// What a check of arrays answers in addition to its number, as `tardis.h` has it.
 #[repr(C)]
@@ -41,7 +41,7 @@ pub extern "C" fn tardis_c_check_arrays(
         *told = fault;
         return 11;
     }
-    match verdict_on(alloc, operations, records) {
+    match zeros_verdict(alloc, operations, records) {
         Ok(verdict) => {
             *told = verdict_told(verdict);
             verdict_number(verdict)
@@ -50,8 +50,8 @@ pub extern "C" fn tardis_c_check_arrays(
     }
 }
 
-// The first item that has a fault: its kind and index.
-fn first_fault<T: Plain>(items: &[T]) -> Option<Told>
+/// The first item that has a fault: its kind and index.
+pub(crate) fn first_fault<T: Plain>(items: &[T]) -> Option<Told>
     ensures some { IfSome result (λ told. HasFirst T.fault items.now told.kind told.number) }
     ensures none { result ≡ None → HaveNone T.fault items.now }
 {
@@ -67,35 +67,60 @@ fn first_fault<T: Plain>(items: &[T]) -> Option<Told>
     None
 }
 
-// The verdict on records and operations that have no fault.
-fn verdict_on(
+// The verdict over a memory of zeros.
+fn zeros_verdict(
     alloc: Global,
     operations: &[PlainOperation],
     records: &[PlainRecord],
 ) -> Result<Verdict, AllocError>
-    requires operations { HaveNone operation_fault operations.now }
-    requires records { HaveNone record_fault records.now }
-    ensures { IfOk result (IsVerdictOn operations.now records.now) }
+    requires { HaveNone record_fault records.now }
+    ensures { IfOk result (IsVerdictOn (flat empty) operations.now records.now) }
 {
-    let issued = trace_of(alloc, operations)?.into_issued()?;
     let records = records_of(alloc, records)?;
-    check(alloc, &Memory::new(alloc), &issued, &records)
+    verdict_on(alloc, &Memory::new(alloc), operations, &records)
 }
 
-// The operations by core.
-fn trace_of(alloc: Global, operations: &[PlainOperation]) -> Result<Trace, AllocError>
-    requires { HaveNone operation_fault operations.now }
-    ensures { IfOk result (IsByCore (map step_of operations.now)) }
+/// The verdict on records, for what cores were issued over a memory that opens as given.
+pub(crate) fn verdict_on(
+    alloc: Global,
+    opening: &Memory,
+    operations: &[PlainOperation],
+    records: &[Record],
+) -> Result<Verdict, AllocError>
+    ensures { IfOk result (IsVerdict (flat opening.now) (issued_of operations.now) records.now) }
 {
-    let mut trace = Trace::new(alloc);
-    for operation in operations {
-        trace.push(operation.core, Step::Op(op_of(operation)))?;
-    }
-    Ok(trace)
+    let issued = issued_lists(alloc, operations)?;
+    check(alloc, opening, &issued, records)
 }
 
-// The records, in their order.
-fn records_of(alloc: Global, plain: &[PlainRecord]) -> Result<Vec<Record>, AllocError>
+// What each core was issued, in order, up to the greatest core.
+fn issued_lists(alloc: Global, operations: &[PlainOperation]) -> Result<Vec<Vec<Op>>, AllocError>
+    ensures { IfOk result (λ lists. (core : ℕ) →
+        issued_by lists.items core ≡ issued_of operations.now core) }
+{
+    let mut lists: Vec<Vec<Op>> = Vec::new(alloc);
+    for operation in operations {
+        let core = operation.core as usize;
+        reach(alloc, &mut lists, core + 1)?;
+        lists[core].push(op_of(operation))?;
+    }
+    Ok(lists)
+}
+
+// Lists without operations, up to a number of lists.
+fn reach(alloc: Global, lists: &mut Vec<Vec<Op>>, number: usize) -> Result<(), AllocError>
+    ensures long { OnOk result (number ≤ length lists.new.items) }
+    ensures same { OnOk result ((core : ℕ) →
+        issued_by lists.new.items core ≡ issued_by lists.old.items core) }
+{
+    while lists.len() < number {
+        lists.push(Vec::new(alloc))?;
+    }
+    Ok(())
+}
+
+/// The records, in their order.
+pub(crate) fn records_of(alloc: Global, plain: &[PlainRecord]) -> Result<Vec<Record>, AllocError>
     requires { HaveNone record_fault plain.now }
     ensures { IfOk result (λ records. records.items ≡ map record_of plain.now) }
 {
@@ -108,7 +133,8 @@ fn records_of(alloc: Global, plain: &[PlainRecord]) -> Result<Vec<Record>, Alloc
     Ok(records)
 }
 
-fn verdict_told(verdict: Verdict) -> Told
+/// The kind of a verdict, and the number that it is wrong with.
+pub(crate) fn verdict_told(verdict: Verdict) -> Told
     ensures { result ≡ verdict_told verdict }
 {
     match verdict {
@@ -119,7 +145,8 @@ fn verdict_told(verdict: Verdict) -> Told
     }
 }
 
-fn verdict_number(verdict: Verdict) -> u32
+/// The number of a verdict.
+pub(crate) fn verdict_number(verdict: Verdict) -> u32
     ensures { result ≡ verdict_number verdict }
 {
     match verdict {

@@ -3,6 +3,8 @@
 
 mod answers;
 mod arrays;
+mod expected;
+mod histories;
 mod options;
 mod plain;
 mod texts;

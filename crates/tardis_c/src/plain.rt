@@ -1,14 +1,24 @@
-//! Operations and records as C has them, and what is wrong with them.
+//! Words, operations and records as C has them, and what is wrong with them.
 ghost use Rattle.std.specs.Prelude.{◌≡◌};
-ghost use Rattle.tardis_c.specs.Plain.{op_of, operation_fault, record_fault, record_of};
+ghost use Rattle.tardis_c.specs.Plain.{address_fault, op_of, operation_fault, record_fault, record_of, store_of};
+ghost use Rattle.tardis_c.specs.Plain.{word_fault};
 
 use physiological_order::{Op, Record, WordAddr};
+
+/// A word and the value that it opens with, as `tardis.h` has it.
+#[repr(C)]
+#[derive(Clone, Copy)]
+pub struct PlainWord {
+    /// A byte address, which is a multiple of 8.
+    pub address: u64,
+    pub value: u64,
+}
 
 /// An operation of a core, as `tardis.h` has it.
 #[repr(C)]
 #[derive(Clone, Copy)]
 pub struct PlainOperation {
-    /// The number of the core, 0 to 63.
+    /// The number of the core, 0 to 1048575.
     pub core: u32,
     /// 0 a load, 1 a store, 2 a swap.
     pub kind: u32,
@@ -46,20 +56,28 @@ pub(crate) trait Plain {
         ensures { result ≡ fault self.now };
 }
 
+impl Plain for PlainWord {
+    ghost use Rattle.tardis_c.specs.Plain.{word_fault};
+
+    ghost fault = { word_fault };
+
+    fn fault(&self) -> u64 {
+        address_fault(self.address)
+    }
+}
+
 impl Plain for PlainOperation {
     ghost use Rattle.tardis_c.specs.Plain.{operation_fault};
 
     ghost fault = { operation_fault };
 
     fn fault(&self) -> u64 {
-        if self.core > 63 {
+        if self.core > 1_048_575 {
             4
         } else if self.kind > 2 {
             5
-        } else if self.address % 8 == 0 {
-            0
         } else {
-            6
+            address_fault(self.address)
         }
     }
 }
@@ -79,6 +97,20 @@ impl Plain for PlainRecord {
             7
         }
     }
+}
+
+// The number of what is wrong with an address.
+fn address_fault(address: u64) -> u64
+    ensures { result ≡ address_fault address }
+{
+    if address % 8 == 0 { 0 } else { 6 }
+}
+
+/// The store that leaves a word as it opens.
+pub(crate) fn store_of(plain: &PlainWord) -> Op
+    ensures { result ≡ store_of plain.now }
+{
+    Op::Store(WordAddr::at(plain.address / 8), plain.value)
 }
 
 /// The operation that has no fault.
@@ -117,4 +149,28 @@ pub(crate) fn record_of(plain: &PlainRecord) -> Record
         ts: plain.time,
         number: plain.number,
     }
+}
+
+/// What is wrong with a word, as a check of a history tells it; 0 for nothing.
+#[unsafe(no_mangle)]
+pub extern "C" fn tardis_c_word_fault(plain: &PlainWord) -> u32
+    ensures { result ≡ word_fault plain.now }
+{
+    plain.fault() as u32
+}
+
+/// What is wrong with an operation, as a check of a history tells it; 0 for nothing.
+#[unsafe(no_mangle)]
+pub extern "C" fn tardis_c_operation_fault(plain: &PlainOperation) -> u32
+    ensures { result ≡ operation_fault plain.now }
+{
+    plain.fault() as u32
+}
+
+/// What is wrong with a record, as a check of a history tells it; 0 for nothing.
+#[unsafe(no_mangle)]
+pub extern "C" fn tardis_c_record_fault(plain: &PlainRecord) -> u32
+    ensures { result ≡ record_fault plain.now }
+{
+    plain.fault() as u32
 }

@@ -1,5 +1,5 @@
 -- The parts that seats leave are those of one reached state.
-use Rattle.std.specs.Prelude.{◌≡◌, ℕ, ◌+◌, ◌<◌, true, List, Option, Some, slice_get}
+use Rattle.std.specs.Prelude.{◌≡◌, ℕ, ◌+◌, ◌<◌, true, List, length, Option, Some, slice_get}
 use Rattle.physiological_order.specs.declared.operation.Record.{Record}
 use Rattle.network.specs.declared.message.Message.{Message}
 use Rattle.machine_table.specs.SetUp.{is_good}
@@ -44,7 +44,8 @@ pub record PartsOfState (z : SetUp) (cores : List CorePart) (banks : List BankPa
       (i : ℕ) × (p : CorePart) × (slice_get cores i ≡ Some p) × (p.number ≡ j)
   pub banks_there : (j : ℕ) → j < z.config.banks →
       (i : ℕ) × (p : BankPart) × (slice_get banks i ≡ Some p) × (p.number ≡ z.config.cores + j)
-  -- no slot is out with a seat, and each has its message or none
+  -- no slot is missing or out with a seat, and each has its message or none
+  pub slots_there : length slots ≡ slot_count z
   pub lying : (k : ℕ) → k < slot_count z → slice_get slots k ≡ Some (lies (phases k))
   pub home : (k : ℕ) → k < slot_count z → IsNotOut (phases k)
 

@@ -1,3 +1,4 @@
+mod Issued
 mod Listed
 mod Message
 mod Opened

@@ -4,6 +4,7 @@
 #![tactic(auto)]
 
 mod check;
+mod closed;
 mod compare;
 mod drive;
 mod ends;

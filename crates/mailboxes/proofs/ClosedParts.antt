@@ -73,6 +73,7 @@ parts_of_state z cores banks log slots good all_cores all_banks o =
           let h = all_cores.there j l in (h.0, core_part h.1, mapped core_part cores h.0 h.1 h.2, h.3);
       banks_there = λ j l.
           let h = all_banks.there j l in (h.0, bank_part h.1, mapped bank_part banks h.0 h.1 h.2, h.3);
+      slots_there = o.slots_there;
       lying = o.lying;
       home = o.home;
     }

@@ -72,14 +72,15 @@ module _ (z : SetUp) (cores rest : List CoreSeat) (banks : List BankSeat) (first
 
   pub one_state : (count : ℕ) (slots : List (Option Message)) → HasCores cores z.config.cores →
       HasBanks banks z.config.cores z.config.banks → (c : Closes z known count slots) → NoneTakenTwice z c.seats →
-      FourAtMostLie z c.seats → OneState z cores banks c.log slots
-  one_state count slots a b c taken few_lie =
+      FourAtMostLie z c.seats → length slots ≡ slot_count z → OneState z cores banks c.log slots
+  one_state count slots a b c taken few_lie there =
       record {
         seats = c.seats;
         phases = c.phases;
         whole = c.whole;
         of_cores = λ i p e. held c.seats c.agrees p.mail (core_known i p e);
         of_banks = λ i p e. held c.seats c.agrees p.mail (bank_known i p e);
+        slots_there = there;
         lying = λ k l. sliced slots k (lies (c.phases k)) (c.lying (all_idle a b) k l);
         home = c.home (all_idle a b);
         taken = taken;

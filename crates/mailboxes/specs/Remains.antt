@@ -1,5 +1,5 @@
 -- What a machine leaves when all its seats are given up.
-use Rattle.std.specs.Prelude.{◌≡◌, ℕ, ◌<◌, List, [], ◌∷◌, ◌++◌, Option, Some, slice_get}
+use Rattle.std.specs.Prelude.{◌≡◌, ℕ, ◌<◌, List, [], ◌∷◌, ◌++◌, length, Option, Some, slice_get}
 use Rattle.physiological_order.specs.declared.operation.Record.{Record}
 use Rattle.network.specs.declared.message.Message.{Message}
 use Rattle.seat_views.specs.declared.views.View.{View}
@@ -66,6 +66,7 @@ pub record OneState (z : SetUp) (cores : List CoreSeat) (banks : List BankSeat) 
   pub whole : Whole z seats phases log
   pub of_cores : (i : ℕ) (p : CoreSeat) → slice_get cores i ≡ Some p → seats p.mail.number ≡ hold p.mail
   pub of_banks : (i : ℕ) (p : BankSeat) → slice_get banks i ≡ Some p → seats p.mail.number ≡ hold p.mail
+  pub slots_there : length slots ≡ slot_count z
   pub lying : (k : ℕ) → k < slot_count z → slice_get slots k ≡ Some (lies (phases k))
   pub home : (k : ℕ) → k < slot_count z → IsNotOut (phases k)
   pub taken : NoneTakenTwice z seats

@@ -1,7 +1,7 @@
 use Rattle.std.proofs.Common.{rules, ◌≡◌, ℕ, ◌<◌, ◌++◌, [], ◌∷◌, List, Option, sym, ap, ◌∙◌, subst, arith}
 use Rattle.std.proofs.lemmas.Option.{slice_get_within}
 use Rattle.std.specs.Prelude.{slice_get, reverse}
-use Rattle.std.specs.Mem.Slots.{slots_items}
+use Rattle.std.specs.Mem.Slots.{slots_counts, slots_items}
 use lib.ListN.{get_elem?}
 use mathlib.Core.Option.{some}
 use Rattle.atomic_table.specs.Table.{Final, Seen}
@@ -109,5 +109,6 @@ returns-clause-state c =
           (one_state z c.args.cores.items rest banks first split c.word-count.result slots whole.cores_there
           whole.banks_there closes
           (c.links_lose_and_double_nothing.ensures.taken z closes.seats closes.phases closes.log closes.whole)
-          (c.links_lose_and_double_nothing.ensures.lying z closes.seats closes.phases closes.log closes.whole)),
+          (c.links_lose_and_double_nothing.ensures.lying z closes.seats closes.phases closes.log closes.whole)
+          (sym (slots_counts c.close_with-closed.result.slots).0 ∙ c.close_with-closed.ensures.counts.1 ∙ m.sized.2)),
     )

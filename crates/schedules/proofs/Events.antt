@@ -57,7 +57,7 @@ module _ {P W : Type 0} (acts : Acts P) (programs : List P) (log : Log W) (c : �
         ∙ ap (λ b. cond b 1 0) (still core (λ e. absurd (omega (arith, e, below, far))));
   }
 
-module _ {P W : Type 0} (acts : Acts P) {watches : Watches W} (m : Machine) (programs : List P) (log : Log W) where
+module _ {P W : Type 0} (acts : Acts P) (watches : Watches W) (m : Machine) (programs : List P) (log : Log W) where
   abbrev Here : Point P W
   Here = at m programs log
 

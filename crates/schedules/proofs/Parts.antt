@@ -62,20 +62,20 @@ module _ {P : Type 0} (acts : Acts P) where
       ∙ sym (append_assoc (events_of_one acts s x) (events_of acts (after_action acts s x) xs)
       (events_of acts (after_actions acts (after_action acts s x) xs) ys))
 
-module _ {P W : Type 0} (acts : Acts P) {watches : Watches W} where
   -- exhausted times end a run
-  stays_out : (q : Point P W) (xs : List Action) → after_actions acts (standing q true) xs ≡ standing q true
+  stays_out : {W : Type 0} (q : Point P W) (xs : List Action) → after_actions acts (standing q true) xs ≡ standing q true
   stays_out q [] = refl
   stays_out q (Does e ∷ xs) = stays_out q xs
   stays_out q (Advances core ∷ xs) = stays_out q xs
   stays_out q (Lists ∷ xs) = stays_out q xs
 
-  is_silent : (q : Point P W) (xs : List Action) → events_of acts (standing q true) xs ≡ []
+  is_silent : {W : Type 0} (q : Point P W) (xs : List Action) → events_of acts (standing q true) xs ≡ []
   is_silent q [] = refl
   is_silent q (Does e ∷ xs) = is_silent q xs
   is_silent q (Advances core ∷ xs) = is_silent q xs
   is_silent q (Lists ∷ xs) = is_silent q xs
 
+module _ {P W : Type 0} (acts : Acts P) (watches : Watches W) where
   pub none_made : (p : Point P W) → IsMade acts watches [] p p false
   none_made p = record { leads = refl; seen = record { leads = refl; seen = refl }; asked = λ asked. asked }
 
@@ -108,9 +108,9 @@ module _ {P W : Type 0} (acts : Acts P) {watches : Watches W} where
       IsMade acts watches (xs ++ ys) p q true
   made_out {p} {q} xs ys h = record {
     leads = after_both acts (standing p false) xs ys ∙ ap (λ (s : Standing P). after_actions acts s ys) h.leads
-        ∙ stays_out q ys;
+        ∙ stays_out acts q ys;
     seen = subst (λ (l : List Event). AreSeen watches (watches.seen p.log.watcher) p.machine l q.machine q.log.watcher)
-        (sym (of_both xs ys h ∙ ap (λ (l : List Event). events_of acts (standing p false) xs ++ l) (is_silent q ys)
+        (sym (of_both xs ys h ∙ ap (λ (l : List Event). events_of acts (standing p false) xs ++ l) (is_silent acts q ys)
         ∙ append-nil (events_of acts (standing p false) xs))) h.seen;
     asked = h.asked;
   }

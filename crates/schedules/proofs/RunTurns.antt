@@ -34,7 +34,7 @@ module _ {P S : Type 0} (plan : Plan P S) (start : Position P S) where
         ∙ one_more_stays plan (run plan turns start).end (run plan turns start) over
   ]
 
-module _ {P S W : Type 0} {watches : Watches W} (plan : Plan P S) (start : Position P S) (first : W) where
+module _ {P S W : Type 0} (watches : Watches W) (plan : Plan P S) (start : Position P S) (first : W) where
   -- what was seen of a run up to a point
   abbrev IsSeen : List Event → Point P W → Type 0
   IsSeen events p = AreSeen watches (watches.seen first) start.standing.machine events p.machine p.log.watcher
@@ -200,11 +200,11 @@ module _ {P S W : Type 0} {watches : Watches W} (plan : Plan P S) (start : Posit
     did_end below _ q did = absurd did
 
 -- before the first turn
-pub at_first : {P S W : Type 0} {watches : Watches W} (plan : Plan P S) (m : Machine) (programs : List P) (log : Log W)
-    (own : S) → IsAt {watches = watches} plan (initial_position plan.acts m programs own) log.watcher 0
+pub at_first : {P S W : Type 0} (watches : Watches W) (plan : Plan P S) (m : Machine) (programs : List P) (log : Log W)
+    (own : S) → IsAt watches plan (initial_position plan.acts m programs own) log.watcher 0
     (at m programs log) own
 unfolding run
-at_first plan m programs log own = record {
+at_first watches plan m programs log own = record {
   out = false;
   progressed = false;
   standing_is = refl;

@@ -22,6 +22,6 @@ returns g c =
     let is : choice_at (line_events h.eviction (h.lines a.system.now) (h.holders a.system.now)) a.b ≡ Evicts e =
     search rules ∙ ap Evicts (sym c.eviction.ensures) in
     subst (λ choice. Reaches acts g.W.Watcher.watches (chosen acts choice) p (end_in c.make.result) q) (sym is)
-    (did_as acts _ p q (followed_by acts (one Lists) (one (Does e))) (chosen acts (Evicts e)) refl (end_in c.make.result)
-    (did_then acts _ q (one Lists) (one (Does e)) (list_made acts _ p) (end_in c.make.result)
+    (did_as acts _ p q (followed_by acts (one Lists) (one (Does e))) (chosen acts (Evicts e)) refl
+    (end_in c.make.result) (did_then acts _ q (one Lists) (one (Does e)) (list_made acts _ p) (end_in c.make.result)
     (rw c.drawn_line.ensures.machine at c.make.ensures)))

@@ -35,6 +35,7 @@ returns-clause-did g c =
     c.in_ok-core_turns.ensures (end_in c.deliveries.result) (did_then acts _ _ (one Lists)
     (λ t. for_each acts (delivery acts s.is_fair) (numbers_in_flight t.machine) t)
     (list_made acts _ (at n.system n.programs n.log))
-    (end_in c.deliveries.result) (did_as acts _ _ _ (for_each acts (delivery acts s.is_fair) (numbers_in_flight n.system))
+    (end_in c.deliveries.result)
+    (did_as acts _ _ _ (for_each acts (delivery acts s.is_fair) (numbers_in_flight n.system))
     (λ t. for_each acts (delivery acts s.is_fair) (numbers_in_flight t.machine) t) refl
     (end_in c.deliveries.result) (rw (numbers, here) at (c.deliveries.ensures n.programs)))))

@@ -115,8 +115,8 @@ fn a_first_store_is_counted(rt: HostRuntime) {
     assert_eq!(rt; is_counted(rt.alloc(), &events, &wanted), Some(true));
 }
 
-// Core 1 reads a word, core 0 stores to it, core 1 hits under its lease up to 3, advances to 4, and needs a request: the
-// bank has core 0 write the line back.
+// Core 1 reads a word, core 0 stores to it, core 1 hits under its lease up to 3, advances to 4, and needs a request:
+// the bank has core 0 write the line back.
 #[test]
 fn an_ended_lease_and_a_write_back_are_counted(rt: HostRuntime) {
     let events = [

@@ -6,8 +6,6 @@ pub mod event_counts;
 pub mod kind_counts;
 pub mod laws;
 pub mod part_counts;
-#[cfg(test)]
-mod tests;
 mod watching;
 
 pub use cause::Cause;

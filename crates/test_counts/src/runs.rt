@@ -1,7 +1,5 @@
 //! Runs whose counts were worked out by hand, from docs/COUNTS.md and docs/PROTOCOL.md.
-use crate::event_counts::EventCounts;
-use crate::kind_counts::KindCounts;
-use crate::part_counts::{BankCounts, CoreCounts};
+use event_counts::{BankCounts, CoreCounts, EventCounts, KindCounts};
 use interleaving_core::{Config, Event, LineNo, MsgNo, System};
 use physiological_order::{Memory, Op, WordAddr};
 use std::alloc::Global;

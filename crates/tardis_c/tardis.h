@@ -115,8 +115,8 @@ enum tardis_source {
     TARDIS_A_RECORD = 2
 };
 
-/* What is wrong with a history: as in `struct tardis_told`, and on TARDIS_BAD_OPENING. With TARDIS_WRONG_VALUE also what
-   the record should have received, and who wrote that; else all of this is 0. */
+/* What is wrong with a history: as in `struct tardis_told`, also on TARDIS_BAD_OPENING. With TARDIS_WRONG_VALUE what the
+   record should have received, too, and who wrote that; else all of this is 0. */
 struct tardis_found {
     uint64_t kind; /* enum tardis_told_kind */
     uint64_t number;

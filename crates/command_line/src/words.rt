@@ -6,8 +6,9 @@ ghost use Rattle.command_line.specs.Job.{AreTaken, AskForConflict, GivesJob, IsA
 ghost use Rattle.command_line.specs.Job.{IsRefusedFor, conflict_text, words_number};
 
 use crate::app::command;
-use crate::options::{counts_in_vain, ends_options, flag, litmus_options, path_of, trace_options};
-use crate::options::{word_of};
+use crate::options::{
+    counts_in_vain, ends_options, flag, litmus_options, path_of, trace_options, word_of,
+};
 use clap::error::ErrorKind;
 use clap::{ArgMatches, Error};
 use run_options::{EndsOptions, LitmusOptions, TraceOptions};

@@ -34,6 +34,9 @@ pub fn defaults_are_these()
     } }
     ensures litmus { litmus_default ≡ record { runs = 1; run = run_default } }
     ensures ends { ends_default ≡ record { most_states = 4194304; orders = false } }
-    ensures trace { trace_default ≡ record { records = false;
-      counts = false; run = run_default } }
+    ensures trace { trace_default ≡ record {
+      records = false;
+      counts = false;
+      run = run_default;
+    } }
 {}

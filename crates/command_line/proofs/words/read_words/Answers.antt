@@ -40,5 +40,5 @@ returns-clause-refused c =
     c.refused_for.ensures (map (λ w. w.now) c.args.words.now)
     (c.in-Some.name.now, rows_of (found_of c.in-Some.inner.now))
     (are_taken _ e.0 (map (λ w. w.now) c.args.words.now) _ _ _ e.1 e.2 c.in-Ok-try_get_matches_from.ensures.kinds
-        c.in-Ok-try_get_matches_from.ensures.matches c.in-Some.ensures.name c.in-Some.ensures.rows)
+    c.in-Ok-try_get_matches_from.ensures.matches c.in-Some.ensures.name c.in-Some.ensures.rows)
     c.in-Err-job_of.ensures.conflict

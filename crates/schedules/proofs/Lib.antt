@@ -1,4 +1,3 @@
-mod KnownEvents
 mod Over
 mod Pieces
 mod ReadyCores

@@ -27,6 +27,7 @@ use Rattle.schedules.specs.SeedSchedule.{advances, core_step, core_steps}
 use Rattle.schedules.specs.SeedSchedule.{choice_at, chosen, drawn_list, line_events, steps}
 use Rattle.schedules.specs.SeedViews.{is_eviction}
 use Rattle.schedules.specs.Notes.{Point, standing, IsRefused}
+use Rattle.schedules.specs.Watches.{Watches}
 use Rattle.schedules.proofs.Parts.{list_refused}
 use Rattle.schedules.proofs.Pieces.{at_piece, length_more}
 
@@ -281,10 +282,11 @@ module _ {P : Type 0} (acts : Acts P) (m : Machine) (programs : List P) (b at co
       let bad = sym none ∙ there in absurd cc
 
 -- memory was refused before a line's eviction
-pub not_listed : {P : Type 0} (acts : Acts P) (choice : Choice) → is_eviction choice ≡ true → (p : Point P) →
-    IsRefused acts (chosen acts choice (standing p false)) p p
-not_listed acts (Evicts e) is p = list_refused acts p (Does e ∷ [])
-not_listed acts _ is p = absurd cc
+pub not_listed : {P W : Type 0} (acts : Acts P) (watches : Watches W) (choice : Choice) → is_eviction choice ≡ true →
+    (p : Point P W) →
+    IsRefused acts watches (chosen acts choice (standing p false)) p p
+not_listed acts watches (Evicts e) is p = list_refused acts watches p (Does e ∷ [])
+not_listed acts watches _ is p = absurd cc
 
 -- other lists than the first three are those of steps
 pub other_list : {P : Type 0} (acts : Acts P) (m : Machine) (programs : List P) (k : ℕ) → k ≢ 0 → k ≢ 1 → k ≢ 2 →

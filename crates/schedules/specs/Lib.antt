@@ -7,5 +7,6 @@ pub mod SeedViews
 pub mod Policies
 pub mod Batches
 pub mod Notes
+pub mod Watches
 pub mod GivenSteps
 pub mod Stalls

@@ -1,5 +1,5 @@
 -- How a run notes the events that it makes.
-use Rattle.std.specs.Prelude.{◌≡◌, ℕ, ◌<◌, Bool, true, false, ◌||◌, List, [], ◌∷◌, ◌++◌, Option, is_some, option_map}
+use Rattle.std.specs.Prelude.{◌≡◌, ℕ, ◌<◌, Bool, true, false, ◌||◌, List, ◌++◌, Option, is_some}
 use Rattle.std.specs.Prelude.{Some, None, Result, Ok, Err, IsTrue, if◌then◌else◌}
 use Rattle.std.specs.Int.{bit_at}
 use Rattle.physiological_order.specs.declared.operation.Record.{Record}
@@ -16,25 +16,20 @@ use Rattle.programs.specs.declared.ends.End.{End}
 use Rattle.programs.specs.declared.ends.End.TheVariants.{AllDone, Stalled, TurnsUsed, Exhausted, NoMemory}
 use Rattle.programs.specs.Acts.{Acts, next_in}
 use Rattle.schedules.specs.Parts.{Action, Standing, Part, after_actions, events_of, is_progress, is_times_end}
-use Rattle.schedules.specs.Runs.{AsksMemory}
+use Rattle.schedules.specs.Runs.{Plan, Position, AsksMemory, Ended}
+use Rattle.schedules.specs.Watches.{Watches, AreSeen}
+use Rattle.schedules.specs.declared.log.Log.{Log}
 
--- the events so far, if they are kept, whether an answer of this turn was progress, a bit for each core whose program
--- has a next step, and how many more events can be noted before the next allocation
-pub record Log : Type 0 where
-  pub events : Option (List Event)
-  pub has_progressed : Bool
-  pub unfinished : ℕ
-  pub reserved : ℕ
-
--- an answered event is noted
-pub record IsNoted (log : Log) (event : Event) (answer : Answer) (after : Log) : Type 0 where
-  pub events : after.events ≡ option_map (λ events. events ++ event ∷ []) log.events
+-- an answered event is noted, and the watcher was shown it with this machine
+pub record IsNoted {W : Type 0} (watches : Watches W) (log : Log W) (event : Event) (answer : Answer) (m : Machine)
+    (after : Log W) : Type 0 where
+  pub seen : watches.seen after.watcher ≡ watches.sees (watches.seen log.watcher) m event answer
   pub has_progressed : after.has_progressed ≡ (log.has_progressed || is_progress answer)
   pub unfinished : after.unfinished ≡ log.unfinished
 
 -- nothing is noted
-pub record IsSame (log after : Log) : Type 0 where
-  pub events : after.events ≡ log.events
+pub record IsSame {W : Type 0} (watches : Watches W) (log after : Log W) : Type 0 where
+  pub seen : watches.seen after.watcher ≡ watches.seen log.watcher
   pub has_progressed : after.has_progressed ≡ log.has_progressed
   pub unfinished : after.unfinished ≡ log.unfinished
 
@@ -44,9 +39,9 @@ IsAsked acts programs mask =
     (core : ℕ) → core < 64 → bit_at mask core ≡ (if is_some (next_in acts programs core) then 1 else 0)
 
 -- programs are told something, and only whether they have a next step is noted
-pub record IsTold {P : Type 0} (acts : Acts P) (programs : List P) (log : Log) (told : List P) (after : Log) :
+pub record IsTold {P W : Type 0} (acts : Acts P) (programs : List P) (log : Log W) (told : List P) (after : Log W) :
     Type 0 where
-  pub events : after.events ≡ log.events
+  pub watcher : after.watcher ≡ log.watcher
   pub has_progressed : after.has_progressed ≡ log.has_progressed
   pub asked : IsAsked acts programs log.unfinished → IsAsked acts told after.unfinished
 
@@ -64,28 +59,29 @@ answered records (Ok plain) = Ok (answer_in records plain)
 answered records (Err end) = Err end
 
 -- an event is answered by the table and noted; if the answer is that times are exhausted, the run is to end; and if an
--- allocation failed, nothing changed, and the event asks for memory or is to be kept
-abbrev pub Noted : Machine → Log → Event → Result Answer End → Machine → Log → Type 0
-Noted m log event (Ok answer) after after_log =
-    ((answer, after) ≡ transition m event) × (is_times_end answer ≡ false) × IsNoted log event answer after_log
-Noted m log event (Err Exhausted) after after_log =
-    ((Refused TimesEnd, after) ≡ transition m event) × IsNoted log event (Refused TimesEnd) after_log
-Noted m log event (Err NoMemory) after after_log =
-    (after ≡ m) × IsSame log after_log × IsTrue (is_some log.events || asks_memory m event)
-Noted m log event (Err AllDone) after after_log = ⊥
-Noted m log event (Err Stalled) after after_log = ⊥
-Noted m log event (Err TurnsUsed) after after_log = ⊥
+-- allocation failed, nothing changed, and the event asks for memory or its watcher does
+abbrev pub Noted : {W : Type 0} → Watches W → Machine → Log W → Event → Result Answer End → Machine → Log W → Type 0
+Noted watches m log event (Ok answer) after after_log =
+    ((answer, after) ≡ transition m event) × (is_times_end answer ≡ false)
+    × IsNoted watches log event answer after after_log
+Noted watches m log event (Err Exhausted) after after_log =
+    ((Refused TimesEnd, after) ≡ transition m event) × IsNoted watches log event (Refused TimesEnd) after after_log
+Noted watches m log event (Err NoMemory) after after_log =
+    (after ≡ m) × IsSame watches log after_log × IsTrue (watches.asks || asks_memory m event)
+Noted watches m log event (Err AllDone) after after_log = ⊥
+Noted watches m log event (Err Stalled) after after_log = ⊥
+Noted watches m log event (Err TurnsUsed) after after_log = ⊥
 
 -- where a run is in a turn, with what it has noted
-pub record Point (P : Type 0) : Type 0 where
+pub record Point (P W : Type 0) : Type 0 where
   pub machine : Machine
   pub programs : List P
-  pub log : Log
+  pub log : Log W
 
-abbrev pub at : {P : Type 0} → Machine → List P → Log → Point P
+abbrev pub at : {P W : Type 0} → Machine → List P → Log W → Point P W
 at m programs log = record { machine = m; programs = programs; log = log }
 
-abbrev pub standing : {P : Type 0} → Point P → Bool → Standing P
+abbrev pub standing : {P W : Type 0} → Point P W → Bool → Standing P
 standing p out = record {
   machine = p.machine;
   programs = p.programs;
@@ -93,37 +89,42 @@ standing p out = record {
   is_out = out;
 }
 
--- events are kept exactly if they were
-abbrev pub KeepsAs : Log → Log → Type 0
-KeepsAs log after = is_some after.events ≡ is_some log.events
-
--- actions lead from the one point to the other, where times may be exhausted, and their events are noted, and which
--- programs have a next step
-pub record IsMade {P : Type 0} (acts : Acts P) (actions : List Action) (p q : Point P) (out : Bool) : Type 0 where
+-- actions lead from the one point to the other, where times may be exhausted; their events are seen, and which programs
+-- have a next step is noted
+pub record IsMade {P W : Type 0} (acts : Acts P) (watches : Watches W) (actions : List Action) (p q : Point P W)
+    (out : Bool) : Type 0 where
   pub leads : after_actions acts (standing p false) actions ≡ standing q out
-  pub notes : q.log.events ≡ option_map (λ events. events ++ events_of acts (standing p false) actions) p.log.events
+  pub seen : AreSeen watches (watches.seen p.log.watcher) p.machine (events_of acts (standing p false) actions)
+      q.machine q.log.watcher
   pub asked : IsAsked acts p.programs p.log.unfinished → IsAsked acts q.programs q.log.unfinished
 
 -- memory was refused behind some of the actions, where the next one asks for some
-pub record IsRefused {P : Type 0} (acts : Acts P) (actions : List Action) (p q : Point P) : Type 0 where
+pub record IsRefused {P W : Type 0} (acts : Acts P) (watches : Watches W) (actions : List Action) (p q : Point P W) :
+    Type 0 where
   pub made : List Action
   pub left : List Action
   pub actions_are : actions ≡ made ++ left
-  pub is_made : IsMade acts made p q false
-  pub asks : AsksMemory (is_some q.log.events) q.machine left
+  pub is_made : IsMade acts watches made p q false
+  pub asks : AsksMemory watches.asks q.machine left
 
 -- a part of a turn leads from the one point to the other: all that it makes by where it begins was made; or that up to
 -- the end of times; or some of it, where memory was refused
-abbrev pub Reaches : {P : Type 0} → Acts P → Part P → Point P → Option End → Point P → Type 0
-Reaches acts part p None q = IsMade acts (part (standing p false)) p q false
-Reaches acts part p (Some Exhausted) q = IsMade acts (part (standing p false)) p q true
-Reaches acts part p (Some NoMemory) q = IsRefused acts (part (standing p false)) p q
-Reaches acts part p _ q = ⊥
+abbrev pub Reaches : {P W : Type 0} → Acts P → Watches W → Part P → Point P W → Option End → Point P W → Type 0
+Reaches acts watches part p None q = IsMade acts watches (part (standing p false)) p q false
+Reaches acts watches part p (Some Exhausted) q = IsMade acts watches (part (standing p false)) p q true
+Reaches acts watches part p (Some NoMemory) q = IsRefused acts watches (part (standing p false)) p q
+Reaches acts watches part p _ q = ⊥
 
 -- the end that an error is
 abbrev pub end_in : {X : Type 0} → Result X End → Option End
 end_in (Ok x) = None
 end_in (Err e) = Some e
 
-abbrev pub Did : {X P : Type 0} → Acts P → Part P → Point P → Result X End → Point P → Type 0
-Did acts part p r q = Reaches acts part p (end_in r) q
+abbrev pub Did : {X P W : Type 0} → Acts P → Watches W → Part P → Point P W → Result X End → Point P W → Type 0
+Did acts watches part p r q = Reaches acts watches part p (end_in r) q
+
+-- a run ends so, by its plan from a start: its events were shown to the watcher, and lead to the machine
+abbrev pub Finishes : {P S W : Type 0} → Watches W → Plan P S → Position P S → W → W → Machine → List P → End → Type 0
+Finishes watches plan start watcher after m programs end =
+    (events : List Event) × Ended watches.asks plan start events m programs end
+    × AreSeen watches (watches.seen watcher) start.standing.machine events m after

@@ -1,6 +1,6 @@
 -- A run by a schedule: turn after turn, until one is the last; and how it ends.
-use Rattle.std.specs.Prelude.{◌≡◌, ◌⊎◌, ℕ, zero, suc, ◌<◌, Bool, true, false, ◌&&◌, ◌||◌, not, is_none, is_some, IsTrue}
-use Rattle.std.specs.Prelude.{List, [], ◌∷◌, ◌++◌, Option, Some, None, if◌then◌else◌}
+use Rattle.std.specs.Prelude.{◌≡◌, ◌⊎◌, ℕ, zero, suc, ◌<◌, Bool, true, false, ◌&&◌, ◌||◌, not, is_none, IsTrue}
+use Rattle.std.specs.Prelude.{List, [], ◌∷◌, ◌++◌, if◌then◌else◌}
 use Rattle.machine_table.specs.declared.event.Event.{Event}
 use Rattle.machine_table.specs.declared.event.Event.TheVariants as event
 use Rattle.machine_table.specs.Machine.{Machine, open_op}
@@ -125,11 +125,3 @@ pub record Ended {P S : Type 0} (keeps : Bool) (plan : Plan P S) (start : Positi
   pub machine_is : last.machine ≡ m
   pub programs_are : last.programs ≡ programs
   pub ends : HasRun (run plan plan.limit start) events last end ⊎ IsCut keeps plan start events last end
-
--- what is so of the events: of those that were kept, or else of some
-abbrev pub Known : Option (List Event) → (List Event → Type 0) → Type 0
-Known (Some events) Holds = Holds events
-Known None Holds = (events : List Event) × Holds events
-
-abbrev pub Finishes : {P S : Type 0} → Plan P S → Position P S → Option (List Event) → Machine → List P → End → Type 0
-Finishes plan start kept m programs end = Known kept (λ events. Ended (is_some kept) plan start events m programs end)

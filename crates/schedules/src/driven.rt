@@ -1,16 +1,17 @@
 //! Turns of any schedule from the first one, and their result.
-ghost use Rattle.std.specs.Prelude.{◌≡◌, ◌<◌, [], false, true, is_some, None, IfSome, ℕ};
+ghost use Rattle.std.specs.Prelude.{◌≡◌, ◌<◌, false, true, None, ℕ};
 ghost use Rattle.machine_table.specs.Runs.{after_all};
 ghost use Rattle.machine_table.specs.Machine.{open_op};
 ghost use Rattle.programs.specs.Acts.{next_in};
-ghost use Rattle.schedules.specs.Notes.{KeepsAs};
-ghost use Rattle.schedules.specs.Runs.{Ended, Known, initial_position, plan_of};
+ghost use Rattle.schedules.specs.Notes.{Finishes};
+ghost use Rattle.schedules.specs.Runs.{Ended, initial_position, plan_of};
 ghost use Rattle.machine_theorem.specs.Service.{AreServed};
 ghost use Rattle.schedules.specs.GivenSteps.{GivesSteps};
 
 use crate::log::Log;
 use crate::run::run;
 use crate::schedule::Schedule;
+use crate::watcher::Watcher;
 use interleaving_core::{Event, System};
 use programs::End;
 use programs::program::Program;
@@ -24,22 +25,18 @@ pub struct Driven {
 }
 
 // Turns until a run ends, of a schedule that issues and advances cores as their programs say.
-pub(crate) fn finish<P: Program, S: Schedule<P>>(
+pub(crate) fn finish<P: Program, W: Watcher, S: Schedule<P>>(
     schedule: &mut S,
     system: &mut System,
     programs: &mut [P],
-    log: &mut Log,
+    log: &mut Log<W>,
     limit: u32,
 ) -> End
     requires gives { GivesSteps P.acts S.rule }
-    requires nothing_yet { IfSome log.old.events (λ events. events ≡ []) }
     requires no_progress_yet { log.old.has_progressed ≡ false }
-    ensures ended { Known log.new.events (λ events.
-        Ended (is_some log.new.events) (plan_of P.acts S.rule limit)
-        (initial_position P.acts system.old programs.old schedule.old) events system.new
-        programs.new result
-        × (system.new ≡ after_all system.old events)) }
-    ensures kept { KeepsAs log.old log.new }
+    ensures ended { Finishes W.watches (plan_of P.acts S.rule limit)
+        (initial_position P.acts system.old programs.old schedule.old)
+        log.old.watcher log.new.watcher system.new programs.new result }
     ensures all_done { result ≡ End.AllDone → (core : ℕ) → core < system.old.config.cores →
         (open_op system.new core ≡ None) × (next_in P.acts programs.new core ≡ None) }
     ensures served { AreServed P.acts system.old system.new programs.old programs.new }
@@ -68,10 +65,10 @@ pub(crate) fn drive<P: Program, S: Schedule<P>>(
         (open_op system.new core ≡ None) × (next_in P.acts programs.new core ≡ None) }
     ensures served { AreServed P.acts system.old system.new programs.old programs.new }
 {
-    let mut log = Log::new(alloc);
+    let mut log = Log::new(Vec::new(alloc));
     let end = finish(schedule, system, programs, &mut log, limit);
     Driven {
         end,
-        events: log.into_events(),
+        events: log.into_watcher(),
     }
 }

@@ -15,9 +15,11 @@ mod schedule;
 mod seed;
 pub mod seeds;
 mod turn;
+mod watcher;
 
 pub use driven::Driven;
-pub use policies::run_to_end;
+pub use policies::{run_to_end, run_watched};
 pub use policy::Policy;
 pub use rounds::{drive_fair_round, drive_round};
 pub use seeds::drive_seed;
+pub use watcher::Watcher;

@@ -1,40 +1,22 @@
-//! The events that a run made, each noted when it is answered, and which programs have a next step.
-ghost use Rattle.std.specs.Prelude.{◌≡◌, ◌≢◌, ◌<◌, ◌++◌, ◌∷◌, [], ℕ, false, ◌||◌, IsSome, List, None, OnErr, OnOk};
-ghost use Rattle.std.specs.Prelude.{Some, if◌then◌else◌, is_some, option_map, true};
+//! What a run notes: each event is shown when it is answered, and which programs have a next step.
+ghost use Rattle.std.specs.Prelude.{◌≡◌, ◌≢◌, ◌<◌, ℕ, false, List, if◌then◌else◌};
 ghost use Rattle.std.specs.Int.{bit_at};
 ghost use Rattle.interleaving_core.specs.PartChanges.{answer_in};
-ghost use Rattle.schedules.specs.Notes.{IsSame, Noted, answered, is_no_memory, is_refused};
+ghost use Rattle.schedules.specs.Notes.{IsNoted, Noted, answered, is_no_memory, is_refused};
 ghost use Rattle.schedules.specs.Parts.{is_advanced, is_times_end, is_held, is_evicted, is_progress, is_no_room};
 
+use crate::watcher::Watcher;
 use interleaving_core::{Event, PlainAnswer, Refusal, System, with_bit};
 use machine_table::laws::every_answer_keeps_its_word;
-use physiological_order::{Op, Record};
+use physiological_order::Record;
 use programs::End;
-use std::alloc::{AllocError, Global};
-use std::marker::Model;
 
-// The events of a run so far, if it keeps them, whether one of them was progress in this turn, and the cores whose
-// programs have a next step: core c is one exactly if bit c is set.
-#[derive(Drop)]
-pub(crate) struct Log {
-    events: Vec<Event>,
-    keeps: bool,
+// Who is shown the events of a run, whether one of them was progress in this turn, and the cores whose programs have a
+// next step: core c is one exactly if bit c is set.
+pub(crate) struct Log<W> {
+    watcher: W,
     has_progressed: bool,
     unfinished: u64,
-}
-
-impl Model for Log {
-    ghost use Rattle.std.specs.Prelude.{◌-◌, None, Some, if◌then◌else◌, vec_capacity, vec_len};
-    ghost use Rattle.schedules.specs.Notes.{Log};
-
-    ghost Value = { Log };
-
-    ghost view = { λ a. record {
-      events = if a.keeps then Some a.events.items else None;
-      has_progressed = a.has_progressed;
-      unfinished = a.unfinished;
-      reserved = if a.keeps then vec_capacity a.events - vec_len a.events else 1;
-    } };
 }
 
 // Whether an answer, of a machine with any records, is more than Waiting, Held or a refusal.
@@ -93,31 +75,29 @@ fn is_exhausted(plain: &Option<PlainAnswer>) -> bool
     matches!(*plain, Some(PlainAnswer::Refused(Refusal::Exhausted)))
 }
 
-impl Log {
-    // Nothing is noted, and events are to be kept; this takes no memory yet.
-    pub(crate) fn new(alloc: Global) -> Log
-        ensures events { result.events ≡ Some [] }
+impl<W> Log<W> {
+    // Nothing is noted.
+    pub(crate) fn new(watcher: W) -> Log<W>
+        ensures watcher { result.watcher ≡ watcher }
         ensures progressed { result.has_progressed ≡ false }
     {
         Log {
-            events: Vec::new(alloc),
-            keeps: true,
+            watcher,
             has_progressed: false,
             unfinished: 0,
         }
     }
 
-    // The same, where no event is kept; this never takes memory.
-    pub(crate) fn without_events(alloc: Global) -> Log
-        ensures events { result.events ≡ None }
-        ensures progressed { result.has_progressed ≡ false }
+    // The watcher, as the run left it.
+    pub(crate) fn into_watcher(self) -> W
+        ensures { result ≡ self.watcher }
     {
-        Log {
-            events: Vec::new(alloc),
-            keeps: false,
-            has_progressed: false,
-            unfinished: 0,
-        }
+        let Log {
+            watcher,
+            has_progressed: _,
+            unfinished: _,
+        } = self;
+        watcher
     }
 
     // A turn begins.
@@ -160,56 +140,17 @@ impl Log {
     {
         self.unfinished = with_bit(self.unfinished, core, has_next);
     }
+}
 
-    // The events, which were kept.
-    pub(crate) fn into_events(self) -> Vec<Event>
-        requires { IsSome self.events }
-        ensures { self.events ≡ Some result.items }
-    {
-        self.events
-    }
-
-    // Reserves memory for one more event.
+impl<W: Watcher> Log<W> {
+    // An answered event is noted, for which there is room, and shown with the machine after it.
     #[inline(always)]
-    fn reserve(&mut self) -> Result<(), AllocError>
-        ensures same { IsSame self.old self.new }
-        ensures ok { OnOk result (0 < self.new.reserved) }
-        ensures refused { OnErr result (is_some self.old.events ≡ true) }
+    fn note(&mut self, system: &System, event: &Event, plain: &Option<PlainAnswer>)
+        requires { W.watches.HasRoom self.old.watcher }
+        ensures { IsNoted W.watches self.old event.now (answer_in system.now.records plain.now)
+            system.now self.new }
     {
-        if !self.keeps {
-            return Ok(());
-        }
-        self.events.reserve(1)
-    }
-
-    // An event is added if events are kept; memory was reserved for it.
-    #[inline(always)]
-    fn keep(&mut self, event: &Event)
-        requires { 0 < self.old.reserved }
-        ensures events { self.new.events ≡
-            option_map (λ events. events ++ event.now ∷ []) self.old.events }
-        ensures progressed { self.new.has_progressed ≡ self.old.has_progressed }
-        ensures unfinished { self.new.unfinished ≡ self.old.unfinished }
-    {
-        // The check finds the parts of an event only where the function names an operation's type.
-        let _op: Option<Op> = None;
-        if !self.keeps {
-            return;
-        }
-        self.events.push_reserved(*event);
-    }
-
-    // An answered event is noted, for which memory was reserved.
-    #[inline(always)]
-    fn note(&mut self, event: &Event, plain: &Option<PlainAnswer>)
-        requires { 0 < self.old.reserved }
-        ensures events { self.new.events ≡
-            option_map (λ events. events ++ event.now ∷ []) self.old.events }
-        ensures progressed { (records : List Record) → self.new.has_progressed ≡
-            (self.old.has_progressed || is_progress (answer_in records plain.now)) }
-        ensures unfinished { self.new.unfinished ≡ self.old.unfinished }
-    {
-        self.keep(event);
+        self.watcher.see(system, event, plain);
         if !self.has_progressed {
             self.has_progressed = is_progress(plain);
         }
@@ -217,29 +158,29 @@ impl Log {
 }
 
 // Gives the machine an event and notes it. An error ends the run: Exhausted, where the event is noted, or NoMemory,
-// where nothing changed and it isn't. That comes only if the event asks for memory, or is to be kept.
+// where nothing changed and it isn't. That comes only if the event asks for memory, or the watcher does.
 #[inline(always)]
-pub(crate) fn step(
-    log: &mut Log,
+pub(crate) fn step<W: Watcher>(
+    log: &mut Log<W>,
     system: &mut System,
     event: &Event,
 ) -> Result<Option<PlainAnswer>, End>
-    ensures { Noted system.old log.old event.now (answered system.new.records result)
+    ensures { Noted W.watches system.old log.old event.now (answered system.new.records result)
         system.new log.new }
 {
     every_answer_keeps_its_word();
-    if log.reserve().is_err() {
+    if log.watcher.reserve().is_err() {
         return Err(End::NoMemory);
     }
     let plain = system.step_plain(*event);
     if !is_refused(&plain) {
-        log.note(event, &plain);
+        log.note(system, event, &plain);
         return Ok(plain);
     }
     if is_no_memory(&plain) {
         return Err(End::NoMemory);
     }
-    log.note(event, &plain);
+    log.note(system, event, &plain);
     if is_exhausted(&plain) {
         return Err(End::Exhausted);
     }
@@ -248,21 +189,22 @@ pub(crate) fn step(
 
 // The same for an attempt of a core. Most find that it waits for its line: these take few instructions, and no call.
 #[inline(always)]
-pub(crate) fn try_core(
-    log: &mut Log,
+pub(crate) fn try_core<W: Watcher>(
+    log: &mut Log<W>,
     system: &mut System,
     core: u32,
 ) -> Result<Option<PlainAnswer>, End>
-    ensures { Noted system.old log.old (Event.Attempt core)
+    ensures { Noted W.watches system.old log.old (Event.Attempt core)
         (answered system.new.records result) system.new log.new }
 {
     let event = Event::Attempt(core);
     if !system.is_waiting(core) {
         return step(log, system, &event);
     }
-    if log.reserve().is_err() {
+    if log.watcher.reserve().is_err() {
         return Err(End::NoMemory);
     }
-    log.keep(&event);
-    Ok(Some(PlainAnswer::Waiting))
+    let plain = Some(PlainAnswer::Waiting);
+    log.watcher.see(system, &event, &plain);
+    Ok(plain)
 }

@@ -47,7 +47,7 @@ fn give_done<P: Program>(programs: &mut [P], core: u32, received: Option<u64>)
 }
 
 // Tells a core's program what its next step received, and asks whether it has another one.
-fn tell_done<P: Program>(programs: &mut [P], log: &mut Log, core: u32, received: Option<u64>)
+fn tell_done<P: Program, W>(programs: &mut [P], log: &mut Log<W>, core: u32, received: Option<u64>)
     ensures done { programs.new ≡ done_in P.acts programs.old core received }
     ensures told { IsTold P.acts programs.old log.old programs.new log.new }
 {
@@ -59,10 +59,10 @@ fn tell_done<P: Program>(programs: &mut [P], log: &mut Log, core: u32, received:
 }
 
 // Tells a core's program of a completion, which the machine's last record is of.
-pub(crate) fn tell<P: Program>(
+pub(crate) fn tell<P: Program, W>(
     system: &System,
     programs: &mut [P],
-    log: &mut Log,
+    log: &mut Log<W>,
     plain: &Option<PlainAnswer>,
 )
     ensures done { programs.new ≡ programs_told P.acts programs.old
@@ -79,9 +79,9 @@ pub(crate) fn tell<P: Program>(
 }
 
 // Tells a core's program that it has advanced.
-pub(crate) fn tell_advance<P: Program>(
+pub(crate) fn tell_advance<P: Program, W>(
     programs: &mut [P],
-    log: &mut Log,
+    log: &mut Log<W>,
     core: u32,
     plain: &Option<PlainAnswer>,
 )
@@ -107,7 +107,7 @@ fn is_over<P: Program>(system: &System, programs: &[P], core: u32) -> bool
 
 // Whether that is so of all cores. While a program has a next step, the cores aren't asked.
 #[inline(always)]
-pub(crate) fn are_over<P: Program>(system: &System, programs: &[P], log: &Log) -> bool
+pub(crate) fn are_over<P: Program, W>(system: &System, programs: &[P], log: &Log<W>) -> bool
     requires { IsAsked P.acts programs.now log.now.unfinished }
     ensures { result ≡ are_over P.acts system.now programs.now system.now.config.cores }
 {

@@ -1,10 +1,11 @@
-//! A run by a policy to its end, without its list of events.
-ghost use Rattle.std.specs.Prelude.{◌≡◌, ◌<◌, List, None, length, ℕ};
+//! A run by a policy to its end, without its list of events: watched, or not.
+ghost use Rattle.std.specs.Prelude.{◌≡◌, ◌<◌, false, List, None, length, ℕ};
 ghost use Rattle.machine_table.specs.Runs.{after_all};
 ghost use Rattle.machine_table.specs.declared.event.Event.{Event};
 ghost use Rattle.machine_table.specs.Machine.{open_op};
 ghost use Rattle.programs.specs.Acts.{next_in};
-ghost use Rattle.schedules.specs.Policies.{EndedBy};
+ghost use Rattle.schedules.specs.Policies.{EndedBy, EndsBy};
+ghost use Rattle.schedules.specs.Watches.{AreSeen, watched};
 ghost use Rattle.machine_theorem.specs.Service.{AreServed};
 
 use crate::driven::finish;
@@ -13,6 +14,7 @@ use crate::policy::Policy;
 use crate::round::Rounds;
 use crate::seed::Seeds;
 use crate::seeds::order_as_before;
+use crate::watcher::Watcher;
 use interleaving_core::System;
 use programs::End;
 use programs::program::Program;
@@ -37,20 +39,68 @@ pub fn run_to_end<P: Program>(
         (open_op system.new core ≡ None) × (next_in P.acts programs.new core ≡ None) }
     ensures served { AreServed P.acts system.old system.new programs.old programs.new }
 {
-    let mut log = Log::without_events(alloc);
+    run_watched(alloc, system, programs, (), policy, limit).0
+}
+
+/// Drives the machine as `run_to_end` does, and shows the watcher each answered event, with the machine after it. An
+/// event for which the watcher can't make room isn't made: the end is NoMemory then. The result is the end and the
+/// watcher.
+pub fn run_watched<P: Program, W: Watcher>(
+    alloc: Global,
+    system: &mut System,
+    programs: &mut [P],
+    watcher: W,
+    policy: Policy,
+    limit: u32,
+) -> (End, W)
+    requires one_each { length programs.old ≡ system.old.config.cores }
+    ensures ended { (events : List Event)
+        × EndsBy W.watches.asks P.acts policy limit system.old programs.old events system.new
+        programs.new result.0
+        × (system.new ≡ after_all system.old events)
+        × (W.watches.seen result.1 ≡
+        watched W.watches (W.watches.seen watcher) system.old events) }
+    ensures all_done { result.0 ≡ End.AllDone → (core : ℕ) → core < system.old.config.cores →
+        (open_op system.new core ≡ None) × (next_in P.acts programs.new core ≡ None) }
+    ensures served { AreServed P.acts system.old system.new programs.old programs.new }
+{
+    let mut log = Log::new(watcher);
+    let end = finish_by(alloc, system, programs, &mut log, policy, limit);
+    (end, log.into_watcher())
+}
+
+// Turns of the policy's schedule until a run ends.
+fn finish_by<P: Program, W: Watcher>(
+    alloc: Global,
+    system: &mut System,
+    programs: &mut [P],
+    log: &mut Log<W>,
+    policy: Policy,
+    limit: u32,
+) -> End
+    requires { log.old.has_progressed ≡ false }
+    ensures ended { (events : List Event)
+        × EndsBy W.watches.asks P.acts policy limit system.old programs.old events system.new
+        programs.new result
+        × AreSeen W.watches (W.watches.seen log.old.watcher) system.old events system.new
+        log.new.watcher }
+    ensures all_done { result ≡ End.AllDone → (core : ℕ) → core < system.old.config.cores →
+        (open_op system.new core ≡ None) × (next_in P.acts programs.new core ≡ None) }
+    ensures served { AreServed P.acts system.old system.new programs.old programs.new }
+{
     match policy {
         Policy::Rounds => {
             let mut schedule = Rounds::new(alloc, false, system.cores());
-            finish(&mut schedule, system, programs, &mut log, limit)
+            finish(&mut schedule, system, programs, log, limit)
         }
         Policy::FairRounds => {
             let mut schedule = Rounds::new(alloc, true, system.cores());
-            finish(&mut schedule, system, programs, &mut log, limit)
+            finish(&mut schedule, system, programs, log, limit)
         }
         Policy::Seed(seed) => {
             let mut schedule = Seeds::new(seed);
             let had_order = system.keeps_order();
-            let end = finish(&mut schedule, system, programs, &mut log, limit);
+            let end = finish(&mut schedule, system, programs, log, limit);
             order_as_before(system, had_order);
             end
         }

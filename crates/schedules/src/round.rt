@@ -9,6 +9,7 @@ use crate::log::Log;
 use crate::look_ups::next_in;
 use crate::schedule::Schedule;
 use crate::turn::{attempt, deliver, do_step, make};
+use crate::watcher::Watcher;
 use interleaving_core::{Event, System};
 use network::MsgNo;
 use programs::End;
@@ -49,13 +50,13 @@ impl Rounds {
 
 // A core without an open operation does its program's next step. The result says whether it has one afterwards.
 #[inline(always)]
-fn begin_core<P: Program>(
+fn begin_core<P: Program, W: Watcher>(
     system: &mut System,
     programs: &mut [P],
-    log: &mut Log,
+    log: &mut Log<W>,
     core: u32,
 ) -> Result<bool, End>
-    ensures did { Did P.acts (steps_on P.acts core) (at system.old programs.old log.old) result
+    ensures did { Did P.acts W.watches (steps_on P.acts core) (at system.old programs.old log.old) result
         (at system.new programs.new log.new) }
     ensures has { IfOk result (λ has. has ≡ is_some (open_op system.new core)) }
 {
@@ -71,13 +72,13 @@ fn begin_core<P: Program>(
 
 // An open operation is attempted, and once more after a copy was to go.
 #[inline(always)]
-fn try_core<P: Program>(
+fn try_core<P: Program, W: Watcher>(
     system: &mut System,
     programs: &mut [P],
-    log: &mut Log,
+    log: &mut Log<W>,
     core: u32,
 ) -> Result<(), End>
-    ensures { Did P.acts (tries_twice P.acts core) (at system.old programs.old log.old) result
+    ensures { Did P.acts W.watches (tries_twice P.acts core) (at system.old programs.old log.old) result
         (at system.new programs.new log.new) }
 {
     if attempt(system, programs, log, core)? {
@@ -88,13 +89,13 @@ fn try_core<P: Program>(
 
 // A core's turn.
 #[inline(always)]
-fn core_turn<P: Program>(
+fn core_turn<P: Program, W: Watcher>(
     system: &mut System,
     programs: &mut [P],
-    log: &mut Log,
+    log: &mut Log<W>,
     core: u32,
 ) -> Result<(), End>
-    ensures { Did P.acts (core_turn P.acts core) (at system.old programs.old log.old) result
+    ensures { Did P.acts W.watches (core_turn P.acts core) (at system.old programs.old log.old) result
         (at system.new programs.new log.new) }
 {
     match begin_core(system, programs, log, core) {
@@ -106,13 +107,13 @@ fn core_turn<P: Program>(
 
 // The cores' turns.
 #[inline(always)]
-fn core_turns<P: Program>(
+fn core_turns<P: Program, W: Watcher>(
     system: &mut System,
     programs: &mut [P],
-    log: &mut Log,
+    log: &mut Log<W>,
     cores: u32,
 ) -> Result<(), End>
-    ensures { Did P.acts (core_turns P.acts cores) (at system.old programs.old log.old) result
+    ensures { Did P.acts W.watches (core_turns P.acts cores) (at system.old programs.old log.old) result
         (at system.new programs.new log.new) }
 {
     for core in 0..cores {
@@ -125,18 +126,18 @@ fn core_turns<P: Program>(
 
 // The messages with these numbers are delivered.
 #[inline(always)]
-fn deliveries<P: Program>(
+fn deliveries<P: Program, W: Watcher>(
     system: &mut System,
-    log: &mut Log,
+    log: &mut Log<W>,
     is_fair: bool,
     numbers: &[MsgNo],
 ) -> Result<(), End>
-    ensures { (programs : List P) → Did P.acts
+    ensures { (programs : List P) → Did P.acts W.watches
         (for_each P.acts (delivery P.acts is_fair) numbers.now) (at system.old programs log.old) result
         (at system.new programs log.new) }
 {
     for number in numbers {
-        deliver::<P>(system, log, is_fair, *number)?;
+        deliver::<P, W>(system, log, is_fair, *number)?;
     }
     Ok(())
 }
@@ -146,13 +147,18 @@ impl<P: Program> Schedule<P> for Rounds {
 
     ghost rule = { rounds P.acts };
 
-    fn turn(&mut self, system: &mut System, programs: &mut [P], log: &mut Log) -> Result<(), End> {
+    fn turn<W: Watcher>(
+        &mut self,
+        system: &mut System,
+        programs: &mut [P],
+        log: &mut Log<W>,
+    ) -> Result<(), End> {
         core_turns(system, programs, log, self.cores)?;
         let _first = system.seek_message(0);
         if system.list_in_flight(&mut self.numbers).is_err() {
             return Err(End::NoMemory);
         }
-        deliveries::<P>(system, log, self.is_fair, self.numbers.as_slice())
+        deliveries::<P, W>(system, log, self.is_fair, self.numbers.as_slice())
     }
 
     fn stalls(&self) -> bool {

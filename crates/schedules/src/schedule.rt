@@ -3,6 +3,7 @@ ghost use Rattle.std.specs.Prelude.{◌≡◌, OnOk};
 ghost use Rattle.schedules.specs.Notes.{Did, IsAsked, at};
 
 use crate::log::Log;
+use crate::watcher::Watcher;
 use interleaving_core::System;
 use programs::End;
 use programs::program::Program;
@@ -15,9 +16,14 @@ pub(crate) trait Schedule<P: Program> {
     ghost rule: { Schedule P Self };
 
     // A turn, to its end or to the end of the run. Which programs have a next step was noted.
-    fn turn(&mut self, system: &mut System, programs: &mut [P], log: &mut Log) -> Result<(), End>
+    fn turn<W: Watcher>(
+        &mut self,
+        system: &mut System,
+        programs: &mut [P],
+        log: &mut Log<W>,
+    ) -> Result<(), End>
         requires { IsAsked P.acts programs.old log.old.unfinished }
-        ensures did { Did P.acts (rule.turn self.old) (at system.old programs.old log.old) result
+        ensures did { Did P.acts W.watches (rule.turn self.old) (at system.old programs.old log.old) result
             (at system.new programs.new log.new) }
         ensures next { OnOk result (self.new ≡ rule.next self.old) };
 

@@ -18,6 +18,7 @@ use crate::log::Log;
 use crate::look_ups::next_in;
 use crate::schedule::Schedule;
 use crate::turn::{attempt, deliver, do_step, make};
+use crate::watcher::Watcher;
 use interleaving_core::{Event, System, with_bit};
 use network::LineNo;
 use programs::End;
@@ -155,13 +156,13 @@ fn place_in(b: u32, total: u128) -> u32
 }
 
 // An advance of a core.
-fn advance<P: Program>(
+fn advance<P: Program, W: Watcher>(
     system: &mut System,
     programs: &mut [P],
-    log: &mut Log,
+    log: &mut Log<W>,
     b: u32,
 ) -> Result<(), End>
-    ensures { Did P.acts (chosen P.acts (choice_at (advances system.old) b))
+    ensures { Did P.acts W.watches (chosen P.acts (choice_at (advances system.old) b))
         (at system.old programs.old log.old) result (at system.new programs.new log.new) }
 {
     let cores = system.cores();
@@ -213,13 +214,13 @@ fn drawn_line<H: Holder>(system: &mut System, b: u32) -> Result<Option<(u32, Lin
 }
 
 // The eviction of a line.
-fn evict<P: Program, H: Holder>(
+fn evict<P: Program, W: Watcher, H: Holder>(
     system: &mut System,
     programs: &mut [P],
-    log: &mut Log,
+    log: &mut Log<W>,
     b: u32,
 ) -> Result<(), End>
-    ensures { Did P.acts (chosen P.acts (choice_at
+    ensures { Did P.acts W.watches (chosen P.acts (choice_at
         (line_events H.eviction (H.lines system.old) (H.holders system.old)) b))
         (at system.old programs.old log.old) result (at system.new programs.new log.new) }
 {
@@ -234,7 +235,7 @@ fn evict<P: Program, H: Holder>(
 
 // The cores that do something next: core c is one exactly if bit c is set.
 #[inline(always)]
-fn ready_cores<P: Program>(system: &System, _programs: &[P], log: &Log) -> u64
+fn ready_cores<P: Program, W: Watcher>(system: &System, _programs: &[P], log: &Log<W>) -> u64
     requires { IsAsked P.acts _programs.now log.now.unfinished }
     ensures each { (core : ℕ) → core < system.now.config.cores → bit_at result core ≡ length
         (core_step core (open_op system.now core) (next_in P.acts _programs.now core)) }
@@ -265,16 +266,16 @@ fn core_at<P: Program>(_system: &System, _programs: &[P], ready: u64, place: u32
 
 // A core does what it does next, which is something.
 #[inline(always)]
-fn step_core<P: Program>(
+fn step_core<P: Program, W: Watcher>(
     system: &mut System,
     programs: &mut [P],
-    log: &mut Log,
+    log: &mut Log<W>,
     core: u32,
 ) -> Result<(), End>
     requires { 0 < length (core_step core (open_op system.old core)
         (next_in P.acts programs.old core)) }
     ensures { (next : _) → core_step core (open_op system.old core)
-        (next_in P.acts programs.old core) ≡ next ∷ [] → Did P.acts (chosen P.acts next)
+        (next_in P.acts programs.old core) ≡ next ∷ [] → Did P.acts W.watches (chosen P.acts next)
         (at system.old programs.old log.old) result (at system.new programs.new log.new) }
 {
     if system.open_op(core).is_some() {
@@ -288,14 +289,14 @@ fn step_core<P: Program>(
 }
 
 // A step of a core, or the delivery of a message.
-fn step<P: Program>(
+fn step<P: Program, W: Watcher>(
     system: &mut System,
     programs: &mut [P],
-    log: &mut Log,
+    log: &mut Log<W>,
     b: u32,
 ) -> Result<(), End>
     requires { IsAsked P.acts programs.old log.old.unfinished }
-    ensures { Did P.acts (chosen P.acts (choice_at (steps P.acts system.old programs.old) b))
+    ensures { Did P.acts W.watches (chosen P.acts (choice_at (steps P.acts system.old programs.old) b))
         (at system.old programs.old log.old) result (at system.new programs.new log.new) }
 {
     let ready = ready_cores(system, programs, log);
@@ -310,28 +311,28 @@ fn step<P: Program>(
         return step_core(system, programs, log, core);
     }
     match system.seek_message(at - count) {
-        Some(number) => deliver::<P>(system, log, false, number),
+        Some(number) => deliver::<P, W>(system, log, false, number),
         None => unreachable!(),
     }
 }
 
 // What two words draw: the first the list, and the second its entry.
 #[inline(always)]
-fn make_drawn<P: Program>(
+fn make_drawn<P: Program, W: Watcher>(
     system: &mut System,
     programs: &mut [P],
-    log: &mut Log,
+    log: &mut Log<W>,
     a: u32,
     b: u32,
 ) -> Result<(), End>
     requires { IsAsked P.acts programs.old log.old.unfinished }
-    ensures { Did P.acts (drawn P.acts a b) (at system.old programs.old log.old) result
+    ensures { Did P.acts W.watches (drawn P.acts a b) (at system.old programs.old log.old) result
         (at system.new programs.new log.new) }
 {
     match a % 16 {
         0 => advance(system, programs, log, b),
-        1 => evict::<P, Copies>(system, programs, log, b),
-        2 => evict::<P, Entries>(system, programs, log, b),
+        1 => evict::<P, W, Copies>(system, programs, log, b),
+        2 => evict::<P, W, Entries>(system, programs, log, b),
         _ => step(system, programs, log, b),
     }
 }
@@ -341,7 +342,12 @@ impl<P: Program> Schedule<P> for Seeds {
 
     ghost rule = { seeded P.acts };
 
-    fn turn(&mut self, system: &mut System, programs: &mut [P], log: &mut Log) -> Result<(), End> {
+    fn turn<W: Watcher>(
+        &mut self,
+        system: &mut System,
+        programs: &mut [P],
+        log: &mut Log<W>,
+    ) -> Result<(), End> {
         let a = self.generator.next_word();
         let b = self.generator.next_word();
         make_drawn(system, programs, log, a, b)

@@ -7,6 +7,7 @@ ghost use Rattle.schedules.specs.Notes.{Did, at};
 
 use crate::log::{Log, is_evicted, is_held, is_no_room, step, try_core};
 use crate::look_ups::{tell, tell_advance};
+use crate::watcher::Watcher;
 use interleaving_core::{Event, System};
 use network::MsgNo;
 use programs::program::Program;
@@ -14,13 +15,13 @@ use programs::{End, Step};
 
 // An event that nothing follows.
 #[inline(always)]
-pub(crate) fn make<P: Program>(
+pub(crate) fn make<P: Program, W: Watcher>(
     system: &mut System,
     programs: &mut [P],
-    log: &mut Log,
+    log: &mut Log<W>,
     event: &Event,
 ) -> Result<(), End>
-    ensures { Did P.acts (one (Does event.now)) (at system.old programs.old log.old) result
+    ensures { Did P.acts W.watches (one (Does event.now)) (at system.old programs.old log.old) result
         (at system.new programs.new log.new) }
 {
     let plain = step(log, system, event)?;
@@ -30,19 +31,19 @@ pub(crate) fn make<P: Program>(
 
 // An attempt; if there is no place for the line, a copy goes. The result says whether there was none.
 #[inline(always)]
-pub(crate) fn attempt<P: Program>(
+pub(crate) fn attempt<P: Program, W: Watcher>(
     system: &mut System,
     programs: &mut [P],
-    log: &mut Log,
+    log: &mut Log<W>,
     core: u32,
 ) -> Result<bool, End>
-    ensures did { Did P.acts (tries P.acts core) (at system.old programs.old log.old) result
+    ensures did { Did P.acts W.watches (tries P.acts core) (at system.old programs.old log.old) result
         (at system.new programs.new log.new) }
     ensures full { IfOk result (λ full. full ≡ finds_no_place system.old core) }
 {
     let plain = try_core(log, system, core)?;
     if is_no_room(&plain) {
-        evict::<P>(system, log, core)?;
+        evict::<P, W>(system, log, core)?;
         return Ok(true);
     }
     tell(system, programs, log, &plain);
@@ -51,8 +52,12 @@ pub(crate) fn attempt<P: Program>(
 
 // A copy goes so that there is a place for the line of a core's open operation.
 #[inline(always)]
-fn evict<P: Program>(system: &mut System, log: &mut Log, core: u32) -> Result<(), End>
-    ensures { (programs : List P) → Did P.acts (makes_place core) (at system.old programs log.old)
+fn evict<P: Program, W: Watcher>(
+    system: &mut System,
+    log: &mut Log<W>,
+    core: u32,
+) -> Result<(), End>
+    ensures { (programs : List P) → Did P.acts W.watches (makes_place core) (at system.old programs log.old)
         result (at system.new programs log.new) }
 {
     let Some(line) = system.open_victim(core) else {
@@ -64,18 +69,18 @@ fn evict<P: Program>(system: &mut System, log: &mut Log, core: u32) -> Result<()
 
 // A message is delivered; if it is held, a line leaves its bank if that makes a place.
 #[inline(always)]
-pub(crate) fn deliver<P: Program>(
+pub(crate) fn deliver<P: Program, W: Watcher>(
     system: &mut System,
-    log: &mut Log,
+    log: &mut Log<W>,
     is_fair: bool,
     number: MsgNo,
 ) -> Result<(), End>
-    ensures { (programs : List P) → Did P.acts (delivery P.acts is_fair number)
+    ensures { (programs : List P) → Did P.acts W.watches (delivery P.acts is_fair number)
         (at system.old programs log.old) result (at system.new programs log.new) }
 {
     let plain = step(log, system, &Event::Deliver(number))?;
     if is_held(&plain) {
-        return evict_bank::<P>(system, log, is_fair, number);
+        return evict_bank::<P, W>(system, log, is_fair, number);
     }
     Ok(())
 }
@@ -83,13 +88,13 @@ pub(crate) fn deliver<P: Program>(
 // A line leaves the bank of a held message, if that makes a place for it. If that is answered Evicted and rounds are
 // fair, the message is delivered once more.
 #[inline(always)]
-fn evict_bank<P: Program>(
+fn evict_bank<P: Program, W: Watcher>(
     system: &mut System,
-    log: &mut Log,
+    log: &mut Log<W>,
     is_fair: bool,
     number: MsgNo,
 ) -> Result<(), End>
-    ensures { (programs : List P) → Did P.acts (makes_room P.acts is_fair number)
+    ensures { (programs : List P) → Did P.acts W.watches (makes_room P.acts is_fair number)
         (at system.old programs log.old) result (at system.new programs log.new) }
 {
     let Some(victim) = system.make_room(number) else {
@@ -97,15 +102,19 @@ fn evict_bank<P: Program>(
     };
     let plain = step(log, system, &Event::EvictBank(victim.0, victim.1))?;
     if is_fair && is_evicted(&plain) {
-        return deliver_again::<P>(system, log, number);
+        return deliver_again::<P, W>(system, log, number);
     }
     Ok(())
 }
 
 // A message that was held is delivered once more. Rounds that aren't fair pay nothing for this.
 #[inline(never)]
-fn deliver_again<P: Program>(system: &mut System, log: &mut Log, number: MsgNo) -> Result<(), End>
-    ensures { (programs : List P) → Did P.acts (one (Does (Event.Deliver number)))
+fn deliver_again<P: Program, W: Watcher>(
+    system: &mut System,
+    log: &mut Log<W>,
+    number: MsgNo,
+) -> Result<(), End>
+    ensures { (programs : List P) → Did P.acts W.watches (one (Does (Event.Deliver number)))
         (at system.old programs log.old) result (at system.new programs log.new) }
 {
     step(log, system, &Event::Deliver(number))?;
@@ -113,13 +122,13 @@ fn deliver_again<P: Program>(system: &mut System, log: &mut Log, number: MsgNo) 
 }
 
 // A core advances, and its program is told.
-fn advance<P: Program>(
+fn advance<P: Program, W: Watcher>(
     system: &mut System,
     programs: &mut [P],
-    log: &mut Log,
+    log: &mut Log<W>,
     core: u32,
 ) -> Result<(), End>
-    ensures { Did P.acts (one (Advances core)) (at system.old programs.old log.old) result
+    ensures { Did P.acts W.watches (one (Advances core)) (at system.old programs.old log.old) result
         (at system.new programs.new log.new) }
 {
     let plain = step(log, system, &Event::Advance(core))?;
@@ -129,14 +138,14 @@ fn advance<P: Program>(
 
 // A core does this step of its program.
 #[inline(always)]
-pub(crate) fn do_step<P: Program>(
+pub(crate) fn do_step<P: Program, W: Watcher>(
     system: &mut System,
     programs: &mut [P],
-    log: &mut Log,
+    log: &mut Log<W>,
     core: u32,
     next: &Step,
 ) -> Result<(), End>
-    ensures { Did P.acts (one (step_action core next.now)) (at system.old programs.old log.old) result
+    ensures { Did P.acts W.watches (one (step_action core next.now)) (at system.old programs.old log.old) result
         (at system.new programs.new log.new) }
 {
     match *next {

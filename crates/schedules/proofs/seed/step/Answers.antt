@@ -36,7 +36,7 @@ returns g c =
     c.place_in-at.result (count_ones c.ready_cores-ready.result) c.ready_cores-ready.ensures.count
     (c.place_in-at.ensures ∙ ap (λ n. a.b % n) all) c.in-Some.number c.if-at-count.false
     (sym c.seek_message.ensures.number ∙ c.in-Some.is) in
-    subst (λ choice. Reaches acts (chosen acts choice) (at a.system.now a.programs.now a.log.now)
+    subst (λ choice. Reaches acts g.W.Watcher.watches (chosen acts choice) (at a.system.now a.programs.now a.log.now)
     (end_in c.deliver.result) (at c.deliver.new.system a.programs.now c.deliver.new.log)) (sym is)
     (rw c.seek_message.ensures.same at (c.deliver.ensures a.programs.now))
 
@@ -53,4 +53,4 @@ returns-then-total-eq0 g c =
       all,
       c.if-total-eq0.true,
     )))
-    (none_made g.P.Program.acts _)
+    (none_made g.P.Program.acts _ _)

@@ -13,7 +13,7 @@ returns-in_err-attempt g c next only =
     let e = err_from_is_err_and c.from_residual.result c.from_residual.ensures.1 in
     let is = core_tries a.core (open_op a.system.now a.core) (next_in g.P.Program.acts a.programs.now a.core) next
     (search rules) only in
-    rw (e.1, e.2) (subst (λ choice. Reaches g.P.Program.acts (chosen g.P.Program.acts choice)
+    rw (e.1, e.2) (subst (λ choice. Reaches g.P.Program.acts g.W.Watcher.watches (chosen g.P.Program.acts choice)
     (at a.system.now a.programs.now a.log.now) (Some c.in_err-attempt.field-0.0)
     (at c.attempt.new.system c.attempt.new.programs c.attempt.new.log)) (sym is) c.in_err-attempt.ensures.did)
 

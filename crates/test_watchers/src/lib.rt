@@ -1,0 +1,7 @@
+//! Tests of watchers of a caller's own: what runs show them, and where they make no room. The values were worked out by
+//! hand from docs/SCHEDULES.md.
+#![tactic(auto)]
+
+pub mod in_flight;
+#[cfg(test)]
+mod runs;

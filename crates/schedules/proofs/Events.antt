@@ -57,7 +57,7 @@ module _ {P W : Type 0} (acts : Acts P) (programs : List P) (log : Log W) (c : �
         ∙ ap (λ b. cond b 1 0) (still core (λ e. absurd (omega (arith, e, below, far))));
   }
 
-module _ {P W : Type 0} (acts : Acts P) {watches : Watches W} (m : Machine) (programs : List P) (log : Log W) where
+module _ {P W : Type 0} (acts : Acts P) (watches : Watches W) (m : Machine) (programs : List P) (log : Log W) where
   abbrev Here : Point P W
   Here = at m programs log
 
@@ -164,7 +164,8 @@ module _ {P W : Type 0} (acts : Acts P) {watches : Watches W} (m : Machine) (pro
   module _ (core : ℕ) where
     pub advance_made : (answer : Answer) (after : Machine) (told : List P) (noted_log last : Log W) →
         Noted watches m log (Advance core) (Ok answer) after noted_log → told ≡ told_advance acts programs core answer →
-        IsTold acts programs noted_log told last → IsMade acts watches (Advances core ∷ []) Here (at after told last) false
+        IsTold acts programs noted_log told last →
+        IsMade acts watches (Advances core ∷ []) Here (at after told last) false
     advance_made =
         was_made (Advances core) (Advance core) (told_advance acts programs core) refl refl (λ keeps asks. asks) refl
 

@@ -62,20 +62,21 @@ module _ {P : Type 0} (acts : Acts P) where
       ∙ sym (append_assoc (events_of_one acts s x) (events_of acts (after_action acts s x) xs)
       (events_of acts (after_actions acts (after_action acts s x) xs) ys))
 
-module _ {P W : Type 0} (acts : Acts P) {watches : Watches W} where
   -- exhausted times end a run
-  stays_out : (q : Point P W) (xs : List Action) → after_actions acts (standing q true) xs ≡ standing q true
+  stays_out : {W : Type 0} (q : Point P W) (xs : List Action) →
+      after_actions acts (standing q true) xs ≡ standing q true
   stays_out q [] = refl
   stays_out q (Does e ∷ xs) = stays_out q xs
   stays_out q (Advances core ∷ xs) = stays_out q xs
   stays_out q (Lists ∷ xs) = stays_out q xs
 
-  is_silent : (q : Point P W) (xs : List Action) → events_of acts (standing q true) xs ≡ []
+  is_silent : {W : Type 0} (q : Point P W) (xs : List Action) → events_of acts (standing q true) xs ≡ []
   is_silent q [] = refl
   is_silent q (Does e ∷ xs) = is_silent q xs
   is_silent q (Advances core ∷ xs) = is_silent q xs
   is_silent q (Lists ∷ xs) = is_silent q xs
 
+module _ {P W : Type 0} (acts : Acts P) (watches : Watches W) where
   pub none_made : (p : Point P W) → IsMade acts watches [] p p false
   none_made p = record { leads = refl; seen = record { leads = refl; seen = refl }; asked = λ asked. asked }
 
@@ -97,7 +98,8 @@ module _ {P W : Type 0} (acts : Acts P) {watches : Watches W} where
   made_both : {p q u : Point P W} {out : Bool} (xs ys : List Action) → IsMade acts watches xs p q false →
       IsMade acts watches ys q u out → IsMade acts watches (xs ++ ys) p u out
   made_both {p} {q} {u} xs ys h k = record {
-    leads = after_both acts (standing p false) xs ys ∙ ap (λ (s : Standing P). after_actions acts s ys) h.leads ∙ k.leads;
+    leads = after_both acts (standing p false) xs ys ∙ ap (λ (s : Standing P). after_actions acts s ys) h.leads
+        ∙ k.leads;
     seen = subst (λ (l : List Event). AreSeen watches (watches.seen p.log.watcher) p.machine l u.machine u.log.watcher)
         (sym (of_both xs ys h))
         (seen_both watches (events_of acts (standing p false) xs) (events_of acts (standing q false) ys) h.seen k.seen);
@@ -108,14 +110,15 @@ module _ {P W : Type 0} (acts : Acts P) {watches : Watches W} where
       IsMade acts watches (xs ++ ys) p q true
   made_out {p} {q} xs ys h = record {
     leads = after_both acts (standing p false) xs ys ∙ ap (λ (s : Standing P). after_actions acts s ys) h.leads
-        ∙ stays_out q ys;
+        ∙ stays_out acts q ys;
     seen = subst (λ (l : List Event). AreSeen watches (watches.seen p.log.watcher) p.machine l q.machine q.log.watcher)
-        (sym (of_both xs ys h ∙ ap (λ (l : List Event). events_of acts (standing p false) xs ++ l) (is_silent q ys)
+        (sym (of_both xs ys h ∙ ap (λ (l : List Event). events_of acts (standing p false) xs ++ l) (is_silent acts q ys)
         ∙ append-nil (events_of acts (standing p false) xs))) h.seen;
     asked = h.asked;
   }
 
-  refused_first : {p q : Point P W} (xs ys : List Action) → IsRefused acts watches xs p q → IsRefused acts watches (xs ++ ys) p q
+  refused_first : {p q : Point P W} (xs ys : List Action) → IsRefused acts watches xs p q →
+      IsRefused acts watches (xs ++ ys) p q
   refused_first {p} {q} xs ys h = record {
     made = h.made;
     left = h.left ++ ys;
@@ -124,8 +127,8 @@ module _ {P W : Type 0} (acts : Acts P) {watches : Watches W} where
     asks = asks_more watches.asks q.machine h.left ys h.asks;
   }
 
-  refused_then : {p q u : Point P W} (xs ys : List Action) → IsMade acts watches xs p q false → IsRefused acts watches ys q u →
-      IsRefused acts watches (xs ++ ys) p u
+  refused_then : {p q u : Point P W} (xs ys : List Action) → IsMade acts watches xs p q false →
+      IsRefused acts watches ys q u → IsRefused acts watches (xs ++ ys) p u
   refused_then xs ys h k = record {
     made = xs ++ k.made;
     left = k.left;
@@ -135,8 +138,8 @@ module _ {P W : Type 0} (acts : Acts P) {watches : Watches W} where
   }
 
   -- one part, and the other
-  pub did_then : {p q : Point P W} (u : Point P W) (f g : Part P) → IsMade acts watches (f (standing p false)) p q false →
-      (o : Option End) → Reaches acts watches g q o u → Reaches acts watches (followed_by acts f g) p o u
+  pub did_then : {p q : Point P W} (u : Point P W) (f g : Part P) →
+      IsMade acts watches (f (standing p false)) p q false → (o : Option End) → Reaches acts watches g q o u → Reaches acts watches (followed_by acts f g) p o u
   did_then {p} {q} u f g h None k =
       subst (λ (s : Standing P). IsMade acts watches (f (standing p false) ++ g s) p u false) (sym h.leads)
       (made_both (f (standing p false)) (g (standing q false)) h k)
@@ -178,7 +181,8 @@ module _ {P W : Type 0} (acts : Acts P) {watches : Watches W} where
 
   -- what is left of a part, where all before was made
   abbrev pub IsLeft : Part P → Part P → Point P W → Point P W → Type 0
-  IsLeft all left p q = (o : Option End) (u : Point P W) → Reaches acts watches left q o u → Reaches acts watches all p o u
+  IsLeft all left p q =
+      (o : Option End) (u : Point P W) → Reaches acts watches left q o u → Reaches acts watches all p o u
 
   pub left_then : {p q u : Point P W} (all f g : Part P) → IsLeft all (followed_by acts f g) p q →
       IsMade acts watches (f (standing q false)) q u false → IsLeft all g p u

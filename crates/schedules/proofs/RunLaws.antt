@@ -13,7 +13,7 @@ use Rattle.schedules.specs.declared.policy.Policy.{Policy}
 use Rattle.schedules.specs.declared.policy.Policy.TheVariants.{Rounds, FairRounds, Seed}
 use Rattle.schedules.specs.Parts.{Action, Does, Advances, Lists, Standing, after_action, after_actions}
 use Rattle.schedules.specs.Parts.{events_of_one, events_of}
-use Rattle.schedules.specs.Policies.{EndedBy}
+use Rattle.schedules.specs.Policies.{EndsBy}
 use Rattle.schedules.specs.RoundSchedule.{Round, round_of, rounds, AreRounds, ArePartOfRounds, none, more}
 use Rattle.schedules.specs.Runs.{Plan, Position, begin, turn_at, end_of_turn, one_more, run, HasRun, IsCut, Ended}
 use Rattle.schedules.specs.Runs.{are_over, end_here, initial_position, opened, plan_of}
@@ -149,10 +149,10 @@ module _ {P S : Type 0} (plan : Plan P S) (m : Machine) (opening : List P) (own 
           (rw ended.machine_is below) over) in
           (none_of (open_op ended.last.machine core) parts.0, none_of (next_in plan.acts ended.last.programs core) parts.1)
 
--- a run leaves no choice
-same_run : {P S : Type 0} {keeps : Bool} (plan : Plan P S) (start : Position P S) (events others : List Event)
+-- a run leaves no choice, whether its events are kept or not
+same_run : {P S : Type 0} {keeps also : Bool} (plan : Plan P S) (start : Position P S) (events others : List Event)
     (m n : Machine) (programs told : List P) (e last : End) → Ended keeps plan start events m programs e →
-    Ended keeps plan start others n told last → e ≢ NoMemory → last ≢ NoMemory →
+    Ended also plan start others n told last → e ≢ NoMemory → last ≢ NoMemory →
     (events ≡ others) × (m ≡ n) × (programs ≡ told) × (e ≡ last)
 same_run {P} plan start events others m n programs told e last first second had too =
     let a = not_cut first had in
@@ -165,16 +165,16 @@ same_run {P} plan start events others m n programs told e last first second had 
     )
 
 -- so it is of every policy
-pub same_list : {P : Type 0} (acts : Acts P) (policy : Policy) (limit : ℕ) (start : Machine) (opening : List P)
-    (events others : List Event) (m n : Machine) (programs told : List P) (e last : End) →
-    EndedBy acts policy limit start opening events m programs e →
-    EndedBy acts policy limit start opening others n told last →
+pub same_list : {P : Type 0} (acts : Acts P) (keeps also : Bool) (policy : Policy) (limit : ℕ) (start : Machine)
+    (opening : List P) (events others : List Event) (m n : Machine) (programs told : List P) (e last : End) →
+    EndsBy keeps acts policy limit start opening events m programs e →
+    EndsBy also acts policy limit start opening others n told last →
     e ≢ NoMemory → last ≢ NoMemory → (events ≡ others) × (m ≡ n) × (programs ≡ told) × (e ≡ last)
-same_list acts Rounds limit start opening events others m n programs told e last =
+same_list acts keeps also Rounds limit start opening events others m n programs told e last =
     same_run _ _ events others m n programs told e last
-same_list acts FairRounds limit start opening events others m n programs told e last =
+same_list acts keeps also FairRounds limit start opening events others m n programs told e last =
     same_run _ _ events others m n programs told e last
-same_list acts (Seed seed) limit start opening events others m n programs told e last =
+same_list acts keeps also (Seed seed) limit start opening events others m n programs told e last =
     same_run _ _ events others m n programs told e last
 
 -- a run by rounds makes rounds

@@ -1,6 +1,6 @@
 -- How turns begin and end, and a run with them.
-use Rattle.std.proofs.Common.{◌≡◌, ◌≢◌, inl, inr, ℕ, zero, suc, ◌+◌, ◌<◌, ◌≤◌, ◌&&◌, not, Bool, true, false, List, []}
-use Rattle.std.proofs.Common.{◌++◌, Option, Some, None, refl, sym, subst, ap, ap₂, ◌∙◌, arith}
+use Rattle.std.proofs.Common.{◌≡◌, ◌≢◌, inl, inr, ℕ, zero, suc, ◌+◌, ◌<◌, ◌≤◌, ◌&&◌, not, Bool, true, false, List}
+use Rattle.std.proofs.Common.{◌++◌, Some, refl, sym, subst, ap, ap₂, ◌∙◌, arith}
 use Rattle.std.proofs.lemmas.Bool.{cases_eq}
 use Rattle.machine_table.specs.declared.event.Event.{Event}
 use Rattle.machine_table.specs.Machine.{Machine}
@@ -9,7 +9,7 @@ use Rattle.programs.specs.declared.ends.End.TheVariants as end
 use Rattle.schedules.specs.Parts.{Action, Standing, after_actions, events_of}
 use Rattle.schedules.specs.Runs.{Plan, Position, initial_position, begin, turn_at, end_of_turn, after_turn}
 use Rattle.schedules.specs.Runs.{one_more, run}
-use Rattle.schedules.specs.Runs.{are_over, end_here, AsksMemory, Ended}
+use Rattle.schedules.specs.Runs.{are_over, end_here}
 use Rattle.schedules.specs.Notes.{Point, at, standing, IsMade, IsRefused, Reaches, Finishes}
 use Rattle.schedules.specs.Watches.{Watches, AreSeen}
 use Rattle.schedules.specs.declared.log.Log.{Log}
@@ -34,7 +34,7 @@ module _ {P S : Type 0} (plan : Plan P S) (start : Position P S) where
         ∙ one_more_stays plan (run plan turns start).end (run plan turns start) over
   ]
 
-module _ {P S W : Type 0} {watches : Watches W} (plan : Plan P S) (start : Position P S) (first : W) where
+module _ {P S W : Type 0} (watches : Watches W) (plan : Plan P S) (start : Position P S) (first : W) where
   -- what was seen of a run up to a point
   abbrev IsSeen : List Event → Point P W → Type 0
   IsSeen events p = AreSeen watches (watches.seen first) start.standing.machine events p.machine p.log.watcher
@@ -141,7 +141,8 @@ module _ {P S W : Type 0} {watches : Watches W} (plan : Plan P S) (start : Posit
           ++ events_of plan.acts s actions) now.begins turn_is))
           (seen_both watches (run plan turns start).events _ now.seen made.seen)
 
-    module _ (q : Point P W) (made : IsMade plan.acts watches (plan.schedule.turn own (standing p false)) p q false) where
+    module _ (q : Point P W)
+        (made : IsMade plan.acts watches (plan.schedule.turn own (standing p false)) p q false) where
       pub turn_over : (plan.schedule.stalls && not q.log.has_progressed) ≡ false → (own_after : S) →
           own_after ≡ plan.schedule.next own → IsAt (turns + 1) q own_after
       turn_over more own_after is = let count : suc turns ≡ turns + 1 = omega arith in
@@ -200,11 +201,11 @@ module _ {P S W : Type 0} {watches : Watches W} (plan : Plan P S) (start : Posit
     did_end below _ q did = absurd did
 
 -- before the first turn
-pub at_first : {P S W : Type 0} {watches : Watches W} (plan : Plan P S) (m : Machine) (programs : List P) (log : Log W)
-    (own : S) → IsAt {watches = watches} plan (initial_position plan.acts m programs own) log.watcher 0
+pub at_first : {P S W : Type 0} (watches : Watches W) (plan : Plan P S) (m : Machine) (programs : List P) (log : Log W)
+    (own : S) → IsAt watches plan (initial_position plan.acts m programs own) log.watcher 0
     (at m programs log) own
 unfolding run
-at_first plan m programs log own = record {
+at_first watches plan m programs log own = record {
   out = false;
   progressed = false;
   standing_is = refl;

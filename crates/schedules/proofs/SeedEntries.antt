@@ -282,11 +282,11 @@ module _ {P : Type 0} (acts : Acts P) (m : Machine) (programs : List P) (b at co
       let bad = sym none ∙ there in absurd cc
 
 -- memory was refused before a line's eviction
-pub not_listed : {P W : Type 0} (acts : Acts P) {watches : Watches W} (choice : Choice) → is_eviction choice ≡ true →
+pub not_listed : {P W : Type 0} (acts : Acts P) (watches : Watches W) (choice : Choice) → is_eviction choice ≡ true →
     (p : Point P W) →
     IsRefused acts watches (chosen acts choice (standing p false)) p p
-not_listed acts (Evicts e) is p = list_refused acts p (Does e ∷ [])
-not_listed acts _ is p = absurd cc
+not_listed acts watches (Evicts e) is p = list_refused acts watches p (Does e ∷ [])
+not_listed acts watches _ is p = absurd cc
 
 -- other lists than the first three are those of steps
 pub other_list : {P : Type 0} (acts : Acts P) (m : Machine) (programs : List P) (k : ℕ) → k ≢ 0 → k ≢ 1 → k ≢ 2 →

@@ -55,7 +55,7 @@ use Rattle.schedules.specs.Runs.{initial_position, is_over, are_over, plan_of}
 use Rattle.schedules.specs.Stalls.{IsAmong, StallsSince, full, unnumbered, too_many}
 use Rattle.schedules.proofs.Over.{one_not_over}
 use Rattle.schedules.proofs.RunLaws.{not_cut, run_makes, all_both, run_stands, all_kept, Says, here_says, run_says}
-use Rattle.schedules.proofs.StillRounds.{IsCalm, IsStill, AreStill, GoesOn, AreOf, Has, all_still, still_leaves}
+use Rattle.schedules.proofs.StillRounds.{IsCalm, IsStill, AreStill, GoesOn, AreOf, all_still, still_leaves}
 use Rattle.schedules.proofs.StillRounds.{went, all_of, both_have, each_has}
 
 calm_stays : (a : Answer) → IsCalm a → IsMoving a → ⊥

@@ -62,7 +62,8 @@ answered records (Err end) = Err end
 -- allocation failed, nothing changed, and the event asks for memory or its watcher does
 abbrev pub Noted : {W : Type 0} → Watches W → Machine → Log W → Event → Result Answer End → Machine → Log W → Type 0
 Noted watches m log event (Ok answer) after after_log =
-    ((answer, after) ≡ transition m event) × (is_times_end answer ≡ false) × IsNoted watches log event answer after after_log
+    ((answer, after) ≡ transition m event) × (is_times_end answer ≡ false)
+    × IsNoted watches log event answer after after_log
 Noted watches m log event (Err Exhausted) after after_log =
     ((Refused TimesEnd, after) ≡ transition m event) × IsNoted watches log event (Refused TimesEnd) after after_log
 Noted watches m log event (Err NoMemory) after after_log =

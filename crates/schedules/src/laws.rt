@@ -19,7 +19,7 @@ ghost use Rattle.programs.specs.declared.ends.End.{End};
 ghost use Rattle.schedules.specs.declared.policy.Policy.{Policy};
 ghost use Rattle.schedules.specs.declared.policy.Policy.TheVariants as policy;
 ghost use Rattle.schedules.specs.Batches.{policy_of_run};
-ghost use Rattle.schedules.specs.Policies.{EndedBy};
+ghost use Rattle.schedules.specs.Policies.{EndedBy, EndsBy};
 ghost use Rattle.schedules.specs.Parts.{Does, Standing, after_actions, is_progress};
 ghost use Rattle.schedules.specs.Runs.{Ended, initial_position, opened, plan_of};
 ghost use Rattle.schedules.specs.Stalls.{IsAmong, StallsSince, StallsFromOpening};
@@ -125,6 +125,16 @@ pub fn one_seed_gives_one_list<P: Program>()
         (events more : List Event) (m n : Machine) (programs others : List P) (end last : End) →
         EndedBy P.acts policy limit start opening events m programs end →
         EndedBy P.acts policy limit start opening more n others last →
+        end ≢ End.NoMemory → last ≢ End.NoMemory →
+        (events ≡ more) × (m ≡ n) × (programs ≡ others) × (end ≡ last) }
+{}
+
+/// The same is so of a run whose events are kept or shown to a watcher, and of another that does neither, or either.
+pub fn watching_changes_no_event<P: Program>()
+    ensures { (keeps also : Bool) (policy : Policy) (limit : ℕ) (start : Machine) (opening : List P)
+        (events more : List Event) (m n : Machine) (programs others : List P) (end last : End) →
+        EndsBy keeps P.acts policy limit start opening events m programs end →
+        EndsBy also P.acts policy limit start opening more n others last →
         end ≢ End.NoMemory → last ≢ End.NoMemory →
         (events ≡ more) × (m ≡ n) × (programs ≡ others) × (end ≡ last) }
 {}

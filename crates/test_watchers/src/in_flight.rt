@@ -8,7 +8,7 @@ use interleaving_core::{Event, PlainAnswer, System};
 use schedules::Watcher;
 use std::alloc::AllocError;
 
-/// It takes at most so many events.
+/// It takes at most `most` events.
 #[derive(Drop)]
 pub struct InFlight {
     pub counts: Vec<u64>,

@@ -13,14 +13,14 @@ pub returns-then-is_some-clause-did : goal.returns-then-is_some-clause-did
 returns-then-is_some-clause-did g c =
     let a = c.args in
     rw (no_step a.core (open_op a.system.now a.core) (next_in g.P.Program.acts a.programs.now a.core) _ (search rules))
-    (none_made g.P.Program.acts _)
+    (none_made g.P.Program.acts _ _)
 
 pub returns-in_default-clause-did : goal.returns-in_default-clause-did
 returns-in_default-clause-did g c =
     let a = c.args in
     let free : open_op a.system.now a.core ≡ None = search rules in
     let ended : next_in g.P.Program.acts a.programs.now a.core ≡ None = search rules in
-    rw (free, ended) (none_made g.P.Program.acts _)
+    rw (free, ended) (none_made g.P.Program.acts _ _)
 
 pub returns-in_err-do_step-clause-did : goal.returns-in_err-do_step-clause-did
 returns-in_err-do_step-clause-did g c =
@@ -28,7 +28,7 @@ returns-in_err-do_step-clause-did g c =
     let e = err_from_is_err_and c.from_residual.result c.from_residual.ensures.1 in
     let free : open_op a.system.now a.core ≡ None = search rules in
     let next : next_in g.P.Program.acts a.programs.now a.core ≡ Some c.in-Some.next = search rules in
-    rw (e.1, e.2) (did_as g.P.Program.acts _ _ (one (step_action a.core c.in-Some.next))
+    rw (e.1, e.2) (did_as g.P.Program.acts _ _ _ (one (step_action a.core c.in-Some.next))
     (steps_on g.P.Program.acts a.core)
     (has_step a.core _ _ c.in-Some.next (standing (at a.system.now a.programs.now a.log.now) false) free next) (Some _)
     c.in_err-do_step.ensures)

@@ -13,8 +13,8 @@ returns-in-Ok-true g c =
     let acts = g.P.Program.acts in
     let n = c.begin_core.new in
     let has : is_some (open_op n.system core) ≡ true = search rules in
-    did_then acts _ (steps_on acts core) (attempts acts core) c.in-Ok-true.ensures.did (end_in c.try_core.result)
-    (did_as acts _ _ (tries_twice acts core) (attempts acts core)
+    did_then acts _ _ (steps_on acts core) (attempts acts core) c.in-Ok-true.ensures.did (end_in c.try_core.result)
+    (did_as acts _ _ _ (tries_twice acts core) (attempts acts core)
     (attempted acts core (open_op n.system core) (standing (at n.system n.programs n.log) false) has)
     (end_in c.try_core.result) c.try_core.ensures)
 
@@ -24,12 +24,12 @@ returns-in-Ok-false g c =
     let acts = g.P.Program.acts in
     let n = c.begin_core.new in
     let has : is_some (open_op n.system core) ≡ false = search rules in
-    did_then acts _ (steps_on acts core) (attempts acts core) c.in-Ok-false.ensures.did None
+    did_then acts _ _ (steps_on acts core) (attempts acts core) c.in-Ok-false.ensures.did None
     (rw (not_attempted acts core (open_op n.system core) (standing (at n.system n.programs n.log) false) has)
-    (none_made acts (at n.system n.programs n.log)))
+    (none_made acts _ (at n.system n.programs n.log)))
 
 pub returns-in-Err : goal.returns-in-Err
 returns-in-Err g c =
     let core = c.args.core in
     let acts = g.P.Program.acts in
-    did_first acts _ _ (steps_on acts core) (attempts acts core) _ c.in-Err.ensures.did
+    did_first acts _ _ _ (steps_on acts core) (attempts acts core) _ c.in-Err.ensures.did

@@ -13,7 +13,7 @@ returns-in-Err g c =
     let l = c.loop-core in
     let acts = g.P.Program.acts in
     let counts : c.args.cores - l.core ≡ suc (c.args.cores - (l.core + 1)) = omega (arith, c.loop-core-test.true) in
-    left_first acts _ _ _ (core_turns acts c.args.cores) (core_turn acts l.core)
+    left_first acts _ _ _ _ (core_turns acts c.args.cores) (core_turn acts l.core)
     (for_each acts (core_turn acts) (rising (c.args.cores - (l.core + 1)) (l.core + 1))) (rw counts at l.invariant) _
     c.in-Err.ensures
 
@@ -22,7 +22,7 @@ loop-core-preserved g c =
     let l = c.loop-core in
     let acts = g.P.Program.acts in
     let counts : c.args.cores - l.core ≡ suc (c.args.cores - (l.core + 1)) = omega (arith, c.loop-core-test.true) in
-    left_then acts (core_turns acts c.args.cores) (core_turn acts l.core)
+    left_then acts _ (core_turns acts c.args.cores) (core_turn acts l.core)
     (for_each acts (core_turn acts) (rising (c.args.cores - (l.core + 1)) (l.core + 1))) (rw counts at l.invariant)
     c.in_default.ensures
 
@@ -30,4 +30,4 @@ pub returns : goal.returns
 returns g c =
     let l = c.loop-core in
     let none : c.args.cores - l.core ≡ 0 = omega (arith, c.loop-core-test.false) in
-    (rw none at l.invariant) None _ (none_made g.P.Program.acts _)
+    (rw none at l.invariant) None _ (none_made g.P.Program.acts _ _)

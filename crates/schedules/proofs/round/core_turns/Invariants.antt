@@ -8,5 +8,6 @@ use Rattle.schedules.proofs.round.core_turns.Given as goal
 abbrev pub invariant-loop-core : goal.invariant-loop-core
 invariant-loop-core g l =
     let acts = g.P.Program.acts in
-    IsLeft acts {watches = g.W.Watcher.watches} (core_turns acts l.fn.cores) (for_each acts (core_turn acts) (rising (l.fn.cores - l.core) l.core))
+    IsLeft acts g.W.Watcher.watches (core_turns acts l.fn.cores)
+    (for_each acts (core_turn acts) (rising (l.fn.cores - l.core) l.core))
     (at l.fn.system l.fn.programs l.fn.log) (at l.system l.programs l.log)

@@ -17,7 +17,7 @@ returns-in_err-deliver g c programs =
     let number = c.number-item.result in
     let e = err_from_is_err_and c.from_residual.result c.from_residual.ensures.1 in
     let left = left_from a.numbers.now l.number-index number c.loop-number-test.true c.number-item.is in
-    rw (e.1, e.2) (left_first acts _ (at l.system programs l.log) _
+    rw (e.1, e.2) (left_first acts _ _ (at l.system programs l.log) _
     (for_each acts (delivery acts a.is_fair) a.numbers.now) (delivery acts a.is_fair number)
     (for_each acts (delivery acts a.is_fair) (drop (l.number-index + 1) a.numbers.now))
     (rw left at (l.invariant programs)) _ (c.in_err-deliver.ensures programs))
@@ -29,7 +29,7 @@ loop-number-preserved g c programs =
     let acts = g.P.Program.acts in
     let number = c.number-item.result in
     let left = left_from a.numbers.now l.number-index number c.loop-number-test.true c.number-item.is in
-    left_then acts (for_each acts (delivery acts a.is_fair) a.numbers.now) (delivery acts a.is_fair number)
+    left_then acts _ (for_each acts (delivery acts a.is_fair) a.numbers.now) (delivery acts a.is_fair number)
     (for_each acts (delivery acts a.is_fair) (drop (l.number-index + 1) a.numbers.now))
     (rw left at (l.invariant programs)) (c.in_ok-deliver.ensures programs)
 
@@ -37,4 +37,4 @@ pub returns : goal.returns
 returns g c programs =
     let l = c.loop-number in
     (rw (drop_all l.number-index c.args.numbers.now c.loop-number-test.false) at (l.invariant programs))
-    None _ (none_made g.P.Program.acts _)
+    None _ (none_made g.P.Program.acts _ _)

@@ -11,7 +11,7 @@ returns-in_err-attempt g c =
     let a = c.args in
     let acts = g.P.Program.acts in
     let e = err_from_is_err_and c.from_residual.result c.from_residual.ensures.1 in
-    rw (e.1, e.2) (did_first acts _ _ (tries acts a.core)
+    rw (e.1, e.2) (did_first acts _ _ _ (tries acts a.core)
     (only_if (finds_no_place a.system.now a.core) (one (Does (Attempt a.core)))) _ c.in_err-attempt.ensures.did)
 
 pub returns-then-branch : goal.returns-then-branch
@@ -19,8 +19,8 @@ returns-then-branch g c =
     let a = c.args in
     let acts = g.P.Program.acts in
     let full = finds_no_place a.system.now a.core in
-    did_then acts _ (tries acts a.core) (only_if full (one (Does (Attempt a.core)))) c.in_ok-attempt.ensures.did
-    (end_in c.make.result) (did_if acts _ _ full (one (Does (Attempt a.core)))
+    did_then acts _ _ (tries acts a.core) (only_if full (one (Does (Attempt a.core)))) c.in_ok-attempt.ensures.did
+    (end_in c.make.result) (did_if acts _ _ _ full (one (Does (Attempt a.core)))
     (sym c.in_ok-attempt.ensures.full ∙ c.if-branch.true) (end_in c.make.result) c.make.ensures)
 
 pub returns : goal.returns
@@ -28,5 +28,5 @@ returns g c =
     let a = c.args in
     let acts = g.P.Program.acts in
     let full = finds_no_place a.system.now a.core in
-    did_then acts _ (tries acts a.core) (only_if full (one (Does (Attempt a.core)))) c.in_ok-attempt.ensures.did
-    None (did_not acts _ full (one (Does (Attempt a.core))) (sym c.in_ok-attempt.ensures.full ∙ c.if-branch.false))
+    did_then acts _ _ (tries acts a.core) (only_if full (one (Does (Attempt a.core)))) c.in_ok-attempt.ensures.did
+    None (did_not acts _ _ full (one (Does (Attempt a.core))) (sym c.in_ok-attempt.ensures.full ∙ c.if-branch.false))

@@ -8,7 +8,8 @@ pub loop-made-init : goal.loop-made-init
 loop-made-init g c =
     let a = c.args in record {
       here = rw c.note_all.ensures
-          (at_first (plan_of g.P.Program.acts g.S.Schedule.rule a.limit) a.system.now a.programs.now _ a.schedule.now);
+          (at_first g.W.Watcher.watches (plan_of g.P.Program.acts g.S.Schedule.rule a.limit) a.system.now
+          a.programs.now _ a.schedule.now);
       asked = rw c.note_all.ensures c.unfinished.ensures;
     }
 
@@ -19,7 +20,7 @@ pub returns-then-are_over : goal.returns-then-are_over
 returns-then-are_over g c =
     let a = c.args in
     let l = c.loop-made in
-    all_done (plan_of g.P.Program.acts g.S.Schedule.rule a.limit)
+    all_done g.W.Watcher.watches (plan_of g.P.Program.acts g.S.Schedule.rule a.limit)
     (initial_position g.P.Program.acts a.system.now a.programs.now a.schedule.now) a.log.now.watcher l._made
     (at l.system l.programs l.log) l.schedule l.invariant.here
     (sym c.if-are_over.ensures) (omega (arith, c.loop-made-test.true))
@@ -31,9 +32,11 @@ returns-in-Err g c =
     let n = c.turn.new in
     let plan = plan_of g.P.Program.acts g.S.Schedule.rule a.limit in
     let start = initial_position g.P.Program.acts a.system.now a.programs.now a.schedule.now in
-    let now = turn_begun plan start a.log.now.watcher l._made l.system l.programs l.log c.begin_turn.new.self l.schedule l.invariant.here
-    (sym c.if-are_over.ensures) c.begin_turn.ensures in
-    did_end plan start a.log.now.watcher l._made (at l.system l.programs c.begin_turn.new.self) l.schedule now
+    let watches = g.W.Watcher.watches in
+    let first = a.log.now.watcher in
+    let now = turn_begun watches plan start first l._made l.system l.programs l.log c.begin_turn.new.self l.schedule
+    l.invariant.here (sym c.if-are_over.ensures) c.begin_turn.ensures in
+    did_end watches plan start first l._made (at l.system l.programs c.begin_turn.new.self) l.schedule now
     c.loop-made-test.true c.in-Err.end (at n.system n.programs n.log) c.in-Err.ensures.did
 
 pub returns-then-is_last : goal.returns-then-is_last
@@ -43,9 +46,11 @@ returns-then-is_last g c =
     let n = c.turn.new in
     let plan = plan_of g.P.Program.acts g.S.Schedule.rule a.limit in
     let start = initial_position g.P.Program.acts a.system.now a.programs.now a.schedule.now in
-    let now = turn_begun plan start a.log.now.watcher l._made l.system l.programs l.log c.begin_turn.new.self l.schedule l.invariant.here
-    (sym c.if-are_over.ensures) c.begin_turn.ensures in
-    stalled plan start a.log.now.watcher l._made (at l.system l.programs c.begin_turn.new.self) l.schedule now
+    let watches = g.W.Watcher.watches in
+    let first = a.log.now.watcher in
+    let now = turn_begun watches plan start first l._made l.system l.programs l.log c.begin_turn.new.self l.schedule
+    l.invariant.here (sym c.if-are_over.ensures) c.begin_turn.ensures in
+    stalled watches plan start first l._made (at l.system l.programs c.begin_turn.new.self) l.schedule now
     (at n.system n.programs n.log) c.in_default.ensures.did (sym c.if-is_last.ensures) c.loop-made-test.true
 
 pub loop-made-preserved : goal.loop-made-preserved
@@ -55,9 +60,11 @@ loop-made-preserved g c =
     let n = c.turn.new in
     let plan = plan_of g.P.Program.acts g.S.Schedule.rule a.limit in
     let start = initial_position g.P.Program.acts a.system.now a.programs.now a.schedule.now in
-    let now = turn_begun plan start a.log.now.watcher l._made l.system l.programs l.log c.begin_turn.new.self l.schedule l.invariant.here
-    (sym c.if-are_over.ensures) c.begin_turn.ensures in record {
-      here = turn_over plan start a.log.now.watcher l._made (at l.system l.programs c.begin_turn.new.self) l.schedule now
+    let watches = g.W.Watcher.watches in
+    let first = a.log.now.watcher in
+    let now = turn_begun watches plan start first l._made l.system l.programs l.log c.begin_turn.new.self l.schedule
+    l.invariant.here (sym c.if-are_over.ensures) c.begin_turn.ensures in record {
+      here = turn_over watches plan start first l._made (at l.system l.programs c.begin_turn.new.self) l.schedule now
           (at n.system n.programs n.log) c.in_default.ensures.did (sym c.if-is_last.ensures) n.self
           c.in_default.ensures.next;
       asked = c.in_default.ensures.did.asked (rw c.begin_turn.ensures l.invariant.asked);
@@ -67,7 +74,7 @@ pub returns-then-are_over-2 : goal.returns-then-are_over-2
 returns-then-are_over-2 g c =
     let a = c.args in
     let l = c.loop-made in
-    all_done (plan_of g.P.Program.acts g.S.Schedule.rule a.limit)
+    all_done g.W.Watcher.watches (plan_of g.P.Program.acts g.S.Schedule.rule a.limit)
     (initial_position g.P.Program.acts a.system.now a.programs.now a.schedule.now) a.log.now.watcher l._made
     (at l.system l.programs l.log) l.schedule l.invariant.here
     (sym c.if-are_over-2.ensures) (omega (arith, l.auto._made-end))
@@ -76,7 +83,7 @@ pub returns-else-are_over-2 : goal.returns-else-are_over-2
 returns-else-are_over-2 g c =
     let a = c.args in
     let l = c.loop-made in
-    turns_used (plan_of g.P.Program.acts g.S.Schedule.rule a.limit)
+    turns_used g.W.Watcher.watches (plan_of g.P.Program.acts g.S.Schedule.rule a.limit)
     (initial_position g.P.Program.acts a.system.now a.programs.now a.schedule.now) a.log.now.watcher l._made
     (at l.system l.programs l.log) l.schedule l.invariant.here
     (sym c.if-are_over-2.ensures)

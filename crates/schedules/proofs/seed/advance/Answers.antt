@@ -9,7 +9,7 @@ returns-then-cores-eq0 g c =
     let m = c.args.system.now in
     let count = advance_count m in
     rw (no_entry (advances m) c.args.b (omega (arith, count, c.if-cores-eq0.true, c.cores-cores.ensures.cores)))
-    (none_made g.P.Program.acts _)
+    (none_made g.P.Program.acts _ _)
 
 pub returns : goal.returns
 returns g c =

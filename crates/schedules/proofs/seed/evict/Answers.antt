@@ -8,7 +8,7 @@ use Rattle.schedules.proofs.seed.evict.Goals as goal
 
 pub returns-in_default : goal.returns-in_default
 returns-in_default g c =
-    rw c.drawn_line.ensures.machine (not_listed g.P.Program.acts _ c.in_default.ensures.found _)
+    rw c.drawn_line.ensures.machine (not_listed g.P.Program.acts _ _ c.in_default.ensures.found _)
 
 pub returns : goal.returns
 returns g c =
@@ -22,6 +22,6 @@ returns g c =
     let is : choice_at (line_events h.eviction (h.lines a.system.now) (h.holders a.system.now)) a.b ≡ Evicts e =
     search rules ∙ ap Evicts (sym c.eviction.ensures) in
     subst (λ choice. Reaches acts g.W.Watcher.watches (chosen acts choice) p (end_in c.make.result) q) (sym is)
-    (did_as acts p q (followed_by acts (one Lists) (one (Does e))) (chosen acts (Evicts e)) refl (end_in c.make.result)
-    (did_then acts q (one Lists) (one (Does e)) (list_made acts p) (end_in c.make.result)
+    (did_as acts _ p q (followed_by acts (one Lists) (one (Does e))) (chosen acts (Evicts e)) refl
+    (end_in c.make.result) (did_then acts _ q (one Lists) (one (Does e)) (list_made acts _ p) (end_in c.make.result)
     (rw c.drawn_line.ensures.machine at c.make.ensures)))

@@ -13,5 +13,5 @@ returns-in_default g c =
     let same : steps acts a.system.now a.programs.now ≡ drawn_list acts a.system.now a.programs.now (a.a % 16) =
     other_list acts a.system.now a.programs.now (a.a % 16) (search rules) (search rules)
     (search rules) in
-    did_as acts _ _ (chosen acts (choice_at (steps acts a.system.now a.programs.now) a.b)) (drawn acts a.a a.b)
+    did_as acts _ _ _ (chosen acts (choice_at (steps acts a.system.now a.programs.now) a.b)) (drawn acts a.a a.b)
     (ap (λ l. chosen acts (choice_at l a.b) s) same) (end_in c.step.result) c.step.ensures

@@ -53,4 +53,4 @@ returns-then-total-eq0 g c =
       all,
       c.if-total-eq0.true,
     )))
-    (none_made g.P.Program.acts _)
+    (none_made g.P.Program.acts _ _)

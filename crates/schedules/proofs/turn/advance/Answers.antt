@@ -6,12 +6,12 @@ pub returns-in_err-plain : goal.returns-in_err-plain
 returns-in_err-plain g c =
     let a = c.args in
     let e = err_from_is_err_and c.from_residual.result c.from_residual.ensures.1 in
-    rw (e.1, e.2) (advance_not_made g.P.Program.acts a.system.now a.programs.now a.log.now a.core
+    rw (e.1, e.2) (advance_not_made g.P.Program.acts _ a.system.now a.programs.now a.log.now a.core
     c.in_err-plain.field-0.0 c.step.new.system c.step.new.log c.in_err-plain.ensures)
 
 pub returns : goal.returns
 returns g c =
     let a = c.args in
-    advance_made g.P.Program.acts a.system.now a.programs.now a.log.now a.core _ c.step.new.system
+    advance_made g.P.Program.acts _ a.system.now a.programs.now a.log.now a.core _ c.step.new.system
     c.tell_advance.new.programs c.step.new.log c.tell_advance.new.log c.in_ok-plain.ensures
     (c.tell_advance.ensures.done c.step.new.system.records) c.tell_advance.ensures.told

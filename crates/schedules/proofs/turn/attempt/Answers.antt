@@ -13,9 +13,9 @@ returns-in_err-plain-clause-did g c =
     let a = c.args in
     let acts = g.P.Program.acts in
     let e = err_from_is_err_and c.from_residual.result c.from_residual.ensures.1 in
-    rw (e.1, e.2) (did_first acts _ _ (one (Does (Attempt a.core)))
+    rw (e.1, e.2) (did_first acts _ _ _ (one (Does (Attempt a.core)))
     (only_if (finds_no_place a.system.now a.core) (makes_place a.core)) c.in_err-plain.field-0.0
-    (event_not_made acts a.system.now a.programs.now a.log.now (Attempt a.core) c.in_err-plain.field-0.0
+    (event_not_made acts _ a.system.now a.programs.now a.log.now (Attempt a.core) c.in_err-plain.field-0.0
     c.try_core.new.system c.try_core.new.log c.in_err-plain.ensures))
 
 pub returns-in_err-evict-clause-did : goal.returns-in_err-evict-clause-did
@@ -26,11 +26,11 @@ returns-in_err-evict-clause-did g c =
     let full : is_no_room _ ≡ true = search rules in
     let found : finds_no_place a.system.now a.core ≡ true =
     ap (λ (x : Answer × Machine). is_no_room x.0) (sym c.in_ok-plain.ensures.0) ∙ full in
-    rw (e.1, e.2) (did_then acts _ (one (Does (Attempt a.core)))
+    rw (e.1, e.2) (did_then acts _ _ (one (Does (Attempt a.core)))
     (only_if (finds_no_place a.system.now a.core) (makes_place a.core))
-    (no_place_found acts a.system.now a.programs.now a.log.now a.core _ c.try_core.new.system c.try_core.new.log
+    (no_place_found acts _ a.system.now a.programs.now a.log.now a.core _ c.try_core.new.system c.try_core.new.log
     c.in_ok-plain.ensures full) (Some _)
-    (did_if acts _ _ (finds_no_place a.system.now a.core) (makes_place a.core) found (Some _)
+    (did_if acts _ _ _ (finds_no_place a.system.now a.core) (makes_place a.core) found (Some _)
     (c.in_err-evict.ensures a.programs.now)))
 
 pub returns-then-is_no_room-clause-did : goal.returns-then-is_no_room-clause-did
@@ -40,10 +40,10 @@ returns-then-is_no_room-clause-did g c =
     let full : is_no_room _ ≡ true = search rules in
     let found : finds_no_place a.system.now a.core ≡ true =
     ap (λ (x : Answer × Machine). is_no_room x.0) (sym c.in_ok-plain.ensures.0) ∙ full in
-    did_then acts _ (one (Does (Attempt a.core))) (only_if (finds_no_place a.system.now a.core) (makes_place a.core))
-    (no_place_found acts a.system.now a.programs.now a.log.now a.core _ c.try_core.new.system c.try_core.new.log
+    did_then acts _ _ (one (Does (Attempt a.core))) (only_if (finds_no_place a.system.now a.core) (makes_place a.core))
+    (no_place_found acts _ a.system.now a.programs.now a.log.now a.core _ c.try_core.new.system c.try_core.new.log
     c.in_ok-plain.ensures full) None
-    (did_if acts _ _ (finds_no_place a.system.now a.core) (makes_place a.core) found None
+    (did_if acts _ _ _ (finds_no_place a.system.now a.core) (makes_place a.core) found None
     (c.in_ok-evict.ensures a.programs.now))
 
 pub returns-then-is_no_room-clause-full : goal.returns-then-is_no_room-clause-full
@@ -58,10 +58,10 @@ returns-clause-did g c =
     let room : is_no_room _ ≡ false = search rules in
     let found : finds_no_place a.system.now a.core ≡ false =
     ap (λ (x : Answer × Machine). is_no_room x.0) (sym c.in_ok-plain.ensures.0) ∙ room in
-    did_then acts _ (one (Does (Attempt a.core))) (only_if (finds_no_place a.system.now a.core) (makes_place a.core))
-    (event_made acts a.system.now a.programs.now a.log.now (Attempt a.core) _ c.try_core.new.system c.tell.new.programs
-    c.try_core.new.log c.tell.new.log c.in_ok-plain.ensures c.tell.ensures.done c.tell.ensures.told) None
-    (did_not acts _ (finds_no_place a.system.now a.core) (makes_place a.core) found)
+    did_then acts _ _ (one (Does (Attempt a.core))) (only_if (finds_no_place a.system.now a.core) (makes_place a.core))
+    (event_made acts _ a.system.now a.programs.now a.log.now (Attempt a.core) _ c.try_core.new.system
+    c.tell.new.programs c.try_core.new.log c.tell.new.log c.in_ok-plain.ensures c.tell.ensures.done c.tell.ensures.told) None
+    (did_not acts _ _ (finds_no_place a.system.now a.core) (makes_place a.core) found)
 
 pub returns-clause-full : goal.returns-clause-full
 returns-clause-full g c =

@@ -15,9 +15,9 @@ returns-in_err-plain g c programs =
     let a = c.args in
     let acts = g.P.Program.acts in
     let e = err_from_is_err_and c.from_residual.result c.from_residual.ensures.1 in
-    rw (e.1, e.2) (did_first acts _ _ (one (Does (Deliver a.number)))
+    rw (e.1, e.2) (did_first acts _ _ _ (one (Does (Deliver a.number)))
     (only_if (is_held (transition a.system.now (Deliver a.number)).0) (makes_room acts a.is_fair a.number))
-    c.in_err-plain.field-0.0 (event_not_made acts a.system.now programs a.log.now (Deliver a.number)
+    c.in_err-plain.field-0.0 (event_not_made acts _ a.system.now programs a.log.now (Deliver a.number)
     c.in_err-plain.field-0.0 c.step.new.system c.step.new.log c.in_err-plain.ensures))
 
 pub returns-then-is_held : goal.returns-then-is_held
@@ -27,11 +27,11 @@ returns-then-is_held g c programs =
     let stays : is_held _ ≡ true = search rules in
     let held : is_held (transition a.system.now (Deliver a.number)).0 ≡ true =
     ap (λ (x : Answer × Machine). is_held x.0) (sym c.in_ok-plain.ensures.0) ∙ stays in
-    did_then acts _ (one (Does (Deliver a.number)))
+    did_then acts _ _ (one (Does (Deliver a.number)))
     (only_if (is_held (transition a.system.now (Deliver a.number)).0) (makes_room acts a.is_fair a.number))
-    (delivery_made acts a.system.now programs a.log.now a.number _ c.step.new.system c.step.new.log
+    (delivery_made acts _ a.system.now programs a.log.now a.number _ c.step.new.system c.step.new.log
     c.in_ok-plain.ensures) (end_in c.evict_bank.result)
-    (did_if acts _ _ _ (makes_room acts a.is_fair a.number) held (end_in c.evict_bank.result)
+    (did_if acts _ _ _ _ (makes_room acts a.is_fair a.number) held (end_in c.evict_bank.result)
     (c.evict_bank.ensures programs))
 
 pub returns : goal.returns
@@ -41,7 +41,7 @@ returns g c programs =
     let gone : is_held _ ≡ false = search rules in
     let held : is_held (transition a.system.now (Deliver a.number)).0 ≡ false =
     ap (λ (x : Answer × Machine). is_held x.0) (sym c.in_ok-plain.ensures.0) ∙ gone in
-    did_then acts _ (one (Does (Deliver a.number)))
+    did_then acts _ _ (one (Does (Deliver a.number)))
     (only_if (is_held (transition a.system.now (Deliver a.number)).0) (makes_room acts a.is_fair a.number))
-    (delivery_made acts a.system.now programs a.log.now a.number _ c.step.new.system c.step.new.log
-    c.in_ok-plain.ensures) None (did_not acts _ _ (makes_room acts a.is_fair a.number) held)
+    (delivery_made acts _ a.system.now programs a.log.now a.number _ c.step.new.system c.step.new.log
+    c.in_ok-plain.ensures) None (did_not acts _ _ _ (makes_room acts a.is_fair a.number) held)

@@ -7,11 +7,11 @@ pub returns-in_err-step : goal.returns-in_err-step
 returns-in_err-step g c programs =
     let a = c.args in
     let e = err_from_is_err_and c.from_residual.result c.from_residual.ensures.1 in
-    rw (e.1, e.2) (event_not_made g.P.Program.acts a.system.now programs a.log.now (Deliver a.number)
+    rw (e.1, e.2) (event_not_made g.P.Program.acts _ a.system.now programs a.log.now (Deliver a.number)
     c.in_err-step.field-0.0 c.step.new.system c.step.new.log c.in_err-step.ensures)
 
 pub returns : goal.returns
 returns g c programs =
     let a = c.args in
-    delivery_made g.P.Program.acts a.system.now programs a.log.now a.number _ c.step.new.system c.step.new.log
+    delivery_made g.P.Program.acts _ a.system.now programs a.log.now a.number _ c.step.new.system c.step.new.log
     c.in_ok-step.ensures

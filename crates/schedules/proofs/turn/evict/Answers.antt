@@ -13,21 +13,21 @@ pub returns-in_default : goal.returns-in_default
 returns-in_default g c programs =
     let a = c.args in
     let none : victim_for_core a.system.now a.core (open_op a.system.now a.core) ≡ None = search rules in
-    rw none (none_made g.P.Program.acts _)
+    rw none (none_made g.P.Program.acts _ _)
 
 pub returns-in_err-step : goal.returns-in_err-step
 returns-in_err-step g c programs =
     let a = c.args in
     let e = err_from_is_err_and c.from_residual.result c.from_residual.ensures.1 in
     let line : victim_for_core a.system.now a.core (open_op a.system.now a.core) ≡ Some c.in-Some.line = search rules in
-    rw (e.1, e.2) (did_as g.P.Program.acts _ _ (one (Does (EvictCache a.core c.in-Some.line))) (makes_place a.core)
+    rw (e.1, e.2) (did_as g.P.Program.acts _ _ _ (one (Does (EvictCache a.core c.in-Some.line))) (makes_place a.core)
     (ap (λ o. copy_leaves a.core o (standing (at a.system.now programs a.log.now) false)) (sym line)) (Some _)
-    (event_not_made g.P.Program.acts a.system.now programs a.log.now
+    (event_not_made g.P.Program.acts _ a.system.now programs a.log.now
     (EvictCache a.core c.in-Some.line) c.in_err-step.field-0.0 c.step.new.system c.step.new.log c.in_err-step.ensures))
 
 pub returns : goal.returns
 returns g c programs =
     let a = c.args in
     let line : victim_for_core a.system.now a.core (open_op a.system.now a.core) ≡ Some c.in-Some.line = search rules in
-    rw line (copy_gone g.P.Program.acts a.system.now programs a.log.now a.core c.in-Some.line _ c.step.new.system
+    rw line (copy_gone g.P.Program.acts _ a.system.now programs a.log.now a.core c.in-Some.line _ c.step.new.system
     c.step.new.log c.in_ok-step.ensures)

@@ -16,7 +16,7 @@ use Rattle.schedules.proofs.turn.evict_bank.Goals as goal
 pub returns-in_default : goal.returns-in_default
 returns-in_default g c programs =
     let none : make_room c.args.system.now c.args.number ≡ None = search rules in
-    rw none (none_made g.P.Program.acts _)
+    rw none (none_made g.P.Program.acts _ _)
 
 pub returns-in_err-plain : goal.returns-in_err-plain
 returns-in_err-plain g c programs =
@@ -26,11 +26,11 @@ returns-in_err-plain g c programs =
     let e = err_from_is_err_and c.from_residual.result c.from_residual.ensures.1 in
     let line : make_room a.system.now a.number ≡ Some (v.0, v.1) = search rules in
     let again = a.is_fair && is_evicted (transition a.system.now (EvictBank v.0 v.1)).0 in
-    rw (e.1, e.2) (did_as acts _ _ (line_leaves acts a.is_fair a.number (Some (v.0, v.1)))
+    rw (e.1, e.2) (did_as acts _ _ _ (line_leaves acts a.is_fair a.number (Some (v.0, v.1)))
     (makes_room acts a.is_fair a.number)
     (ap (λ o. line_leaves acts a.is_fair a.number o (standing (at a.system.now programs a.log.now) false)) (sym line))
-    (Some _) (did_first acts _ _ (one (Does (EvictBank v.0 v.1))) (only_if again (one (Does (Deliver a.number))))
-    c.in_err-plain.field-0.0 (event_not_made acts a.system.now programs a.log.now (EvictBank v.0 v.1)
+    (Some _) (did_first acts _ _ _ (one (Does (EvictBank v.0 v.1))) (only_if again (one (Does (Deliver a.number))))
+    c.in_err-plain.field-0.0 (event_not_made acts _ a.system.now programs a.log.now (EvictBank v.0 v.1)
     c.in_err-plain.field-0.0 c.step.new.system c.step.new.log c.in_err-plain.ensures)))
 
 pub returns-then-is_evicted : goal.returns-then-is_evicted
@@ -45,9 +45,9 @@ returns-then-is_evicted g c programs =
     let gone : is_evicted (transition a.system.now (EvictBank v.0 v.1)).0 ≡ true =
     ap (λ (x : Answer × Machine). is_evicted x.0) (sym c.in_ok-plain.ensures.0) ∙ left in
     let again = a.is_fair && is_evicted (transition a.system.now (EvictBank v.0 v.1)).0 in
-    did_as acts _ _ (line_leaves acts a.is_fair a.number (Some (v.0, v.1))) (makes_room acts a.is_fair a.number)
+    did_as acts _ _ _ (line_leaves acts a.is_fair a.number (Some (v.0, v.1))) (makes_room acts a.is_fair a.number)
     (ap (λ o. line_leaves acts a.is_fair a.number o (standing (at a.system.now programs a.log.now) false)) (sym line))
-    o (did_then acts _ (one (Does (EvictBank v.0 v.1))) (only_if again (one (Does (Deliver a.number))))
-    (line_gone acts a.system.now programs a.log.now v.0 v.1 _ n.system n.log c.in_ok-plain.ensures)
-    o (did_if acts _ _ again (one (Does (Deliver a.number))) (rw (c.if-is_fair.true, gone) refl) o
+    o (did_then acts _ _ (one (Does (EvictBank v.0 v.1))) (only_if again (one (Does (Deliver a.number))))
+    (line_gone acts _ a.system.now programs a.log.now v.0 v.1 _ n.system n.log c.in_ok-plain.ensures)
+    o (did_if acts _ _ _ again (one (Does (Deliver a.number))) (rw (c.if-is_fair.true, gone) refl) o
     (c.deliver_again.ensures programs)))

@@ -6,11 +6,11 @@ pub returns-in_err-plain : goal.returns-in_err-plain
 returns-in_err-plain g c =
     let a = c.args in
     let e = err_from_is_err_and c.from_residual.result c.from_residual.ensures.1 in
-    rw (e.1, e.2) (event_not_made g.P.Program.acts a.system.now a.programs.now a.log.now a.event.now
+    rw (e.1, e.2) (event_not_made g.P.Program.acts _ a.system.now a.programs.now a.log.now a.event.now
     c.in_err-plain.field-0.0 c.step.new.system c.step.new.log c.in_err-plain.ensures)
 
 pub returns : goal.returns
 returns g c =
     let a = c.args in
-    event_made g.P.Program.acts a.system.now a.programs.now a.log.now a.event.now _ c.step.new.system
+    event_made g.P.Program.acts _ a.system.now a.programs.now a.log.now a.event.now _ c.step.new.system
     c.tell.new.programs c.step.new.log c.tell.new.log c.in_ok-plain.ensures c.tell.ensures.done c.tell.ensures.told

@@ -79,7 +79,8 @@ one_more done r (Some x) few has =
 
 -- a change that leaves the sums
 abbrev Leaves : (CoreCounts → CoreCounts) → Type 0
-Leaves change = (x : CoreCounts) → (operations (change x) ≡ operations x) × (hits_and_misses (change x) ≡ hits_and_misses x)
+Leaves change =
+    (x : CoreCounts) → (operations (change x) ≡ operations x) × (hits_and_misses (change x) ≡ hits_and_misses x)
 
 left_so : (done : ℕ) (change : CoreCounts → CoreCounts) → Leaves change → (o : Option CoreCounts) →
     HasCompleted done o → HasCompleted done (option_map change o)
@@ -177,7 +178,8 @@ module _ (c : ℕ) (m after : Machine) (e : Event) (n : EventCounts) (few : reco
           let many : records_of c after ≡ records_of c m = ap (λ rs. length (of_core c rs)) is
           ∙ ap length (of_core-other c m.records r e.1) in (
             subst (λ done. Done c done (at_core n r.core (completed r))) (sym many)
-                (subst (HasCompleted (records_of c m)) (sym (changed_there n.cores r.core c (completed r) (λ is. e.1 (sym is))))
+                (subst (HasCompleted (records_of c m))
+                (sym (changed_there n.cores r.core c (completed r) (λ is. e.1 (sym is))))
                 has),
             omega (arith, many),
           )

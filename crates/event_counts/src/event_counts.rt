@@ -44,8 +44,8 @@ impl Model for EventCounts {
 }
 
 impl EventCounts {
-    /// The counts of a machine that has just opened, with this number of cores and banks: nothing is counted. All memory
-    /// is allocated here.
+    /// The counts of a machine that has just opened, with this number of cores and banks: nothing is counted. All
+    /// memory is allocated here.
     pub fn new(alloc: Global, cores: u32, banks: u32) -> Result<EventCounts, AllocError>
         ensures { IfOk result (λ counts. counts ≡ no_counts cores banks) }
     {

@@ -7,9 +7,6 @@ pub mod kind_counts;
 pub mod laws;
 pub mod part_counts;
 mod watching;
-#[cfg(test)]
-mod tests;
-mod watching;
 
 pub use cause::Cause;
 pub use event_counts::EventCounts;

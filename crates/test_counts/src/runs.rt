@@ -1,7 +1,5 @@
 //! Runs whose counts were worked out by hand, from docs/COUNTS.md and docs/PROTOCOL.md.
-use crate::event_counts::EventCounts;
-use crate::kind_counts::KindCounts;
-use crate::part_counts::{BankCounts, CoreCounts};
+use event_counts::{BankCounts, CoreCounts, EventCounts, KindCounts};
 use interleaving_core::{Config, Event, LineNo, MsgNo, System};
 use physiological_order::{Memory, Op, WordAddr};
 use std::alloc::Global;
@@ -115,8 +113,8 @@ fn a_first_store_is_counted(rt: HostRuntime) {
     assert_eq!(rt; is_counted(rt.alloc(), &events, &wanted), Some(true));
 }
 
-// Core 1 reads a word, core 0 stores to it, core 1 hits under its lease up to 3, advances to 4, and needs a request: the
-// bank has core 0 write the line back.
+// Core 1 reads a word, core 0 stores to it, core 1 hits under its lease up to 3, advances to 4, and needs a request:
+// the bank has core 0 write the line back.
 #[test]
 fn an_ended_lease_and_a_write_back_are_counted(rt: HostRuntime) {
     let events = [

@@ -1,8 +1,8 @@
 -- The lines that tell what a run did, in numbers.
 use Rattle.std.specs.Prelude.{ℕ, zero, suc, List, [], ◌∷◌, ◌++◌, codes, decimal}
 use Rattle.event_counts.specs.Counting.{EventCounts}
-use Rattle.event_counts.specs.declared.core_counts.CoreCounts.{CoreCounts}
-use Rattle.event_counts.specs.declared.event_counts.BankCounts.{BankCounts}
+use Rattle.event_counts.specs.declared.part_counts.CoreCounts.{CoreCounts}
+use Rattle.event_counts.specs.declared.part_counts.BankCounts.{BankCounts}
 use Rattle.event_counts.specs.declared.kind_counts.KindCounts.{KindCounts}
 use Rattle.report_lines.specs.Lines.{field, newline}
 
@@ -38,6 +38,10 @@ dram_text n = kind_text (codes "DramLd") n.dram_ld
     ++ kind_text (codes "DramSt") n.dram_st
     ++ kind_text (codes "DramStRep") n.dram_st_rep
 
+-- the messages by kind
+abbrev pub sent_text : KindCounts → List ℕ
+sent_text n = asked_text n ++ recalled_text n ++ dram_text n
+
 -- the operations of a core that completed
 abbrev pub done_text : CoreCounts → List ℕ
 done_text n = named (codes "loads") n.loads
@@ -56,12 +60,11 @@ abbrev pub core_line : ℕ → CoreCounts → List ℕ
 core_line core n = codes "core " ++ decimal core ++ done_text n ++ found_text n
     ++ named (codes "evicted") n.evicted
     ++ named (codes "time") n.last_time
-    ++ asked_text n.sent ++ recalled_text n.sent ++ newline
+    ++ sent_text n.sent ++ newline
 
 -- the line of a bank
 abbrev pub bank_line : ℕ → BankCounts → List ℕ
-bank_line bank n = codes "bank " ++ decimal bank ++ named (codes "evicted") n.evicted
-    ++ asked_text n.sent ++ recalled_text n.sent ++ dram_text n.sent ++ newline
+bank_line bank n = codes "bank " ++ decimal bank ++ named (codes "evicted") n.evicted ++ sent_text n.sent ++ newline
 
 -- a line for each, numbered from this number on
 abbrev pub numbered : {X : Type 0} → (ℕ → X → List ℕ) → ℕ → List X → List ℕ
@@ -69,7 +72,7 @@ numbered line from [] = []
 numbered line from (x ∷ xs) = line from x ++ numbered line (suc from) xs
 
 -- the events, the deliveries that were held or dropped, and a line for each core and each bank
-unfoldable pub event_counts_text : EventCounts → List ℕ
+abbrev pub event_counts_text : EventCounts → List ℕ
 event_counts_text n = field (codes "events") n.events
     ++ field (codes "held") n.held
     ++ field (codes "dropped") n.dropped

@@ -1,9 +1,9 @@
 //! The lines that tell what a run did, in numbers (docs/COUNTS.md), each appended to the text so far.
 
-ghost use Rattle.std.specs.Prelude.{◌≡◌, ◌++◌, OnOk};
+ghost use Rattle.std.specs.Prelude.{◌≡◌, ◌++◌, OnOk, decimal};
 ghost use Rattle.trace_texts.specs.CountLines.{asked_text, bank_line, core_line, done_text, dram_text};
 ghost use Rattle.trace_texts.specs.CountLines.{event_counts_text, found_text, kind_text, named, numbered};
-ghost use Rattle.trace_texts.specs.CountLines.{recalled_text};
+ghost use Rattle.trace_texts.specs.CountLines.{recalled_text, sent_text};
 
 use event_counts::{BankCounts, CoreCounts, EventCounts, KindCounts};
 use itoa::Buffer;
@@ -63,6 +63,15 @@ fn put_dram(out: &mut Vec<u8>, sent: &KindCounts) -> Result<(), AllocError>
     put_kind(out, b"DramStRep", sent.dram_st_rep)
 }
 
+// The messages by kind.
+fn put_sent(out: &mut Vec<u8>, sent: &KindCounts) -> Result<(), AllocError>
+    ensures { OnOk result (out.new.items ≡ out.old.items ++ sent_text sent.now) }
+{
+    put_asked(out, sent)?;
+    put_recalled(out, sent)?;
+    put_dram(out, sent)
+}
+
 // The operations of a core that completed.
 fn put_done(out: &mut Vec<u8>, counts: &CoreCounts) -> Result<(), AllocError>
     ensures { OnOk result (out.new.items ≡ out.old.items ++ done_text counts.now) }
@@ -83,16 +92,16 @@ fn put_found(out: &mut Vec<u8>, counts: &CoreCounts) -> Result<(), AllocError>
 }
 
 // The number of a part behind its name.
-fn put_part(out: &mut Vec<u8>, name: &[u8], number: u32) -> Result<(), AllocError>
+fn put_part(out: &mut Vec<u8>, name: &[u8], number: usize) -> Result<(), AllocError>
     ensures { OnOk result (out.new.items ≡ out.old.items ++ name.now ++ decimal number) }
 {
     let mut digits = Buffer::new();
     out.extend_from_slice(name)?;
-    out.extend_from_slice(digits.format(number).as_bytes())
+    out.extend_from_slice(digits.format(number as u64).as_bytes())
 }
 
 // The line of a core.
-fn put_core(out: &mut Vec<u8>, core: u32, counts: &CoreCounts) -> Result<(), AllocError>
+fn put_core(out: &mut Vec<u8>, core: usize, counts: &CoreCounts) -> Result<(), AllocError>
     ensures { OnOk result (out.new.items ≡ out.old.items ++ core_line core counts.now) }
 {
     put_part(out, b"core ", core)?;
@@ -100,30 +109,27 @@ fn put_core(out: &mut Vec<u8>, core: u32, counts: &CoreCounts) -> Result<(), All
     put_found(out, counts)?;
     put_named(out, b"evicted", counts.evicted)?;
     put_named(out, b"time", counts.last_time)?;
-    put_asked(out, &counts.sent)?;
-    put_recalled(out, &counts.sent)?;
-    out.push(b'\n')
+    put_sent(out, &counts.sent)?;
+    out.push(b'\n')?;
+    Ok(())
 }
 
 // The line of a bank.
-fn put_bank(out: &mut Vec<u8>, bank: u32, counts: &BankCounts) -> Result<(), AllocError>
+fn put_bank(out: &mut Vec<u8>, bank: usize, counts: &BankCounts) -> Result<(), AllocError>
     ensures { OnOk result (out.new.items ≡ out.old.items ++ bank_line bank counts.now) }
 {
     put_part(out, b"bank ", bank)?;
     put_named(out, b"evicted", counts.evicted)?;
-    put_asked(out, &counts.sent)?;
-    put_recalled(out, &counts.sent)?;
-    put_dram(out, &counts.sent)?;
-    out.push(b'\n')
+    put_sent(out, &counts.sent)?;
+    out.push(b'\n')?;
+    Ok(())
 }
 
 fn put_cores(out: &mut Vec<u8>, cores: &[CoreCounts]) -> Result<(), AllocError>
     ensures { OnOk result (out.new.items ≡ out.old.items ++ numbered core_line 0 cores.now) }
 {
-    let mut core = 0;
-    for counts in cores {
-        put_core(out, core, counts)?;
-        core += 1;
+    for core in 0..cores.len() {
+        put_core(out, core, &cores[core])?;
     }
     Ok(())
 }
@@ -131,10 +137,8 @@ fn put_cores(out: &mut Vec<u8>, cores: &[CoreCounts]) -> Result<(), AllocError>
 fn put_banks(out: &mut Vec<u8>, banks: &[BankCounts]) -> Result<(), AllocError>
     ensures { OnOk result (out.new.items ≡ out.old.items ++ numbered bank_line 0 banks.now) }
 {
-    let mut bank = 0;
-    for counts in banks {
-        put_bank(out, bank, counts)?;
-        bank += 1;
+    for bank in 0..banks.len() {
+        put_bank(out, bank, &banks[bank])?;
     }
     Ok(())
 }

@@ -1,4 +1,5 @@
 mod Refused
+mod Told
 mod EveryLine
 mod Unread
 mod CoreCounts

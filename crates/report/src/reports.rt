@@ -1,5 +1,5 @@
 //! From a source with the text of a trace to a sink for its report.
-ghost use Rattle.std.specs.Prelude.{◌≡◌, ◌≢◌, IfErr, IfOk, IfSome, IsErrOf, None, Some, false, true};
+ghost use Rattle.std.specs.Prelude.{◌≡◌, ◌≢◌, ◌&&◌, IfErr, IfOk, IfSome, IsErrOf, None, Some, false, not, true};
 ghost use Rattle.std.specs.FinMap.{empty};
 ghost use Rattle.byte_streams.specs.Device.{AtEnd};
 ghost use Rattle.machine_table.specs.Machine.{Machine};
@@ -129,7 +129,8 @@ pub(crate) fn told_by_policy(
     ensures { IfOk result (λ report.
         TellsTraceRun options.now trace.now report.all_done report.text.items) }
 {
-    if options.counts && !options.records {
+    let is_counted = options.counts && !options.records;
+    if is_counted {
         return told_counted(alloc, trace, config, policy, options);
     }
     let (ran, _) = run_by_policy(alloc, trace, config, policy, limit_of(&options.run), ())?;
@@ -147,14 +148,14 @@ fn told_counted(
     requires good { is_good config ≡ true }
     requires config { config ≡ config_of options.now.run.machine (trace_cores trace.now) }
     requires policy { driver_of options.now.run ≡ ByPolicy policy }
-    requires counted { (options.now.counts ≡ true) × (options.now.records ≡ false) }
+    requires counted { (options.now.counts && not options.now.records) ≡ true }
     ensures { IfOk result (λ report.
         TellsTraceRun options.now trace.now report.all_done report.text.items) }
 {
     let counts = EventCounts::new(alloc, config.cores, config.banks)?;
     let limit = limit_of(&options.run);
     let (ran, counts) = run_by_policy(alloc, trace, config, policy, limit, counts)?;
-    let mut report = report_on(alloc, trace, &ran, false)?;
+    let mut report = report_on(alloc, trace, &ran, options.records)?;
     put_event_counts(&mut report.text, &counts)?;
     Ok(report)
 }

@@ -1,17 +1,14 @@
-use Rattle.std.proofs.Common.{◌≡◌, true, refl, sym, subst}
+use Rattle.std.proofs.Common.{◌≡◌, ◌∙◌, Bool, false, ◌&&◌, not, List, [], ap, refl, sym, subst, append-nil}
 use Rattle.std.proofs.lemmas.Result.{IfOk-weaker}
-use Rattle.machine_table.specs.declared.config.Config.{Config}
-use Rattle.machine_table.specs.SetUp.{is_good}
-use Rattle.worker_driver.specs.SetUp.{config_of, limit_of}
-use Rattle.worker_driver.specs.declared.set_up.Driver.{Driver}
 use Rattle.worker_driver.specs.declared.set_up.Driver.TheVariants.{ByPolicy}
-use Rattle.trace_reader.specs.Steps.{trace_cores}
-use Rattle.report.specs.Runs.{IsTraceRun}
+use Rattle.report.specs.Reports.{StandsBehind, TellsTraceRun}
+use Rattle.report.proofs.Told.{told_run}
+use Rattle.report.proofs.reports.told_by_policy.Goals.{then-options, else-options}
 use Rattle.report.proofs.reports.told_by_policy.Goals as goal
 
 pub report_on-requires : goal.report_on-requires
 report_on-requires c =
-    let is = c.in_ok-ran.ensures in
+    let is = c.in_ok-ran.ensures.run in
     record { shows = (c.in_ok-ran.ran.machine, refl, is.complete, is.legal_in_trace) }
 
 pub returns : goal.returns
@@ -19,16 +16,15 @@ returns c =
     let options = c.args.options.now in
     let lanes = c.args.trace.now in
     let ran = c.in_ok-ran.ran in
-    let run = subst (λ (k : Config).
-    IsTraceRun (ByPolicy c.args.policy) (limit_of options.run) k lanes ran.end ran.machine)
-    c.requires.config
-    (subst (λ n. IsTraceRun (ByPolicy c.args.policy) n c.args.config lanes ran.end ran.machine) c.limit_of.ensures.limit
-    c.in_ok-ran.ensures) in
-    IfOk-weaker c.report_on.result _ _ (λ report told. record {
-      good = subst (λ (config : Config). is_good config ≡ true) c.requires.config c.requires.good;
-      end = ran.end;
-      machine = ran.machine;
-      run = subst (λ (driver : Driver). IsTraceRun driver (limit_of options.run)
-          (config_of options.run.machine (trace_cores lanes)) lanes ran.end ran.machine) (sym c.requires.policy) run;
-      told = told ran.machine refl;
-    }) c.report_on.ensures
+    let quiet : (options.counts && not options.records) ≡ false = elim c.if-options.branch [
+      | then-options w ↦ ap (λ (b : Bool). b && not options.records) w.if-options.true
+          ∙ (sym w.is_counted-is ∙ c.if-is_counted.false)
+      | else-options w ↦ ap (λ (b : Bool). b && not options.records) w.if-options.false
+    ] in
+    IfOk-weaker c.report_on.result _ _ (λ report told.
+    subst (TellsTraceRun options lanes report.all_done) (append-nil report.text.items)
+    (told_run options lanes c.args.config (ByPolicy c.args.policy) c.limit_of.result ran.end ran.machine
+    report.all_done report.text.items [] c.requires.good c.requires.config (sym c.requires.policy)
+    c.limit_of.ensures.limit c.in_ok-ran.ensures.run (told ran.machine refl)
+    (subst (λ (b : Bool). StandsBehind b (ByPolicy c.args.policy) c.limit_of.result c.args.config lanes ran.end
+    ran.machine []) (sym quiet) refl))) c.report_on.ensures

@@ -1,14 +1,20 @@
-use Rattle.std.proofs.Common.{◌≡◌, true, refl, sym, subst}
+use Rattle.std.proofs.Common.{◌≡◌, ℕ, Bool, true, false, ◌&&◌, not, List, [], refl, sym, subst, append-nil}
 use Rattle.std.proofs.lemmas.Result.{IfOk-weaker}
 use Rattle.machine_table.specs.declared.config.Config.{Config}
-use Rattle.machine_table.specs.SetUp.{is_good}
-use Rattle.worker_driver.specs.SetUp.{config_of, limit_of}
+use Rattle.machine_table.specs.Machine.{Machine}
+use Rattle.programs.specs.declared.ends.End.{End}
+use Rattle.programs.specs.declared.steps.Step.{Step}
 use Rattle.thread_driver.specs.ThreadRuns.{machine_of}
-use Rattle.worker_driver.specs.declared.set_up.Driver.{Driver}
 use Rattle.worker_driver.specs.declared.set_up.Driver.TheVariants.{ByThreads}
-use Rattle.trace_reader.specs.Steps.{trace_cores}
-use Rattle.report.specs.Runs.{IsTraceRun}
+use Rattle.report.specs.Reports.{StandsBehind, TellsTraceRun}
+use Rattle.report.proofs.Told.{told_run}
 use Rattle.report.proofs.reports.told_by_threads.Goals as goal
+
+-- nothing stands behind the report of a run by threads
+uncounted : (b fair : Bool) (limit : ℕ) (config : Config) (lanes : List (List Step)) (end : End) (m : Machine) →
+    StandsBehind b (ByThreads fair) limit config lanes end m []
+uncounted false fair limit config lanes end m = refl
+uncounted true fair limit config lanes end m = refl
 
 pub report_on-requires : goal.report_on-requires
 report_on-requires g c =
@@ -22,15 +28,10 @@ returns g c =
     let ran = c.in_ok-ran.ran in
     let parts = c.in_ok-ran.ensures.0 in
     let m = machine_of ran.machine parts in
-    let run = subst (λ (k : Config). IsTraceRun (ByThreads c.args.fair) (limit_of options.run) k lanes ran.end m)
-    c.requires.config
-    (subst (λ n. IsTraceRun (ByThreads c.args.fair) n c.args.config lanes ran.end m) c.limit_of-limit.ensures.limit
-    c.in_ok-ran.ensures.1) in
-    IfOk-weaker c.report_on.result _ _ (λ report told. record {
-      good = subst (λ (config : Config). is_good config ≡ true) c.requires.config c.requires.good;
-      end = ran.end;
-      machine = m;
-      run = subst (λ (driver : Driver). IsTraceRun driver (limit_of options.run)
-          (config_of options.run.machine (trace_cores lanes)) lanes ran.end m) (sym c.requires.threads) run;
-      told = told m (parts, refl);
-    }) c.report_on.ensures
+    IfOk-weaker c.report_on.result _ _ (λ report told.
+    subst (TellsTraceRun options lanes report.all_done) (append-nil report.text.items)
+    (told_run options lanes c.args.config (ByThreads c.args.fair) c.limit_of-limit.result ran.end m report.all_done
+    report.text.items [] c.requires.good c.requires.config (sym c.requires.threads) c.limit_of-limit.ensures.limit
+    c.in_ok-ran.ensures.1 (told m (parts, refl))
+    (uncounted (options.counts && not options.records) c.args.fair c.limit_of-limit.result c.args.config lanes
+    ran.end m))) c.report_on.ensures

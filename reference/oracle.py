@@ -130,7 +130,7 @@ def refuse_fair(options):
 
 
 def refuse_counts(options):
-    """Runs by threads aren't counted, and counts have no place beside records."""
+    """Runs by threads aren't counted, and counts have no place next to records."""
     if options.command == "trace" and options.counts and (options.records or options.schedule == "threads"):
         raise Refused(3, f"error: '--counts' needs '--schedule round' or '--schedule seed', and no '--records'{MORE}")
 

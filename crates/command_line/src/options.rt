@@ -152,7 +152,7 @@ pub(crate) fn trace_options(matches: &ArgMatches<'_>) -> Option<TraceOptions>
     })
 }
 
-/// Whether counts are asked for in vain: of a run by threads, or beside records.
+/// Whether counts are asked for in vain: of a run by threads, or next to records.
 pub(crate) fn counts_in_vain(options: &TraceOptions) -> bool
     ensures { result ≡ counts_in_vain options.now }
 {

@@ -32,7 +32,7 @@ pub enum Job<'a> {
 #[derive(Debug, Drop)]
 pub enum WordsError {
     /// The command line doesn't take the words, or they ask for help, or for what can't be had together: a fair
-    /// schedule that is seed, or counts of a run by threads or beside records. This is the text to show, in whole
+    /// schedule that is seed, or counts of a run by threads or next to records. This is the text to show, in whole
     /// lines.
     Refused(String),
     /// Allocation failed.
@@ -66,7 +66,7 @@ fn refused(alloc: Global, error: &Error) -> WordsError
 enum Conflict {
     /// A fair run by a seed.
     Fair,
-    /// Counts of a run by threads, or beside records.
+    /// Counts of a run by threads, or next to records.
     Counts,
 }
 

@@ -9,7 +9,7 @@ from itertools import product
 
 from reference import oracle
 from reference.machine import Machine
-from reference.reports import Batch, seed_of, trace_lines
+from reference.reports import Batch, counted, seed_of, trace_lines
 from reference.schedules import Run, by_rounds, by_seed
 from reference.traces import record_line
 from tools import merge
@@ -46,8 +46,8 @@ class Watched(Run):
         return is_first or message.kind == "DramSt" and message.line not in self.machine.dram
 
 
-def run_of(options, programs, memory, seed, last=None):
-    run = Watched(Machine(options, len(programs), memory), programs, last)
+def run_of(options, programs, memory, seed, last=None, machine=Machine):
+    run = Watched(machine(options, len(programs), memory), programs, last)
     try:
         if options.schedule == "seed":
             return run, by_seed(run, options.limit, seed)
@@ -99,9 +99,10 @@ def of_trace(options):
 
     def tell(run, end):
         lines = map(record_line, run.machine.records) if options.records else trace_lines(trace, run, end)
-        return "".join(line + "\n" for line in lines)
+        return "".join(line + "\n" for line in [*lines, *(run.machine.lines() if options.counts else [])])
 
-    return ends_of(lambda last: run_of(options, trace.programs(), {}, options.seed, last), tell)
+    machine = counted if options.counts else Machine
+    return ends_of(lambda last: run_of(options, trace.programs(), {}, options.seed, last, machine), tell)
 
 
 def told_of(words):

@@ -198,12 +198,14 @@ def is_source(by_line, read, line, cited):
         fact.startswith(f"line {read.line} received what line {line} wrote: no other") for fact in cited)
 
 
-def goes(cited, one, other):
-    """The cited facts lead from one line to the other."""
+def goes(cited, one, other, by_line=()):
+    """The cited facts lead from one line to the other, with the program order of these lines."""
     steps = [tuple(map(int, match.groups())) for fact in cited if (match := re.match(ORDERED, fact))]
     reached = {one}
     while True:
-        more = {end for start, end in steps if start in reached} - reached
+        more = {end for start, end in steps if start in reached} | {
+            line for line in by_line for start in reached if by_line[start].core == by_line[line].core and start < line}
+        more -= reached
         if not more:
             return other in reached
         reached |= more
@@ -214,7 +216,7 @@ def fact_holds(by_line, fact, cited):
     match = re.fullmatch(ORDERED + "(.*)", fact)
     if not match:
         return source_holds(by_line, fact, cited)
-    one, other, why = by_line[int(match[1])], by_line[int(match[2])], match[3]
+    one, other, (why, _, rest) = by_line[int(match[1])], by_line[int(match[2])], match[3].partition("; ")
     numbers = list(map(int, re.findall(r"line (\d+)", why)))
     if why.startswith("program order"):
         return one.core == other.core and one.line < other.line
@@ -222,18 +224,52 @@ def fact_holds(by_line, fact, cited):
         opened = one.received == 0 and not any(
             each.written == 0 and each.address == one.address and each is not one for each in by_line.values())
         told = any(fact.startswith(f"line {one.line} received the opening value: no other") for fact in cited)
-        return numbers == [one.line] and (opened or told) and other.written is not None and \
-            one.address == other.address
+        return numbers == [one.line] and (opened or told) and differs(other, one, rest)
     read = by_line[numbers[0]]
+    if "whichever" in why:
+        return whichever_holds(by_line, read, one, other, numbers[1:], rest, cited)
     if "behind" in why:
         _, write, source = numbers
         return (write, source) == (one.line, other.line) and is_source(by_line, read, source, cited) and \
-            goes(cited, write, read.line) and by_line[write].address == read.address and one.written is not None
+            goes(cited, write, read.line) and differs(one, read, rest)
     if "before" in why:
         _, source, write = numbers
         return (read, write) == (one, other.line) and is_source(by_line, read, source, cited) and \
-            goes(cited, source, write) and other.address == read.address and other.written is not None
+            goes(cited, source, write) and differs(other, read, rest)
     return numbers == [other.line, one.line] and is_source(by_line, other, one.line, cited)
+
+
+def differs(other, read, rest):
+    """It wrote the read's word, or the fact's rest says that it received another value there, and it did."""
+    received = rest == f"line {other.line} received another value" and other.received not in (None, read.received)
+    return other is not read and other.address == read.address and (other.written is not None or received)
+
+
+def writers_of(by_line, read):
+    """What may have written what a read received, as far as values go."""
+    return {each.line for each in by_line.values() if each is not read and each.written == read.received
+            and each.address == read.address} | ({"opening"} if read.received == 0 else set())
+
+
+def named_by(fact):
+    """The sources that a fact leaves a read."""
+    return set(map(int, re.findall(r"line (\d+)", fact)[1:])) | ({"opening"} if "opening" in fact else set())
+
+
+def whichever_holds(by_line, read, one, other, numbers, rest, cited):
+    """A fact about all that a read may have received from: that all are behind a line, or before one."""
+    left = [named_by(fact) for fact in cited if fact.startswith(f"line {read.line} received ") and "no other" in fact]
+    sources = left[0] if left else writers_of(by_line, read)
+    lines = sources - {"opening"}
+    if other is read:
+        return numbers == [one.line] and lines == sources and all(
+            line == one.line or goes(cited, one.line, line, by_line) for line in lines)
+    if one is read:
+        return numbers == [other.line] and differs(other, read, rest) and all(
+            goes(cited, line, other.line, by_line) for line in lines)
+    return numbers == [one.line, other.line] and lines == sources and one.line not in lines and \
+        differs(one, read, rest) and goes(cited, one.line, read.line) and all(
+            line == other.line or goes(cited, line, other.line, by_line) for line in lines)
 
 
 def source_holds(by_line, fact, cited):
@@ -241,16 +277,15 @@ def source_holds(by_line, fact, cited):
     numbers = list(map(int, re.findall(r"line (\d+)", fact)))
     read = by_line[numbers[0]]
     if "no other" in fact:
-        others = {each.line for each in by_line.values() if each is not read and each.written == read.received
-                  and each.address == read.address} | ({"opening"} if read.received == 0 else set())
         out = {"opening" if "opening" in each else int(re.findall(r"line (\d+)", each)[1]) for each in cited
                if each.startswith(f"line {read.line} received nothing from")
                or each.startswith(f"line {read.line} didn't")}
-        return others - out == {"opening" if "opening" in fact else numbers[1]}
+        return writers_of(by_line, read) - out == named_by(fact)
     if "which is later" in fact:
         return goes(cited, read.line, numbers[1])
     write = by_line[numbers[-1]]
-    is_write = write.written is not None and write.address == read.address and goes(cited, write.line, read.line)
+    rest = f"line {write.line} received another value" if "received another value" in fact else ""
+    is_write = differs(write, read, rest) and goes(cited, write.line, read.line)
     return is_write and ("didn't" in fact or goes(cited, numbers[1], write.line))
 
 
@@ -260,9 +295,7 @@ def read_holds(operations, first, facts):
     read = by_line[int(re.search(r"line (\d+)", first)[1])]
     ruled_out = {"opening" if "opening" in fact else int(re.findall(r"line (\d+)", fact)[1]) for fact in facts
                  if fact.startswith((f"line {read.line} received nothing", f"line {read.line} didn't"))}
-    meant = {other.line for other in operations if other is not read and other.written == read.received
-             and other.address == read.address} | ({"opening"} if read.received == 0 else set())
-    return ruled_out == meant
+    return ruled_out == writers_of(by_line, read)
 
 
 def set_holds(operations, lines):
@@ -276,8 +309,8 @@ def set_holds(operations, lines):
 
 
 def draws(tester, count):
-    """Half of the histories of each kind have an order, as far as drawing goes. A try of the search has few branches, so
-    that it begins anew on these, too."""
+    """Half of the histories of each kind have an order, as far as drawing goes. A try of the search has few branches,
+    so that it begins anew on these, too."""
     usual, search.FIRST_BRANCHES = search.FIRST_BRANCHES, 0.2
     for real_time, model in ((False, "sc"), (True, "sc"), (False, "tso")):
         draw, left = random.Random(f"{real_time} {model}"), {True: count // 2, False: count - count // 2}
@@ -353,6 +386,8 @@ BAD = [
     ("64: sync\n", "line 1: the core 64 is greater than 63"), ("0: M[0] := x\n", "line 1: `M[0] := x` is no operation"),
 ]
 BUFFERS = "0: M[0] := 1\n0:{} M[1] == 0\n1: M[1] := 1\n1:{} M[0] == 0\n"
+# Core 0's load of 0x0 sees its own store while that is delayed: behind core 1's load, which precedes the store of 0x18.
+OWN = "0 W 0x18 1\n0 W 0x0 1\n0 R 0x0 1\n0 R 0x10 0\n1 W 0x10 5\n1 F\n1 R 0x18 0\n2 W 0x0 1\n"
 
 
 def texts(tester):
@@ -382,7 +417,8 @@ def settings(tester):
                                 (late.replace("11 12", "10 12"), ["--real-time"], "consistent"),
                                 (BUFFERS.format("", ""), [], "not consistent"),
                                 (BUFFERS.format("", ""), ["--model", "tso"], "consistent: checked by reference/tso.py"),
-                                (fenced, ["--model", "tso"], "not consistent")):
+                                (fenced, ["--model", "tso"], "not consistent"),
+                                (OWN, ["--model", "tso"], "consistent: checked by reference/tso.py")):
         history.write_text(text)
         status, out, error = tester.run(*words, "--out", tester.folder, history)
         tester.expect((status, error) == (int(wanted[0] == "n"), "") and out.startswith(wanted),

@@ -7,7 +7,7 @@ from tools.orders.forced import Forced, NoOrder, TimeUp
 from tools.orders.least import Least
 from tools.orders.problem import Problem
 
-LEAST_SECONDS = 5  # for leaving out operations, even if the search took all its time
+LEAST_SECONDS = 5  # for leaving out operations
 
 
 class Answer:
@@ -30,7 +30,7 @@ def answer(operations, seconds, model="sc", real_time=False, opening=None):
     except TimeUp as up:
         return Answer(lines=[f"not decided after {seconds:g} s: {up.reached}"], is_known=False)
     if order is None:
-        return Answer(lines=least(operations, settings, max(start + seconds, time.monotonic() + LEAST_SECONDS)))
+        return Answer(lines=least(operations, settings, time.monotonic() + LEAST_SECONDS))
     return Answer(order=order)
 
 

@@ -9,10 +9,10 @@ FIRST_SHARE = 4  # the search has a quarter of the time before z3 is asked, and 
 FIRST_SECONDS = 5
 
 
-def find(problem, forced, deadline, first=FIRST_SECONDS):
-    """An order or None. The search comes first, for at most `first` seconds, then z3, then the search again."""
+def find(problem, forced, deadline):
+    """An order or None. The search comes first, then z3, then the search again."""
     now = time.monotonic()
-    search = Search(problem, forced, now + min(first, (deadline - now) / FIRST_SHARE))
+    search = Search(problem, forced, now + min(FIRST_SECONDS, (deadline - now) / FIRST_SHARE))
     try:
         return search.run()
     except TimeUp:

@@ -1,8 +1,9 @@
 """What every order of a history has in common, to a fixed point.
 
-A read receives what its source wrote. From known sources, program order and real time follow more edges, by the rules
-of `RULES` in reasons.py. Each round looks at all reads, and then sorts the operations again; it is cheap if few rounds
-are needed. A ring of edges shows that there is no order. So does a read without a source.
+A read receives what its source wrote. From sources, program order and real time follow more edges, by the rules of
+`RULES` in reasons.py: from the one source of a read, or from what all that it may have have in common. Each round looks
+at all reads, and then sorts the operations again; it is cheap if few rounds are needed. A ring of edges shows that
+there is no order. So does a read without a source.
 """
 import time
 from bisect import bisect_left
@@ -163,33 +164,45 @@ class Forced:
                 known[chain[other]] = min(known[chain[other]], place[other])
             self.after[node] = known
 
-    def writes_before(self, node):
-        """Of each chain, the last write of the node's word that comes before it."""
-        for chain, places in self.problem.writes.get(self.problem.operations[node].address, {}).items():
-            found = bisect_left(places, self.before[node][chain])
-            if found:
-                yield self.problem.chains[chain][places[found - 1]]
+    def differs(self, node, read):
+        """Whether the word has another value there than the read received, or one that this operation wrote."""
+        operations = self.problem.operations
+        operation = operations[node]
+        if operation.written is not None:
+            return node != read
+        return operation.received != operations[read].received and self.problem.own[node] is None
 
-    def writes_after(self, write, beyond):
-        """Of each chain, the first write of the word that comes behind a write, other than `beyond`."""
-        for chain, places in self.problem.writes[self.problem.operations[write].address].items():
-            found = bisect_left(places, self.after[write][chain])
-            if found < len(places) and self.problem.chains[chain][places[found]] == beyond:
-                found += 1
-            if found < len(places):
-                yield self.problem.chains[chain][places[found]]
+    def others_before(self, read):
+        """Of each chain, the last operation before a read that differs from it."""
+        for chain, places in self.problem.uses[self.problem.operations[read].address].items():
+            nodes = self.problem.chains[chain]
+            for at in range(bisect_left(places, self.before[read][chain]) - 1, -1, -1):
+                if self.differs(nodes[places[at]], read):
+                    yield nodes[places[at]]
+                    break
+        if self.problem.own[read] is not None:
+            yield self.problem.own[read]
+
+    def others_after(self, firsts, read):
+        """Of each chain, the first operation from these places on that differs from a read."""
+        for chain, places in self.problem.uses[self.problem.operations[read].address].items():
+            nodes = self.problem.chains[chain]
+            for at in range(bisect_left(places, firsts[chain]), len(places)):
+                if self.differs(nodes[places[at]], read):
+                    yield nodes[places[at]]
+                    break
 
     def narrow(self, read):
         """Drops sources that other facts rule out; at least one must be left."""
         sources, own = self.sources[read], self.problem.own[read]
         if len(sources) == 1 and (sources[0] != OPENING or own is None):
             return
-        earlier = list(self.writes_before(read))
-        if own is not None:
-            earlier.append(own)
-        left = []
+        earlier, left, chain, place = list(self.others_before(read)), [], self.problem.chain, self.problem.place
+        firsts, ends = list(map(max, zip(*(self.before[other] for other in earlier)))), self.after[read]
         for source in sources:
-            reason = self.reason_against(read, source, earlier)
+            at = None if source == OPENING else chain[source]
+            is_between = at is not None and (firsts[at] if earlier else 0) <= place[source] < ends[at]
+            reason = None if is_between else self.reason_against(read, source, earlier)
             if reason is None:
                 left.append(source)
             else:
@@ -202,32 +215,60 @@ class Forced:
     def reason_against(self, read, source, earlier):
         if source == OPENING:
             return ("written", earlier[0]) if earlier else None
-        if self.comes_before(read, source):
+        if self.comes_before(read, source) and source != self.problem.own[read]:
             return "later", read
-        for write in earlier:
-            if write != source and self.comes_before(source, write):
-                return "overwritten", write
+        for other in earlier:
+            if other != source and self.comes_before(source, other):
+                return "overwritten", other
         return None
 
     def follow(self, read):
         """The edges that follow from a read's one source."""
         sources, own = self.sources[read], self.problem.own[read]
         if len(sources) > 1:
+            if own not in sources:
+                self.follow_all(read, self.ends(sources))
             return
         source, = sources
         if source == OPENING:
-            for chain, places in self.problem.writes.get(self.problem.operations[read].address, {}).items():
-                first = self.problem.chains[chain][places[0]]
-                if first != read:
-                    self.add(read, first, "opening", read)
+            for other in self.others_after([0] * len(self.problem.chains), read):
+                self.add(read, other, "opening", read)
             return
         if source != own:
             self.add(source, read, "source", read, source)
-        earlier = list(self.writes_before(read))
-        if own is not None:
-            earlier.append(own)
-        for write in earlier:
-            if write != source:
-                self.add(write, source, "earlier", read, source, write)
-        for write in self.writes_after(source, read):
-            self.add(read, write, "overwrites", read, source, write)
+        for other in self.others_before(read):
+            if other != source:
+                self.add(other, source, "earlier", read, source)
+        for other in self.others_after(self.after[source], read):
+            self.add(read, other, "overwrites", read, source)
+
+    def ends(self, sources):
+        """Of each chain, the first and the last of these sources; the opening isn't among them."""
+        chain, firsts, lasts = self.problem.chain, {}, {}
+        for source in sources:
+            if source != OPENING:
+                firsts.setdefault(chain[source], source)
+                lasts[chain[source]] = source
+        return firsts.values(), lasts.values()
+
+    def follow_all(self, read, ends):
+        """The edges that follow from what all sources of a read have in common."""
+        sources, (firsts, lasts) = self.sources[read], ends
+        chains, chain, place = self.problem.chains, self.problem.chain, self.problem.place
+        beyond = [max((self.after[source][at] for source in lasts), default=0) for at in range(len(chains))]
+        for other in self.others_after(beyond, read):
+            self.add(read, other, "all before", read)
+        if OPENING in sources:
+            return
+        behind = [min(place[source] + 1 if chain[source] == at else self.before[source][at] for source in firsts)
+                  for at in range(len(chains))]
+        for nodes, first in zip(chains, behind):
+            if first:
+                self.add(nodes[first - 1], read, "all behind", read)
+        last = [max(place[source] if chain[source] == at else self.after[source][at] for source in lasts)
+                for at in range(len(chains))]
+        for other in self.others_before(read):
+            if other not in sources:
+                for nodes, first in zip(chains, last):
+                    if first < len(nodes):
+                        self.add(other, nodes[first], "all between", read)

@@ -2,15 +2,15 @@
 
 A load can always be left out: an order of all operations is one of the others, too. So can a write whose value no
 operation that is kept received there. A fence can under any model. What is left out shows nothing then, and what is
-kept has no order because of itself alone.
+kept has no order because of itself alone. Loads are left out first, since a write may go only once its readers have.
 """
 import time
 
-from tools.orders.find import find
 from tools.orders.forced import Forced, NoOrder, TimeUp
 from tools.orders.problem import Problem
+from tools.orders.search import Search
 
-FIRST_SECONDS, PART_SECONDS = 0.5, 3  # for the search on a part before z3 is asked, and for the part in all
+PART_SECONDS = 0.5  # for a part; z3 seldom knows sooner
 
 
 class Least:
@@ -18,11 +18,13 @@ class Least:
 
     def __init__(self, operations, settings, deadline):
         self.operations, self.settings, self.deadline = operations, settings, deadline
-        self.nodes, self.is_least, self.is_sure = list(range(len(operations))), False, True
+        self.nodes, self.is_least, self.is_sure = sorted(
+            range(len(operations)), key=lambda node: (operations[node].written is None, node)), False, True
         try:
             self.leave_out()
         except TimeUp:
             pass
+        self.nodes.sort()
 
     def can_go(self, going, kept):
         """No operation that stays received what one that goes wrote there."""
@@ -36,9 +38,9 @@ class Least:
         if now > self.deadline:
             raise TimeUp("")
         until = min(self.deadline, now + PART_SECONDS)
-        problem = Problem([self.operations[node] for node in nodes], **self.settings)
+        problem = Problem([self.operations[node] for node in sorted(nodes)], **self.settings)
         try:
-            return find(problem, Forced(problem, until), until, FIRST_SECONDS) is not None
+            return Search(problem, Forced(problem, until), until).run() is not None
         except NoOrder:
             return False
         except TimeUp:

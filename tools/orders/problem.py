@@ -37,6 +37,7 @@ class Problem:
         if real_time:
             self.add_real_time()
         self.writes = self.by_word(lambda operation: operation.written is not None)
+        self.uses = self.by_word(lambda _: True)
 
     def by_word(self, wanted):
         """Of each address, the chains that have such operations there, with their places in order."""

@@ -1,7 +1,8 @@
 """Why a history has no order, in lines that a person can check: facts, each from those that it names."""
 from tools.orders.problem import OPENING
 
-# What the edges' rules say, of the lines r (a read), s (its source) and w (another write of the word).
+# What the edges' rules say, of the lines r (a read), s (its source), w (another write of the word, or another read that
+# received another value) and n (any operation).
 RULES = {
     "program": "program order",
     "real time": "it ended before the other started",
@@ -9,6 +10,9 @@ RULES = {
     "opening": "line {r} received the word's opening value",
     "earlier": "line {r} is behind line {w}, and received what line {s} wrote",
     "overwrites": "line {r} received what line {s} wrote, before line {w} overwrote it",
+    "all behind": "whichever line {r} received from is line {n} or behind it",
+    "all before": "whichever line {r} received from comes before line {w}, which overwrote it",
+    "all between": "line {r} is behind line {w}, and whichever it received from is line {n} or before it",
 }
 
 MOST_TOLD = 100  # operations of a set
@@ -70,15 +74,46 @@ class Proof:
             return self.state((one, other), said + self.program_order(one))
         if (one, other) in self.numbers:
             return self.numbers[one, other]
-        read, source, write = (*edge.cites, None, None, None)[:3]
-        names = {name: self.line(node) for name, node in (("r", read), ("s", source), ("w", write))
-                 if node not in (None, OPENING)}
-        because = [] if read is None else self.source_of(read, edge.level)
-        if edge.rule == "earlier":
+        read, source = (*edge.cites, None, None)[:2]
+        is_first = edge.rule in ("earlier", "all between", "all behind")
+        write, behind = (one, other) if is_first else (other, one)
+        names = {"r": read, "s": source, "w": write, "n": write if edge.rule == "all behind" else behind}
+        names = {name: self.line(node) for name, node in names.items() if node not in (None, OPENING)}
+        said += RULES[edge.rule].format(**names)
+        if read is not None and edge.rule not in ("source", "all behind"):
+            said += self.differing(write)
+        return self.state((one, other), said, self.because(edge, read, source, write, behind))
+
+    def because(self, edge, read, source, write, behind):
+        """The facts that an edge rests on."""
+        if read is None:
+            return []
+        because = self.source_of(read, edge.level)
+        if edge.rule in ("earlier", "all between"):
             because = because + self.seen_by(write, read, edge.level)
-        elif edge.rule == "overwrites":
+        if edge.rule == "overwrites":
             because = because + self.between(source, write, edge.level)
-        return self.state((one, other), said + RULES[edge.rule].format(**names), because)
+        if edge.rule.startswith("all"):
+            for end in self.possible_ends(read, edge.level, is_first=edge.rule == "all behind"):
+                path = {"all behind": (write, end), "all before": (end, write), "all between": (end, behind)}[edge.rule]
+                because = because + self.between(*path, edge.level)
+        return because
+
+    def possible_ends(self, read, level, is_first):
+        """Of each chain, the first or the last source that a read may have by then."""
+        ends = self.forced.ends(self.possible(read, level))
+        return ends[0] if is_first else ends[1]
+
+    def possible(self, read, level):
+        """The sources that a read may have by a round."""
+        dropped = self.forced.dropped[read]
+        return sorted(source for source in (*self.forced.sources[read], *dropped)
+                      if source not in dropped or dropped[source][-1] > level)
+
+    def differing(self, node):
+        """That an operation is no write, where the rule speaks of one."""
+        is_write = self.problem.operations[node].written is not None
+        return "" if is_write else f"; line {self.line(node)} received another value"
 
     def program_order(self, node):
         core = f"program order of core {self.problem.operations[node].core}"
@@ -98,12 +133,13 @@ class Proof:
         if not dropped:
             return []
         because = [self.not_from(read, source, *why) for source, why in dropped.items()]
-        if not self.forced.sources[read]:
+        left = self.possible(read, level)
+        if not left:
             return because
-        source, = self.forced.sources[read]
-        left = "the opening value" if source == OPENING else f"what line {self.line(source)} wrote"
-        return [self.state(("source", read), f"line {self.line(read)} received {left}: no other "
-                                             f"{operation.received} is left", because)]
+        named = [f"line {self.line(source)}" for source in left if source != OPENING]
+        named = [f"what {', '.join(named)} wrote"] * bool(named) + ["the opening value"] * (OPENING in left)
+        return [self.state(("source", read, len(left)), f"line {self.line(read)} received {' or '.join(named)}: no "
+                                                        f"other {operation.received} is left", because)]
 
     def not_from(self, read, source, why, write, level):
         key, line = ("not", read, source), self.line(read)
@@ -114,12 +150,13 @@ class Proof:
             return self.state(key, f"line {line} received nothing from line {self.line(source)}, which is later",
                               because)
         because = self.seen_by(write, read, level)
+        is_write, other = self.problem.operations[write].written is not None, f"line {self.line(write)}"
         if why == "written":
-            return self.state(key, f"line {line} didn't receive the opening value: line {self.line(write)} had "
-                                   "overwritten it", because)
+            end = f"{other} had overwritten it" if is_write else f"{other}, before it, received another value"
+            return self.state(key, f"line {line} didn't receive the opening value: {end}", because)
         because = because + self.between(source, write, level)
-        return self.state(key, f"line {line} received nothing from line {self.line(source)}: line "
-                               f"{self.line(write)} had overwritten it", because)
+        end = f"{other} had overwritten it" if is_write else f"{other}, between them, received another value"
+        return self.state(key, f"line {line} received nothing from line {self.line(source)}: {end}", because)
 
 
 def lines_of_ring(problem, forced, ring):

@@ -4,6 +4,8 @@ A load that can be performed is performed at once: that takes nothing from what 
 order performs first of those of its word that are left. Otherwise the writes of one word are tried in turn, if one of
 these must come next there and all can; else all that can. States from which no way led to the end aren't tried again,
 and none is tried from which the chains come to a halt even if no write takes a value away.
+A write that was tried in vain sleeps until another operation uses its word. If that one is a store, the write is then
+tried only where it is received from before another one comes: else it could stand where it was tried in vain.
 If that takes many branches, the search begins anew and tries writes in a drawn order, then in the first one again, and
 so on, with ever more branches. What one try learns of states serves the next.
 """
@@ -18,6 +20,7 @@ from tools.orders.history import FENCE
 
 FIRST_BRANCHES = 10  # of the first try and the second, for each operation; twice as many of the next two, and so on
 AHEAD = 40           # operations of a chain that `halts` looks at
+FREE, ASLEEP, WATCHED = range(3)  # of a chain: how the write that it stands before is to be tried
 
 
 class Search:
@@ -42,6 +45,8 @@ class Search:
         # Of each state on the way: how much was performed, what is to be tried yet, and the state.
         self.order, self.undo, self.frames = [], [], []
         self.dead, self.states, self.most = set(), 0, 0
+        # Each chain's mark, and the words, as bits, that a read must use next. A store's own core may see it early.
+        self.marks, self.owed, self.can_sleep = [FREE] * self.count, 0, problem.model == "sc"
 
     def number_values(self):
         """Numbers for the words and for the pairs of a word and a value; of each word, the one that it opens with."""
@@ -100,12 +105,33 @@ class Search:
         return self.memory[self.word[node]] == received
 
     def perform(self, node):
+        self.mark(node)
         self.order.append(node)
         self.at[self.problem.chain[node]] += 1
         self.next_on[self.slot[node]] = self.behind[node]
         if self.written[node] is not None:
             self.undo.append(self.memory[self.word[node]])
             self.memory[self.word[node]] = self.written[node]
+
+    def mark(self, node):
+        """A write's mark ends with it: from one that is watched a read must receive next. Others on its word wake."""
+        own, word, received = self.problem.chain[node], self.word[node], self.received[node]
+        if received is not None:
+            self.owed &= ~(1 << word)
+        if self.marks[own] == WATCHED:
+            self.owed |= 1 << word
+        self.marks[own] = FREE
+        for chain, mark in enumerate(self.marks):
+            if mark == ASLEEP and self.word[self.problem.chains[chain][self.at[chain]]] == word:
+                self.marks[chain] = WATCHED if received is None else FREE
+
+    def may_go(self, node):
+        """Whether a write that can be performed is to be tried, by the marks."""
+        mark, word, written = self.marks[self.problem.chain[node]], self.word[node], self.written[node]
+        if mark == ASLEEP or self.owed >> word & 1 and self.received[node] is None:
+            return False
+        following = [self.behind[node], *self.next_on[word * self.count:(word + 1) * self.count]]
+        return mark == FREE or any(self.received[other] == written for other in following if other != node)
 
     def take_back(self, length):
         """Undoes what was performed beyond the first `length` operations."""
@@ -148,13 +174,15 @@ class Search:
     def choices(self, writes):
         """Of the writes that can be performed now, those that must be tried. Each other write that could be next on
         their word must come behind one of them."""
-        best, before, chain, place = writes, self.forced.before, self.problem.chain, self.problem.place
+        allowed = [node for node in writes if self.may_go(node)]
+        best, before, chain, place = allowed, self.forced.before, self.problem.chain, self.problem.place
         for word in {self.word[node] for node in writes}:
             first = self.first_writes(word)
             ready = [node for node in first if node in writes]
-            if ready and len(ready) < len(best) and all(
+            tried = [node for node in ready if node in allowed]
+            if ready and len(tried) < len(best) and all(
                     node in ready or any(before[node][chain[one]] > place[one] for one in ready) for node in first):
-                best = ready
+                best = tried
         return sorted(best, key=self.rank.__getitem__)
 
     def halts(self):
@@ -205,17 +233,27 @@ class Search:
             state = self.state()
             if choices and state not in self.dead and not self.halts():
                 self.states += len(choices) > 1
-                frames.append((len(self.order), choices[::-1], state))
+                frames.append((len(self.order), choices[::-1], state, self.marks, self.owed))
+            else:
+                self.dead.add(state)
             while frames and not frames[-1][1]:
                 self.dead.add(frames.pop()[2])
             if not frames:
                 return None
-            length, left, _ = frames[-1]
-            self.take_back(length)
-            self.perform(left.pop())
+            self.go_on(*frames[-1])
+
+    def go_on(self, length, left, _, marks, owed):
+        """Performs the next write that is to be tried in a state on the way, and marks it there, for the next ones."""
+        self.take_back(length)
+        self.marks, self.owed = marks[:], owed
+        node = left.pop()
+        self.perform(node)
+        if self.can_sleep:
+            marks[self.problem.chain[node]] = ASLEEP
 
     def begin_anew(self):
         self.take_back(0)
+        self.marks, self.owed = [FREE] * self.count, 0
         self.frames.clear()
         self.tries += 1
         self.last_branch += FIRST_BRANCHES * len(self.problem.nodes) * 2 ** (self.tries // 2)

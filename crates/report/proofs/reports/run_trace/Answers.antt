@@ -1,5 +1,5 @@
-use Rattle.std.proofs.Common.{ℕ, List, Option, Result, Ok, Err, subst}
-use Rattle.std.specs.Prelude.{IfErr, IsErrOf}
+use Rattle.std.proofs.Common.{◌≡◌, ℕ, List, Option, Result, Err, subst}
+use Rattle.std.specs.Prelude.{IfErr}
 use Rattle.byte_streams.specs.Whole.{GrowsByFront}
 use Rattle.run_results.specs.declared.results.RunError.{RunError}
 use Rattle.run_results.specs.declared.results.RunError.TheVariants.{Write}
@@ -8,16 +8,17 @@ use Rattle.report.proofs.reports.run_trace.Goals as goal
 
 -- a failed write leaves a beginning of the text
 cut : {A : Type 0} (r : Result A RunError) (old new : Option (List ℕ)) (before after : ℕ) (text : List ℕ) →
-    IfErr r (IsWriteError old new before after text) → IsErrOf r Write → GrowsByFront old new text
-cut (Ok x) old new before after text is failed = absurd failed
-cut (Err Write) old new before after text is failed = is.0
-cut (Err e) old new before after text is failed = absurd is
+    IfErr r (IsWriteError old new before after text) → r ≡ Err Write → GrowsByFront old new text
+cut {A} r old new before after text is failed =
+    (subst (λ (q : Result A RunError). IfErr q (IsWriteError old new before after text)) failed is).0
 
 pub returns-clause-cut_off : goal.returns-clause-cut_off
 returns-clause-cut_off g c = λ failed. (
   c.in-Ok-report_of.report.all_done,
-  c.in-Ok-report_of.report.text.items,
-  (c.in-Ok.trace, c.in-Ok.ensures.read, c.in-Ok-report_of.ensures.report),
-  subst (GrowsByFront (g.K.Sink.contents c.args.sink.now) (g.K.Sink.contents c.put_out.new.sink)) c.deref.ensures.value
-      (cut c.put_out.result _ _ _ _ c.deref.result.now c.put_out.ensures.failed failed),
+  (
+    c.in-Ok-report_of.report.text.items,
+    (c.in-Ok.trace, c.in-Ok.ensures.read, c.in-Ok-report_of.ensures.report),
+    subst (GrowsByFront (g.K.Sink.contents c.args.sink.now) (g.K.Sink.contents c.put_out.new.sink))
+        c.deref.ensures.value (cut c.put_out.result _ _ _ _ c.deref.result.now c.put_out.ensures.failed failed),
+  ),
 )

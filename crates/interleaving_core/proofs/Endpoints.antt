@@ -53,9 +53,7 @@ use Rattle.interleaving_core.specs.declared.core_masks.CoreMasks.{CoreMasks}
 use Rattle.interleaving_core.specs.CoreMasks.{AreMasks}
 use Rattle.interleaving_core.specs.Reservation.{IsFitted, owed}
 use Rattle.interleaving_core.specs.declared.plain_answer.PlainAnswer.{PlainAnswer}
-use Rattle.interleaving_core.specs.declared.reactions.Undelivered.{Undelivered}
-use Rattle.interleaving_core.specs.declared.reactions.Undelivered.TheVariants.{NoMemory}
-use Rattle.interleaving_core.specs.PartChanges.{answer_of, applied, settled_by, stops}
+use Rattle.interleaving_core.specs.PartChanges.{answer_of, applied, stops}
 use Rattle.interleaving_core.specs.StepAnswers.{TakesMemory, asks_memory, is_first_store}
 use Rattle.interleaving_core.proofs.ChangedParts.{Place, event_done, is_changed, put}
 use Rattle.interleaving_core.specs.Endpoints.{BackHasEndpoints, EvictedHasEndpoints, ReactionHasEndpoints}
@@ -121,6 +119,9 @@ module _ {S : Type 0} (m : Machine) (n : ℕ) (put : S → Machine) (config : (x
 pub of_there : {X : Type 0} (P : X → Type 0) {o : Option X} {x : X} → Some x ≡ o → IfSome o P → P x
 of_there P there holds = subst (λ o. IfSome o P) (sym there) holds
 
+pub holds_there : {X : Type 0} (P : X → Type 0) {o : Option X} {x : X} → Some x ≡ o → P x → IfSome o P
+holds_there P there holds = subst (λ o. IfSome o P) there holds
+
 -- a message in flight in a machine, which is seen as a model, and the part that it goes to, read where it is
 module _ {m seen : Machine} (is_view : m ≡ seen) (holds : Invariant seen) (n : ℕ) {message : Message}
     (there : Some message ≡ at_number n m.mail.messages) {S : Type 0} {to : Node} {parts : List S} {k : ℕ}
@@ -138,31 +139,33 @@ module _ {m seen : Machine} (is_view : m ≡ seen) (holds : Invariant seen) (n :
   pub part_here : slice_get parts k ≡ Some part
   part_here = found_here parts k (λ o. takes has o message) refl found_case part read
 
+  has_case_here : has part message ≡ true
+  has_case_here = subst (λ o. takes has o message ≡ true) part_here found_case
+
   -- it has a case for the message
-  pub gets_case : has part message ≡ true
-  gets_case = subst (λ o. takes has o message ≡ true) part_here found_case
+  pub gets_case : IfSome (at_number n m.mail.messages) (λ x. IsTrue (has part x))
+  gets_case = holds_there _ there has_case_here
 
   delivers_here : changed m (put place part part_here) (Some n) (reacted (table part message)) ≡ on_event m (Deliver n)
   delivers_here = sym (delivers m n message to (sym there) goes (put place part part_here) (slice_get parts k) part
-      part_here has table gets_case (place.delivers n message))
+      part_here has table has_case_here (place.delivers n message))
 
   -- what it sends has the endpoints of its kind
   pub with_endpoints : {masks : CoreMasks} {flight : Flight} {records : List Record} {room : ℕ} →
-      IsFitted m.config flight m.cores records room masks →
-      IsTrue (can_send flight.capacity m.mail (sent_by (table part message))) →
-      ReactionHasEndpoints flight.cores flight.banks (table part message)
-  with_endpoints {flight = flight} {records = records} {room = room} fits can =
+      IsFitted m.config flight m.cores records room masks → IfSome (at_number n m.mail.messages)
+      (λ x. IsTrue (can_send flight.capacity m.mail (sent_by (table part x))) → ReactionHasEndpoints flight.cores
+      flight.banks (table part x))
+  with_endpoints {flight = flight} {records = records} {room = room} fits = holds_there _ there (λ can.
       fitted_ends m.config flight m.cores records room fits (λ a b. ReactionHasEndpoints a b (table part message))
       (reaction_endpoints m n (put place part part_here) (λ x. refl) (table part message)
       (subst (λ o. Invariant o.1) (sym delivers_here) (any_event m invariant (Deliver n)))
-      (subst (λ k. can_send k m.mail (sent_by (table part message)) ≡ true) fits.capacity_is can))
+      (subst (λ k. can_send k m.mail (sent_by (table part message)) ≡ true) fits.capacity_is can)))
 
   -- what is made of the part and the messages in flight, at this capacity, the table makes of the machine
   module _ {capacity : ℕ} (same_capacity : capacity ≡ m.config.messages) where
-    pub delivered : {E : Type 0} (result : Result PlainAnswer E) (so : Result Reaction Undelivered) (new : S)
-        (mail : Mail) (stopped : Bool) → ((k : ℕ) → IfSome (settled_by m.mail k so) (λ x. ◌≡◌ {A = Answer × S × Mail}
-        (x.0, new, x.1) (applied capacity part m.mail (Some k) (reacted (table part message))))) →
-        IfOk result (λ plain. Some (answer_of plain, mail) ≡ settled_by m.mail n so) →
+    pub delivered : {E : Type 0} (result : Result PlainAnswer E) (new : S) (mail : Mail) (stopped : Bool) →
+        IfOk result (λ plain. IfSome (at_number n m.mail.messages) (λ x. ◌≡◌ {A = Answer × S × Mail}
+        (answer_of plain, new, mail) (applied capacity part m.mail (Some n) (reacted (table part x))))) →
         IfOk result (λ plain. stopped ≡ (stops (answer_of plain) || m.is_stopped)) →
         IfOk result (λ plain. ◌≡◌ {A = Answer × Machine} (
           answer_of plain,
@@ -171,39 +174,38 @@ module _ {m seen : Machine} (is_view : m ≡ seen) (holds : Invariant seen) (n :
             is_stopped = stopped;
           },
         ) (on_event seen (Deliver n)))
-    delivered (Ok plain) so new mail stopped done settled stop =
+    delivered (Ok plain) new mail stopped done stop =
         event_done place part part_here (Some n) (reacted (table part message)) (reaction_fits (table part message))
         capacity same_capacity seen is_view (λ x. on_event x (Deliver n)) delivers_here (answer_of plain) new mail
-        stopped (of_there (λ x. ◌≡◌ {A = Answer × S × Mail} (x.0, new, x.1) (applied capacity part m.mail (Some n)
-        (reacted (table part message)))) settled (done n)) stop
-    delivered (Err e) so new mail stopped done settled stop = tt
+        stopped (of_there _ there done) stop
+    delivered (Err e) new mail stopped done stop = tt
 
     -- it takes memory if a message is sent
-    pub delivery_wanted : {X E : Type 0} (result : Result X E) (so : Result Reaction Undelivered) →
-        ((k : ℕ) → so ≡ Err NoMemory → m.mail.next < (applied capacity part m.mail (Some k)
-        (reacted (table part message))).2.next) → OnErr result (so ≡ Err NoMemory) →
+    pub delivery_wanted : {X E : Type 0} (result : Result X E) →
+        OnErr result (IfSome (at_number n m.mail.messages) (λ x.
+        m.mail.next < (applied capacity part m.mail (Some n) (reacted (table part x))).2.next)) →
         OnErr result (TakesMemory seen (on_event seen (Deliver n)))
-    delivery_wanted (Ok x) so sends lacks = tt
-    delivery_wanted (Err e) so sends lacks =
+    delivery_wanted (Ok x) sends = tt
+    delivery_wanted (Err e) sends =
         subst (λ (x : Machine). TakesMemory x (on_event x (Deliver n))) is_view
         (subst (λ (x : Answer × Machine). TakesMemory m x) delivers_here
         (inr (subst (λ (x : Answer × Machine). m.mail.next < x.1.mail.next)
         (is_changed place part part_here (Some n) (reacted (table part message)) (reaction_fits (table part message)))
         (subst (λ k. m.mail.next < (applied k part m.mail (Some n) (reacted (table part message))).2.next)
-        same_capacity (sends n lacks)))))
+        same_capacity (of_there _ there sends)))))
 
 -- a store of a line that a DRAM doesn't have yet asks for memory
 pub dram_asks : {m seen : Machine} → m ≡ seen → (n : ℕ) {message : Message} → Some message ≡
     at_number n m.mail.messages → (b : ℕ) → message.to ≡ node.Dram b → {lines : FinMap nat_cmp (List ℕ)} →
-    slice_get m.drams b ≡ Some lines → {X E : Type 0} (result : Result X E) (so : Result Reaction Undelivered) →
-    (so ≡ Err NoMemory → IsTrue (needs_memory lines message)) → OnErr result (so ≡ Err NoMemory) →
+    slice_get m.drams b ≡ Some lines → {X E : Type 0} (result : Result X E) →
+    OnErr result (IfSome (at_number n m.mail.messages) (λ x. IsTrue (needs_memory lines x))) →
     OnErr result (IsTrue (asks_memory seen (Deliver n)))
-dram_asks is_view n there b to here (Ok x) so asks lacks = tt
-dram_asks {m} {seen} is_view n {message} there b to here (Err e) so asks lacks =
+dram_asks is_view n there b to here (Ok x) asks = tt
+dram_asks {m} {seen} is_view n {message} there b to here (Err e) asks =
     subst (λ (k : Machine). asks_memory k (Deliver n) ≡ true) is_view
     (subst (λ o. unwrap_or (option_map (λ x. is_first_store m x x.to) o) false ≡ true) there
     (subst (λ k. is_first_store m message k ≡ true) (sym to)
-    (ap (λ o. unwrap_or (option_map (λ dram. needs_memory dram message) o) false) here ∙ asks lacks)))
+    (ap (λ o. unwrap_or (option_map (λ dram. needs_memory dram message) o) false) here ∙ of_there _ there asks)))
 
 -- what a core sends back goes to a bank
 module _ (m : Machine) (s : Invariant m) (c : ℕ) (core : CoreState) (here : slice_get m.cores c ≡ Some core) where

@@ -1,5 +1,5 @@
 -- What a step of one part makes of the part and the messages in flight, and what its answer makes of the machine.
-use Rattle.std.specs.Prelude.{◌≡◌, ℕ, Bool, true, false, List, [], ◌∷◌, ◌++◌, Option, Some, None, Result, Ok, Err}
+use Rattle.std.specs.Prelude.{◌≡◌, ℕ, Bool, true, false, List, [], ◌∷◌, ◌++◌, Option, Some, None}
 use Rattle.std.specs.Prelude.{◌-◌, if◌then◌else◌, length, slice_get}
 use Rattle.physiological_order.specs.declared.operation.Record.{Record}
 use Rattle.network.specs.declared.part.Reaction.{Reaction}
@@ -10,8 +10,6 @@ use Rattle.machine_table.specs.declared.event.Refusal.TheVariants.{Exhausted, Ne
 use Rattle.core_pts.specs.CoreTable.{CoreState}
 use Rattle.interleaving_core.specs.declared.plain_answer.PlainAnswer.{PlainAnswer}
 use Rattle.interleaving_core.specs.declared.plain_answer.PlainAnswer.TheVariants as plain
-use Rattle.interleaving_core.specs.declared.reactions.Undelivered.{Undelivered}
-use Rattle.interleaving_core.specs.declared.reactions.Undelivered.TheVariants as undelivered
 use Rattle.machine_table.specs.Posted.{can_post, left, posted}
 use Rattle.machine_table.specs.Step.{Step, Exhausts, Keeps, Drops, Makes, Tried, Completes, Does, reacted, record_of}
 
@@ -104,10 +102,3 @@ settled mail n (Makes why consumes sends after) = (why, posted mail (Some n) con
 -- so by the part's reaction: the same at every part
 abbrev pub settled_answer : Mail → ℕ → Reaction → Answer × Mail
 settled_answer mail n reaction = settled mail n (reacted (Some (reaction, tt {0})))
-
--- so by what the part did, or why it did nothing; none, if memory was refused
-abbrev pub settled_by : Mail → ℕ → Result Reaction Undelivered → Option (Answer × Mail)
-settled_by mail n (Ok reaction) = Some (settled_answer mail n reaction)
-settled_by mail n (Err undelivered.NetworkFull) = Some (answer.Refused NetworkFull, mail)
-settled_by mail n (Err undelivered.Exhausted) = Some (answer.Refused Exhausted, mail)
-settled_by mail n (Err undelivered.NoMemory) = None

@@ -7,7 +7,7 @@ ghost use Rattle.network.specs.Routes.{has_endpoints};
 ghost use Rattle.network.specs.Sends.{sent_by, sent_in};
 ghost use Rattle.machine_table.specs.Posted.{can_send};
 ghost use Rattle.machine_table.specs.Step.{Stays, reacted};
-ghost use Rattle.interleaving_core.specs.PartChanges.{answer_of, applied, settled_answer, settled_by, stops};
+ghost use Rattle.interleaving_core.specs.PartChanges.{answer_of, applied, settled_answer, stops};
 ghost use Rattle.interleaving_core.specs.Endpoints.{ReactionHasEndpoints, SendsWithEndpoints};
 
 use crate::plain_answer::PlainAnswer;
@@ -15,80 +15,51 @@ use machine_table::Refusal;
 use network::{InFlight, Message, MsgNo, Node, Part, PartError, Reaction};
 use std::alloc::AllocError;
 
-/// Why a part does nothing with a delivered message.
-pub(crate) enum Undelivered {
-    NetworkFull,
-    Exhausted,
-    NoMemory,
-}
-
-/// What a part does with a delivered message, or why it does nothing. What it sends isn't sent yet. An error leaves the
-/// part as it was.
+/// A message in flight is delivered to its part: the answer, and the part and the messages in flight afterwards.
+/// Exhausted times stop the machine. An error leaves all as it was. The compiler sets what a function keeps on its
+/// stack to zeros where that begins, also where it is inlined: so a delivery does so for the response of one part
+/// alone.
 #[inline(always)]
-pub(crate) fn react<P: Part>(
+pub(crate) fn deliver_to<P: Part>(
     part: &mut P,
-    flight: &InFlight,
-    message: &Message,
-) -> Result<Reaction, Undelivered>
-    requires case { IsTrue (P.has_case part.old message.now) }
-    requires quiet { Stays part.old (P.table part.old message.now) }
-    requires endpoints { IsTrue (can_send flight.now.capacity flight.now.mail
-        (sent_by (P.table part.old message.now))) →
-        ReactionHasEndpoints flight.now.cores flight.now.banks (P.table part.old message.now) }
-    ensures done { (number : ℕ) → IfSome (settled_by flight.now.mail number result)
-        (λ x. (x.0, part.new, x.1) ≡ applied flight.now.capacity part.old flight.now.mail
-        (Some number) (reacted (P.table part.old message.now))) }
-    ensures endpoints { IfOk result (λ reaction.
-        SendsWithEndpoints flight.now.cores flight.now.banks reaction) }
-    ensures capacity { IfOk result (λ reaction.
-        IsTrue (can_send flight.now.capacity flight.now.mail (sent_in reaction))) }
-    ensures memory { (number : ℕ) → result ≡ Err Undelivered.NoMemory →
-        flight.now.mail.next < (applied flight.now.capacity part.old flight.now.mail
-        (Some number) (reacted (P.table part.old message.now))).2.next }
-    ensures sure { result ≡ Err Undelivered.NoMemory →
-        IsTrue (P.takes_memory part.old message.now) }
-    ensures refused { OnErr result (part.new ≡ part.old) }
-{
-    if !can_answer(part, flight, message) {
-        return Err(Undelivered::NetworkFull);
-    }
-    match part.deliver(message) {
-        Err(PartError::NoMemory) => Err(Undelivered::NoMemory),
-        Err(PartError::Exhausted) => Err(Undelivered::Exhausted),
-        Ok(reaction) => Ok(reaction),
-    }
-}
-
-/// The answer to a delivery, by what its part did, and the messages in flight afterwards. Exhausted times stop the
-/// machine. An error leaves all as it was.
-#[inline(always)]
-pub(crate) fn finish(
     flight: &mut InFlight,
     is_stopped: &mut bool,
     number: MsgNo,
-    reacted: Result<Reaction, Undelivered>,
 ) -> Result<PlainAnswer, AllocError>
     requires there { IsSome (at_number number flight.old.mail.messages) }
-    requires endpoints { IfOk reacted (λ reaction.
-        SendsWithEndpoints flight.old.cores flight.old.banks reaction) }
-    requires capacity { IfOk reacted (λ reaction.
-        IsTrue (can_send flight.old.capacity flight.old.mail (sent_in reaction))) }
-    ensures done { IfOk result (λ plain. Some (answer_of plain, flight.new.mail) ≡
-        settled_by flight.old.mail number reacted) }
+    requires case { IfSome (at_number number flight.old.mail.messages) (λ message.
+        IsTrue (P.has_case part.old message)) }
+    requires quiet { IfSome (at_number number flight.old.mail.messages) (λ message.
+        Stays part.old (P.table part.old message)) }
+    requires endpoints { IfSome (at_number number flight.old.mail.messages) (λ message.
+        IsTrue (can_send flight.old.capacity flight.old.mail (sent_by (P.table part.old message))) →
+        ReactionHasEndpoints flight.old.cores flight.old.banks (P.table part.old message)) }
+    ensures done { IfOk result (λ plain. IfSome (at_number number flight.old.mail.messages)
+        (λ message. (answer_of plain, part.new, flight.new.mail) ≡ applied flight.old.capacity
+        part.old flight.old.mail (Some number) (reacted (P.table part.old message)))) }
     ensures stop { IfOk result (λ plain.
         is_stopped.new ≡ (stops (answer_of plain) || is_stopped.old)) }
     ensures set_up { SameNetwork flight.old flight.new }
-    ensures memory { OnErr result (reacted ≡ Err Undelivered.NoMemory) }
-    ensures refused { OnErr result ((flight.new ≡ flight.old)
+    ensures memory { OnErr result (IfSome (at_number number flight.old.mail.messages)
+        (λ message. flight.old.mail.next < (applied flight.old.capacity part.old flight.old.mail
+        (Some number) (reacted (P.table part.old message))).2.next)) }
+    ensures sure { OnErr result (IfSome (at_number number flight.old.mail.messages) (λ message.
+        IsTrue (P.takes_memory part.old message))) }
+    ensures refused { OnErr result ((part.new ≡ part.old) × (flight.new ≡ flight.old)
         × (is_stopped.new ≡ is_stopped.old)) }
 {
-    match reacted {
-        Err(Undelivered::NetworkFull) => Ok(PlainAnswer::Refused(Refusal::NetworkFull)),
-        Err(Undelivered::Exhausted) => {
+    let Some(message) = flight.look(number) else {
+        unreachable!()
+    };
+    if !can_answer(part, flight, message) {
+        return Ok(PlainAnswer::Refused(Refusal::NetworkFull));
+    }
+    match part.deliver(message) {
+        Err(PartError::NoMemory) => Err(AllocError),
+        Err(PartError::Exhausted) => {
             *is_stopped = true;
             Ok(PlainAnswer::Refused(Refusal::Exhausted))
         }
-        Err(Undelivered::NoMemory) => Err(AllocError),
         Ok(reaction) => {
             let delivery = delivery_of(&reaction);
             settle(flight, number, reaction);

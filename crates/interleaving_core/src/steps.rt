@@ -9,7 +9,7 @@ use crate::core_masks::{note, note_attempt, note_delivery};
 use crate::machine_state::MachineState;
 use crate::operations;
 use crate::plain_answer::{PlainAnswer, plain_of, stop_after};
-use crate::reactions::{finish, react};
+use crate::reactions::deliver_to;
 use crate::records::{keep, reserve, stop};
 use machine_table::{Answer, Event, Refusal};
 use network::{LineNo, MsgNo, Node};
@@ -124,20 +124,17 @@ impl MachineState {
         match message.to {
             Node::Core(number_of_core) => {
                 let core = &mut self.cores[number_of_core as usize];
-                let reacted = react(core, &self.flight, message);
-                let plain = finish(&mut self.flight, &mut self.is_stopped, number, reacted)?;
+                let plain = deliver_to(core, &mut self.flight, &mut self.is_stopped, number)?;
                 note_delivery(&mut self.masks, number_of_core, core);
                 Ok(plain)
             }
             Node::Bank(bank) => {
                 let bank = &mut self.banks[bank as usize];
-                let reacted = react(bank, &self.flight, message);
-                finish(&mut self.flight, &mut self.is_stopped, number, reacted)
+                deliver_to(bank, &mut self.flight, &mut self.is_stopped, number)
             }
             Node::Dram(bank) => {
                 let dram = &mut self.drams[bank as usize];
-                let reacted = react(dram, &self.flight, message);
-                finish(&mut self.flight, &mut self.is_stopped, number, reacted)
+                deliver_to(dram, &mut self.flight, &mut self.is_stopped, number)
             }
         }
     }

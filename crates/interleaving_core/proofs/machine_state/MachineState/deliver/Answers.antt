@@ -1,13 +1,11 @@
 use Rattle.std.proofs.Common.{◌≡◌, Result, Ok, Some, sym, subst, refl, arith, set}
 use Rattle.std.proofs.lemmas.Option.{slice_get_within}
 use Rattle.network.specs.Mail.{Mail}
-use Rattle.core_pts.specs.CoreTable.{CoreState, core_table}
+use Rattle.core_pts.specs.CoreTable.{CoreState}
 use Rattle.machine_table.specs.declared.event.Answer.{Answer}
 use Rattle.machine_table.specs.Machine.{Machine}
 use Rattle.interleaving_core.specs.contracts.machine_state.MachineState.{the_view}
-use Rattle.machine_table.specs.Step.{reacted}
 use Rattle.interleaving_core.specs.declared.plain_answer.PlainAnswer.{PlainAnswer}
-use Rattle.interleaving_core.specs.PartChanges.{applied}
 use Rattle.std.specs.Vec.{vec_capacity}
 use Rattle.interleaving_core.proofs.ChangedParts.{bank_place, core_place, dram_place}
 use Rattle.interleaving_core.proofs.Endpoints.{delivered, delivery_wanted, dram_asks, gets_case, of_there, part_here}
@@ -16,13 +14,13 @@ use Rattle.interleaving_core.proofs.Only.{SameOpen, core_only, kept}
 use Rattle.interleaving_core.proofs.OpenCounts.{owed_kept}
 use Rattle.interleaving_core.proofs.machine_state.MachineState.deliver.Goals as goal
 
-pub react-reacted-requires-clause-case : goal.react-reacted-requires-clause-case
-react-reacted-requires-clause-case c =
+pub deliver_to-requires-clause-case : goal.deliver_to-requires-clause-case
+deliver_to-requires-clause-case c =
     gets_case c.self.view_is c.requires c.args.number c.in-Some.ensures.value (core_place _ c.in-Core.number_of_core)
     c.in-Core.is c.index_mut-core.ensures.value
 
-pub react-reacted-requires-clause-endpoints : goal.react-reacted-requires-clause-endpoints
-react-reacted-requires-clause-endpoints c =
+pub deliver_to-requires-clause-endpoints : goal.deliver_to-requires-clause-endpoints
+deliver_to-requires-clause-endpoints c =
     with_endpoints c.self.view_is c.requires c.args.number c.in-Some.ensures.value
     (core_place _ c.in-Core.number_of_core) c.in-Core.is c.index_mut-core.ensures.value c.self.invariant
 
@@ -40,27 +38,25 @@ invariant_of-self-in-Core c =
     let part = c.index_mut-core.result.now in
     let here = part_here c.self.view_is c.requires c.args.number c.in-Some.ensures.value
     (core_place _ c.in-Core.number_of_core) c.in-Core.is c.index_mut-core.ensures.value in
-    let after = c.react-reacted.new.part in
+    let after = c.deliver_to.new.part in
     let open_kept = subst (λ (x : Answer × CoreState × Mail). x.1.open_op ≡ part.open_op)
-    (sym (of_there (λ x. ◌≡◌ {A = Answer × CoreState × Mail} (x.0, after, x.1) (applied c.self.inside.flight.capacity
-    part m.mail (Some c.args.number) (reacted (core_table part c.in-Some.message.now))))
-    c.in_ok-plain-in-Core.ensures.done (c.react-reacted.ensures.done c.args.number)))
+    (sym (of_there _ c.in-Some.ensures.value c.in_ok-plain-in-Core.ensures.done))
     (kept part (SameOpen part) refl c.self.inside.flight.capacity m.mail (Some c.args.number) _
     (core_only part c.in-Some.message.now)) in
     let same = owed_kept m.cores c.in-Core.number_of_core part after here open_kept in
     still_fitted m.config c.self.inside.flight m.cores c.self.inside.records.items _ c.self.invariant
-    c.finish.new.flight (set m.cores c.in-Core.number_of_core after) c.self.inside.records.items
-    (vec_capacity c.self.inside.records) c.note_delivery.new.masks c.finish.ensures.set_up
+    c.deliver_to.new.flight (set m.cores c.in-Core.number_of_core after) c.self.inside.records.items
+    (vec_capacity c.self.inside.records) c.note_delivery.new.masks c.deliver_to.ensures.set_up
     (omega (arith, same, c.self.invariant.reserved))
     (c.note_delivery.ensures m.cores part here open_kept c.self.invariant.masked)
 
-pub react-reacted-requires-in-Bank-clause-case : goal.react-reacted-requires-in-Bank-clause-case
-react-reacted-requires-in-Bank-clause-case c =
+pub deliver_to-requires-in-Bank-clause-case : goal.deliver_to-requires-in-Bank-clause-case
+deliver_to-requires-in-Bank-clause-case c =
     gets_case c.self.view_is c.requires c.args.number c.in-Some.ensures.value (bank_place _ c.in-Bank.bank)
     c.in-Bank.is c.index_mut-bank.ensures.value
 
-pub react-reacted-requires-in-Bank-clause-endpoints : goal.react-reacted-requires-in-Bank-clause-endpoints
-react-reacted-requires-in-Bank-clause-endpoints c =
+pub deliver_to-requires-in-Bank-clause-endpoints : goal.deliver_to-requires-in-Bank-clause-endpoints
+deliver_to-requires-in-Bank-clause-endpoints c =
     with_endpoints c.self.view_is c.requires c.args.number c.in-Some.ensures.value (bank_place _ c.in-Bank.bank)
     c.in-Bank.is c.index_mut-bank.ensures.value c.self.invariant
 
@@ -68,30 +64,30 @@ pub returns-in_ok-plain-in-Core-clause-done : goal.returns-in_ok-plain-in-Core-c
 returns-in_ok-plain-in-Core-clause-done c =
     let result : Result PlainAnswer (Unit {0}) = Ok c.in_ok-plain-in-Core.plain in
     delivered c.self.view_is c.requires c.args.number c.in-Some.ensures.value (core_place _ c.in-Core.number_of_core)
-    c.in-Core.is c.index_mut-core.ensures.value c.self.invariant.capacity_is result _ _ _ _ c.react-reacted.ensures.done
+    c.in-Core.is c.index_mut-core.ensures.value c.self.invariant.capacity_is result _ _ _
     c.in_ok-plain-in-Core.ensures.done c.in_ok-plain-in-Core.ensures.stop
 
 pub returns-in-Bank-clause-done : goal.returns-in-Bank-clause-done
 returns-in-Bank-clause-done c =
     delivered c.self.view_is c.requires c.args.number c.in-Some.ensures.value (bank_place _ c.in-Bank.bank)
-    c.in-Bank.is c.index_mut-bank.ensures.value c.self.invariant.capacity_is _ _ _ _ _
-    c.react-reacted-in-Bank.ensures.done c.finish-in-Bank.ensures.done c.finish-in-Bank.ensures.stop
+    c.in-Bank.is c.index_mut-bank.ensures.value c.self.invariant.capacity_is _ _ _ _
+    c.deliver_to-in-Bank.ensures.done c.deliver_to-in-Bank.ensures.stop
 
 pub returns-in-Dram-clause-done : goal.returns-in-Dram-clause-done
 returns-in-Dram-clause-done c =
     delivered c.self.view_is c.requires c.args.number c.in-Some.ensures.value (dram_place _ c.in-Dram.bank)
-    c.in-Dram.is c.index_mut-dram.ensures.value c.self.invariant.capacity_is _ _ _ _ _
-    c.react-reacted-in-Dram.ensures.done c.finish-in-Dram.ensures.done c.finish-in-Dram.ensures.stop
+    c.in-Dram.is c.index_mut-dram.ensures.value c.self.invariant.capacity_is _ _ _ _
+    c.deliver_to-in-Dram.ensures.done c.deliver_to-in-Dram.ensures.stop
 
 pub returns-in-Dram-clause-wanted : goal.returns-in-Dram-clause-wanted
 returns-in-Dram-clause-wanted c =
     delivery_wanted c.self.view_is c.requires c.args.number c.in-Some.ensures.value (dram_place _ c.in-Dram.bank)
-    c.in-Dram.is c.index_mut-dram.ensures.value c.self.invariant.capacity_is c.finish-in-Dram.result _
-    c.react-reacted-in-Dram.ensures.memory c.finish-in-Dram.ensures.memory
+    c.in-Dram.is c.index_mut-dram.ensures.value c.self.invariant.capacity_is c.deliver_to-in-Dram.result
+    c.deliver_to-in-Dram.ensures.memory
 
 pub returns-in-Dram-clause-store : goal.returns-in-Dram-clause-store
 returns-in-Dram-clause-store c =
     dram_asks c.self.view_is c.args.number c.in-Some.ensures.value c.in-Dram.bank c.in-Dram.is
     (part_here c.self.view_is c.requires c.args.number c.in-Some.ensures.value (dram_place _ c.in-Dram.bank)
     c.in-Dram.is c.index_mut-dram.ensures.value)
-    c.finish-in-Dram.result _ c.react-reacted-in-Dram.ensures.sure c.finish-in-Dram.ensures.memory
+    c.deliver_to-in-Dram.result c.deliver_to-in-Dram.ensures.sure

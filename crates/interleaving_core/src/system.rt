@@ -1,5 +1,5 @@
 //! The machine that users drive, and what is always true of it.
-ghost use Rattle.std.specs.Prelude.{◌≡◌, ◌≢◌, ◌≤◌, ◌<◌, ◌++◌, ◌∷◌, vec_capacity, [], false, true, IfOk, IfErr};
+ghost use Rattle.std.specs.Prelude.{◌≡◌, ◌≢◌, ◌≤◌, ◌<◌, ◌++◌, ◌∷◌, vec_capacity, [], false, true, IfOk, IsErrOf};
 ghost use Rattle.std.specs.Prelude.{IfSome, IsSome, IsTrue, None, OnErr, OnOk, length, map};
 ghost use Rattle.std.specs.Prelude.{option_copied, slice_get, slice_index_or, List, Some, ℕ};
 ghost use Rattle.physiological_order.specs.Order.{flat, Legal, Arrangement, of_core, replay_end};
@@ -70,8 +70,8 @@ impl System {
     /// range; on an error the memory is dropped.
     pub fn new(alloc: Global, config: Config, memory: Memory) -> Result<System, OpenError>
         ensures opened { IfOk result (λ system. system ≡ at_start config memory) }
-        ensures bad { is_good config ≡ false → IfErr result (λ e. e ≡ OpenError.BadConfig) }
-        ensures not_bad { IfErr result (λ e. e ≡ OpenError.BadConfig → is_good config ≡ false) }
+        ensures bad { is_good config ≡ false → IsErrOf result OpenError.BadConfig }
+        ensures not_bad { IsErrOf result OpenError.BadConfig → is_good config ≡ false }
     {
         if !config.is_good() {
             return Err(OpenError::BadConfig);

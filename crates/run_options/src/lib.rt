@@ -1,8 +1,10 @@
-//! The options of a run (its machine, its schedule, how often a test is run) and of a list of ends (how many states it
-//! may keep).
+//! The options of a run (its machine, its schedule, how often a test is run), of a list of ends (how many states it
+//! may keep), and of a check of records.
 #![tactic(auto)]
 
 pub mod laws;
 mod options;
 
-pub use options::{EndsOptions, LitmusOptions, MachineOptions, RunOptions, Schedule, TraceOptions};
+pub use options::{
+    CheckOptions, EndsOptions, LitmusOptions, MachineOptions, RunOptions, Schedule, TraceOptions,
+};

@@ -92,6 +92,8 @@ impl RunOptions {
 pub struct LitmusOptions {
     /// How often the test is run, 1 to 1000000.
     pub runs: u64,
+    /// Whether the report is a JSON object in place of lines.
+    pub json: bool,
     pub run: RunOptions,
 }
 
@@ -99,6 +101,7 @@ impl LitmusOptions {
     /// The runs of a litmus test if no option says otherwise.
     pub const DEFAULT: LitmusOptions = LitmusOptions {
         runs: 1,
+        json: false,
         run: RunOptions::DEFAULT,
     };
 }
@@ -110,6 +113,8 @@ pub struct EndsOptions {
     pub most_states: u64,
     /// Whether an order of the threads' memory operations that leads to it stands behind each end.
     pub orders: bool,
+    /// Whether the list is a JSON object in place of lines.
+    pub json: bool,
 }
 
 impl EndsOptions {
@@ -117,6 +122,7 @@ impl EndsOptions {
     pub const DEFAULT: EndsOptions = EndsOptions {
         most_states: 4_194_304,
         orders: false,
+        json: false,
     };
 }
 
@@ -128,6 +134,11 @@ pub struct TraceOptions {
     /// Whether what the run did, in numbers, stands behind the report; of no effect by threads, and where the records
     /// are written.
     pub counts: bool,
+    /// With counts: after how many completed operations each there is one more row of counts, 1 or more. None: there
+    /// are no rows. Zero leaves each row out, too. Of no effect without counts.
+    pub every: Option<u64>,
+    /// Whether the report is a JSON object in place of lines; of no effect where the records are written.
+    pub json: bool,
     pub run: RunOptions,
 }
 
@@ -136,6 +147,25 @@ impl TraceOptions {
     pub const DEFAULT: TraceOptions = TraceOptions {
         records: false,
         counts: false,
+        every: None,
+        json: false,
         run: RunOptions::DEFAULT,
+    };
+}
+
+/// The check of records against a trace.
+#[derive(Clone, Copy, Debug, PartialEq, Eq)]
+pub struct CheckOptions {
+    /// Whether each operation of the trace needs a record.
+    pub complete: bool,
+    /// Whether the verdict is a JSON object in place of a line.
+    pub json: bool,
+}
+
+impl CheckOptions {
+    /// The check of records if no option says otherwise.
+    pub const DEFAULT: CheckOptions = CheckOptions {
+        complete: false,
+        json: false,
     };
 }

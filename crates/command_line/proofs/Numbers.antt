@@ -3,14 +3,14 @@ use Rattle.std.proofs.Common.{◌≡◌, ℕ, ◌<◌, ◌≤◌, ◌^◌, ◌�
 use Rattle.std.proofs.Common.{Err, codes, refl, sym, ap, subst, ◌∙◌, arith, inl, inr}
 use Rattle.std.specs.Prelude.{option_map, unwrap_or}
 use Rattle.std.specs.Borrow.{Bor}
-use Rattle.std.specs.Str.Parse.{ParsesBool, ParsesUnsigned}
+use Rattle.std.specs.Str.Parse.{ParsesBool, ParsesUnsigned, digits_value, without_leading_plus}
 use Rattle.clap.specs.Words.{ReadsOne, Text, first_of, first_value, one_text, one_of, rows_of}
 use Rattle.clap.specs.declared.parser.matches.Found.{Found}
 use Rattle.clap.proofs.WalkLemmas.{first_value-rows, one_text-rows}
-use Rattle.command_line.specs.Options.{IsNumberOf, Writes, WritesWithin}
+use Rattle.command_line.specs.Options.{IsNumberIn, Writes, WritesWithin}
 
 module _ {E : Type 0} (gives : List ℕ → Result ℕ E → Type 0) (parses : (bs : List ℕ) (r : Result ℕ E) → gives bs r →
-    ParsesUnsigned 64 10 bs r) (least most other : ℕ) (few : most < 2 ^ 64) where
+    ParsesUnsigned 64 10 bs r) (least most : ℕ) (few : most < 2 ^ 64) where
   -- what is read of an option's text, or nothing where it has none
   abbrev Reads : Option Text → Option ℕ → Type 0
   Reads o r = (o ≡ None → r ≡ None) × ((t : List ℕ) → o ≡ Some t → ReadsOne gives t r)
@@ -23,46 +23,46 @@ module _ {E : Type 0} (gives : List ℕ → Result ℕ E → Type 0) (parses : (
       let small : n < 2 ^ 64 = let high = w.2 in omega (arith, high, few) in
       parses text (Err g.0) g.1 (w.0.0, rw (w.0.1) small)
 
-  held_in : (o : Option Text) (r : Option ℕ) → Reads o r → least ≤ unwrap_or r other → unwrap_or r other ≤ most →
-      IsNumberOf o least most other (unwrap_or r other)
-  held_in None r reads low high = ap (λ (x : Option ℕ). unwrap_or x other) (reads.0 refl)
-  held_in (Some text) (Some n) reads low high = inl (writes_read text n (reads.1 text refl), low, high)
-  held_in (Some text) None reads low high = inr (writes_none text (reads.1 text refl), refl)
+  within : (o : Option Text) (r : Option ℕ) → Reads o r → (n : ℕ) → r ≡ Some n → least ≤ n → n ≤ most →
+      IsNumberIn o least most (Some n)
+  within None r reads n is low high = let none : None ≡ Some n = sym (reads.0 refl) ∙ is in absurd cc
+  within (Some text) (Some k) reads n is low high =
+      let same : k ≡ n = cc in
+      (text, refl, (subst (Writes text) same (writes_read text k (reads.1 text refl)), low, high))
+  within (Some text) None reads n is low high = absurd cc
 
-  held_out : (o : Option Text) (r : Option ℕ) → Reads o r → (unwrap_or r other < least) ⊎ (most < unwrap_or r other) →
-      IsNumberOf o least most other other
-  held_out None r reads out = refl
-  held_out (Some text) (Some n) reads out = inr (
-    λ k w.
-        let read = writes_read text n (reads.1 text refl) in
-        let same : n ≡ k = sym read.1 ∙ w.0.1 in
-        let low = w.1 in
-        let high = w.2 in
-        elim out [
-          | inl less ↦ absurd (omega (arith, less, same, low))
-          | inr more ↦ absurd (omega (arith, more, same, high))
-        ],
-    refl,
-  )
-  held_out (Some text) None reads out = inr (writes_none text (reads.1 text refl), refl)
+  without : (o : Option Text) (r : Option ℕ) → Reads o r →
+      ((n : ℕ) → r ≡ Some n → (n < least) ⊎ (most < n)) → IsNumberIn o least most None
+  without None r reads out = λ t n is w. absurd cc
+  without (Some text) None reads out = λ t n is w.
+      let same : text ≡ t = cc in
+      writes_none text (reads.1 text refl) n (subst (λ s. WritesWithin s least most n) (sym same) w)
+  without (Some text) (Some k) reads out = λ t n is w.
+      let same : text ≡ t = cc in
+      let read = writes_read text k (reads.1 text refl) in
+      let wrote : digits_value 10 (without_leading_plus text) ≡ n = rw (same) (w.0.1) in
+      let equal : k ≡ n = sym read.1 ∙ wrote in
+      let low = w.1 in
+      let high = w.2 in
+      elim (out k refl) [
+        | inl less ↦ absurd (omega (arith, less, equal, low))
+        | inr more ↦ absurd (omega (arith, more, equal, high))
+      ]
 
   module _ (f : Found) (name : Text) (r : Option ℕ) (none : one_text f name ≡ None → r ≡ None)
       (value : (t : List ℕ) → one_text f name ≡ Some t → ReadsOne gives t r) where
     by_rows : Reads (one_of name (rows_of f)) r
     by_rows = (λ e. none (one_text-rows f name ∙ e), λ t e. value t (one_text-rows f name ∙ e))
 
-    -- the number that was read lies in its range, or the other one stands for it
-    pub number_in : (n : ℕ) → n ≡ unwrap_or r other → least ≤ n → n ≤ most →
-        IsNumberOf (one_of name (rows_of f)) least most other n
-    number_in n is low high =
-        subst (IsNumberOf (one_of name (rows_of f)) least most other) (sym is)
-        (held_in (one_of name (rows_of f)) r by_rows (subst (λ (k : ℕ). least ≤ k) is low)
-        (subst (λ (k : ℕ). k ≤ most) is high))
+    -- the number that was read, if it lies in its range
+    pub number_within : (n : ℕ) → r ≡ Some n → least ≤ n → n ≤ most →
+        IsNumberIn (one_of name (rows_of f)) least most (Some n)
+    number_within = within (one_of name (rows_of f)) r by_rows
 
-    pub number_out : (n : ℕ) → n ≡ unwrap_or r other → (n < least) ⊎ (most < n) →
-        IsNumberOf (one_of name (rows_of f)) least most other other
-    number_out n is out = held_out (one_of name (rows_of f)) r by_rows
-        (subst (λ (k : ℕ). (k < least) ⊎ (most < k)) is out)
+    -- or none
+    pub number_without : ((n : ℕ) → r ≡ Some n → (n < least) ⊎ (most < n)) →
+        IsNumberIn (one_of name (rows_of f)) least most None
+    number_without = without (one_of name (rows_of f)) r by_rows
 
 -- a flag is there exactly if its text is true
 module _ (E : Type 0) where

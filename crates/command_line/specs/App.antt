@@ -20,10 +20,17 @@ NamesSchedules p =
     (names : Bor (List (Bor Text))) × (p ≡ Names names)
     × (map (λ name. name.now) names.now ≡ codes "round" ∷ codes "seed" ∷ codes "threads" ∷ [])
 
--- name N, a number with a default
+-- any number of 64 bits but 0
+abbrev pub from_one : ValueParser
+from_one = up_to 18446744073709551615
+
+-- --name N, a number without a default
+abbrev pub bare_rule : Text → ValueParser → Rule
+bare_rule name p = record (new_rule name) { long = Some name; action = Some Set; parser = Some p }
+
+-- --name N, a number with a default
 abbrev pub number_rule : Text → Text → ValueParser → Rule
-number_rule name default p =
-    record (new_rule name) { long = Some name; action = Some Set; parser = Some p; defaults = default ∷ [] }
+number_rule name default p = record (bare_rule name p) { defaults = default ∷ [] }
 
 abbrev pub schedule_rule : ValueParser → Rule
 schedule_rule p = number_rule (codes "schedule") (codes "round") p
@@ -73,29 +80,36 @@ machine_rules =
 abbrev pub with_run_and_file : App → ValueParser → App
 with_run_and_file app p = with_rule (with_rules (with_rules app (run_rules p)) machine_rules) (file_rule (codes "FILE"))
 
+-- a report may be asked for as JSON
+abbrev pub json_rule : Rule
+json_rule = flag_rule (codes "json")
+
 -- a litmus test may be run more than once
 abbrev pub litmus_app : ValueParser → App
 litmus_app p =
-    with_run_and_file (with_rule (new_app (codes "litmus")) (number_rule (codes "runs") (codes "1") (up_to 1000000))) p
+    with_run_and_file
+    (with_rules (new_app (codes "litmus")) (number_rule (codes "runs") (codes "1") (up_to 1000000) ∷ json_rule ∷ [])) p
 
 -- the ends of a litmus test are listed with so many states at once, and may have orders
 abbrev pub ends_app : App
 ends_app =
     with_rules (new_app (codes "ends"))
     (number_rule (codes "states") (codes "4194304") (up_to 4294967295) ∷ flag_rule (codes "orders")
-    ∷ file_rule (codes "FILE") ∷ [])
+    ∷ json_rule ∷ file_rule (codes "FILE") ∷ [])
 
--- a trace may be run with its records reported, or counted
+-- a trace may be run with its records reported, or counted, also each time that so many operations are completed
+abbrev pub count_rules : List Rule
+count_rules =
+    flag_rule (codes "records") ∷ flag_rule (codes "counts") ∷ bare_rule (codes "every") from_one ∷ json_rule ∷ []
+
 abbrev pub trace_app : ValueParser → App
-trace_app p =
-    with_run_and_file
-    (with_rules (new_app (codes "trace")) (flag_rule (codes "records") ∷ flag_rule (codes "counts") ∷ [])) p
+trace_app p = with_run_and_file (with_rules (new_app (codes "trace")) count_rules) p
 
 -- a check needs two files, may ask for all records, and may name a file with an opening
 abbrev pub check_app : App
 check_app =
     with_rules (new_app (codes "check"))
-    (flag_rule (codes "complete") ∷ path_rule (codes "opening") ∷ file_rule (codes "TRACE")
+    (flag_rule (codes "complete") ∷ path_rule (codes "opening") ∷ json_rule ∷ file_rule (codes "TRACE")
     ∷ file_rule (codes "RECORDS") ∷ [])
 
 -- what the two commands that run take as a schedule

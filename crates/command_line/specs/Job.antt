@@ -1,17 +1,24 @@
 -- What a job has of the words, and why words are refused.
-use Rattle.std.specs.Prelude.{◌≡◌, ◌⊎◌, ℕ, true, false, List, [], ◌++◌, Some, None, codes, option_map, string_bytes}
+use Rattle.std.specs.Prelude.{◌≡◌, ◌⊎◌, ℕ, true, List, [], ◌++◌, Option, Some, None, if◌then◌else◌, codes}
+use Rattle.std.specs.Prelude.{option_map, string_bytes}
 use Rattle.clap.specs.Words.{IsAmong, Row, Text, fault_of, subcommand_of}
 use Rattle.clap.specs.declared.error.kind.ErrorKind.{ErrorKind}
 use Rattle.command_line.specs.App.{NameSchedules, Parsers, tardis_app}
-use Rattle.command_line.specs.Options.{HasPath, HasWord, IsFlag, IsOrder, TellsEnds, TellsLitmus, TellsTrace}
-use Rattle.command_line.specs.Options.{counts_in_vain}
+use Rattle.command_line.specs.Options.{HasPath, HasWord, IsOrder, TellsCheck, TellsEnds, TellsLitmus, TellsTrace}
+use Rattle.command_line.specs.Options.{counts_in_vain, json_in_vain, rows_in_vain}
 use Rattle.command_line.specs.declared.words.Conflict.{Conflict}
-use Rattle.command_line.specs.declared.words.Conflict.TheVariants.{Fair, Counts}
+use Rattle.command_line.specs.declared.words.Conflict.TheVariants.{Fair, Counts, Every, Json}
 use Rattle.command_line.specs.declared.words.Job.{Job}
 use Rattle.command_line.specs.declared.words.Job.TheVariants.{Litmus, Ends, Trace, Check}
 use Rattle.run_options.specs.declared.options.TraceOptions.{TraceOptions}
 use Rattle.command_line.specs.declared.words.WordsError.{WordsError}
 use Rattle.command_line.specs.declared.words.WordsError.TheVariants.{NoMemory, Refused}
+
+-- the first of what a run of a trace can't have together, if its options ask for that
+abbrev pub conflict_of : TraceOptions → Option Conflict
+conflict_of options =
+    if counts_in_vain options then Some Counts
+    else (if rows_in_vain options then Some Every else (if json_in_vain options then Some Json else None))
 
 -- the command, its options and its files are those that the words give
 abbrev pub GivesJob : Text → List Row → Job → Type 0
@@ -20,10 +27,10 @@ GivesJob command rows (Litmus options file) =
 GivesJob command rows (Ends options file) =
     (command ≡ codes "ends") × TellsEnds rows options × HasWord rows (codes "FILE") file.now
 GivesJob command rows (Trace options file) =
-    (command ≡ codes "trace") × TellsTrace rows options × (counts_in_vain options ≡ false)
+    (command ≡ codes "trace") × TellsTrace rows options × (conflict_of options ≡ None)
     × HasWord rows (codes "FILE") file.now
-GivesJob command rows (Check complete opening trace records) =
-    (command ≡ codes "check") × IsFlag rows (codes "complete") complete
+GivesJob command rows (Check options opening trace records) =
+    (command ≡ codes "check") × TellsCheck rows options
     × HasPath rows (codes "opening") (option_map (λ path. path.now) opening)
     × HasWord rows (codes "TRACE") trace.now × HasWord rows (codes "RECORDS") records.now
 
@@ -40,17 +47,19 @@ more_text = codes "For more information, try '--help'.\n"
 abbrev pub IsAskedBy : List Text → Job → Type 0
 IsAskedBy words job = (found : Text × List Row) × AreTaken words found × GivesJob found.0 found.1 job
 
--- the command asks for a fair run that can't be, or for counts in vain
+-- the command asks for a fair run that can't be, or for what a run of a trace can't have together
 abbrev pub AskForConflict : Text → List Row → Conflict → Type 0
 AskForConflict command rows Fair = IsOrder rows None
-AskForConflict command rows Counts =
-    (command ≡ codes "trace") × (options : TraceOptions) × TellsTrace rows options × (counts_in_vain options ≡ true)
+AskForConflict command rows why =
+    (command ≡ codes "trace") × (options : TraceOptions) × TellsTrace rows options × (conflict_of options ≡ Some why)
 
 -- what is said then
 abbrev pub conflict_text : Conflict → Text
 conflict_text Fair = codes "error: '--fair' needs '--schedule round' or '--schedule threads'\n\n" ++ more_text
 conflict_text Counts =
     codes "error: '--counts' needs '--schedule round' or '--schedule seed', and no '--records'\n\n" ++ more_text
+conflict_text Every = codes "error: '--every' needs '--counts'\n\n" ++ more_text
+conflict_text Json = codes "error: '--json' cannot be used with '--records'\n\n" ++ more_text
 
 -- clap's rules find a fault of this kind in the words
 abbrev pub IsFaulty : List Text → ErrorKind → Type 0

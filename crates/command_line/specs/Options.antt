@@ -1,12 +1,13 @@
 -- What the options say in the matches.
 use Rattle.std.specs.Prelude.{◌≡◌, ◌⊎◌, ℕ, ◌≤◌, Bool, true, false, ◌&&◌, ◌||◌, List, [], Option, Some, None, codes}
-use Rattle.std.specs.Prelude.{unwrap_or}
+use Rattle.std.specs.Prelude.{is_some, not, unwrap_or}
 use Rattle.std.specs.Str.Parse.{IsNumeral, digits_value, without_leading_plus}
 use Rattle.clap.specs.Words.{Row, Text, first_of, one_of}
 use Rattle.run_options.specs.declared.options.TheConstants.EndsOptions.{DEFAULT as ends_default}
 use Rattle.run_options.specs.declared.options.TheConstants.LitmusOptions.{DEFAULT as litmus_default}
 use Rattle.run_options.specs.declared.options.TheConstants.MachineOptions.{DEFAULT as machine_default}
 use Rattle.run_options.specs.declared.options.TheConstants.RunOptions.{DEFAULT as run_default}
+use Rattle.run_options.specs.declared.options.CheckOptions.{CheckOptions}
 use Rattle.run_options.specs.declared.options.EndsOptions.{EndsOptions}
 use Rattle.run_options.specs.declared.options.LitmusOptions.{LitmusOptions}
 use Rattle.run_options.specs.declared.options.MachineOptions.{MachineOptions}
@@ -23,20 +24,32 @@ Writes text n = IsNumeral 10 (without_leading_plus text) × (digits_value 10 (wi
 abbrev pub WritesWithin : Text → ℕ → ℕ → ℕ → Type 0
 WritesWithin text least most n = Writes text n × (least ≤ n) × (n ≤ most)
 
--- the number that a text writes from least to most; or the other one, if there is no text or it writes no such number
+-- the number that a text writes from least to most; none if there is no text or it writes no such number
+abbrev pub IsNumberIn : Option Text → ℕ → ℕ → Option ℕ → Type 0
+IsNumberIn text least most (Some n) = (t : Text) × (text ≡ Some t) × WritesWithin t least most n
+IsNumberIn text least most None = (t : Text) (n : ℕ) → text ≡ Some t → WritesWithin t least most n → ⊥
+
+-- the same, with another one for none
 abbrev pub IsNumberOf : Option Text → ℕ → ℕ → ℕ → ℕ → Type 0
-IsNumberOf None least most other value = value ≡ other
-IsNumberOf (Some text) least most other value = WritesWithin text least most value
-    ⊎ (((n : ℕ) → WritesWithin text least most n → ⊥) × (value ≡ other))
+IsNumberOf text least most other value =
+    (n : Option ℕ) × IsNumberIn text least most n × (value ≡ unwrap_or n other)
 
 -- the option has the number that its text writes; the text is the default's if the words don't have the option
 abbrev pub HasNumber : List Row → Text → ℕ → ℕ → ℕ → ℕ → Type 0
 HasNumber rows name least most other value = IsNumberOf (one_of name rows) least most other value
 
+-- the same of an option without a default, which may have none
+abbrev pub MayHaveNumber : List Row → Text → ℕ → ℕ → Option ℕ → Type 0
+MayHaveNumber rows name least most value = IsNumberIn (one_of name rows) least most value
+
 -- if the words have the option with a number from least to most, the option has that number
 abbrev pub GivesNumber : List Row → Text → ℕ → ℕ → ℕ → Type 0
 GivesNumber rows name least most value =
     (text : Text) (n : ℕ) → one_of name rows ≡ Some text → WritesWithin text least most n → value ≡ n
+
+abbrev pub GivesSome : List Row → Text → ℕ → ℕ → Option ℕ → Type 0
+GivesSome rows name least most value =
+    (text : Text) (n : ℕ) → one_of name rows ≡ Some text → WritesWithin text least most n → value ≡ Some n
 
 abbrev pub HasAnyNumber : List Row → Text → ℕ → ℕ → Type 0
 HasAnyNumber rows name other value = HasNumber rows name 0 18446744073709551615 other value
@@ -105,22 +118,34 @@ pub record RunIsInRange (options : RunOptions) : Type 0 where
   pub workers : (1 ≤ options.workers) × (options.workers ≤ 16)
   pub limit : (1 ≤ options.limit) × (options.limit ≤ 4294967295)
 
--- how often the test is run, and how
+-- how often the test is run, whether its report is JSON, and how it is run
 abbrev pub TellsLitmus : List Row → LitmusOptions → Type 0
 TellsLitmus rows options =
-    HasNumber rows (codes "runs") 1 1000000 litmus_default.runs options.runs × TellsRun rows options.run
+    HasNumber rows (codes "runs") 1 1000000 litmus_default.runs options.runs × IsFlag rows (codes "json") options.json
+    × TellsRun rows options.run
 
--- how many states a list of ends may keep at once, and whether it has orders
+-- how many states a list of ends may keep at once, whether it has orders, and whether it is JSON
 abbrev pub TellsEnds : List Row → EndsOptions → Type 0
 TellsEnds rows options =
     HasNumber rows (codes "states") 1 4294967295 ends_default.most_states options.most_states
-    × IsFlag rows (codes "orders") options.orders
+    × IsFlag rows (codes "orders") options.orders × IsFlag rows (codes "json") options.json
 
--- whether the records of a trace are asked for, or counts, and how it is run
+-- whether the records of a trace are asked for, or counts and rows of them, whether its report is JSON, and how it is
+-- run
 abbrev pub TellsTrace : List Row → TraceOptions → Type 0
 TellsTrace rows options =
     IsFlag rows (codes "records") options.records × IsFlag rows (codes "counts") options.counts
-    × TellsRun rows options.run
+    × MayHaveNumber rows (codes "every") 1 18446744073709551615 options.every
+    × IsFlag rows (codes "json") options.json × TellsRun rows options.run
+
+-- whether all records are asked for, and whether the verdict is JSON
+abbrev pub TellsCheck : List Row → CheckOptions → Type 0
+TellsCheck rows options =
+    IsFlag rows (codes "complete") options.complete × IsFlag rows (codes "json") options.json
+
+-- a row of counts for each 1 to 18,446,744,073,709,551,615 completed operations, or none
+abbrev pub EveryIsInRange : Option ℕ → Type 0
+EveryIsInRange every = (n : ℕ) → every ≡ Some n → (1 ≤ n) × (n ≤ 18446744073709551615)
 
 abbrev pub is_shared : Schedule → Bool
 is_shared Round = false
@@ -132,3 +157,11 @@ is_shared FairThreads = true
 -- counts are asked for of a run by threads, which isn't counted, or beside records, where they have no place
 abbrev pub counts_in_vain : TraceOptions → Bool
 counts_in_vain options = options.counts && (options.records || is_shared options.run.schedule)
+
+-- rows of counts are asked for, but no counts
+abbrev pub rows_in_vain : TraceOptions → Bool
+rows_in_vain options = is_some options.every && not options.counts
+
+-- JSON is asked for beside records, which are lines
+abbrev pub json_in_vain : TraceOptions → Bool
+json_in_vain options = options.json && options.records

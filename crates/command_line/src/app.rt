@@ -4,7 +4,8 @@ ghost use Rattle.std.specs.Prelude.{◌≡◌, IfOk, codes, false, true};
 ghost use Rattle.clap.specs.Words.{App, Rule, app_of, new_app, with_rule, with_subcommand};
 ghost use Rattle.clap.specs.declared.builder.command.Command.TheViews.{out-Command as fields_of};
 ghost use Rattle.command_line.specs.Additions.{Adds, IsApp, IsArg};
-ghost use Rattle.command_line.specs.App.{NameSchedules, NamesSchedules, any_number, check_app, ends_app};
+ghost use Rattle.command_line.specs.App.{NameSchedules, NamesSchedules, any_number, bare_rule, check_app};
+ghost use Rattle.command_line.specs.App.{count_rules, ends_app, from_one};
 ghost use Rattle.command_line.specs.App.{file_rule, flag_rule, litmus_app, machine_rules, number_rule, path_rule};
 ghost use Rattle.command_line.specs.App.{run_rules};
 ghost use Rattle.command_line.specs.App.{tardis_app, trace_app, wanting, with_rules, with_run_and_file};
@@ -66,6 +67,14 @@ const RECORDS: &str = "Writes the records of the completed operations in place o
 const COUNTS: &str =
     "Puts what the run did, in numbers, behind the report; not by schedule threads, nor with --records";
 
+const EVERY: &str =
+    "Puts a row of the numbers so far before them each time that so many more operations are completed, \
+    1 to 18446744073709551615; only with --counts";
+
+const JSON: &str = "Writes a JSON object in place of lines";
+
+const TRACE_JSON: &str = "Writes a JSON object in place of lines; not with --records";
+
 const COMPLETE: &str = "Asks for a record of each operation of the trace";
 
 const OPENING: &str = "The file with the values that words open with; all others open with 0";
@@ -80,6 +89,17 @@ const TRACE_FILE: &str = "The file with the text of the trace";
 
 const RECORDS_FILE: &str = "The file with the text of the records";
 
+/// An option with a value, without a default.
+fn bare<'a>(alloc: Global, name: &'a str, parser: ValueParser<'a>, help: &'a str) -> Arg<'a>
+    ensures { IsArg result (bare_rule name.entry.now parser.entry) }
+{
+    Arg::new(alloc, name)
+        .long(name)
+        .action(ArgAction::Set)
+        .value_parser(parser)
+        .help(help)
+}
+
 /// An option with a value, and its default.
 fn option<'a>(
     alloc: Global,
@@ -90,12 +110,7 @@ fn option<'a>(
 ) -> Arg<'a>
     ensures { IsArg result (number_rule name.entry.now default.entry.now parser.entry) }
 {
-    Arg::new(alloc, name)
-        .long(name)
-        .action(ArgAction::Set)
-        .value_parser(parser)
-        .default_value(default)
-        .help(help)
+    bare(alloc, name, parser, help).default_value(default)
 }
 
 /// The words `round`, `seed` and `threads`.
@@ -225,7 +240,8 @@ fn litmus_command<'a>(alloc: Global) -> Result<Command<'a>, AllocError>
     let named = empty(alloc, "litmus", about);
     let runs = value_parser!(u64).range(1..1000001);
     let repeated = with(named, option(alloc, "runs", "1", runs, RUNS));
-    with_run(repeated, alloc, LITMUS_FILE)
+    let written = with(repeated, flag(alloc, "json", JSON));
+    with_run(written, alloc, LITMUS_FILE)
 }
 
 /// The command `ends`.
@@ -238,7 +254,22 @@ fn ends_command<'a>(alloc: Global) -> Result<Command<'a>, AllocError>
     let states = value_parser!(u64).range(1..4294967296);
     let bounded = with(named, option(alloc, "states", "4194304", states, STATES));
     let ordered = with(bounded, flag(alloc, "orders", ORDERS));
-    with(ordered, file(alloc, "FILE", LITMUS_FILE))
+    let written = with(ordered, flag(alloc, "json", JSON));
+    with(written, file(alloc, "FILE", LITMUS_FILE))
+}
+
+/// A command with the options that say what of a trace's run is written.
+fn with_count_options<'a>(
+    command: Result<Command<'a>, AllocError>,
+    alloc: Global,
+) -> Result<Command<'a>, AllocError>
+    ensures { Adds command.entry (λ app. with_rules app count_rules) result }
+{
+    let every = value_parser!(u64).range(1..);
+    let one = with(command, flag(alloc, "records", RECORDS));
+    let two = with(one, flag(alloc, "counts", COUNTS));
+    let three = with(two, bare(alloc, "every", every, EVERY));
+    with(three, flag(alloc, "json", TRACE_JSON))
 }
 
 /// The command `trace`.
@@ -247,8 +278,7 @@ fn trace_command<'a>(alloc: Global) -> Result<Command<'a>, AllocError>
 {
     let about = "Runs a trace and reports what came of it, or its records";
     let named = empty(alloc, "trace", about);
-    let recorded = with(named, flag(alloc, "records", RECORDS));
-    let counted = with(recorded, flag(alloc, "counts", COUNTS));
+    let counted = with_count_options(named, alloc);
     with_run(counted, alloc, TRACE_FILE)
 }
 
@@ -260,7 +290,8 @@ fn check_command<'a>(alloc: Global) -> Result<Command<'a>, AllocError>
     let named = empty(alloc, "check", about);
     let whole = with(named, flag(alloc, "complete", COMPLETE));
     let opened = with(whole, path(alloc, "opening", OPENING));
-    let traced = with(opened, file(alloc, "TRACE", TRACE_FILE));
+    let written = with(opened, flag(alloc, "json", JSON));
+    let traced = with(written, file(alloc, "TRACE", TRACE_FILE));
     with(traced, file(alloc, "RECORDS", RECORDS_FILE))
 }
 
@@ -283,7 +314,7 @@ fn program<'a>(alloc: Global) -> Result<Command<'a>, AllocError>
 {
     let about = "A simulator of the Tardis coherence protocol that checks what it simulates";
     let named = Command::new(alloc, "tardis").about(about);
-    let numbered = named.version("0.1.0");
+    let numbered = named.version("0.2.0");
     Ok(numbered.subcommand_required(true))
 }
 

@@ -7,12 +7,12 @@ ghost use Rattle.run_options.specs.declared.options.LitmusOptions.{LitmusOptions
 ghost use Rattle.run_options.specs.declared.options.RunOptions.{RunOptions};
 ghost use Rattle.run_options.specs.declared.options.TraceOptions.{TraceOptions};
 ghost use Rattle.command_line.specs.Job.{words_number};
-ghost use Rattle.command_line.specs.Options.{GivesNumber, RunIsInRange, TellsEnds, TellsLitmus, TellsRun};
-ghost use Rattle.command_line.specs.Options.{TellsTrace};
+ghost use Rattle.command_line.specs.Options.{EveryIsInRange, GivesNumber, GivesSome, RunIsInRange};
+ghost use Rattle.command_line.specs.Options.{TellsEnds, TellsLitmus, TellsRun, TellsTrace};
 ghost use Rattle.command_line.specs.declared.words.WordsError.TheVariants.{NoMemory, Refused};
 
-/// Options always ask for 1 to 16 workers, a limit of 1 to 4,294,967,295, 1 to 1,000,000 runs and 1 to 4,294,967,295
-/// states, for any words.
+/// Options always ask for 1 to 16 workers, a limit of 1 to 4,294,967,295, 1 to 1,000,000 runs, 1 to 4,294,967,295
+/// states, and a row of counts for each 1 to 18,446,744,073,709,551,615 operations or for none, for any words.
 pub fn options_are_in_range()
     ensures run { (rows : List Row) (options : RunOptions) → TellsRun rows options →
         RunIsInRange options }
@@ -21,11 +21,11 @@ pub fn options_are_in_range()
     ensures ends { (rows : List Row) (options : EndsOptions) → TellsEnds rows options →
         (1 ≤ options.most_states) × (options.most_states ≤ 4294967295) }
     ensures trace { (rows : List Row) (options : TraceOptions) → TellsTrace rows options →
-        RunIsInRange options.run }
+        RunIsInRange options.run × EveryIsInRange options.every }
 {}
 
-/// A number of workers, a limit, a number of runs or a number of states that the words give, and that is in range, is
-/// the one that is taken.
+/// A number of workers, a limit, a number of runs, of states or of operations for a row of counts that the words give,
+/// and that is in range, is the one that is taken.
 pub fn numbers_in_range_are_taken()
     ensures workers { (rows : List Row) (options : RunOptions) → TellsRun rows options →
         GivesNumber rows (codes "workers") 1 16 options.workers }
@@ -35,6 +35,8 @@ pub fn numbers_in_range_are_taken()
         GivesNumber rows (codes "runs") 1 1000000 options.runs }
     ensures states { (rows : List Row) (options : EndsOptions) → TellsEnds rows options →
         GivesNumber rows (codes "states") 1 4294967295 options.most_states }
+    ensures every { (rows : List Row) (options : TraceOptions) → TellsTrace rows options →
+        GivesSome rows (codes "every") 1 18446744073709551615 options.every }
 {}
 
 /// Refused words have the number 1, and lack of memory the number 2.

@@ -3,21 +3,31 @@
 ghost use Rattle.std.specs.Prelude.{◌≡◌, IfSome, None, option_map};
 ghost use Rattle.clap.specs.Words.{found_of, rows_of};
 ghost use Rattle.command_line.specs.Options.{HasPath, HasWord, HasAnyNumber, IsFlag, HasNumber, IsOrder};
-ghost use Rattle.command_line.specs.Options.{IsSchedule, TellsEnds, TellsLitmus, TellsMachine, TellsRun};
-ghost use Rattle.command_line.specs.Options.{TellsTrace, counts_in_vain, fairly};
+ghost use Rattle.command_line.specs.Options.{IsSchedule, MayHaveNumber, TellsCheck, TellsEnds, TellsLitmus};
+ghost use Rattle.command_line.specs.Options.{TellsMachine, TellsRun, TellsTrace, counts_in_vain, fairly};
+ghost use Rattle.command_line.specs.Options.{json_in_vain, rows_in_vain};
 
 use clap::ArgMatches;
-use run_options::{EndsOptions, LitmusOptions, MachineOptions, RunOptions, Schedule, TraceOptions};
+use run_options::{
+    CheckOptions, EndsOptions, LitmusOptions, MachineOptions, RunOptions, Schedule, TraceOptions,
+};
+
+/// The number from least to most that an option's text writes, if it writes one.
+fn number_in(matches: &ArgMatches<'_>, name: &str, least: u64, most: u64) -> Option<u64>
+    ensures { MayHaveNumber (rows_of (found_of matches.now)) name.now least most result }
+{
+    let number = matches.get_one::<u64>(name)?;
+    if number < least || most < number {
+        return None;
+    }
+    Some(number)
+}
 
 /// The number from least to most that an option's text writes, or this one if it writes none.
 fn number(matches: &ArgMatches<'_>, name: &str, least: u64, most: u64, other: u64) -> u64
     ensures { HasNumber (rows_of (found_of matches.now)) name.now least most other result }
 {
-    let number = matches.get_one::<u64>(name).unwrap_or(other);
-    if number < least || most < number {
-        return other;
-    }
-    number
+    number_in(matches, name, least, most).unwrap_or(other)
 }
 
 /// The number of 64 bits that an option has, or this one if it has none.
@@ -28,7 +38,7 @@ fn any_number(matches: &ArgMatches<'_>, name: &str, other: u64) -> u64
 }
 
 /// Whether a flag is there.
-pub(crate) fn flag(matches: &ArgMatches<'_>, name: &str) -> bool
+fn flag(matches: &ArgMatches<'_>, name: &str) -> bool
     ensures { IsFlag (rows_of (found_of matches.now)) name.now result }
 {
     matches.get_one::<bool>(name).unwrap_or(false)
@@ -124,6 +134,7 @@ pub(crate) fn litmus_options(matches: &ArgMatches<'_>) -> Option<LitmusOptions>
     let run = run_of(matches)?;
     Some(LitmusOptions {
         runs: number(matches, "runs", 1, 1000000, LitmusOptions::DEFAULT.runs),
+        json: flag(matches, "json"),
         run,
     })
 }
@@ -136,6 +147,7 @@ pub(crate) fn ends_options(matches: &ArgMatches<'_>) -> EndsOptions
     EndsOptions {
         most_states: number(matches, "states", 1, 4294967295, default),
         orders: flag(matches, "orders"),
+        json: flag(matches, "json"),
     }
 }
 
@@ -148,8 +160,20 @@ pub(crate) fn trace_options(matches: &ArgMatches<'_>) -> Option<TraceOptions>
     Some(TraceOptions {
         records: flag(matches, "records"),
         counts: flag(matches, "counts"),
+        every: number_in(matches, "every", 1, u64::MAX),
+        json: flag(matches, "json"),
         run,
     })
+}
+
+/// The check that the words ask for.
+pub(crate) fn check_options(matches: &ArgMatches<'_>) -> CheckOptions
+    ensures { TellsCheck (rows_of (found_of matches.now)) result }
+{
+    CheckOptions {
+        complete: flag(matches, "complete"),
+        json: flag(matches, "json"),
+    }
 }
 
 /// Whether counts are asked for in vain: of a run by threads, or next to records.
@@ -161,4 +185,18 @@ pub(crate) fn counts_in_vain(options: &TraceOptions) -> bool
         Schedule::Threads | Schedule::FairThreads
     );
     options.counts && (options.records || is_shared)
+}
+
+/// Whether rows of counts are asked for in vain: without counts.
+pub(crate) fn rows_in_vain(options: &TraceOptions) -> bool
+    ensures { result ≡ rows_in_vain options.now }
+{
+    options.every.is_some() && !options.counts
+}
+
+/// Whether JSON is asked for in vain: next to records.
+pub(crate) fn json_in_vain(options: &TraceOptions) -> bool
+    ensures { result ≡ json_in_vain options.now }
+{
+    options.json && options.records
 }

@@ -3,15 +3,16 @@
 ghost use Rattle.std.specs.Prelude.{◌≡◌, ◌⊎◌, codes, map, IfOk, IfErr, List};
 ghost use Rattle.clap.specs.Words.{Row, Text, found_of, kind_of, rows_of};
 ghost use Rattle.command_line.specs.Job.{AreTaken, AskForConflict, GivesJob, IsAskedBy, IsFaulty};
-ghost use Rattle.command_line.specs.Job.{IsRefusedFor, conflict_text, words_number};
+ghost use Rattle.command_line.specs.Job.{IsRefusedFor, conflict_of, conflict_text, words_number};
 
 use crate::app::command;
 use crate::options::{
-    counts_in_vain, ends_options, flag, litmus_options, path_of, trace_options, word_of,
+    check_options, counts_in_vain, ends_options, json_in_vain, litmus_options, path_of,
+    rows_in_vain, trace_options, word_of,
 };
 use clap::error::ErrorKind;
 use clap::{ArgMatches, Error};
-use run_options::{EndsOptions, LitmusOptions, TraceOptions};
+use run_options::{CheckOptions, EndsOptions, LitmusOptions, TraceOptions};
 use std::alloc::Global;
 
 /// What the words ask for.
@@ -24,16 +25,16 @@ pub enum Job<'a> {
     /// To run the trace of the file that has this path.
     Trace(TraceOptions, &'a str),
     /// To check the records of the file at the last path against the trace of the file before it, over the opening of
-    /// the first file, if one is named; and whether each operation has its record, if that is asked for.
-    Check(bool, Option<&'a str>, &'a str, &'a str),
+    /// the first file, if one is named.
+    Check(CheckOptions, Option<&'a str>, &'a str, &'a str),
 }
 
 /// Why words are no job.
 #[derive(Debug, Drop)]
 pub enum WordsError {
     /// The command line doesn't take the words, or they ask for help, or for what can't be had together: a fair
-    /// schedule that is seed, or counts of a run by threads or next to records. This is the text to show, in whole
-    /// lines.
+    /// schedule that is seed, counts of a run by threads or next to records, rows of counts without counts, or JSON
+    /// next to records. This is the text to show, in whole lines.
     Refused(String),
     /// Allocation failed.
     NoMemory,
@@ -68,6 +69,10 @@ enum Conflict {
     Fair,
     /// Counts of a run by threads, or next to records.
     Counts,
+    /// Rows of counts without counts.
+    Every,
+    /// JSON next to records.
+    Json,
 }
 
 /// What is said of it.
@@ -82,6 +87,12 @@ fn conflict_text(why: Conflict) -> &'static str
             "error: '--counts' needs '--schedule round' or '--schedule seed', and no '--records'\n\n\
             For more information, try '--help'.\n"
         }
+        Conflict::Every => {
+            "error: '--every' needs '--counts'\n\nFor more information, try '--help'.\n"
+        }
+        Conflict::Json => {
+            "error: '--json' cannot be used with '--records'\n\nFor more information, try '--help'.\n"
+        }
     }
 }
 
@@ -95,6 +106,22 @@ fn refused_for(alloc: Global, why: Conflict) -> WordsError
         Ok(text) => WordsError::Refused(text),
         Err(_) => WordsError::NoMemory,
     }
+}
+
+/// The first of what a run of a trace can't have together, if its options ask for that.
+fn conflict_of(options: &TraceOptions) -> Option<Conflict>
+    ensures { result ≡ conflict_of options.now }
+{
+    if counts_in_vain(options) {
+        return Some(Conflict::Counts);
+    }
+    if rows_in_vain(options) {
+        return Some(Conflict::Every);
+    }
+    if json_in_vain(options) {
+        return Some(Conflict::Json);
+    }
+    None
 }
 
 /// The job of a command that the program has, or what it asks for that can't be had together.
@@ -112,13 +139,13 @@ fn job_of<'a>(name: &str, matches: &ArgMatches<'a>) -> Result<Job<'a>, Conflict>
         "ends" => Ok(Job::Ends(ends_options(matches), word_of(matches, "FILE"))),
         "trace" => {
             let options = trace_options(matches).ok_or(Conflict::Fair)?;
-            if counts_in_vain(&options) {
-                return Err(Conflict::Counts);
+            if let Some(why) = conflict_of(&options) {
+                return Err(why);
             }
             Ok(Job::Trace(options, word_of(matches, "FILE")))
         }
         _ => Ok(Job::Check(
-            flag(matches, "complete"),
+            check_options(matches),
             path_of(matches, "opening"),
             word_of(matches, "TRACE"),
             word_of(matches, "RECORDS"),

@@ -6,5 +6,9 @@ pub returns : goal.returns
 returns c =
     let most : c.range-runs.result ≡ up_to 1000000 = rw c.value_parser.ensures at c.range-runs.ensures in
     let runs = rw most at c.option.ensures in
-    let run = c.with_run.ensures in
-    (run.0, run.1, run.2 _ (c.with-repeated.ensures _ runs _ c.empty-named.ensures))
+    let run = c.with_run.ensures in (
+      run.0,
+      run.1,
+      run.2 _ (c.with-written.ensures _ c.flag.ensures _
+          (c.with-repeated.ensures _ runs _ c.empty-named.ensures)),
+    )

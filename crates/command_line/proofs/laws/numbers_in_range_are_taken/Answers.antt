@@ -1,4 +1,4 @@
-use Rattle.command_line.proofs.Ranges.{taken}
+use Rattle.command_line.proofs.Ranges.{some_taken, taken}
 use Rattle.command_line.proofs.laws.numbers_in_range_are_taken.Goals as goal
 
 pub returns-clause-workers : goal.returns-clause-workers
@@ -12,3 +12,6 @@ returns-clause-runs c = λ rows options t. taken _ 1 1000000 _ options.runs t.0
 
 pub returns-clause-states : goal.returns-clause-states
 returns-clause-states c = λ rows options t. taken _ 1 4294967295 _ options.most_states t.0
+
+pub returns-clause-every : goal.returns-clause-every
+returns-clause-every c = λ rows options t. some_taken _ 1 18446744073709551615 options.every t.2

@@ -1,5 +1,5 @@
 use Rattle.std.proofs.Common.{arith}
-use Rattle.command_line.proofs.Ranges.{in_range, run_in_range}
+use Rattle.command_line.proofs.Ranges.{every_in_range, in_range, run_in_range}
 use Rattle.command_line.proofs.laws.options_are_in_range.Goals as goal
 
 pub returns-clause-run : goal.returns-clause-run
@@ -8,10 +8,11 @@ returns-clause-run c = λ rows options t. run_in_range rows options t
 pub returns-clause-litmus : goal.returns-clause-litmus
 returns-clause-litmus c = λ rows options t.
     let runs = in_range _ 1 1000000 _ options.runs (omega arith) (omega arith) t.0 in
-    (run_in_range rows options.run t.1, runs.0, runs.1)
+    (run_in_range rows options.run t.2, runs.0, runs.1)
 
 pub returns-clause-ends : goal.returns-clause-ends
 returns-clause-ends c = λ rows options t. in_range _ 1 4294967295 _ options.most_states (omega arith) (omega arith) t.0
 
 pub returns-clause-trace : goal.returns-clause-trace
-returns-clause-trace c = λ rows options t. run_in_range rows options.run t.2
+returns-clause-trace c = λ rows options t.
+    (run_in_range rows options.run t.4, every_in_range _ options.every t.2)

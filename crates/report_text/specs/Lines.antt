@@ -1,11 +1,13 @@
--- The lines that only this text has.
-use Rattle.std.specs.Prelude.{ℕ, List, [], ◌∷◌, ◌++◌, Option, Some, None, codes, decimal, slice_get}
+-- The lines, or members, that only this text has.
+use Rattle.std.specs.Prelude.{ℕ, Bool, true, false, List, [], ◌∷◌, ◌++◌, Option, Some, None, codes, decimal, slice_get}
 use Rattle.litmus_parser.specs.declared.syntax.Name.{Name}
 use Rattle.litmus_parser.specs.declared.syntax.Name.TheVariants.{Register, Location}
 use Rattle.litmus_parser.specs.declared.syntax.Quantifier.{Quantifier}
 use Rattle.litmus_parser.specs.declared.syntax.Quantifier.TheVariants.{Exists, NotExists, Forall}
 use Rattle.litmus_reader.specs.Litmus.{Litmus}
-use Rattle.report_lines.specs.Lines.{newline}
+use Rattle.report_lines.specs.declared.layout.Layout.{Layout}
+use Rattle.report_lines.specs.Layouts.{either, parting}
+use Rattle.report_lines.specs.Members.{newline}
 
 abbrev pub quantifier_text : Quantifier → List ℕ
 quantifier_text Exists = codes "exists"
@@ -25,16 +27,23 @@ abbrev pub name_text : List (List ℕ) → Name → List ℕ
 name_text locations (Register thread register) = register_text thread register
 name_text locations (Location number) = or_nothing (slice_get locations number)
 
--- a space, the name, =, the value
-abbrev pub value_text : List (List ℕ) → Name → ℕ → List ℕ
-value_text locations name value = (32 ∷ name_text locations name) ++ (61 ∷ decimal value)
+-- a name of the condition and its value: in a line behind a space
+abbrev pub value_text : Layout → List (List ℕ) → Name → ℕ → List ℕ
+value_text layout locations name value = either layout (codes " ") (codes "\"") ++ name_text locations name
+    ++ either layout (codes "=") (codes "\":") ++ decimal value
 
 -- the names with their values, in order
-abbrev pub values_text : List (List ℕ) → List Name → List ℕ → List ℕ
-values_text locations (name ∷ names) (value ∷ values) =
-    value_text locations name value ++ values_text locations names values
-values_text locations names values = []
+abbrev pub values_text : Layout → List (List ℕ) → (first : Bool) → List Name → List ℕ → List ℕ
+values_text layout locations first (name ∷ names) (value ∷ values) = parting layout first
+    ++ value_text layout locations name value ++ values_text layout locations false names values
+values_text layout locations first names values = []
+
+-- the names of a test's condition with their values
+abbrev pub named_values : Layout → Litmus → List ℕ → List ℕ
+named_values layout test values = values_text layout test.locations true test.seen values
 
 -- an end state: how often it occurred, and its values
-abbrev pub state_line : Litmus → ℕ × List ℕ → List ℕ
-state_line test state = decimal state.0 ++ values_text test.locations test.seen state.1 ++ newline
+abbrev pub state_text : Layout → Litmus → ℕ × List ℕ → List ℕ
+state_text layout test state = either layout [] (codes "{\"count\":") ++ decimal state.0
+    ++ either layout [] (codes ",\"values\":{") ++ named_values layout test state.1
+    ++ either layout newline (codes "}}")

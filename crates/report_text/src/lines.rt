@@ -1,12 +1,13 @@
-//! The lines that only this text has: each is appended to the text so far.
+//! The lines, or members, that only this text has: each is appended to the text so far.
 
 ghost use Rattle.std.specs.Prelude.{◌≡◌, ◌++◌, ◌∷◌, OnOk, map};
 ghost use Rattle.litmus_reader.specs.TestViews.{test_of};
-ghost use Rattle.report_text.specs.Lines.{name_text, register_text, state_line, value_text, values_text};
+ghost use Rattle.report_text.specs.Lines.{name_text, named_values, register_text, state_text, value_text};
 ghost use Rattle.report_text.specs.Lines.{quantifier_text};
 
 use itoa::Buffer;
 use litmus_reader::{Name, Quantifier, Test};
+use report_lines::{Layout, put_either, put_parting};
 use std::alloc::AllocError;
 
 /// The condition's first word, as it is written.
@@ -44,35 +45,47 @@ fn put_name(out: &mut Vec<u8>, test: &Test, name: Name) -> Result<(), AllocError
     Ok(())
 }
 
-/// A space, a name of the condition, `=` and its value.
-fn put_value(out: &mut Vec<u8>, test: &Test, name: Name, value: u64) -> Result<(), AllocError>
+/// A name of the condition and its value.
+fn put_value(
+    out: &mut Vec<u8>,
+    layout: Layout,
+    test: &Test,
+    name: Name,
+    value: u64,
+) -> Result<(), AllocError>
     ensures { OnOk result (out.new.items ≡
-        out.old.items ++ value_text (test_of test.now).locations name value) }
+        out.old.items ++ value_text layout (test_of test.now).locations name value) }
 {
     let mut digits = Buffer::new();
-    out.push(b' ')?;
+    put_either(out, layout, b" ", b"\"")?;
     put_name(out, test, name)?;
-    out.push(b'=')?;
-    out.extend_from_slice(digits.format(value).as_bytes())?;
-    Ok(())
+    put_either(out, layout, b"=", b"\":")?;
+    out.extend_from_slice(digits.format(value).as_bytes())
 }
 
-/// The condition's names with their values, in order, each behind a space. If allocation fails, part of them may be in
-/// the text.
-pub fn put_values(out: &mut Vec<u8>, test: &Test, values: &[u64]) -> Result<(), AllocError>
+/// The condition's names with their values, in order: in a line each behind a space, in an object its members. If
+/// allocation fails, part of them may be in the text.
+pub fn put_values(
+    out: &mut Vec<u8>,
+    layout: Layout,
+    test: &Test,
+    values: &[u64],
+) -> Result<(), AllocError>
     ensures { OnOk result (out.new.items ≡
-        out.old.items ++ values_text (test_of test.now).locations (test_of test.now).seen
-        values.now) }
+        out.old.items ++ named_values layout (test_of test.now) values.now) }
 {
     let mut names = test.seen();
     let mut left = values;
+    let mut first = true;
     while let Some((name, more_names)) = names.split_first() {
         let Some((value, more)) = left.split_first() else {
             return Ok(());
         };
-        put_value(out, test, *name, *value)?;
+        put_parting(out, layout, first)?;
+        put_value(out, layout, test, *name, *value)?;
         names = more_names;
         left = more;
+        first = false;
     }
     Ok(())
 }
@@ -80,16 +93,18 @@ pub fn put_values(out: &mut Vec<u8>, test: &Test, values: &[u64]) -> Result<(), 
 /// An end state: how often it occurred, and the condition's names with their values.
 pub(crate) fn put_state(
     out: &mut Vec<u8>,
+    layout: Layout,
     test: &Test,
     count: u64,
     values: &[u64],
 ) -> Result<(), AllocError>
     ensures { OnOk result (out.new.items ≡
-        out.old.items ++ state_line (test_of test.now) (count, values.now)) }
+        out.old.items ++ state_text layout (test_of test.now) (count, values.now)) }
 {
     let mut digits = Buffer::new();
+    put_either(out, layout, b"", b"{\"count\":")?;
     out.extend_from_slice(digits.format(count).as_bytes())?;
-    put_values(out, test, values)?;
-    out.push(b'\n')?;
-    Ok(())
+    put_either(out, layout, b"", b",\"values\":{")?;
+    put_values(out, layout, test, values)?;
+    put_either(out, layout, b"\n", b"}}")
 }

@@ -12,40 +12,45 @@ use crate::states::count_states;
 use crate::sums::{Sums, sums_of};
 use indexmap::IndexMap;
 use litmus_reader::{Quantifier, Test};
-use report_lines::{put_counts, put_field, put_word};
+use report_lines::{
+    Layout, put_closing, put_counts, put_field, put_list_closing, put_list_opening, put_opening,
+    put_parting, put_word,
+};
 use std::alloc::{AllocError, Global};
 
 /// The test's name and threads, how many runs there are, and how many of them ended in which way.
-fn put_ends(out: &mut Vec<u8>, test: &Test, runs: usize, endings: Endings) -> Result<(), AllocError>
+fn put_ends(out: &mut Vec<u8>, layout: Layout, test: &Test, runs: usize, endings: Endings) -> Result<(), AllocError>
     ensures { OnOk result (out.new.items ≡
-        out.old.items ++ ends_text (test_of test.now) runs endings) }
+        out.old.items ++ ends_text layout (test_of test.now) runs endings) }
 {
-    put_word(out, b"test", test.name())?;
-    put_field(out, b"threads", test.threads() as u128)?;
-    put_field(out, b"runs", runs as u128)?;
-    put_field(out, b"all-done", endings.all_done as u128)?;
-    put_field(out, b"stalled", endings.stalled as u128)?;
-    put_field(out, b"limit", endings.turns_used as u128)?;
-    put_field(out, b"exhausted", endings.exhausted as u128)?;
-    put_field(out, b"memory", endings.no_memory as u128)
+    put_word(out, layout, b"test", test.name())?;
+    put_field(out, layout, b"threads", test.threads() as u128)?;
+    put_field(out, layout, b"runs", runs as u128)?;
+    put_field(out, layout, b"all-done", endings.all_done as u128)?;
+    put_field(out, layout, b"stalled", endings.stalled as u128)?;
+    put_field(out, layout, b"limit", endings.turns_used as u128)?;
+    put_field(out, layout, b"exhausted", endings.exhausted as u128)?;
+    put_field(out, layout, b"memory", endings.no_memory as u128)
 }
 
-/// How many end states there are, and a line for each.
+/// How many end states there are, and each of them.
 fn put_states(
     out: &mut Vec<u8>,
+    layout: Layout,
     test: &Test,
     states: &IndexMap<&[u64], u64>,
 ) -> Result<(), AllocError>
     ensures { OnOk result (out.new.items ≡
-        out.old.items ++ states_text (test_of test.now) (state_entries states.now.entries)) }
+        out.old.items ++ states_text layout (test_of test.now) (state_entries states.now.entries)) }
 {
-    put_field(out, b"states", states.len() as u128)?;
+    put_list_opening(out, layout, b"states", states.len())?;
     let mut index = 0;
     while let Some((values, count)) = states.get_index(index) {
-        put_state(out, test, *count, *values)?;
+        put_parting(out, layout, index == 0)?;
+        put_state(out, layout, test, *count, *values)?;
         index += 1;
     }
-    Ok(())
+    put_list_closing(out, layout)
 }
 
 /// Whether this many of these runs meet the condition, if its expression holds in them.
@@ -60,41 +65,48 @@ fn is_yes(quantifier: Quantifier, held: usize, all_done: usize) -> bool
 }
 
 /// The condition, in how many runs its expression holds, and the verdict.
-fn put_condition(out: &mut Vec<u8>, test: &Test, endings: Endings) -> Result<(), AllocError>
+fn put_condition(out: &mut Vec<u8>, layout: Layout, test: &Test, endings: Endings) -> Result<(), AllocError>
     ensures { OnOk result (out.new.items ≡
-        out.old.items ++ condition_text (test_of test.now) endings) }
+        out.old.items ++ condition_text layout (test_of test.now) endings) }
 {
-    put_word(out, b"condition", quantifier_text(test.condition()))?;
-    put_field(out, b"held", endings.held as u128)?;
+    put_word(out, layout, b"condition", quantifier_text(test.condition()))?;
+    put_field(out, layout, b"held", endings.held as u128)?;
     if is_yes(test.condition(), endings.held, endings.all_done) {
-        return put_word(out, b"verdict", b"yes");
+        return put_word(out, layout, b"verdict", b"yes");
     }
-    put_word(out, b"verdict", b"no")
+    put_word(out, layout, b"verdict", b"no")
 }
 
 /// The sums over all runs.
-fn put_sums(out: &mut Vec<u8>, sums: Sums) -> Result<(), AllocError>
-    ensures { OnOk result (out.new.items ≡ out.old.items ++ sums_text sums) }
+fn put_sums(out: &mut Vec<u8>, layout: Layout, sums: Sums) -> Result<(), AllocError>
+    ensures { OnOk result (out.new.items ≡ out.old.items ++ sums_text layout sums) }
 {
-    put_field(out, b"completed", sums.completed)?;
-    put_counts(out, sums.counts)?;
-    put_field(out, b"stale-hits", sums.stale)
+    put_field(out, layout, b"completed", sums.completed)?;
+    put_counts(out, layout, sums.counts)?;
+    put_field(out, layout, b"stale-hits", sums.stale)
 }
 
-/// The text that reports on the runs of a test, in lines that end with a line feed: how the runs ended; the end states
-/// of the runs that are all done, in the order in which they first occurred, each with how often it occurred and the
-/// values of the condition's names; in how many of these runs the condition's expression holds, and the verdict; and
-/// sums over all runs, where 2^128 - 1 stands for a greater one.
+/// The text that reports on the runs of a test, in lines that end with a line feed or as one JSON object: how the runs
+/// ended; the end states of the runs that are all done, in the order in which they first occurred, each with how often
+/// it occurred and the values of the condition's names; in how many of these runs the condition's expression holds, and
+/// the verdict; and sums over all runs, where 2^128 - 1 stands for a greater one.
 #[tactic(auto, unfolding(crate::specs::Text::litmus_text))]
-pub fn litmus_text(alloc: Global, test: &Test, runs: &[RunEnd]) -> Result<Vec<u8>, AllocError>
-    ensures { IfOk result (λ text. text.items ≡ litmus_text (test_of test.now) runs.now) }
+pub fn litmus_text(
+    alloc: Global,
+    layout: Layout,
+    test: &Test,
+    runs: &[RunEnd],
+) -> Result<Vec<u8>, AllocError>
+    ensures { IfOk result (λ text. text.items ≡ litmus_text layout (test_of test.now) runs.now) }
 {
     let endings = endings_of(test, runs);
     let states = count_states(alloc, runs)?;
     let mut out = Vec::new(alloc);
-    put_ends(&mut out, test, runs.len(), endings)?;
-    put_states(&mut out, test, &states)?;
-    put_condition(&mut out, test, endings)?;
-    put_sums(&mut out, sums_of(runs))?;
+    put_opening(&mut out, layout, b"litmus")?;
+    put_ends(&mut out, layout, test, runs.len(), endings)?;
+    put_states(&mut out, layout, test, &states)?;
+    put_condition(&mut out, layout, test, endings)?;
+    put_sums(&mut out, layout, sums_of(runs))?;
+    put_closing(&mut out, layout)?;
     Ok(out)
 }

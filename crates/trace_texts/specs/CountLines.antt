@@ -1,80 +1,126 @@
--- The lines that tell what a run did, in numbers.
-use Rattle.std.specs.Prelude.{ℕ, zero, suc, List, [], ◌∷◌, ◌++◌, codes, decimal}
+-- What a run did, in numbers: lines, or members.
+use Rattle.std.specs.Prelude.{ℕ, zero, suc, ◌+◌, ◌*◌, List, [], ◌++◌, Option, Some, None, codes, decimal}
 use Rattle.event_counts.specs.Counting.{EventCounts}
 use Rattle.event_counts.specs.declared.part_counts.CoreCounts.{CoreCounts}
 use Rattle.event_counts.specs.declared.part_counts.BankCounts.{BankCounts}
 use Rattle.event_counts.specs.declared.kind_counts.KindCounts.{KindCounts}
-use Rattle.report_lines.specs.Lines.{field, newline}
+use Rattle.report_lines.specs.declared.layout.Layout.{Layout}
+use Rattle.report_lines.specs.declared.layout.Layout.TheVariants.{Lines, Json}
+use Rattle.report_lines.specs.Layouts.{either, list_closing, parted}
+use Rattle.report_lines.specs.Lines.{field}
+use Rattle.report_lines.specs.Members.{newline}
 
--- a name and a number, each behind a space
-abbrev pub named : List ℕ → ℕ → List ℕ
-named name n = (32 ∷ name) ++ (32 ∷ decimal n)
+-- a name and a number, behind what opens the name
+unfoldable pub named : Layout → List ℕ → ℕ → List ℕ
+named layout name n = name ++ either layout (codes " ") (codes "\":") ++ decimal n
+
+-- the same behind another number
+unfoldable pub next_named : Layout → List ℕ → ℕ → List ℕ
+next_named layout name n = either layout (codes " ") (codes ",\"") ++ named layout name n
 
 -- a kind of message and how many were sent, if any were
-abbrev pub kind_text : List ℕ → ℕ → List ℕ
-kind_text name zero = []
-kind_text name (suc n) = named name (suc n)
+abbrev pub kind_text : Layout → List ℕ → ℕ → List ℕ
+kind_text layout name zero = []
+kind_text layout name (suc n) = next_named layout name (suc n)
 
 -- the kinds between cores and banks, requests and replies to them
-abbrev pub asked_text : KindCounts → List ℕ
-asked_text n = kind_text (codes "ShReq") n.sh_req
-    ++ kind_text (codes "ExReq") n.ex_req
-    ++ kind_text (codes "ShRep") n.sh_rep
-    ++ kind_text (codes "ExRep") n.ex_rep
-    ++ kind_text (codes "RenewRep") n.renew_rep
-    ++ kind_text (codes "UpgradeRep") n.upgrade_rep
+abbrev pub asked_text : Layout → KindCounts → List ℕ
+asked_text layout n = kind_text layout (codes "ShReq") n.sh_req
+    ++ kind_text layout (codes "ExReq") n.ex_req
+    ++ kind_text layout (codes "ShRep") n.sh_rep
+    ++ kind_text layout (codes "ExRep") n.ex_rep
+    ++ kind_text layout (codes "RenewRep") n.renew_rep
+    ++ kind_text layout (codes "UpgradeRep") n.upgrade_rep
 
 -- recalls and what they return
-abbrev pub recalled_text : KindCounts → List ℕ
-recalled_text n = kind_text (codes "FlushReq") n.flush_req
-    ++ kind_text (codes "WbReq") n.wb_req
-    ++ kind_text (codes "FlushRep") n.flush_rep
-    ++ kind_text (codes "WbRep") n.wb_rep
+abbrev pub recalled_text : Layout → KindCounts → List ℕ
+recalled_text layout n = kind_text layout (codes "FlushReq") n.flush_req
+    ++ kind_text layout (codes "WbReq") n.wb_req
+    ++ kind_text layout (codes "FlushRep") n.flush_rep
+    ++ kind_text layout (codes "WbRep") n.wb_rep
 
 -- the kinds between a bank and its DRAM
-abbrev pub dram_text : KindCounts → List ℕ
-dram_text n = kind_text (codes "DramLd") n.dram_ld
-    ++ kind_text (codes "DramLdRep") n.dram_ld_rep
-    ++ kind_text (codes "DramSt") n.dram_st
-    ++ kind_text (codes "DramStRep") n.dram_st_rep
+abbrev pub dram_text : Layout → KindCounts → List ℕ
+dram_text layout n = kind_text layout (codes "DramLd") n.dram_ld
+    ++ kind_text layout (codes "DramLdRep") n.dram_ld_rep
+    ++ kind_text layout (codes "DramSt") n.dram_st
+    ++ kind_text layout (codes "DramStRep") n.dram_st_rep
 
 -- the messages by kind
-abbrev pub sent_text : KindCounts → List ℕ
-sent_text n = asked_text n ++ recalled_text n ++ dram_text n
+abbrev pub sent_text : Layout → KindCounts → List ℕ
+sent_text layout n = asked_text layout n ++ recalled_text layout n ++ dram_text layout n
+
+-- before the first number of a part: in a line the part's name and number
+unfoldable pub part_text : Layout → List ℕ → ℕ → List ℕ
+part_text Lines part number = part ++ decimal number ++ codes " "
+part_text Json part number = codes "{\""
 
 -- the operations of a core that completed
-abbrev pub done_text : CoreCounts → List ℕ
-done_text n = named (codes "loads") n.loads
-    ++ named (codes "stores") n.stores
-    ++ named (codes "swaps") n.swaps
+abbrev pub done_text : Layout → CoreCounts → List ℕ
+done_text layout n = named layout (codes "loads") n.loads
+    ++ next_named layout (codes "stores") n.stores
+    ++ next_named layout (codes "swaps") n.swaps
 
 -- which of them were hits, and the misses by their causes
-abbrev pub found_text : CoreCounts → List ℕ
-found_text n = named (codes "hits") n.hits
-    ++ named (codes "absent") n.absent
-    ++ named (codes "ended") n.ended
-    ++ named (codes "shared") n.shared
+abbrev pub found_text : Layout → CoreCounts → List ℕ
+found_text layout n = next_named layout (codes "hits") n.hits
+    ++ next_named layout (codes "cold") n.cold
+    ++ next_named layout (codes "evicted") n.evicted
+    ++ next_named layout (codes "recalled") n.recalled
+    ++ next_named layout (codes "ended") n.ended
+    ++ next_named layout (codes "shared") n.shared
 
--- the line of a core
-abbrev pub core_line : ℕ → CoreCounts → List ℕ
-core_line core n = codes "core " ++ decimal core ++ done_text n ++ found_text n
-    ++ named (codes "evicted") n.evicted
-    ++ named (codes "time") n.last_time
-    ++ sent_text n.sent ++ newline
+-- what became of a core's copies, the deliveries to it that were held, and its time
+abbrev pub copies_text : Layout → CoreCounts → List ℕ
+copies_text layout n = next_named layout (codes "evictions") n.evictions
+    ++ next_named layout (codes "returns") n.returns
+    ++ next_named layout (codes "reloads") n.reloads
+    ++ next_named layout (codes "held") n.held
+    ++ next_named layout (codes "time") n.last_time
 
--- the line of a bank
-abbrev pub bank_line : ℕ → BankCounts → List ℕ
-bank_line bank n = codes "bank " ++ decimal bank ++ named (codes "evicted") n.evicted ++ sent_text n.sent ++ newline
+-- a core: its line, or an object
+unfoldable pub core_text : Layout → ℕ → CoreCounts → List ℕ
+core_text layout core n = part_text layout (codes "core ") core ++ done_text layout n ++ found_text layout n
+    ++ copies_text layout n ++ sent_text layout n.sent ++ either layout newline (codes "}")
 
--- a line for each, numbered from this number on
-abbrev pub numbered : {X : Type 0} → (ℕ → X → List ℕ) → ℕ → List X → List ℕ
-numbered line from [] = []
-numbered line from (x ∷ xs) = line from x ++ numbered line (suc from) xs
+-- a bank
+unfoldable pub bank_text : Layout → ℕ → BankCounts → List ℕ
+bank_text layout bank n = part_text layout (codes "bank ") bank ++ named layout (codes "evictions") n.evictions
+    ++ next_named layout (codes "held") n.held ++ sent_text layout n.sent ++ either layout newline (codes "}")
 
--- the events, the deliveries that were held or dropped, and a line for each core and each bank
-abbrev pub event_counts_text : EventCounts → List ℕ
-event_counts_text n = field (codes "events") n.events
-    ++ field (codes "held") n.held
-    ++ field (codes "dropped") n.dropped
-    ++ numbered core_line 0 n.cores
-    ++ numbered bank_line 0 n.banks
+-- the events, and the deliveries that were held or dropped; no member stands before these
+abbrev pub totals_text : Layout → EventCounts → List ℕ
+totals_text layout n = either layout [] (codes "\"") ++ named layout (codes "events") n.events
+    ++ either layout newline []
+    ++ field layout (codes "held") n.held
+    ++ field layout (codes "dropped") n.dropped
+
+-- the cores, and the banks
+abbrev pub cores_text : Layout → List CoreCounts → List ℕ
+cores_text layout cores =
+    either layout [] (codes ",\"cores\":[") ++ parted layout (core_text layout) 0 cores ++ list_closing layout
+
+abbrev pub banks_text : Layout → List BankCounts → List ℕ
+banks_text layout banks =
+    either layout [] (codes ",\"banks\":[") ++ parted layout (bank_text layout) 0 banks ++ list_closing layout
+
+-- all that is counted
+unfoldable pub counted_text : Layout → EventCounts → List ℕ
+counted_text layout n = totals_text layout n ++ cores_text layout n.cores ++ banks_text layout n.banks
+
+-- a row: how many operations had completed, and what was counted by then
+unfoldable pub row_text : Layout → (every row : ℕ) → EventCounts → List ℕ
+row_text layout every row n = either layout (codes "row ") (codes "{\"completed\":")
+    ++ decimal (every * (row + 1)) ++ either layout newline (codes ",") ++ counted_text layout n
+    ++ either layout [] (codes "}")
+
+-- the rows, each `every` operations, if there are to be any
+unfoldable pub rows_text : Layout → (every : Option ℕ) → List EventCounts → List ℕ
+rows_text layout None rows = []
+rows_text layout (Some every) rows =
+    either layout [] (codes ",\"rows\":[") ++ parted layout (row_text layout every) 0 rows ++ list_closing layout
+
+-- the rows, and the counts at the end: in an object members behind the others
+unfoldable pub event_counts_text : Layout → (every : Option ℕ) → List EventCounts → EventCounts → List ℕ
+event_counts_text layout every rows n = rows_text layout every rows
+    ++ either layout [] (codes ",\"counts\":{") ++ counted_text layout n ++ either layout [] (codes "}")

@@ -1,14 +1,15 @@
 -- The text that reports on the run of a trace.
-use Rattle.std.specs.Prelude.{ℕ, Bool, true, false, List, ◌++◌, length, codes, count_by}
-use Rattle.std.specs.List.{flat_map}
+use Rattle.std.specs.Prelude.{ℕ, Bool, true, false, List, [], ◌++◌, length, codes, count_by}
 use Rattle.physiological_order.specs.declared.operation.Op.{Op}
 use Rattle.physiological_order.specs.declared.operation.Op.TheVariants.{Load, Store, Swap}
 use Rattle.physiological_order.specs.declared.operation.Record.{Record}
 use Rattle.physiological_order.specs.declared.verdict.Verdict.{Verdict}
-use Rattle.report_lines.specs.Lines.{counts_text, field, value_line, word_line}
+use Rattle.report_lines.specs.declared.layout.Layout.{Layout}
+use Rattle.report_lines.specs.Layouts.{either, opening, parted}
+use Rattle.report_lines.specs.Lines.{counts_text, field, value_text, word_field}
 use Rattle.programs.specs.declared.ends.End.{End}
 use Rattle.programs.specs.declared.ends.End.TheVariants.{AllDone, Stalled, TurnsUsed, Exhausted, NoMemory}
-use Rattle.trace_texts.specs.Verdicts.{order_line}
+use Rattle.trace_texts.specs.Verdicts.{order_text}
 use Rattle.trace_texts.specs.declared.reports.TraceEnd.{TraceEnd}
 
 abbrev pub end_name : End → List ℕ
@@ -34,11 +35,11 @@ is_swap (Store word value) = false
 is_swap (Swap word value) = true
 
 -- the cores, how many operations were issued and how many completed, and how the run ended
-abbrev pub trace_end_text : (cores : ℕ) → TraceEnd → (completed : ℕ) → List ℕ
-trace_end_text cores run completed = field (codes "cores") cores
-    ++ field (codes "issued") run.issued
-    ++ field (codes "completed") completed
-    ++ word_line (codes "end") (end_name run.end)
+abbrev pub trace_end_text : Layout → (cores : ℕ) → TraceEnd → (completed : ℕ) → List ℕ
+trace_end_text layout cores run completed = field layout (codes "cores") cores
+    ++ field layout (codes "issued") run.issued
+    ++ field layout (codes "completed") completed
+    ++ word_field layout (codes "end") (end_name run.end)
 
 abbrev pub loads_among : List Record → ℕ
 loads_among records = count_by (λ r. is_load_op r.op) records
@@ -50,18 +51,20 @@ abbrev pub swaps_among : List Record → ℕ
 swaps_among records = count_by (λ r. is_swap r.op) records
 
 -- how many of the completed operations are of each kind
-abbrev pub kinds_text : List Record → List ℕ
-kinds_text records = field (codes "loads") (loads_among records)
-    ++ field (codes "stores") (stores_among records)
-    ++ field (codes "swaps") (swaps_among records)
+abbrev pub kinds_text : Layout → List Record → List ℕ
+kinds_text layout records = field layout (codes "loads") (loads_among records)
+    ++ field layout (codes "stores") (stores_among records)
+    ++ field layout (codes "swaps") (swaps_among records)
 
--- a line for each word with its value, in order
-abbrev pub word_values_text : List (ℕ × ℕ) → List ℕ
-word_values_text values = flat_map (λ v. value_line v.0 v.1) values
+-- each word with its value, in order
+abbrev pub words_text : Layout → List (ℕ × ℕ) → List ℕ
+words_text layout values = either layout [] (codes ",\"words\":{")
+    ++ parted layout (λ at v. value_text layout v.0 v.1) 0 values ++ either layout [] (codes "}")
 
 -- the report on a run of a trace that left these records, on which a check has this verdict, and these values of the
--- words that the trace names
-unfoldable pub trace_text : (cores : ℕ) → TraceEnd → Verdict → List Record → List (ℕ × ℕ) → List ℕ
-trace_text cores run verdict records values = trace_end_text cores run (length records) ++ kinds_text records
-    ++ counts_text run.counts ++ field (codes "stale-hits") run.stale ++ order_line verdict
-    ++ word_values_text values
+-- words that the trace names; what the run did, in numbers, and what closes an object may stand behind it
+unfoldable pub trace_text : Layout → (cores : ℕ) → TraceEnd → Verdict → List Record → List (ℕ × ℕ) → List ℕ
+trace_text layout cores run verdict records values = opening layout (codes "trace")
+    ++ trace_end_text layout cores run (length records) ++ kinds_text layout records
+    ++ counts_text layout run.counts ++ field layout (codes "stale-hits") run.stale ++ order_text layout verdict
+    ++ words_text layout values

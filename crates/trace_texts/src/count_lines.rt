@@ -1,157 +1,323 @@
-//! The lines that tell what a run did, in numbers (docs/COUNTS.md), each appended to the text so far.
+//! What a run did, in numbers (docs/COUNTS.md), appended to the text so far: in lines, or as members of an object.
 
-ghost use Rattle.std.specs.Prelude.{◌≡◌, ◌++◌, OnOk, decimal};
-ghost use Rattle.trace_texts.specs.CountLines.{asked_text, bank_line, core_line, done_text, dram_text};
-ghost use Rattle.trace_texts.specs.CountLines.{event_counts_text, found_text, kind_text, named, numbered};
-ghost use Rattle.trace_texts.specs.CountLines.{recalled_text, sent_text};
+ghost use Rattle.std.specs.Prelude.{◌≡◌, ◌++◌, ◌<◌, ◌+◌, ◌-◌, ◌*◌, ◌^◌, OnOk, Some};
+ghost use Rattle.report_lines.specs.declared.layout.Layout.TheVariants.{Lines, Json};
+ghost use Rattle.trace_texts.specs.CountLines.{asked_text, bank_text, banks_text, copies_text, core_text};
+ghost use Rattle.trace_texts.specs.CountLines.{cores_text, counted_text, done_text, dram_text};
+ghost use Rattle.trace_texts.specs.CountLines.{event_counts_text, found_text, kind_text, named, next_named};
+ghost use Rattle.trace_texts.specs.CountLines.{part_text, recalled_text, row_text, rows_text, sent_text};
+ghost use Rattle.trace_texts.specs.CountLines.{totals_text};
 
 use event_counts::{BankCounts, CoreCounts, EventCounts, KindCounts};
 use itoa::Buffer;
-use report_lines::put_field;
+use report_lines::{Layout, put_either, put_field, put_list_closing, put_parting};
 use std::alloc::AllocError;
 
-// A name and a number, each behind a space.
-fn put_named(out: &mut Vec<u8>, name: &[u8], number: u64) -> Result<(), AllocError>
-    ensures { OnOk result (out.new.items ≡ out.old.items ++ named name.now number) }
+// A name and a number, behind what opens the name.
+#[tactic(auto, unfolding(crate::specs::CountLines::named))]
+fn put_named(
+    out: &mut Vec<u8>,
+    layout: Layout,
+    name: &[u8],
+    number: u64,
+) -> Result<(), AllocError>
+    ensures { OnOk result (out.new.items ≡ out.old.items ++ named layout name.now number) }
 {
     let mut digits = Buffer::new();
-    out.push(b' ')?;
     out.extend_from_slice(name)?;
-    out.push(b' ')?;
+    put_either(out, layout, b" ", b"\":")?;
     out.extend_from_slice(digits.format(number).as_bytes())
 }
 
+// The same behind another number.
+#[tactic(auto, unfolding(crate::specs::CountLines::next_named))]
+fn put_next(
+    out: &mut Vec<u8>,
+    layout: Layout,
+    name: &[u8],
+    number: u64,
+) -> Result<(), AllocError>
+    ensures { OnOk result (out.new.items ≡ out.old.items ++ next_named layout name.now number) }
+{
+    put_either(out, layout, b" ", b",\"")?;
+    put_named(out, layout, name, number)
+}
+
 // A kind of message and how many were sent, if any were.
-fn put_kind(out: &mut Vec<u8>, name: &[u8], number: u64) -> Result<(), AllocError>
-    ensures { OnOk result (out.new.items ≡ out.old.items ++ kind_text name.now number) }
+fn put_kind(
+    out: &mut Vec<u8>,
+    layout: Layout,
+    name: &[u8],
+    number: u64,
+) -> Result<(), AllocError>
+    ensures { OnOk result (out.new.items ≡ out.old.items ++ kind_text layout name.now number) }
 {
     if number == 0 {
         return Ok(());
     }
-    put_named(out, name, number)
+    put_next(out, layout, name, number)
 }
 
 // Requests of cores, and the replies to them.
-fn put_asked(out: &mut Vec<u8>, sent: &KindCounts) -> Result<(), AllocError>
-    ensures { OnOk result (out.new.items ≡ out.old.items ++ asked_text sent.now) }
+fn put_asked(out: &mut Vec<u8>, layout: Layout, sent: &KindCounts) -> Result<(), AllocError>
+    ensures { OnOk result (out.new.items ≡ out.old.items ++ asked_text layout sent.now) }
 {
-    put_kind(out, b"ShReq", sent.sh_req)?;
-    put_kind(out, b"ExReq", sent.ex_req)?;
-    put_kind(out, b"ShRep", sent.sh_rep)?;
-    put_kind(out, b"ExRep", sent.ex_rep)?;
-    put_kind(out, b"RenewRep", sent.renew_rep)?;
-    put_kind(out, b"UpgradeRep", sent.upgrade_rep)
+    put_kind(out, layout, b"ShReq", sent.sh_req)?;
+    put_kind(out, layout, b"ExReq", sent.ex_req)?;
+    put_kind(out, layout, b"ShRep", sent.sh_rep)?;
+    put_kind(out, layout, b"ExRep", sent.ex_rep)?;
+    put_kind(out, layout, b"RenewRep", sent.renew_rep)?;
+    put_kind(out, layout, b"UpgradeRep", sent.upgrade_rep)
 }
 
 // Recalls, and what they return.
-fn put_recalled(out: &mut Vec<u8>, sent: &KindCounts) -> Result<(), AllocError>
-    ensures { OnOk result (out.new.items ≡ out.old.items ++ recalled_text sent.now) }
+fn put_recalled(out: &mut Vec<u8>, layout: Layout, sent: &KindCounts) -> Result<(), AllocError>
+    ensures { OnOk result (out.new.items ≡ out.old.items ++ recalled_text layout sent.now) }
 {
-    put_kind(out, b"FlushReq", sent.flush_req)?;
-    put_kind(out, b"WbReq", sent.wb_req)?;
-    put_kind(out, b"FlushRep", sent.flush_rep)?;
-    put_kind(out, b"WbRep", sent.wb_rep)
+    put_kind(out, layout, b"FlushReq", sent.flush_req)?;
+    put_kind(out, layout, b"WbReq", sent.wb_req)?;
+    put_kind(out, layout, b"FlushRep", sent.flush_rep)?;
+    put_kind(out, layout, b"WbRep", sent.wb_rep)
 }
 
 // Messages between a bank and its DRAM.
-fn put_dram(out: &mut Vec<u8>, sent: &KindCounts) -> Result<(), AllocError>
-    ensures { OnOk result (out.new.items ≡ out.old.items ++ dram_text sent.now) }
+fn put_dram(out: &mut Vec<u8>, layout: Layout, sent: &KindCounts) -> Result<(), AllocError>
+    ensures { OnOk result (out.new.items ≡ out.old.items ++ dram_text layout sent.now) }
 {
-    put_kind(out, b"DramLd", sent.dram_ld)?;
-    put_kind(out, b"DramLdRep", sent.dram_ld_rep)?;
-    put_kind(out, b"DramSt", sent.dram_st)?;
-    put_kind(out, b"DramStRep", sent.dram_st_rep)
+    put_kind(out, layout, b"DramLd", sent.dram_ld)?;
+    put_kind(out, layout, b"DramLdRep", sent.dram_ld_rep)?;
+    put_kind(out, layout, b"DramSt", sent.dram_st)?;
+    put_kind(out, layout, b"DramStRep", sent.dram_st_rep)
 }
 
 // The messages by kind.
-fn put_sent(out: &mut Vec<u8>, sent: &KindCounts) -> Result<(), AllocError>
-    ensures { OnOk result (out.new.items ≡ out.old.items ++ sent_text sent.now) }
+fn put_sent(out: &mut Vec<u8>, layout: Layout, sent: &KindCounts) -> Result<(), AllocError>
+    ensures { OnOk result (out.new.items ≡ out.old.items ++ sent_text layout sent.now) }
 {
-    put_asked(out, sent)?;
-    put_recalled(out, sent)?;
-    put_dram(out, sent)
+    put_asked(out, layout, sent)?;
+    put_recalled(out, layout, sent)?;
+    put_dram(out, layout, sent)
+}
+
+// What stands before the first number of a part.
+#[tactic(auto, unfolding(crate::specs::CountLines::part_text))]
+fn put_part(
+    out: &mut Vec<u8>,
+    layout: Layout,
+    part: &[u8],
+    number: usize,
+) -> Result<(), AllocError>
+    ensures { OnOk result (out.new.items ≡ out.old.items ++ part_text layout part.now number) }
+{
+    match layout {
+        Layout::Lines => put_part_of_line(out, part, number),
+        Layout::Json => out.extend_from_slice(b"{\""),
+    }
+}
+
+// The name and the number of a part, and a space.
+#[tactic(auto, unfolding(crate::specs::CountLines::part_text))]
+fn put_part_of_line(out: &mut Vec<u8>, part: &[u8], number: usize) -> Result<(), AllocError>
+    ensures { OnOk result (out.new.items ≡ out.old.items ++ part_text Lines part.now number) }
+{
+    let mut digits = Buffer::new();
+    out.extend_from_slice(part)?;
+    out.extend_from_slice(digits.format(number as u64).as_bytes())?;
+    out.push(b' ')?;
+    Ok(())
 }
 
 // The operations of a core that completed.
-fn put_done(out: &mut Vec<u8>, counts: &CoreCounts) -> Result<(), AllocError>
-    ensures { OnOk result (out.new.items ≡ out.old.items ++ done_text counts.now) }
+fn put_done(out: &mut Vec<u8>, layout: Layout, counts: &CoreCounts) -> Result<(), AllocError>
+    ensures { OnOk result (out.new.items ≡ out.old.items ++ done_text layout counts.now) }
 {
-    put_named(out, b"loads", counts.loads)?;
-    put_named(out, b"stores", counts.stores)?;
-    put_named(out, b"swaps", counts.swaps)
+    put_named(out, layout, b"loads", counts.loads)?;
+    put_next(out, layout, b"stores", counts.stores)?;
+    put_next(out, layout, b"swaps", counts.swaps)
 }
 
 // Which of them were hits, and the misses by their causes.
-fn put_found(out: &mut Vec<u8>, counts: &CoreCounts) -> Result<(), AllocError>
-    ensures { OnOk result (out.new.items ≡ out.old.items ++ found_text counts.now) }
+fn put_found(out: &mut Vec<u8>, layout: Layout, counts: &CoreCounts) -> Result<(), AllocError>
+    ensures { OnOk result (out.new.items ≡ out.old.items ++ found_text layout counts.now) }
 {
-    put_named(out, b"hits", counts.hits)?;
-    put_named(out, b"absent", counts.absent)?;
-    put_named(out, b"ended", counts.ended)?;
-    put_named(out, b"shared", counts.shared)
+    put_next(out, layout, b"hits", counts.hits)?;
+    put_next(out, layout, b"cold", counts.cold)?;
+    put_next(out, layout, b"evicted", counts.evicted)?;
+    put_next(out, layout, b"recalled", counts.recalled)?;
+    put_next(out, layout, b"ended", counts.ended)?;
+    put_next(out, layout, b"shared", counts.shared)
 }
 
-// The number of a part behind its name.
-fn put_part(out: &mut Vec<u8>, name: &[u8], number: usize) -> Result<(), AllocError>
-    ensures { OnOk result (out.new.items ≡ out.old.items ++ name.now ++ decimal number) }
+// What became of its copies, the deliveries to it that were held, and its time.
+fn put_copies(out: &mut Vec<u8>, layout: Layout, counts: &CoreCounts) -> Result<(), AllocError>
+    ensures { OnOk result (out.new.items ≡ out.old.items ++ copies_text layout counts.now) }
+{
+    put_next(out, layout, b"evictions", counts.evictions)?;
+    put_next(out, layout, b"returns", counts.returns)?;
+    put_next(out, layout, b"reloads", counts.reloads)?;
+    put_next(out, layout, b"held", counts.held)?;
+    put_next(out, layout, b"time", counts.last_time)
+}
+
+// A core.
+#[tactic(auto, unfolding(crate::specs::CountLines::core_text))]
+fn put_core(
+    out: &mut Vec<u8>,
+    layout: Layout,
+    core: usize,
+    counts: &CoreCounts,
+) -> Result<(), AllocError>
+    ensures { OnOk result (out.new.items ≡ out.old.items ++ core_text layout core counts.now) }
+{
+    put_part(out, layout, b"core ", core)?;
+    put_done(out, layout, counts)?;
+    put_found(out, layout, counts)?;
+    put_copies(out, layout, counts)?;
+    put_sent(out, layout, &counts.sent)?;
+    put_either(out, layout, b"\n", b"}")
+}
+
+// A bank.
+#[tactic(auto, unfolding(crate::specs::CountLines::bank_text))]
+fn put_bank(
+    out: &mut Vec<u8>,
+    layout: Layout,
+    bank: usize,
+    counts: &BankCounts,
+) -> Result<(), AllocError>
+    ensures { OnOk result (out.new.items ≡ out.old.items ++ bank_text layout bank counts.now) }
+{
+    put_part(out, layout, b"bank ", bank)?;
+    put_named(out, layout, b"evictions", counts.evictions)?;
+    put_next(out, layout, b"held", counts.held)?;
+    put_sent(out, layout, &counts.sent)?;
+    put_either(out, layout, b"\n", b"}")
+}
+
+// The events, and the deliveries that were held or dropped.
+fn put_totals(out: &mut Vec<u8>, layout: Layout, counts: &EventCounts) -> Result<(), AllocError>
+    ensures { OnOk result (out.new.items ≡ out.old.items ++ totals_text layout counts.now) }
+{
+    put_either(out, layout, b"", b"\"")?;
+    put_named(out, layout, b"events", counts.events())?;
+    put_either(out, layout, b"\n", b"")?;
+    put_field(out, layout, b"held", u128::from(counts.held()))?;
+    put_field(out, layout, b"dropped", u128::from(counts.dropped()))
+}
+
+fn put_cores(out: &mut Vec<u8>, layout: Layout, cores: &[CoreCounts]) -> Result<(), AllocError>
+    ensures { OnOk result (out.new.items ≡ out.old.items ++ cores_text layout cores.now) }
+{
+    put_either(out, layout, b"", b",\"cores\":[")?;
+    for core in 0..cores.len() {
+        put_parting(out, layout, core == 0)?;
+        put_core(out, layout, core, &cores[core])?;
+    }
+    put_list_closing(out, layout)
+}
+
+fn put_banks(out: &mut Vec<u8>, layout: Layout, banks: &[BankCounts]) -> Result<(), AllocError>
+    ensures { OnOk result (out.new.items ≡ out.old.items ++ banks_text layout banks.now) }
+{
+    put_either(out, layout, b"", b",\"banks\":[")?;
+    for bank in 0..banks.len() {
+        put_parting(out, layout, bank == 0)?;
+        put_bank(out, layout, bank, &banks[bank])?;
+    }
+    put_list_closing(out, layout)
+}
+
+// All that is counted.
+#[tactic(auto, unfolding(crate::specs::CountLines::counted_text))]
+fn put_counted(out: &mut Vec<u8>, layout: Layout, counts: &EventCounts) -> Result<(), AllocError>
+    ensures { OnOk result (out.new.items ≡ out.old.items ++ counted_text layout counts.now) }
+{
+    put_totals(out, layout, counts)?;
+    put_cores(out, layout, counts.cores())?;
+    put_banks(out, layout, counts.banks())
+}
+
+// How many operations have completed at a row, if there is one each `every`.
+fn completed_at(every: u64, row: usize) -> u128
+    requires { row < 2 ^ 64 - 1 }
+    ensures { result ≡ every * (row + 1) }
+{
+    u128::from(every) * (row as u128 + 1)
+}
+
+// A row: how many operations had completed, and what was counted by then.
+#[tactic(auto, unfolding(crate::specs::CountLines::row_text))]
+fn put_row(
+    out: &mut Vec<u8>,
+    layout: Layout,
+    every: u64,
+    row: usize,
+    counts: &EventCounts,
+) -> Result<(), AllocError>
+    requires { row < 2 ^ 64 - 1 }
+    ensures { OnOk result (out.new.items ≡
+        out.old.items ++ row_text layout every row counts.now) }
 {
     let mut digits = Buffer::new();
-    out.extend_from_slice(name)?;
-    out.extend_from_slice(digits.format(number as u64).as_bytes())
+    put_either(out, layout, b"row ", b"{\"completed\":")?;
+    out.extend_from_slice(digits.format(completed_at(every, row)).as_bytes())?;
+    put_either(out, layout, b"\n", b",")?;
+    put_counted(out, layout, counts)?;
+    put_either(out, layout, b"", b"}")
 }
 
-// The line of a core.
-fn put_core(out: &mut Vec<u8>, core: usize, counts: &CoreCounts) -> Result<(), AllocError>
-    ensures { OnOk result (out.new.items ≡ out.old.items ++ core_line core counts.now) }
+// The rows, one each `every` operations.
+#[tactic(auto, unfolding(crate::specs::CountLines::rows_text))]
+fn put_row_list(
+    out: &mut Vec<u8>,
+    layout: Layout,
+    every: u64,
+    rows: &[EventCounts],
+) -> Result<(), AllocError>
+    ensures { OnOk result (out.new.items ≡
+        out.old.items ++ rows_text layout (Some every) rows.now) }
 {
-    put_part(out, b"core ", core)?;
-    put_done(out, counts)?;
-    put_found(out, counts)?;
-    put_named(out, b"evicted", counts.evicted)?;
-    put_named(out, b"time", counts.last_time)?;
-    put_sent(out, &counts.sent)?;
-    out.push(b'\n')?;
-    Ok(())
-}
-
-// The line of a bank.
-fn put_bank(out: &mut Vec<u8>, bank: usize, counts: &BankCounts) -> Result<(), AllocError>
-    ensures { OnOk result (out.new.items ≡ out.old.items ++ bank_line bank counts.now) }
-{
-    put_part(out, b"bank ", bank)?;
-    put_named(out, b"evicted", counts.evicted)?;
-    put_sent(out, &counts.sent)?;
-    out.push(b'\n')?;
-    Ok(())
-}
-
-fn put_cores(out: &mut Vec<u8>, cores: &[CoreCounts]) -> Result<(), AllocError>
-    ensures { OnOk result (out.new.items ≡ out.old.items ++ numbered core_line 0 cores.now) }
-{
-    for core in 0..cores.len() {
-        put_core(out, core, &cores[core])?;
+    put_either(out, layout, b"", b",\"rows\":[")?;
+    for row in 0..rows.len() {
+        put_parting(out, layout, row == 0)?;
+        put_row(out, layout, every, row, &rows[row])?;
     }
-    Ok(())
+    put_list_closing(out, layout)
 }
 
-fn put_banks(out: &mut Vec<u8>, banks: &[BankCounts]) -> Result<(), AllocError>
-    ensures { OnOk result (out.new.items ≡ out.old.items ++ numbered bank_line 0 banks.now) }
+// The rows, if there are to be any.
+#[tactic(auto, unfolding(crate::specs::CountLines::rows_text))]
+fn put_rows(
+    out: &mut Vec<u8>,
+    layout: Layout,
+    every: Option<u64>,
+    rows: &[EventCounts],
+) -> Result<(), AllocError>
+    ensures { OnOk result (out.new.items ≡ out.old.items ++ rows_text layout every rows.now) }
 {
-    for bank in 0..banks.len() {
-        put_bank(out, bank, &banks[bank])?;
+    match every {
+        Some(every) => put_row_list(out, layout, every, rows),
+        None => Ok(()),
     }
-    Ok(())
 }
 
-/// What a run did, in numbers: the events, the deliveries that were held and those that were dropped, and a line for
-/// each core and each bank, with the messages by kind that were sent by it or to it (docs/COUNTS.md). If allocation
-/// fails, some of it may be in the text.
-pub fn put_event_counts(out: &mut Vec<u8>, counts: &EventCounts) -> Result<(), AllocError>
-    ensures { OnOk result (out.new.items ≡ out.old.items ++ event_counts_text counts.now) }
+/// What a run did, in numbers, behind its report: if there is a row each `every` operations, each row with the counts
+/// at that point, and then the counts at the end. They are the events, the deliveries that were held and those that were
+/// dropped, and what was counted of each core and each bank, with the messages by kind that were sent by it or to it
+/// (docs/COUNTS.md). If allocation fails, some of it may be in the text.
+#[tactic(auto, unfolding(crate::specs::CountLines::event_counts_text))]
+pub fn put_event_counts(
+    out: &mut Vec<u8>,
+    layout: Layout,
+    every: Option<u64>,
+    rows: &[EventCounts],
+    counts: &EventCounts,
+) -> Result<(), AllocError>
+    ensures { OnOk result (out.new.items ≡
+        out.old.items ++ event_counts_text layout every rows.now counts.now) }
 {
-    put_field(out, b"events", u128::from(counts.events()))?;
-    put_field(out, b"held", u128::from(counts.held()))?;
-    put_field(out, b"dropped", u128::from(counts.dropped()))?;
-    put_cores(out, counts.cores())?;
-    put_banks(out, counts.banks())
+    put_rows(out, layout, every, rows)?;
+    put_either(out, layout, b"", b",\"counts\":{")?;
+    put_counted(out, layout, counts)?;
+    put_either(out, layout, b"", b"}")
 }

@@ -4,16 +4,20 @@ ghost use Rattle.std.specs.Prelude.{◌≡◌, ◌++◌, OnOk, IfOk};
 ghost use Rattle.std.specs.FinMap.{empty};
 ghost use Rattle.physiological_order.specs.Faults.{IsVerdict};
 ghost use Rattle.physiological_order.specs.Order.{flat, Legal};
+ghost use Rattle.report_lines.specs.Layouts.{closing};
 ghost use Rattle.trace_reader.specs.Steps.{trace_cores, trace_ops};
 ghost use Rattle.trace_texts.specs.Reports.{end_name, is_load_op, is_store, is_swap};
 ghost use Rattle.trace_texts.specs.Reports.{loads_among, stores_among, swaps_among};
-ghost use Rattle.trace_texts.specs.Reports.{trace_end_text, kinds_text, trace_text, word_values_text};
+ghost use Rattle.trace_texts.specs.Reports.{trace_end_text, kinds_text, trace_text, words_text};
 
 use crate::verdicts::put_order;
 use network::Counts;
 use physiological_order::{Memory, Op, Record, Verdict, WordAddr, check};
 use programs::End;
-use report_lines::{put_counts, put_field, put_value, put_word};
+use report_lines::{
+    Layout, put_closing, put_counts, put_either, put_field, put_opening, put_parting, put_value,
+    put_word,
+};
 use std::alloc::{AllocError, Global};
 use trace_reader::Trace;
 
@@ -82,42 +86,52 @@ fn swaps_among(records: &[Record]) -> usize
 // The cores, how many operations were issued and completed, and how the run ended.
 fn put_ends(
     out: &mut Vec<u8>,
+    layout: Layout,
     cores: u32,
     run: &TraceEnd,
     completed: usize,
 ) -> Result<(), AllocError>
-    ensures { OnOk result (out.new.items ≡ out.old.items ++ trace_end_text cores run.now completed) }
+    ensures { OnOk result (out.new.items ≡ out.old.items ++ trace_end_text layout cores run.now completed) }
 {
-    put_field(out, b"cores", u128::from(cores))?;
-    put_field(out, b"issued", run.issued)?;
-    put_field(out, b"completed", completed as u128)?;
-    put_word(out, b"end", end_name(run.end))
+    put_field(out, layout, b"cores", u128::from(cores))?;
+    put_field(out, layout, b"issued", run.issued)?;
+    put_field(out, layout, b"completed", completed as u128)?;
+    put_word(out, layout, b"end", end_name(run.end))
 }
 
 // How many loads, stores and swaps there are among the completed operations.
-fn put_kinds(out: &mut Vec<u8>, records: &[Record]) -> Result<(), AllocError>
-    ensures { OnOk result (out.new.items ≡ out.old.items ++ kinds_text records.now) }
+fn put_kinds(out: &mut Vec<u8>, layout: Layout, records: &[Record]) -> Result<(), AllocError>
+    ensures { OnOk result (out.new.items ≡ out.old.items ++ kinds_text layout records.now) }
 {
-    put_field(out, b"loads", loads_among(records) as u128)?;
-    put_field(out, b"stores", stores_among(records) as u128)?;
-    put_field(out, b"swaps", swaps_among(records) as u128)
+    put_field(out, layout, b"loads", loads_among(records) as u128)?;
+    put_field(out, layout, b"stores", stores_among(records) as u128)?;
+    put_field(out, layout, b"swaps", swaps_among(records) as u128)
 }
 
-// A line for each word, in order.
-fn put_values(out: &mut Vec<u8>, values: &[(WordAddr, u64)]) -> Result<(), AllocError>
-    ensures { OnOk result (out.new.items ≡ out.old.items ++ word_values_text values.now) }
+// Each word with its value, in order.
+fn put_values(
+    out: &mut Vec<u8>,
+    layout: Layout,
+    values: &[(WordAddr, u64)],
+) -> Result<(), AllocError>
+    ensures { OnOk result (out.new.items ≡ out.old.items ++ words_text layout values.now) }
 {
-    for (word, value) in values {
-        put_value(out, *word, *value)?;
+    put_either(out, layout, b"", b",\"words\":{")?;
+    for at in 0..values.len() {
+        put_parting(out, layout, at == 0)?;
+        let (word, value) = values[at];
+        put_value(out, layout, word, value)?;
     }
-    Ok(())
+    put_either(out, layout, b"", b"}")
 }
 
 /// The text that reports on the run of a trace that left these records, by rising number, and these values of the
-/// words that the trace names, in lines that end with a line feed (docs/TEXTS.md). Its order line has the verdict of a
-/// check of the records, for what the trace issues over a memory of zeros; the trace's lists go into that check.
+/// words that the trace names, in lines that end with a line feed or as one JSON object (docs/TEXTS.md). Its order line
+/// has the verdict of a check of the records, for what the trace issues over a memory of zeros; the trace's lists go
+/// into that check.
 pub fn trace_text(
     alloc: Global,
+    layout: Layout,
     trace: Trace,
     run: &TraceEnd,
     records: &[Record],
@@ -125,33 +139,39 @@ pub fn trace_text(
 ) -> Result<Vec<u8>, AllocError>
     ensures { IfOk result (λ text. (verdict : Verdict) ×
         IsVerdict (flat empty) (trace_ops trace) records.now verdict ×
-        (text.items ≡ trace_text (trace_cores trace) run.now verdict records.now values.now)) }
+        (text.items ≡ trace_text layout (trace_cores trace) run.now verdict records.now values.now
+        ++ closing layout)) }
 {
     let cores = trace.cores();
     let issued = trace.into_issued()?;
     let verdict = check(alloc, &Memory::new(alloc), &issued, records)?;
-    told(alloc, cores, run, verdict, records, values)
+    let mut text = told(alloc, layout, cores, run, verdict, records, values)?;
+    put_closing(&mut text, layout)?;
+    Ok(text)
 }
 
-/// What `trace_text` answers of records that are legal, without a check of them.
+/// What `trace_text` answers of records that are legal, without a check of them, and without what closes an object:
+/// what the run did, in numbers, may stand in front of that (`put_event_counts`, and `put_closing` of report_lines).
 pub fn legal_trace_text(
     alloc: Global,
+    layout: Layout,
     trace: &Trace,
     run: &TraceEnd,
     records: &[Record],
     values: &[(WordAddr, u64)],
 ) -> Result<Vec<u8>, AllocError>
     requires { Legal (flat empty) (trace_ops trace.now) records.now }
-    ensures { IfOk result (λ text.
-        text.items ≡ trace_text (trace_cores trace.now) run.now Verdict.Legal records.now values.now) }
+    ensures { IfOk result (λ text. text.items ≡
+        trace_text layout (trace_cores trace.now) run.now Verdict.Legal records.now values.now) }
 {
-    told(alloc, trace.cores(), run, Verdict::Legal, records, values)
+    told(alloc, layout, trace.cores(), run, Verdict::Legal, records, values)
 }
 
-// The report, with this verdict on the records.
+// The report without what closes it, with this verdict on the records.
 #[tactic(auto, unfolding(crate::specs::Reports::trace_text))]
 fn told(
     alloc: Global,
+    layout: Layout,
     cores: u32,
     run: &TraceEnd,
     verdict: Verdict,
@@ -159,14 +179,15 @@ fn told(
     values: &[(WordAddr, u64)],
 ) -> Result<Vec<u8>, AllocError>
     ensures { IfOk result (λ text.
-        text.items ≡ trace_text cores run.now verdict records.now values.now) }
+        text.items ≡ trace_text layout cores run.now verdict records.now values.now) }
 {
     let mut out = Vec::new(alloc);
-    put_ends(&mut out, cores, run, records.len())?;
-    put_kinds(&mut out, records)?;
-    put_counts(&mut out, run.counts)?;
-    put_field(&mut out, b"stale-hits", u128::from(run.stale))?;
-    put_order(&mut out, verdict)?;
-    put_values(&mut out, values)?;
+    put_opening(&mut out, layout, b"trace")?;
+    put_ends(&mut out, layout, cores, run, records.len())?;
+    put_kinds(&mut out, layout, records)?;
+    put_counts(&mut out, layout, run.counts)?;
+    put_field(&mut out, layout, b"stale-hits", u128::from(run.stale))?;
+    put_order(&mut out, layout, verdict)?;
+    put_values(&mut out, layout, values)?;
     Ok(out)
 }

@@ -27,7 +27,7 @@ void expect(bool good, const char *what) {
 } // namespace
 
 int main() {
-    expect(tardis::version() == "0.1.0", "the version");
+    expect(tardis::version() == "0.2.0", "the version");
     // A value and times of 20 digits, with which a record is as long as it can be next to its operation.
     std::string text = "0 W 0x0 18446744073709551615\n";
     for (int number = 1; number < 30000; number++) text += "0 R 0x0\n";

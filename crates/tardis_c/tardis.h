@@ -23,8 +23,8 @@
 extern "C" {
 #endif
 
-/* The version: 10000 for each major version, 100 for each minor one, 1 for each patch. So 100 is 0.1.0. */
-#define TARDIS_VERSION 100
+/* The version: 10000 for each major version, 100 for each minor one, 1 for each patch. So 200 is 0.2.0. */
+#define TARDIS_VERSION 200
 
 enum tardis_number {
     TARDIS_DONE = 0,         /* every run ended all done; the records are legal */
@@ -59,6 +59,12 @@ struct tardis_options {
                                is kept in memory until the call ends */
     uint64_t records;       /* a flag: a trace's records are written, and not its report */
     uint64_t fair;          /* a flag: rounds are fair; of no effect if events are drawn */
+    uint64_t json;          /* a flag: a report is one JSON object, and not lines; of no effect where records are
+                               written */
+    uint64_t counts;        /* a flag: what a trace's run did, in numbers, stands behind its report; of no effect where
+                               records are written */
+    uint64_t every;         /* any number: the counts have a row each time that so many more operations are completed,
+                               and none for 0; of no effect without counts */
 };
 
 enum tardis_kind { TARDIS_LOAD = 0, TARDIS_STORE = 1, TARDIS_SWAP = 2 };
@@ -135,8 +141,8 @@ uint32_t tardis_c_trace(const uint8_t *text, size_t text_length, const struct ta
 uint32_t tardis_c_check(const uint8_t *trace, size_t trace_length, const uint8_t *records, size_t records_length,
                         uint8_t *buffer, size_t size, size_t *length);
 uint32_t tardis_c_check_opened(const uint8_t *opening, size_t opening_length, const uint8_t *trace, size_t trace_length,
-                               const uint8_t *records, size_t records_length, uint32_t complete, uint8_t *buffer,
-                               size_t size, size_t *length);
+                               const uint8_t *records, size_t records_length, uint32_t complete, uint32_t json,
+                               uint8_t *buffer, size_t size, size_t *length);
 uint32_t tardis_c_check_arrays(const struct tardis_operation *operations, size_t operation_count,
                                const struct tardis_record *records, size_t record_count, struct tardis_told *told);
 uint32_t tardis_c_check_history(const struct tardis_word *opening, size_t opening_count,
@@ -175,7 +181,7 @@ static inline int tardis_run_litmus(const char *text, size_t text_length, const 
     return (int)tardis_c_litmus(tardis_text(text), text_length, options, tardis_buffer(buffer), size, length);
 }
 
-/* Runs a trace, and puts the report, or the records, into the buffer. */
+/* Runs a trace, and puts the report, with counts behind it if they are asked for, or the records, into the buffer. */
 static inline int tardis_run_trace(const char *text, size_t text_length, const struct tardis_options *options,
                                    char *buffer, size_t size, size_t *length) {
     if (tardis_is_null(text, text_length) || !options || tardis_is_null(buffer, size) || !length) return TARDIS_NULL;
@@ -195,16 +201,17 @@ static inline int tardis_check(const char *trace, size_t trace_length, const cha
 
 /* Does so over the memory that an opening gives, as a text too: a line for each word with its value, and 0 for all
    other words; the empty text gives zeros. Where `complete` isn't 0, legal records must be those of all operations.
-   The opening's fault, TARDIS_BAD_OPENING, takes precedence over the others. */
+   Where `json` isn't 0, the verdict is one JSON object, and not a line. The opening's fault, TARDIS_BAD_OPENING, takes
+   precedence over the others. */
 static inline int tardis_check_opened(const char *opening, size_t opening_length, const char *trace,
                                       size_t trace_length, const char *records, size_t records_length,
-                                      uint32_t complete, char *buffer, size_t size, size_t *length) {
+                                      uint32_t complete, uint32_t json, char *buffer, size_t size, size_t *length) {
     if (tardis_is_null(opening, opening_length) || tardis_is_null(trace, trace_length)) return TARDIS_NULL;
     if (tardis_is_null(records, records_length) || tardis_is_null(buffer, size) || !length) return TARDIS_NULL;
     *length = 0;
     return (int)tardis_c_check_opened(tardis_text(opening), opening_length, tardis_text(trace), trace_length,
-                                      tardis_text(records), records_length, complete, tardis_buffer(buffer), size,
-                                      length);
+                                      tardis_text(records), records_length, complete, json, tardis_buffer(buffer),
+                                      size, length);
 }
 
 /* Checks records against what cores were issued, each core's operations in its order, over a memory of zeros. Look at

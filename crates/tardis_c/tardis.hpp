@@ -19,7 +19,7 @@
 
 namespace tardis {
 
-// The library's version, as 0.1.0.
+// The library's version, as 0.2.0.
 inline std::string version() {
     const uint32_t number = tardis_version();
     return std::to_string(number / 10000) + '.' + std::to_string(number / 100 % 100) + '.' +
@@ -54,7 +54,7 @@ inline Report told(size_t size, const std::function<int(char *buffer, size_t siz
 }
 
 // Bytes for the report on a text. A record has at most 12 times the bytes of its operation in the trace, and a word of
-// a report fewer. Only a report with some ten thousand end states is longer.
+// a report fewer. Only a report with some ten thousand end states is longer, or one with many rows of counts.
 inline size_t room(std::string_view text) { return (1 << 20) + 12 * text.size(); }
 
 inline Report litmus(std::string_view text, const tardis_options &options = defaults()) {
@@ -63,7 +63,7 @@ inline Report litmus(std::string_view text, const tardis_options &options = defa
     });
 }
 
-// The report of a trace, or its records if the options say so.
+// The report of a trace, with counts behind it or as JSON if the options say so, or its records.
 inline Report trace(std::string_view text, const tardis_options &options = defaults()) {
     return told(room(text), [&](char *buffer, size_t size, size_t *length) {
         return tardis_run_trace(text.data(), text.size(), &options, buffer, size, length);
@@ -71,12 +71,12 @@ inline Report trace(std::string_view text, const tardis_options &options = defau
 }
 
 // The verdict on records; over an opening, in which lines as `0x8 5` give words values; and, if that is asked for, on
-// whether each operation has its record.
+// whether each operation has its record, and as JSON.
 inline Report check(std::string_view trace, std::string_view records, std::string_view opening = {},
-                    bool complete = false) {
-    return told(100, [&](char *buffer, size_t size, size_t *length) {
+                    bool complete = false, bool json = false) {
+    return told(200, [&](char *buffer, size_t size, size_t *length) {
         return tardis_check_opened(opening.data(), opening.size(), trace.data(), trace.size(), records.data(),
-                                   records.size(), complete, buffer, size, length);
+                                   records.size(), complete, json, buffer, size, length);
     });
 }
 

@@ -65,6 +65,9 @@ mod tardis {
         pub runs: u64,
         pub records: u64,
         pub fair: u64,
+        pub json: u64,
+        pub counts: u64,
+        pub every: u64,
     }
 
     unsafe extern "C" {

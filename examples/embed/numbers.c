@@ -70,10 +70,10 @@ static void types(void) {
                               struct tardis_told *) = tardis_c_check_arrays;
     uint32_t (*c_version)(void) = tardis_c_version;
     (void)run_litmus, (void)run_trace, (void)c_litmus, (void)c_trace, (void)checks_texts, (void)checks_bytes;
-    int (*checks_opened)(const char *, size_t, const char *, size_t, const char *, size_t, uint32_t, char *, size_t,
-                         size_t *) = tardis_check_opened;
+    int (*checks_opened)(const char *, size_t, const char *, size_t, const char *, size_t, uint32_t, uint32_t, char *,
+                         size_t, size_t *) = tardis_check_opened;
     uint32_t (*c_checks_opened)(const uint8_t *, size_t, const uint8_t *, size_t, const uint8_t *, size_t, uint32_t,
-                                uint8_t *, size_t, size_t *) = tardis_c_check_opened;
+                                uint32_t, uint8_t *, size_t, size_t *) = tardis_c_check_opened;
     int (*checks_history)(const struct tardis_word *, size_t, const struct tardis_operation *, size_t,
                           const struct tardis_record *, size_t, struct tardis_found *) = tardis_check_history;
     uint32_t (*c_checks_history)(const struct tardis_word *, size_t, const struct tardis_operation *, size_t,
@@ -92,7 +92,7 @@ static int check(const char *trace, const char *records, size_t size) {
 
 static int opened(const char *opening, const char *trace, const char *records, uint32_t complete, size_t size) {
     return tardis_check_opened(opening, strlen(opening), trace, strlen(trace), records, strlen(records), complete,
-                               buffer, size, &length);
+                               0, buffer, size, &length);
 }
 
 static int litmus(const char *text, const struct tardis_options *options, size_t size) {
@@ -105,7 +105,7 @@ static int trace(const char *text, const struct tardis_options *options, size_t 
 
 /* What a caller in another language, which has no header, writes for the header's names. */
 static void names(void) {
-    MUST(TARDIS_VERSION == 100 && tardis_version() == 100);
+    MUST(TARDIS_VERSION == 200 && tardis_version() == 200);
     MUST(TARDIS_DONE == 0 && TARDIS_NO_MEMORY == 3 && TARDIS_BAD_TEST == 4 && TARDIS_BAD_LINE == 5);
     MUST(TARDIS_BAD_MACHINE == 6 && TARDIS_NOT_DONE == 7 && TARDIS_SHORT_BUFFER == 8 && TARDIS_NULL == 9);
     MUST(TARDIS_BAD_OPERATION == 10 && TARDIS_BAD_RECORD == 11 && TARDIS_BAD_OPENING == 12);
@@ -151,9 +151,13 @@ static void openings(void) {
     MUST(opened("8 5\n", load, loaded, 0, 10) == TARDIS_BAD_OPENING && length == 38 && (length = 0, has("")));
     MUST(opened("0x8 5\n", "0 X\n", "x", 0, 1000) == TARDIS_BAD_LINE && has("tardis: line 1: 5 BadOperation\n"));
     MUST(opened("0x8 5\n", load, "\nx", 0, 1000) == TARDIS_BAD_LINE && has("tardis: line 2: 4 BadCore\n"));
-    MUST(tardis_check_opened("0x8 56", 5, load, 8, loaded, 16, 0, buffer, 1000, &length) == TARDIS_DONE);
+    MUST(tardis_check_opened("0x8 56", 5, load, 8, loaded, 16, 0, 0, buffer, 1000, &length) == TARDIS_DONE);
     MUST(has("legal\n"));
-    MUST(tardis_check_opened(NULL, 0, NULL, 0, NULL, 0, 1, buffer, 1000, &length) == TARDIS_DONE && has("legal\n"));
+    MUST(tardis_check_opened(NULL, 0, NULL, 0, NULL, 0, 1, 0, buffer, 1000, &length) == TARDIS_DONE && has("legal\n"));
+    MUST(tardis_check_opened(NULL, 0, load, 8, loaded, 16, 0, 65536, buffer, 1000, &length) == TARDIS_NOT_DONE);
+    MUST(has("{\"version\":1,\"command\":\"check\",\"verdict\":\"wrong value\",\"number\":0}\n"));
+    MUST(tardis_check_opened("0x8 5", 5, load, 8, NULL, 0, 1, 1, buffer, 1000, &length) == TARDIS_NOT_DONE);
+    MUST(has("{\"version\":1,\"command\":\"check\",\"verdict\":\"no record\",\"place\":0,\"core\":0}\n"));
 }
 
 static void runs(void) {
@@ -231,11 +235,11 @@ static void nulls(void) {
     MUST(tardis_check(TRACE, 1, NULL, (size_t)1 << 32, buffer, 1000, &length) == TARDIS_NULL);
     MUST(tardis_check(TRACE, 1, RECORDS, 1, NULL, 1, &length) == TARDIS_NULL);
     MUST(tardis_check(TRACE, 1, RECORDS, 1, buffer, 1000, NULL) == TARDIS_NULL);
-    MUST(tardis_check_opened(NULL, 1, TRACE, 1, RECORDS, 1, 0, buffer, 1000, &length) == TARDIS_NULL);
-    MUST(tardis_check_opened("", 0, NULL, 1, RECORDS, 1, 0, buffer, 1000, &length) == TARDIS_NULL);
-    MUST(tardis_check_opened("", 0, TRACE, 1, NULL, 1, 0, buffer, 1000, &length) == TARDIS_NULL);
-    MUST(tardis_check_opened("", 0, TRACE, 1, RECORDS, 1, 0, NULL, 1, &length) == TARDIS_NULL);
-    MUST(tardis_check_opened("", 0, TRACE, 1, RECORDS, 1, 0, buffer, 1000, NULL) == TARDIS_NULL);
+    MUST(tardis_check_opened(NULL, 1, TRACE, 1, RECORDS, 1, 0, 0, buffer, 1000, &length) == TARDIS_NULL);
+    MUST(tardis_check_opened("", 0, NULL, 1, RECORDS, 1, 0, 0, buffer, 1000, &length) == TARDIS_NULL);
+    MUST(tardis_check_opened("", 0, TRACE, 1, NULL, 1, 0, 0, buffer, 1000, &length) == TARDIS_NULL);
+    MUST(tardis_check_opened("", 0, TRACE, 1, RECORDS, 1, 0, 0, NULL, 1, &length) == TARDIS_NULL);
+    MUST(tardis_check_opened("", 0, TRACE, 1, RECORDS, 1, 0, 0, buffer, 1000, NULL) == TARDIS_NULL);
     MUST(tardis_run_litmus(NULL, 1, &options, buffer, 1000, &length) == TARDIS_NULL);
     MUST(tardis_run_litmus(TEST, 1, NULL, buffer, 1000, &length) == TARDIS_NULL);
     MUST(tardis_run_litmus(TEST, 1, &options, NULL, 1, &length) == TARDIS_NULL);

@@ -19,7 +19,7 @@ const std::map<std::string, uint64_t tardis_options::*> NUMBERS = {
     {"--sets", &tardis_options::sets}, {"--ways", &tardis_options::ways}, {"--bank-sets", &tardis_options::bank_sets},
     {"--bank-ways", &tardis_options::bank_ways}, {"--line-words", &tardis_options::line_words},
     {"--messages", &tardis_options::messages}, {"--seed", &tardis_options::seed}, {"--limit", &tardis_options::limit},
-    {"--runs", &tardis_options::runs}};
+    {"--runs", &tardis_options::runs}, {"--every", &tardis_options::every}};
 
 // Ends the program as the program does: a line on standard error, and a status.
 [[noreturn]] void fail(const std::string &line, int status) {
@@ -41,6 +41,7 @@ std::string text_of(const std::string &name) {
 // What a check is asked beside its two files.
 struct Asked {
     bool complete = false;
+    bool json = false;
     std::string opening;  // the text
 };
 
@@ -53,6 +54,8 @@ std::vector<std::string> words_of(int count, char **words, tardis_options &optio
         if (word == "--private-write") options.private_write = 1;
         else if (word == "--records") options.records = 1;
         else if (word == "--fair") options.fair = 1;
+        else if (word == "--counts") options.counts = 1;
+        else if (word == "--json") options.json = asked.json = true;
         else if (word == "--complete") asked.complete = true;
         else if (word.rfind("--", 0) != 0) others.push_back(word);
         else if (++at == count) fail("bad command line", 3);
@@ -132,5 +135,5 @@ int main(int count, char **words) {
     if (command != "check") fail("bad command line", 3);
     const std::string records = text_of(files[1]);
     if (std::getenv("EMBED_ARRAYS")) return check_arrays(text, records);
-    return told(tardis::check(text, records, asked.opening, asked.complete));
+    return told(tardis::check(text, records, asked.opening, asked.complete, asked.json));
 }

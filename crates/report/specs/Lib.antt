@@ -1,5 +1,6 @@
 pub mod Answers
 pub mod Bytes
+pub mod Layouts
 pub mod Complete
 pub mod Litmus
 pub mod EveryText

@@ -20,6 +20,7 @@ use Rattle.run_results.specs.declared.results.RunError.{RunError}
 use Rattle.run_results.specs.declared.results.RunError.TheVariants.{BadConfig, NoMemory, Litmus as Refused}
 use Rattle.worker_driver.specs.Outcomes.{HasOutcome}
 use Rattle.worker_driver.specs.Runs.{AreFrom}
+use Rattle.report.specs.Layouts.{layout_of}
 
 -- the most turns of a run
 abbrev pub turns : LitmusOptions → ℕ
@@ -38,7 +39,7 @@ pub record IsLitmusReport (options : LitmusOptions) (bytes : List ℕ) (all_done
   pub test : Litmus
   pub runs : List RunEnd
   pub are_runs : AreRuns options bytes test runs
-  pub text_is : text ≡ litmus_text test runs
+  pub text_is : text ≡ litmus_text (layout_of options.json) test runs
   pub done : all_done ≡ list_all (ends_as AllDone) runs
 
 -- the bytes are the text of no test, and the fault has its kind's cause in its line

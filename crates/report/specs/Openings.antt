@@ -3,6 +3,7 @@ use Rattle.std.specs.Prelude.{◌≡◌, ◌⊎◌, ◌<◌, ℕ, Bool, List, Op
 use Rattle.std.specs.FinMap.{FinMap}
 use Rattle.std.specs.Ordering.{nat_cmp}
 use Rattle.physiological_order.specs.Order.{flat}
+use Rattle.report_lines.specs.declared.layout.Layout.{Layout}
 use Rattle.run_results.specs.declared.results.RunError.{RunError}
 use Rattle.run_results.specs.declared.results.RunError.TheVariants.{Read, NoMemory, Opening, Trace}
 use Rattle.trace_lines.specs.declared.errors.TraceError.{TraceError}
@@ -34,12 +35,12 @@ HasNoOpening known before after NoMemory = (after ≡ before) × WantsMemory ope
 HasNoOpening known before after (Opening e) = (after ≡ before) × IsOpeningFault known e
 HasNoOpening known before after e = ⊥
 
--- it is the line on the trace and the records, over the memory that the opening gives: of texts in memory
-abbrev pub IsOpenedReport : (complete : Bool) → (opening trace records : List ℕ) → Bool → List ℕ → Type 0
-IsOpenedReport complete opening trace records legal text = (words : FinMap nat_cmp ℕ) × IsOpening opening words
-    × IsCheckReport (flat words) complete (Some trace) (Some records) legal text
+-- it is the report on the trace and the records, over the memory that the opening gives: of texts in memory
+abbrev pub IsOpenedReport : (complete : Bool) → Layout → (opening trace records : List ℕ) → Bool → List ℕ → Type 0
+IsOpenedReport complete layout opening trace records legal text = (words : FinMap nat_cmp ℕ)
+    × IsOpening opening words × IsCheckReport (flat words) complete layout (Some trace) (Some records) legal text
 
--- why there is no such line: the opening is refused, or it was read, and there is no verdict
+-- why there is no such report: the opening is refused, or it was read, and there is no verdict
 abbrev pub HasNoOpenedReport : (opening trace records : List ℕ) → RunError → Type 0
 HasNoOpenedReport opening trace records e = HasNoOpening (Some opening) 0 0 e
     ⊎ (((words : FinMap nat_cmp ℕ) × IsOpening opening words) × HasNoVerdict (Some trace) (Some records) e)

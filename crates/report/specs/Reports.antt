@@ -1,14 +1,15 @@
 -- The report on the text of a trace, and why a text has none.
-use Rattle.std.specs.Prelude.{◌≡◌, ◌⊎◌, ◌≤◌, ℕ, Bool, true, false, ◌&&◌, not, List, [], ◌++◌, length, Option}
+use Rattle.std.specs.Prelude.{◌≡◌, ◌⊎◌, ◌≤◌, ℕ, Bool, true, false, ◌&&◌, not, List, length, Option, Some, None}
 use Rattle.machine_table.specs.declared.config.Config.{Config}
 use Rattle.machine_table.specs.Machine.{Machine}
 use Rattle.machine_table.specs.SetUp.{is_good}
-use Rattle.event_counts.specs.Counting.{EventCounts, counts_events, no_counts}
+use Rattle.event_counts.specs.Counting.{Counter, counter_events, no_counter}
 use Rattle.physiological_order.specs.declared.operation.Record.{Record}
 use Rattle.worker_driver.specs.SetUp.{config_of, driver_of, limit_of}
 use Rattle.worker_driver.specs.declared.set_up.Driver.{Driver}
 use Rattle.worker_driver.specs.declared.set_up.Driver.TheVariants.{ByPolicy, ByThreads}
 use Rattle.programs.specs.declared.ends.End.{End}
+use Rattle.report_lines.specs.declared.layout.Layout.{Layout}
 use Rattle.run_options.specs.declared.options.TraceOptions.{TraceOptions}
 use Rattle.run_results.specs.declared.results.RunError.{RunError}
 use Rattle.run_results.specs.declared.results.RunError.TheVariants.{NoMemory, Trace, BadConfig}
@@ -19,10 +20,10 @@ use Rattle.trace_reader.specs.Causes.{TraceFault}
 use Rattle.trace_reader.specs.Grammar.{AreRecords, IsTrace}
 use Rattle.text_lines.specs.Lines.{lines_of}
 use Rattle.trace_reader.specs.Reading.{steps_in, steps_read}
+use Rattle.report.specs.Layouts.{layout_of}
 use Rattle.report.specs.Refusals.{IsFault, IsRead}
 use Rattle.trace_reader.specs.Outcomes.{WantsMemory}
 use Rattle.trace_reader.specs.Steps.{trace_cores}
-use Rattle.trace_texts.specs.CountLines.{event_counts_text}
 use Rattle.report.specs.Runs.{IsTraceRun, IsWatched, is_all_done, run_text}
 
 -- the text has a line for each record, and if there are no more records than a text may have, it is the text of the
@@ -31,21 +32,26 @@ abbrev pub TellsRecords : List ℕ → List Record → Type 0
 TellsRecords text records =
     (length (lines_of text) ≡ length records) × (length records ≤ MOST_LINES → AreRecords text records)
 
--- the text reports a run with this end and machine, and says whether that ended all done; a text of the records alone
--- reads back as these records
-pub record TellsOf (records : Bool) (lanes : List (List Step)) (end : End) (machine : Machine) (all_done : Bool)
-    (text : List ℕ) : Type 0 where
-  pub text_is : text ≡ run_text records lanes end machine
+-- the text reports a run with this end, machine and counter, and says whether that ended all done; a text of the
+-- records alone reads back as these records
+pub record TellsOf (records : Bool) (layout : Layout) (lanes : List (List Step)) (end : End) (machine : Machine)
+    (counter : Option Counter) (all_done : Bool) (text : List ℕ) : Type 0 where
+  pub text_is : text ≡ run_text records layout lanes end machine counter
   pub read_back : records ≡ true → TellsRecords text machine.records
   pub done : all_done ≡ is_all_done end
 
--- what stands behind a report: what the run did, in numbers, if that is asked for of a run by a policy; else nothing
-abbrev pub StandsBehind : Bool → Driver → ℕ → Config → List (List Step) → End → Machine → List ℕ → Type 0
-StandsBehind true (ByPolicy policy) limit config lanes end machine behind = (counts : EventCounts)
-    × IsWatched counts_events (no_counts config.cores config.banks) policy limit config lanes end machine counts
-    × (behind ≡ event_counts_text counts)
-StandsBehind true (ByThreads fair) limit config lanes end machine behind = behind ≡ []
-StandsBehind false driver limit config lanes end machine behind = behind ≡ []
+-- The counter of a run, if counts are asked for of one by a policy: it had counted nothing as the machine opened, and
+-- was shown the very events that lead to this machine. Else there is none.
+abbrev pub IsCounted : Bool → (every : Option ℕ) → Driver → ℕ → Config → List (List Step) → End → Machine →
+    Option Counter → Type 0
+IsCounted true every (ByPolicy policy) limit config lanes end machine counter = (k : Counter) × (counter ≡ Some k)
+    × IsWatched counter_events (no_counter config.cores config.banks every) policy limit config lanes end machine k
+IsCounted true every (ByThreads fair) limit config lanes end machine counter = counter ≡ None
+IsCounted false every driver limit config lanes end machine counter = counter ≡ None
+
+-- a trace's counts are asked for, and not its records
+abbrev pub is_counted : TraceOptions → Bool
+is_counted options = options.counts && not options.records
 
 -- it reports a run of the trace on a good machine
 pub record TellsTraceRun (options : TraceOptions) (lanes : List (List Step)) (all_done : Bool) (text : List ℕ)
@@ -55,12 +61,10 @@ pub record TellsTraceRun (options : TraceOptions) (lanes : List (List Step)) (al
   pub machine : Machine
   pub run : IsTraceRun (driver_of options.run) (limit_of options.run)
       (config_of options.run.machine (trace_cores lanes)) lanes end machine
-  pub report : List ℕ
-  pub told : TellsOf options.records lanes end machine all_done report
-  pub behind : List ℕ
-  pub counted : StandsBehind (options.counts && not options.records) (driver_of options.run) (limit_of options.run)
-      (config_of options.run.machine (trace_cores lanes)) lanes end machine behind
-  pub text_is : text ≡ report ++ behind
+  pub counter : Option Counter
+  pub counted : IsCounted (is_counted options) options.every (driver_of options.run) (limit_of options.run)
+      (config_of options.run.machine (trace_cores lanes)) lanes end machine counter
+  pub told : TellsOf options.records (layout_of options.json) lanes end machine counter all_done text
 
 -- it reports a run of the trace that the source had
 abbrev pub IsTraceReport : TraceOptions → Option (List ℕ) → Bool → List ℕ → Type 0

@@ -1,6 +1,7 @@
 -- What a run of a trace is, and the texts that report it.
 use Rattle.std.specs.Prelude.{◌≡◌, ℕ, zero, suc, ◌+◌, Bool, true, false, List, [], ◌∷◌, ◌++◌, length, map}
-use Rattle.std.specs.Prelude.{slice_index_or}
+use Rattle.std.specs.Prelude.{Option, Some, None, option_map, slice_index_or}
+use Rattle.std.specs.Borrow.{Bor}
 use Rattle.std.specs.Ordering.{nat_cmp}
 use Rattle.std.specs.FinMap.{FinMap, empty, entries, insert}
 use Rattle.machine_table.specs.declared.config.Config.{Config}
@@ -23,6 +24,10 @@ use Rattle.programs.specs.declared.ends.End.TheVariants.{AllDone, Stalled, Turns
 use Rattle.programs.specs.declared.steps.Step.{Step}
 use Rattle.trace_reader.specs.Steps.{lane, ops_of, trace_cores, trace_ops}
 use Rattle.trace_texts.specs.declared.reports.TraceEnd.{TraceEnd}
+use Rattle.event_counts.specs.Counting.{Counter, CounterState}
+use Rattle.report_lines.specs.declared.layout.Layout.{Layout}
+use Rattle.report_lines.specs.Layouts.{closing}
+use Rattle.trace_texts.specs.CountLines.{event_counts_text}
 use Rattle.trace_texts.specs.Reports.{trace_text}
 use Rattle.programs.specs.Acts.{Acts, first_step, behind_first}
 use Rattle.worker_driver.specs.declared.set_up.Driver.{Driver}
@@ -60,6 +65,11 @@ pub record IsWatched {W : Type 0} (watches : Watches W) (before : watches.Seen) 
       machine programs end
   pub seen : after ≡ watched watches before (at_start config empty) events
 
+-- a run that asks for memory beside what its machine asks for may have ended for want of that
+abbrev pub may_be_cut : (asks : Bool) → End → Bool
+may_be_cut asks NoMemory = asks
+may_be_cut asks end = false
+
 -- how many operations the cores below a number were issued
 abbrev pub issued_below : Machine → ℕ → ℕ
 issued_below m zero = 0
@@ -88,13 +98,27 @@ trace_end_of lanes end m = record {
   stale = stale_count m.records;
 }
 
--- the text of the records alone, or the report; the records are a legal history of the trace's operations
+-- what a counter in memory has seen
+abbrev pub seen_by : Option (Bor CounterState) → Option Counter
+seen_by counter = option_map (λ k. k.now.seen) counter
+
+-- what a counter has, if there is one: a row for each so many operations, and the counts at the end
+abbrev pub counter_text : Layout → Option Counter → List ℕ
+counter_text layout None = []
+counter_text layout (Some counter) = event_counts_text layout counter.every counter.rows counter.counts
+
+-- the report, with what a counter has behind it; the records are a legal history of the trace's operations
 -- (`legal_in_trace`), and so a check's verdict on them is Legal
-abbrev pub run_text : Bool → List (List Step) → End → Machine → List ℕ
-run_text true lanes end m = records_text m.records
-run_text false lanes end m =
-    trace_text (trace_cores lanes) (trace_end_of lanes end m) LegalVerdict m.records
+abbrev pub report_text : Layout → List (List Step) → End → Machine → Option Counter → List ℕ
+report_text layout lanes end m counter =
+    trace_text layout (trace_cores lanes) (trace_end_of lanes end m) LegalVerdict m.records
     (values_in m (words_below lanes (trace_cores lanes)))
+    ++ counter_text layout counter ++ closing layout
+
+-- the text of the records alone, in lines, or the report
+abbrev pub run_text : (records : Bool) → Layout → List (List Step) → End → Machine → Option Counter → List ℕ
+run_text true layout lanes end m counter = records_text m.records
+run_text false layout lanes end m counter = report_text layout lanes end m counter
 
 abbrev pub is_all_done : End → Bool
 is_all_done AllDone = true

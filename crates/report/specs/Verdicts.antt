@@ -7,6 +7,7 @@ use Rattle.physiological_order.specs.declared.verdict.Verdict.TheVariants.{Legal
 use Rattle.physiological_order.specs.declared.verdict.Verdict.TheVariants.{WrongValue}
 use Rattle.physiological_order.specs.Faults.{IsVerdict}
 use Rattle.physiological_order.specs.Order.{Memory}
+use Rattle.report_lines.specs.declared.layout.Layout.{Layout}
 use Rattle.run_results.specs.declared.results.Done.{Done}
 use Rattle.run_results.specs.declared.results.RunError.{RunError}
 use Rattle.run_results.specs.declared.results.RunError.TheVariants.{Read, Write, NoMemory, Trace}
@@ -37,37 +38,39 @@ is_legal (BadNumber number) = false
 is_legal (OutOfProgramOrder number) = false
 is_legal (WrongValue number) = false
 
--- the line of a verdict
-abbrev pub Tells : Verdict → Bool → List ℕ → Type 0
-Tells verdict legal text = (text ≡ check_text verdict) × (legal ≡ is_legal verdict)
+-- the report on a verdict
+abbrev pub Tells : Layout → Verdict → Bool → List ℕ → Type 0
+Tells layout verdict legal text = (text ≡ check_text layout verdict) × (legal ≡ is_legal verdict)
 
--- the line on legal records of which each operation is to have one
-abbrev pub TellsAll : (cores : ℕ) → (ℕ → List Op) → List Record → Bool → List ℕ → Type 0
-TellsAll cores issued records legal text = (AreAll cores issued records × Tells Legal legal text)
+-- the report on legal records of which each operation is to have one
+abbrev pub TellsAll : Layout → (cores : ℕ) → (ℕ → List Op) → List Record → Bool → List ℕ → Type 0
+TellsAll layout cores issued records legal text = (AreAll cores issued records × Tells layout Legal legal text)
     ⊎ ((core : ℕ) × IsFirstLack cores issued records core
-    × (text ≡ lack_text (count_of_core core records) core) × (legal ≡ false))
+    × (text ≡ lack_text layout (count_of_core core records) core) × (legal ≡ false))
 
--- the line on records that have this verdict, if each operation is to have one, and if not
-abbrev pub TellsComplete : (cores : ℕ) → (ℕ → List Op) → List Record → Verdict → Bool → List ℕ → Type 0
-TellsComplete cores issued records Legal legal text = TellsAll cores issued records legal text
-TellsComplete cores issued records verdict legal text = Tells verdict legal text
+-- the report on records that have this verdict, if each operation is to have one, and if not
+abbrev pub TellsComplete : Layout → (cores : ℕ) → (ℕ → List Op) → List Record → Verdict → Bool → List ℕ → Type 0
+TellsComplete layout cores issued records Legal legal text = TellsAll layout cores issued records legal text
+TellsComplete layout cores issued records verdict legal text = Tells layout verdict legal text
 
-abbrev pub TellsVerdict : (complete : Bool) → (cores : ℕ) → (ℕ → List Op) → List Record → Verdict → Bool → List ℕ →
-    Type 0
-TellsVerdict false cores issued records verdict legal text = Tells verdict legal text
-TellsVerdict true cores issued records verdict legal text = TellsComplete cores issued records verdict legal text
+abbrev pub TellsVerdict : (complete : Bool) → Layout → (cores : ℕ) → (ℕ → List Op) → List Record → Verdict → Bool →
+    List ℕ → Type 0
+TellsVerdict false layout cores issued records verdict legal text = Tells layout verdict legal text
+TellsVerdict true layout cores issued records verdict legal text =
+    TellsComplete layout cores issued records verdict legal text
 
--- the text is the line on these records, for what the trace issues over a memory
-pub record IsVerdictLine (opening : Memory) (complete : Bool) (lanes : List (List Step)) (records : List Record)
-    (legal : Bool) (text : List ℕ) : Type 0 where
+-- the text is the report on these records, for what the trace issues over a memory: a line, or an object
+pub record IsVerdictLine (opening : Memory) (complete : Bool) (layout : Layout) (lanes : List (List Step))
+    (records : List Record) (legal : Bool) (text : List ℕ) : Type 0 where
   pub verdict : Verdict
   pub is_verdict : IsVerdict opening (trace_ops lanes) records verdict
-  pub told : TellsVerdict complete (length lanes) (trace_ops lanes) records verdict legal text
+  pub told : TellsVerdict complete layout (length lanes) (trace_ops lanes) records verdict legal text
 
--- it is the line on the trace and the records that the sources had
-abbrev pub IsCheckReport : Memory → (complete : Bool) → (trace records : Option (List ℕ)) → Bool → List ℕ → Type 0
-IsCheckReport opening complete trace records legal text = (lanes : List (List Step)) × (told : List Record)
-    × IsRead trace lanes × AreRead records told × IsVerdictLine opening complete lanes told legal text
+-- it is the report on the trace and the records that the sources had
+abbrev pub IsCheckReport : Memory → (complete : Bool) → Layout → (trace records : Option (List ℕ)) → Bool → List ℕ →
+    Type 0
+IsCheckReport opening complete layout trace records legal text = (lanes : List (List Step)) × (told : List Record)
+    × IsRead trace lanes × AreRead records told × IsVerdictLine opening complete layout lanes told legal text
 
 -- why there is no verdict: the trace is refused, or it was read and the records are refused; NoMemory comes from
 -- reading the trace, after that from reading the records, or after both from the line

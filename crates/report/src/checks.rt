@@ -1,9 +1,10 @@
-//! From two sources, with the texts of a trace and of records, to a sink for the line of the verdict.
+//! From two sources, with the texts of a trace and of records, to a sink for the verdict.
 ghost use Rattle.std.specs.Prelude.{◌≡◌, ◌≢◌, ◌<◌, ◌⊎◌, length, IfErr, IfOk, IfSome, IsErrOf, List, OnOk, false};
 ghost use Rattle.std.specs.FinMap.{empty};
 ghost use Rattle.byte_streams.specs.Device.{AtEnd};
 ghost use Rattle.physiological_order.specs.Faults.{issued_by};
 ghost use Rattle.physiological_order.specs.Order.{flat};
+ghost use Rattle.report_lines.specs.declared.layout.Layout.TheVariants.{Lines};
 ghost use Rattle.report.specs.Answers.{IsCutOff, IsReported};
 ghost use Rattle.programs.specs.declared.steps.Step.{Step};
 ghost use Rattle.report.specs.Refusals.{IsRead, OnAccepted};
@@ -15,12 +16,14 @@ use crate::outputs::{Report, put_out};
 use crate::texts::{records_of, trace_of};
 use byte_streams::{Sink, Source};
 use physiological_order::{Memory, Op, Record, Verdict, check};
+use report_lines::Layout;
 use run_results::{Done, RunError};
 use std::alloc::{AllocError, Global};
 use trace_reader::Trace;
 use trace_texts::{check_text, lack_text};
 
-/// `check_history` over a memory of zeros, for any number of records: all done exactly if the verdict is Legal.
+/// `check_history` over a memory of zeros, for any number of records, in a line: all done exactly if the verdict is
+/// Legal.
 pub fn run_check<S: Source, R: Source, K: Sink>(
     alloc: Global,
     trace: &mut S,
@@ -28,15 +31,15 @@ pub fn run_check<S: Source, R: Source, K: Sink>(
     sink: &mut K,
 ) -> Result<Done, RunError>
     ensures reported { IfOk result (λ done.
-        IsReported (IsCheckReport (flat empty) false
+        IsReported (IsCheckReport (flat empty) false Lines
         (S.remaining trace.old) (R.remaining records.old) done.all_done)
         (K.contents sink.old) (K.contents sink.new)) }
 
-    // Why there is no verdict, or not all of its line.
+    // Why there is no verdict, or not all of it.
     ensures refused { IfErr result (λ e. e ≢ RunError.Read → e ≢ RunError.Write →
         HasNoVerdict (S.remaining trace.old) (R.remaining records.old) e) }
     ensures cut_off { IsErrOf result RunError.Write → (legal : _) × IsCutOff
-        (IsCheckReport (flat empty) false
+        (IsCheckReport (flat empty) false Lines
         (S.remaining trace.old) (R.remaining records.old) legal)
         (K.contents sink.old) (K.contents sink.new) }
 
@@ -59,15 +62,15 @@ pub fn run_check<S: Source, R: Source, K: Sink>(
     ensures nothing { IfErr result (λ e. e ≢ RunError.Write → sink.new ≡ sink.old) }
 {
     let zeros = Memory::new(alloc);
-    match check_history(alloc, trace, records, sink, &zeros, false) {
+    match check_history(alloc, trace, records, sink, &zeros, false, Layout::Lines) {
         Ok(done) => Ok(done),
         Err(error) => Err(error),
     }
 }
 
 /// Reads a trace, and records only if that was accepted, and writes what the checker says of the records, for the
-/// operations of the trace over a memory that opens as given: one line, all done exactly if the verdict is Legal and,
-/// where `complete` asks for that, each core has as many records as operations. Read and Trace for the trace take
+/// operations of the trace over a memory that opens as given: one line, or one JSON object. All is done exactly if the
+/// verdict is Legal and, where `complete` asks for that, each core has as many records as operations. Read and Trace for the trace take
 /// precedence over those for the records, and Write comes last; on any error but Write the sink is unchanged.
 pub fn check_history<S: Source, R: Source, K: Sink>(
     alloc: Global,
@@ -76,17 +79,18 @@ pub fn check_history<S: Source, R: Source, K: Sink>(
     sink: &mut K,
     opening: &Memory,
     complete: bool,
+    layout: Layout,
 ) -> Result<Done, RunError>
     ensures reported { IfOk result (λ done.
-        IsReported (IsCheckReport (flat opening.now) complete
+        IsReported (IsCheckReport (flat opening.now) complete layout
         (S.remaining trace.old) (R.remaining records.old) done.all_done)
         (K.contents sink.old) (K.contents sink.new)) }
 
-    // Why there is no verdict, or not all of its line.
+    // Why there is no verdict, or not all of it.
     ensures refused { IfErr result (λ e. e ≢ RunError.Read → e ≢ RunError.Write →
         HasNoVerdict (S.remaining trace.old) (R.remaining records.old) e) }
     ensures cut_off { IsErrOf result RunError.Write → (legal : _) × IsCutOff
-        (IsCheckReport (flat opening.now) complete
+        (IsCheckReport (flat opening.now) complete layout
         (S.remaining trace.old) (R.remaining records.old) legal)
         (K.contents sink.old) (K.contents sink.new) }
 
@@ -108,7 +112,7 @@ pub fn check_history<S: Source, R: Source, K: Sink>(
     ensures writes { WritesCounted result (K.failures sink.old) (K.failures sink.new) }
     ensures nothing { IfErr result (λ e. e ≢ RunError.Write → sink.new ≡ sink.old) }
 {
-    let report = match verdict_on(alloc, trace, records, opening, complete) {
+    let report = match verdict_on(alloc, trace, records, opening, complete, layout) {
         Ok(report) => report,
         Err(error) => return Err(error),
     };
@@ -118,15 +122,16 @@ pub fn check_history<S: Source, R: Source, K: Sink>(
     put_out(sink, &report.text, done)
 }
 
-/// The line of the verdict on the trace and the records that the sources have.
+/// The report of the verdict on the trace and the records that the sources have.
 pub(crate) fn verdict_on<S: Source, R: Source>(
     alloc: Global,
     trace: &mut S,
     records: &mut R,
     opening: &Memory,
     complete: bool,
+    layout: Layout,
 ) -> Result<Report, RunError>
-    ensures report { IfOk result (λ report. IsCheckReport (flat opening.now) complete
+    ensures report { IfOk result (λ report. IsCheckReport (flat opening.now) complete layout
         (S.remaining trace.old) (R.remaining records.old) report.all_done report.text.items) }
     ensures refused { IfErr result (λ e. e ≢ RunError.Read →
         HasNoVerdict (S.remaining trace.old) (R.remaining records.old) e) }
@@ -149,85 +154,93 @@ pub(crate) fn verdict_on<S: Source, R: Source>(
         Ok(records) => records,
         Err(error) => return Err(error),
     };
-    match line_of(alloc, trace, &records, opening, complete) {
+    match line_of(alloc, trace, &records, opening, complete, layout) {
         Ok(report) => Ok(report),
         Err(AllocError) => Err(RunError::NoMemory),
     }
 }
 
-// The line on these records, for what the trace issues.
+// The report on these records, for what the trace issues.
 fn line_of(
     alloc: Global,
     trace: Trace,
     records: &[Record],
     opening: &Memory,
     complete: bool,
+    layout: Layout,
 ) -> Result<Report, AllocError>
-    ensures { IfOk result (λ report. IsVerdictLine (flat opening.now) complete trace records.now
+    ensures { IfOk result (λ report. IsVerdictLine (flat opening.now) complete layout trace records.now
         report.all_done report.text.items) }
 {
     let issued = trace.into_issued()?;
     let verdict = check(alloc, opening, &issued, records)?;
-    told(alloc, complete, &issued, records, verdict)
+    told(alloc, complete, layout, &issued, records, verdict)
 }
 
-// The line on records that have this verdict.
+// The report on records that have this verdict.
 fn told(
     alloc: Global,
     complete: bool,
+    layout: Layout,
     issued: &[Vec<Op>],
     records: &[Record],
     verdict: Verdict,
 ) -> Result<Report, AllocError>
-    ensures { IfOk result (λ report. TellsVerdict complete (length issued.now)
+    ensures { IfOk result (λ report. TellsVerdict complete layout (length issued.now)
         (issued_by issued.now) records.now verdict report.all_done report.text.items) }
 {
     if complete {
-        told_if_complete(alloc, issued, records, verdict)
+        told_if_complete(alloc, layout, issued, records, verdict)
     } else {
-        verdict_told(alloc, verdict)
+        verdict_told(alloc, layout, verdict)
     }
 }
 
-// The line on records that have this verdict, if each operation is to have one.
+// The report on records that have this verdict, if each operation is to have one.
 fn told_if_complete(
     alloc: Global,
+    layout: Layout,
     issued: &[Vec<Op>],
     records: &[Record],
     verdict: Verdict,
 ) -> Result<Report, AllocError>
-    ensures { IfOk result (λ report. TellsComplete (length issued.now) (issued_by issued.now)
+    ensures { IfOk result (λ report. TellsComplete layout (length issued.now) (issued_by issued.now)
         records.now verdict report.all_done report.text.items) }
 {
     match verdict {
-        Verdict::Legal => all_told(alloc, issued, records),
-        _ => verdict_told(alloc, verdict),
+        Verdict::Legal => all_told(alloc, layout, issued, records),
+        _ => verdict_told(alloc, layout, verdict),
     }
 }
 
-// The line on legal records of which each operation is to have one.
-fn all_told(alloc: Global, issued: &[Vec<Op>], records: &[Record]) -> Result<Report, AllocError>
-    ensures { IfOk result (λ report. TellsAll (length issued.now) (issued_by issued.now)
+// The report on legal records of which each operation is to have one.
+fn all_told(
+    alloc: Global,
+    layout: Layout,
+    issued: &[Vec<Op>],
+    records: &[Record],
+) -> Result<Report, AllocError>
+    ensures { IfOk result (λ report. TellsAll layout (length issued.now) (issued_by issued.now)
         records.now report.all_done report.text.items) }
 {
     match first_lack(issued, records) {
-        None => verdict_told(alloc, Verdict::Legal),
+        None => verdict_told(alloc, layout, Verdict::Legal),
         Some(core) => {
             let place = count_of_core(core, records);
             Ok(Report {
-                text: lack_text(alloc, place as u64, core as u64)?,
+                text: lack_text(alloc, layout, place as u64, core as u64)?,
                 all_done: false,
             })
         }
     }
 }
 
-// The line of a verdict.
-fn verdict_told(alloc: Global, verdict: Verdict) -> Result<Report, AllocError>
-    ensures { IfOk result (λ report. Tells verdict report.all_done report.text.items) }
+// The report of a verdict.
+fn verdict_told(alloc: Global, layout: Layout, verdict: Verdict) -> Result<Report, AllocError>
+    ensures { IfOk result (λ report. Tells layout verdict report.all_done report.text.items) }
 {
     Ok(Report {
-        text: check_text(alloc, verdict)?,
+        text: check_text(alloc, layout, verdict)?,
         all_done: is_legal(verdict),
     })
 }

@@ -10,6 +10,7 @@ ghost use Rattle.report.specs.Litmus.{HasNoReportInMemory, IsLitmusReport, turns
 ghost use Rattle.report.specs.Openings.{HasNoOpenedReport, IsOpenedReport};
 ghost use Rattle.report.specs.Reports.{HasNoRun, HasNoTraceReport, IsTraceReport, TellsTraceRun};
 ghost use Rattle.report.specs.Verdicts.{HasNoVerdict, IsCheckReport};
+ghost use Rattle.report_lines.specs.declared.layout.Layout.TheVariants.{Lines};
 ghost use Rattle.worker_driver.specs.Outcomes.{HasOutcome};
 ghost use Rattle.worker_driver.specs.Runs.{AreFrom};
 ghost use Rattle.worker_driver.specs.SetUp.{FollowsPolicy, driver_of};
@@ -17,13 +18,14 @@ ghost use Rattle.worker_driver.specs.SetUp.{FollowsPolicy, driver_of};
 use crate::checks::verdict_on;
 use crate::litmus::{are_all_done, test_in};
 use crate::openings::opening_of;
-use crate::outputs::Report;
+use crate::outputs::{Report, layout_of};
 use crate::reports::told_by_policy;
 use crate::texts::trace_of;
 use byte_streams::{DeviceError, Source};
 use interleaving_core::Config;
 use litmus_reader::Test;
 use physiological_order::Memory;
+use report_lines::Layout;
 use report_text::{RunEnd, litmus_text};
 use run_options::{LitmusOptions, TraceOptions};
 use run_results::RunError;
@@ -81,7 +83,7 @@ pub fn litmus_report(
     let Ok(runs) = runs_of(alloc, &test, config, options) else {
         return Err(RunError::NoMemory);
     };
-    match litmus_text(alloc, &test, &runs) {
+    match litmus_text(alloc, layout_of(options.json), &test, &runs) {
         Ok(text) => Ok(Report {
             text,
             all_done: are_all_done(&runs),
@@ -152,17 +154,17 @@ fn report_of(alloc: Global, trace: &Trace, options: &TraceOptions) -> Result<Rep
 /// takes precedence over the records'.
 pub fn check_report(alloc: Global, trace: &[u8], records: &[u8]) -> Result<Report, RunError>
     ensures report { IfOk result (λ report.
-        IsCheckReport (flat empty) false (Some trace.now) (Some records.now)
+        IsCheckReport (flat empty) false Lines (Some trace.now) (Some records.now)
         report.all_done report.text.items) }
     ensures refused { IfErr result (HasNoVerdict (Some trace.now) (Some records.now)) }
 {
     let mut trace = InMemory { rest: trace };
     let mut records = InMemory { rest: records };
     let zeros = Memory::new(alloc);
-    verdict_on(alloc, &mut trace, &mut records, &zeros, false)
+    verdict_on(alloc, &mut trace, &mut records, &zeros, false, Layout::Lines)
 }
 
-/// The line of the verdict on records for what a trace issues, over the memory that an opening gives, all three as
+/// The report on the verdict on records for what a trace issues, over the memory that an opening gives, all three as
 /// texts; with `complete`, as `check_history` has it. The opening's fault takes precedence over the trace's, and that
 /// over the records'.
 pub fn opened_report(
@@ -171,8 +173,9 @@ pub fn opened_report(
     trace: &[u8],
     records: &[u8],
     complete: bool,
+    layout: Layout,
 ) -> Result<Report, RunError>
-    ensures report { IfOk result (λ report. IsOpenedReport complete
+    ensures report { IfOk result (λ report. IsOpenedReport complete layout
         opening.now trace.now records.now report.all_done report.text.items) }
     ensures refused { IfErr result (HasNoOpenedReport opening.now trace.now records.now) }
 {
@@ -183,5 +186,5 @@ pub fn opened_report(
     };
     let mut trace = InMemory { rest: trace };
     let mut records = InMemory { rest: records };
-    verdict_on(alloc, &mut trace, &mut records, &memory, complete)
+    verdict_on(alloc, &mut trace, &mut records, &memory, complete, layout)
 }

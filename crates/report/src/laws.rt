@@ -14,6 +14,7 @@ ghost use Rattle.physiological_order.specs.declared.operation.Record.{Record};
 ghost use Rattle.physiological_order.specs.declared.verdict.Verdict.TheVariants.{Legal};
 ghost use Rattle.programs.specs.declared.ends.End.TheVariants.{AllDone};
 ghost use Rattle.programs.specs.declared.steps.Step.{Step};
+ghost use Rattle.report_lines.specs.declared.layout.Layout.{Layout};
 ghost use Rattle.report_text.specs.Ends.{runs_ended, runs_held};
 ghost use Rattle.report_text.specs.Text.{is_yes};
 ghost use Rattle.report_text.specs.declared.run_end.RunEnd.{RunEnd};
@@ -91,13 +92,14 @@ pub fn turns_are_those_of_the_options()
 {}
 
 /// The text that `run_trace` writes of a trace, if the options ask for its records, is one that `run_check` accepts
-/// with that trace, over a memory of zeros. What it then writes is the line of the verdict Legal, and it answers that
-/// all is done. Only a failed allocation or a failed call of a source or sink keeps it from writing that.
+/// with that trace, over a memory of zeros. What it then writes, in lines or as JSON, is the verdict Legal, and it
+/// answers that all is done. Only a failed allocation or a failed call of a source or sink keeps it from writing that.
 pub fn written_records_are_legal()
-    ensures legal { (options : TraceOptions) (trace text line : List ℕ) (all_done legal : Bool) →
+    ensures legal { (options : TraceOptions) (trace text told : List ℕ) (all_done legal : Bool)
+        (layout : Layout) →
         options.records ≡ true → IsTraceReport options (Some trace) all_done text →
-        IsCheckReport (flat empty) false (Some trace) (Some text) legal line →
-        (legal ≡ true) × (line ≡ check_text Legal) }
+        IsCheckReport (flat empty) false layout (Some trace) (Some text) legal told →
+        (legal ≡ true) × (told ≡ check_text layout Legal) }
     ensures accepted { (options : TraceOptions) (trace text : List ℕ)
         (all_done : Bool) (e : RunError) →
         options.records ≡ true → IsTraceReport options (Some trace) all_done text →
@@ -117,7 +119,7 @@ pub fn complete_records_are_all()
         (core place : ℕ) (op : Op) → core < cores → slice_get (issued core) place ≡ Some op →
         HasRecord records core place op }
     ensures line { (opening : Memory) (lanes : List (List Step)) (records : List Record)
-        (text : List ℕ) → IsVerdictLine opening true lanes records true text →
+        (text : List ℕ) (layout : Layout) → IsVerdictLine opening true layout lanes records true text →
         (core place : ℕ) (op : Op) → slice_get (trace_ops lanes core) place ≡ Some op →
         HasRecord records core place op }
     ensures lack { (opening : Memory) (cores : ℕ) (issued : ℕ → List Op) (records : List Record)

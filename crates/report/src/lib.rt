@@ -24,11 +24,12 @@ pub use ends::run_ends;
 pub use in_memory::{check_report, litmus_report, opened_report, trace_report};
 pub use litmus::run_litmus;
 pub use openings::opening_of;
-pub use outputs::Report;
+pub use outputs::{Report, layout_of};
+pub use report_lines::Layout;
 pub use report_text::litmus_text;
 pub use reports::run_trace;
 pub use run_options::{
-    EndsOptions, LitmusOptions, MachineOptions, RunOptions, Schedule, TraceOptions,
+    CheckOptions, EndsOptions, LitmusOptions, MachineOptions, RunOptions, Schedule, TraceOptions,
 };
 pub use run_results::{Done, RunError, exit_status};
 pub use trace_texts::{TraceEnd, records_text, trace_text};

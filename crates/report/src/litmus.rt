@@ -14,7 +14,7 @@ ghost use Rattle.report.specs.Litmus.{litmus_refusal, turns};
 ghost use Rattle.worker_driver.specs.Outcomes.{HasOutcome};
 ghost use Rattle.worker_driver.specs.Runs.{AreFrom};
 
-use crate::outputs::{Report, put_out};
+use crate::outputs::{Report, layout_of, put_out};
 use crate::sources::text_of;
 use byte_streams::{Sink, Source};
 use interleaving_core::Config;
@@ -103,7 +103,7 @@ fn report_of<R: Threads + Sync>(
     let Ok(runs) = runs_of(rt, alloc, &test, config, options) else {
         return Err(RunError::NoMemory);
     };
-    match litmus_text(alloc, &test, &runs) {
+    match litmus_text(alloc, layout_of(options.json), &test, &runs) {
         Ok(text) => Ok(Report {
             text,
             all_done: are_all_done(&runs),

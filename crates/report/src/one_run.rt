@@ -1,5 +1,5 @@
 //! One run of a trace, by a policy or by threads, and its text.
-ghost use Rattle.std.specs.Prelude.{◌≡◌, ◌<◌, ◌≤◌, false, true, IfOk};
+ghost use Rattle.std.specs.Prelude.{◌≡◌, ◌<◌, ◌≤◌, ◌++◌, true, IfOk, OnOk};
 ghost use Rattle.std.specs.FinMap.{empty};
 ghost use Rattle.machine_table.specs.Machine.{Machine};
 ghost use Rattle.machine_table.specs.SetUp.{is_good};
@@ -11,22 +11,25 @@ ghost use Rattle.thread_driver.specs.ThreadRuns.{machine_of};
 ghost use Rattle.worker_driver.specs.declared.set_up.Driver.TheVariants.{ByPolicy, ByThreads};
 ghost use Rattle.report.specs.Reports.{TellsRecords};
 ghost use Rattle.trace_reader.specs.Steps.{trace_cores, trace_ops};
-ghost use Rattle.report.specs.Runs.{IsTraceRun, IsWatched, trace_end_of, run_text};
+ghost use Rattle.report.specs.Runs.{IsTraceRun, IsWatched, counter_text, may_be_cut, report_text};
+ghost use Rattle.report.specs.Runs.{run_text, seen_by, trace_end_of};
 
 use crate::trace_programs::programs_of;
 use crate::words::{issued_below, values_of};
+use event_counts::Counter;
 use interleaving_core::{Config, System};
 use machine_theorem::laws::every_history_is_legal;
 use mailboxes::Run;
 use physiological_order::{Memory, stale_hits};
 use programs::End;
+use report_lines::{Layout, put_closing};
 use schedules::{Policy, Watcher, run_watched};
 use shared_jobs::Free;
 use std::alloc::{AllocError, Global};
 use std::thread::Threads;
 use thread_driver::laws::closed_machines_are_consistent;
 use trace_reader::Trace;
-use trace_texts::{TraceEnd, legal_trace_text, records_text};
+use trace_texts::{TraceEnd, legal_trace_text, put_event_counts, records_text};
 use worker_driver::{Finished, run_seats};
 
 /// The machine on which a trace was run, and how the run ended.
@@ -36,8 +39,15 @@ pub(crate) struct Ran<M: Drop> {
     pub(crate) end: End,
 }
 
-/// A run of the trace over a memory of zeros, by this policy, with at most so many turns, and its watcher, which takes
-/// no memory.
+// Whether a run may have ended for want of memory for its watcher, where that asks for memory.
+fn may_be_cut(asks: bool, end: End) -> bool
+    ensures { result ≡ may_be_cut asks end }
+{
+    asks && matches!(end, End::NoMemory)
+}
+
+/// A run of the trace over a memory of zeros, by this policy, with at most so many turns, and its watcher. If that asks
+/// for memory, a run that ends for want of memory is an error.
 pub(crate) fn run_by_policy<W: Watcher + Drop>(
     alloc: Global,
     trace: &Trace,
@@ -45,10 +55,11 @@ pub(crate) fn run_by_policy<W: Watcher + Drop>(
     policy: Policy,
     limit: u32,
     watcher: W,
+    asks: bool,
 ) -> Result<(Ran<System>, W), AllocError>
     requires good { is_good config ≡ true }
     requires cores { config.cores ≡ trace_cores trace.now }
-    requires watcher { W.watches.asks ≡ false }
+    requires watcher { W.watches.asks ≡ asks }
     ensures run { IfOk result (λ r. IsTraceRun (ByPolicy policy) limit config trace.now r.0.end
         r.0.machine) }
     ensures watched { IfOk result (λ r. IsWatched W.watches (W.watches.seen watcher) policy limit
@@ -63,6 +74,9 @@ pub(crate) fn run_by_policy<W: Watcher + Drop>(
     let mut programs = programs_of(alloc, trace)?;
     let steps = programs.as_mut_slice();
     let (end, watcher) = run_watched(alloc, &mut system, steps, watcher, policy, limit);
+    if may_be_cut(asks, end) {
+        return Err(AllocError);
+    }
     // Its contract says that they rise by number.
     let _rising = system.records();
     let ran = Ran {
@@ -124,24 +138,65 @@ fn end_of<M: Finished + Drop>(
     })
 }
 
-/// The text that tells a run: its report, or its records alone.
+// What a counter has, if there is one.
+fn put_counter(
+    out: &mut Vec<u8>,
+    layout: Layout,
+    counter: Option<&Counter>,
+) -> Result<(), AllocError>
+    ensures { OnOk result (out.new.items ≡ out.old.items ++ counter_text layout (seen_by counter)) }
+{
+    match counter {
+        Some(counter) => put_event_counts(
+            out,
+            layout,
+            counter.every(),
+            counter.rows(),
+            counter.counts(),
+        ),
+        None => Ok(()),
+    }
+}
+
+// The report on a run, with what its counter has behind it.
+fn report_text<M: Finished + Drop>(
+    alloc: Global,
+    layout: Layout,
+    trace: &Trace,
+    ran: &Ran<M>,
+    counter: Option<&Counter>,
+) -> Result<Vec<u8>, AllocError>
+    requires shows { (m : Machine) × M.shows ran.now.machine m
+        × Legal (flat empty) (trace_ops trace.now) m.records }
+    ensures { IfOk result (λ text. (m : Machine) → M.shows ran.now.machine m →
+        text.items ≡ report_text layout trace.now ran.now.end m (seen_by counter)) }
+{
+    let end = end_of(alloc, trace, ran)?;
+    let values = values_of(alloc, trace, &ran.machine)?;
+    let mut text = legal_trace_text(alloc, layout, trace, &end, ran.machine.records(), &values)?;
+    put_counter(&mut text, layout, counter)?;
+    put_closing(&mut text, layout)?;
+    Ok(text)
+}
+
+/// The text that tells a run: its report, with what its counter has behind it, or its records alone.
 pub(crate) fn text_of<M: Finished + Drop>(
     alloc: Global,
+    layout: Layout,
     trace: &Trace,
     ran: &Ran<M>,
     records: bool,
+    counter: Option<&Counter>,
 ) -> Result<Vec<u8>, AllocError>
     requires shows { (m : Machine) × M.shows ran.now.machine m × AreComplete m.records
         × Legal (flat empty) (trace_ops trace.now) m.records }
     ensures text { IfOk result (λ text. (m : Machine) → M.shows ran.now.machine m →
-        text.items ≡ run_text records trace.now ran.now.end m) }
+        text.items ≡ run_text records layout trace.now ran.now.end m (seen_by counter)) }
     ensures stands { IfOk result (λ text. (m : Machine) → M.shows ran.now.machine m →
         records ≡ true → TellsRecords text.items m.records) }
 {
     if records {
         return records_text(alloc, ran.machine.records());
     }
-    let end = end_of(alloc, trace, ran)?;
-    let values = values_of(alloc, trace, &ran.machine)?;
-    legal_trace_text(alloc, trace, &end, ran.machine.records(), &values)
+    report_text(alloc, layout, trace, ran, counter)
 }

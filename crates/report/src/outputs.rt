@@ -2,8 +2,10 @@
 ghost use Rattle.std.specs.Prelude.{◌≡◌, IfOk, IfErr, OnOk};
 ghost use Rattle.byte_streams.specs.Device.{Grows};
 ghost use Rattle.report.specs.Answers.{IsWriteError};
+ghost use Rattle.report.specs.Layouts.{layout_of};
 
 use byte_streams::{DeviceError, Sink, write_all};
+use report_lines::Layout;
 use run_results::{Done, RunError};
 
 /// A text to write, and whether it says that all is done, or legal.
@@ -11,6 +13,13 @@ use run_results::{Done, RunError};
 pub struct Report {
     pub text: Vec<u8>,
     pub all_done: bool,
+}
+
+/// How a report is laid out: as one JSON object if that is asked for, else in lines.
+pub fn layout_of(json: bool) -> Layout
+    ensures { result ≡ layout_of json }
+{
+    if json { Layout::Json } else { Layout::Lines }
 }
 
 /// Writes the text, and answers whether it says that all is done.

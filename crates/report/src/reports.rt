@@ -1,5 +1,5 @@
 //! From a source with the text of a trace to a sink for its report.
-ghost use Rattle.std.specs.Prelude.{◌≡◌, ◌≢◌, ◌&&◌, IfErr, IfOk, IfSome, IsErrOf, None, Some, false, not, true};
+ghost use Rattle.std.specs.Prelude.{◌≡◌, ◌≢◌, IfErr, IfOk, IfSome, IsErrOf, true};
 ghost use Rattle.std.specs.FinMap.{empty};
 ghost use Rattle.byte_streams.specs.Device.{AtEnd};
 ghost use Rattle.machine_table.specs.Machine.{Machine};
@@ -10,15 +10,17 @@ ghost use Rattle.report.specs.Answers.{FailuresAreCounted, IsCutOff, IsReported}
 ghost use Rattle.worker_driver.specs.declared.set_up.Driver.TheVariants.{ByPolicy, ByThreads};
 ghost use Rattle.worker_driver.specs.SetUp.{config_of, driver_of};
 ghost use Rattle.report.specs.Refusals.{OnAccepted};
+ghost use Rattle.report.specs.Layouts.{layout_of};
 ghost use Rattle.report.specs.Reports.{HasNoTraceReport, HasNoRun, IsTraceReport, TellsTraceRun, TellsOf};
+ghost use Rattle.report.specs.Reports.{is_counted};
 ghost use Rattle.trace_reader.specs.Steps.{trace_cores, trace_ops};
-ghost use Rattle.report.specs.Runs.{is_all_done};
+ghost use Rattle.report.specs.Runs.{is_all_done, seen_by};
 
 use crate::one_run::{Ran, run_by_policy, run_by_threads, text_of};
-use crate::outputs::{Report, put_out};
+use crate::outputs::{Report, layout_of, put_out};
 use crate::texts::trace_of;
 use byte_streams::{Sink, Source};
-use event_counts::EventCounts;
+use event_counts::Counter;
 use interleaving_core::Config;
 use programs::End;
 use run_options::TraceOptions;
@@ -27,7 +29,6 @@ use schedules::Policy;
 use std::alloc::{AllocError, Global};
 use std::thread::Threads;
 use trace_reader::Trace;
-use trace_texts::put_event_counts;
 use worker_driver::{Driver, Finished, config_of, driver_of, limit_of, workers_of};
 
 /// Reads a trace from the source, to its end if it is accepted, runs it over a memory of zeros as the options say, and
@@ -115,7 +116,7 @@ fn told<R: Threads + Sync>(
     }
 }
 
-/// A run of the trace by a policy, as it is told.
+/// A run of the trace by a policy, as it is told, with what it did in numbers if that is asked for.
 pub(crate) fn told_by_policy(
     alloc: Global,
     trace: &Trace,
@@ -129,35 +130,14 @@ pub(crate) fn told_by_policy(
     ensures { IfOk result (λ report.
         TellsTraceRun options.now trace.now report.all_done report.text.items) }
 {
-    let is_counted = options.counts && !options.records;
-    if is_counted {
-        return told_counted(alloc, trace, config, policy, options);
-    }
-    let (ran, _) = run_by_policy(alloc, trace, config, policy, limit_of(&options.run), ())?;
-    report_on(alloc, trace, &ran, options.records)
-}
-
-// The same run, with what it did in numbers behind its report.
-fn told_counted(
-    alloc: Global,
-    trace: &Trace,
-    config: Config,
-    policy: Policy,
-    options: &TraceOptions,
-) -> Result<Report, AllocError>
-    requires good { is_good config ≡ true }
-    requires config { config ≡ config_of options.now.run.machine (trace_cores trace.now) }
-    requires policy { driver_of options.now.run ≡ ByPolicy policy }
-    requires counted { (options.now.counts && not options.now.records) ≡ true }
-    ensures { IfOk result (λ report.
-        TellsTraceRun options.now trace.now report.all_done report.text.items) }
-{
-    let counts = EventCounts::new(alloc, config.cores, config.banks)?;
     let limit = limit_of(&options.run);
-    let (ran, counts) = run_by_policy(alloc, trace, config, policy, limit, counts)?;
-    let mut report = report_on(alloc, trace, &ran, options.records)?;
-    put_event_counts(&mut report.text, &counts)?;
-    Ok(report)
+    if is_counted(options) {
+        let counter = Counter::new(alloc, config.cores, config.banks, options.every)?;
+        let (ran, counter) = run_by_policy(alloc, trace, config, policy, limit, counter, true)?;
+        return report_on(alloc, trace, &ran, options, Some(&counter));
+    }
+    let (ran, _) = run_by_policy(alloc, trace, config, policy, limit, (), false)?;
+    report_on(alloc, trace, &ran, options, None)
 }
 
 // A run of the trace by threads, as it is told, with fair turns of banks or not.
@@ -177,26 +157,36 @@ fn told_by_threads<R: Threads + Sync>(
 {
     let (limit, workers) = (limit_of(&options.run), workers_of(&options.run));
     let ran = run_by_threads(rt, alloc, trace, config, limit, workers, fair)?;
-    report_on(alloc, trace, &ran, options.records)
+    report_on(alloc, trace, &ran, options, None)
 }
 
-// What is told of a run.
+// What is told of a run that had this counter, or none.
 fn report_on<M: Finished + Drop>(
     alloc: Global,
     trace: &Trace,
     ran: &Ran<M>,
-    records: bool,
+    options: &TraceOptions,
+    counter: Option<&Counter>,
 ) -> Result<Report, AllocError>
     requires shows { (m : Machine) × M.shows ran.now.machine m × AreComplete m.records
         × Legal (flat empty) (trace_ops trace.now) m.records }
     ensures { IfOk result (λ report. (m : Machine) → M.shows ran.now.machine m →
-        TellsOf records trace.now ran.now.end m report.all_done report.text.items) }
+        TellsOf options.now.records (layout_of options.now.json) trace.now ran.now.end m (seen_by counter)
+        report.all_done report.text.items) }
 {
-    let text = text_of(alloc, trace, ran, records)?;
+    let layout = layout_of(options.json);
+    let text = text_of(alloc, layout, trace, ran, options.records, counter)?;
     Ok(Report {
         text,
         all_done: is_all_done(ran.end),
     })
+}
+
+// Whether a trace's counts are asked for, and not its records.
+fn is_counted(options: &TraceOptions) -> bool
+    ensures { result ≡ is_counted options.now }
+{
+    options.counts && !options.records
 }
 
 fn is_all_done(end: End) -> bool

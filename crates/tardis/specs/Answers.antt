@@ -17,7 +17,9 @@ use Rattle.physiological_order.specs.Order.{Memory, flat}
 use Rattle.report.specs.Bytes.{OfBytes}
 use Rattle.report.specs.Answers.{FailuresAreCounted, IsCutOff, IsReported}
 use Rattle.report.specs.Ends.{HasNoEnds, IsEndsReport}
+use Rattle.report.specs.Layouts.{layout_of}
 use Rattle.report.specs.Litmus.{HasNoReport, IsLitmusReport}
+use Rattle.run_options.specs.declared.options.CheckOptions.{CheckOptions}
 use Rattle.run_options.specs.declared.options.EndsOptions.{EndsOptions}
 use Rattle.run_options.specs.declared.options.LitmusOptions.{LitmusOptions}
 use Rattle.run_options.specs.declared.options.TraceOptions.{TraceOptions}
@@ -117,10 +119,10 @@ OnFile d Runs (Err error) old new came = (came ≡ Err Read) × (new ≡ old)
 
 -- the records of the second file were checked against the trace of the first over a memory; they were read only after a
 -- trace that was accepted, and not at all if reading the trace failed
-abbrev pub ChecksOn : {F K : Type 0} → Devices F K → Memory → (complete : Bool) → (trace records trace' records' : F) →
+abbrev pub ChecksOn : {F K : Type 0} → Devices F K → Memory → CheckOptions → (trace records trace' records' : F) →
     K → K → Result Done RunError → Type 0
-ChecksOn d opening complete trace records trace' records' old new came =
-    Came d (IsCheckReport opening complete (d.remaining trace) (d.remaining records))
+ChecksOn d opening options trace records trace' records' old new came =
+    Came d (IsCheckReport opening options.complete (layout_of options.json) (d.remaining trace) (d.remaining records))
     (HasNoVerdict (d.remaining trace) (d.remaining records)) old new came
     × ((records' ≡ records) ⊎ ((lanes : List (List Step)) × IsRead (d.remaining trace) lanes))
     × (d.unread trace < d.unread trace' → records' ≡ records)
@@ -128,35 +130,35 @@ ChecksOn d opening complete trace records trace' records' old new came =
     × WritesCounted came (d.unwritten old) (d.unwritten new)
 
 -- the same of any state in which that left the files
-abbrev pub Checks : {F K : Type 0} → Devices F K → Memory → (complete : Bool) → (trace records : F) → K → K →
+abbrev pub Checks : {F K : Type 0} → Devices F K → Memory → CheckOptions → (trace records : F) → K → K →
     Result Done RunError → Type 0
-Checks {F} d opening complete trace records old new came =
-    (trace' records' : F) × ChecksOn d opening complete trace records trace' records' old new came
+Checks {F} d opening options trace records old new came =
+    (trace' records' : F) × ChecksOn d opening options trace records trace' records' old new came
 
 -- the opening was read first: the check was over the memory that it gives; or it was refused, and nothing else was done
-abbrev pub ChecksOver : {F K : Type 0} → Devices F K → (complete : Bool) → (opening trace records : F) → K → K →
+abbrev pub ChecksOver : {F K : Type 0} → Devices F K → CheckOptions → (opening trace records : F) → K → K →
     Result Done RunError → Type 0
-ChecksOver {F} d complete opening trace records old new came = (left : F)
+ChecksOver {F} d options opening trace records old new came = (left : F)
     × (((words : FinMap nat_cmp ℕ) × IsOpened (d.remaining opening) words × (d.unread left ≡ d.unread opening)
-    × Checks d (flat words) complete trace records old new came)
+    × Checks d (flat words) options trace records old new came)
     ⊎ ((e : RunError) × HasNoOpening (d.remaining opening) (d.unread opening) (d.unread left) e
     × (came ≡ Err e) × (new ≡ old)))
 
 -- no opening was named, and memory opens with zeros; or its file could be opened; or it couldn't, which is reported as
 -- a failed read, and nothing was written
-abbrev pub OnOpening : {F K : Type 0} → Devices F K → (complete : Bool) → Option (Result F DeviceError) →
+abbrev pub OnOpening : {F K : Type 0} → Devices F K → CheckOptions → Option (Result F DeviceError) →
     (trace records : F) → K → K → Result Done RunError → Type 0
-OnOpening d complete None trace records old new came = Checks d (flat empty) complete trace records old new came
-OnOpening d complete (Some (Ok opening)) trace records old new came =
-    ChecksOver d complete opening trace records old new came
-OnOpening d complete (Some (Err error)) trace records old new came = (came ≡ Err Read) × (new ≡ old)
+OnOpening d options None trace records old new came = Checks d (flat empty) options trace records old new came
+OnOpening d options (Some (Ok opening)) trace records old new came =
+    ChecksOver d options opening trace records old new came
+OnOpening d options (Some (Err error)) trace records old new came = (came ≡ Err Read) × (new ≡ old)
 
 -- the same of the other two files
-abbrev pub OnFiles : {F K : Type 0} → Devices F K → (complete : Bool) → (opening : Option (Result F DeviceError)) →
+abbrev pub OnFiles : {F K : Type 0} → Devices F K → CheckOptions → (opening : Option (Result F DeviceError)) →
     (trace records : Result F DeviceError) → K → K → Result Done RunError → Type 0
-OnFiles d complete opening (Ok trace) (Ok records) old new came =
-    OnOpening d complete opening trace records old new came
-OnFiles d complete opening trace records old new came = (came ≡ Err Read) × (new ≡ old)
+OnFiles d options opening (Ok trace) (Ok records) old new came =
+    OnOpening d options opening trace records old new came
+OnFiles d options opening trace records old new came = (came ≡ Err Read) × (new ≡ old)
 
 -- a file that is named was opened, and none if none is
 abbrev pub OpensNamed : {F : Type 0} → (List ℕ → Result F DeviceError → Type 0) → Option (Bor (List ℕ)) →
@@ -173,6 +175,6 @@ Does {F} d opens (EndsJob options name) old new came = (opened : Result F Device
     × OnFile d (ListsEndsOf d options) opened old new came
 Does {F} d opens (TraceJob options name) old new came = (opened : Result F DeviceError) × opens name.now opened
     × OnFile d (RunsTrace d options) opened old new came
-Does {F} d opens (CheckJob complete opening trace records) old new came = (first : Option (Result F DeviceError))
+Does {F} d opens (CheckJob options opening trace records) old new came = (first : Option (Result F DeviceError))
     × OpensNamed opens opening first × (opened opened' : Result F DeviceError)
-    × opens trace.now opened × opens records.now opened' × OnFiles d complete first opened opened' old new came
+    × opens trace.now opened × opens records.now opened' × OnFiles d options first opened opened' old new came

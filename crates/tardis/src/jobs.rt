@@ -9,8 +9,8 @@ use crate::files::Files;
 use byte_streams::{DeviceError, Sink, Source};
 use command_line::Job;
 use physiological_order::Memory;
-use report::{check_history, opening_of, run_ends, run_litmus, run_trace};
-use run_options::{EndsOptions, LitmusOptions, TraceOptions};
+use report::{check_history, layout_of, opening_of, run_ends, run_litmus, run_trace};
+use run_options::{CheckOptions, EndsOptions, LitmusOptions, TraceOptions};
 use run_results::{Done, RunError};
 use std::alloc::Global;
 use std::thread::Threads;
@@ -30,11 +30,11 @@ pub(crate) fn run_job<R: Threads + Sync, F: Files, K: Sink>(
         Job::Litmus(options, name) => litmus_of(rt, alloc, files.open(name), options, out),
         Job::Ends(options, name) => ends_of(alloc, files.open(name), options, out),
         Job::Trace(options, name) => trace_of(rt, alloc, files.open(name), options, out),
-        Job::Check(complete, opening, trace, records) => {
+        Job::Check(options, opening, trace, records) => {
             let opening = open_named(files, *opening);
             let trace = files.open(trace);
             let records = files.open(records);
-            check_of(alloc, *complete, opening, trace, records, out)
+            check_of(alloc, options, opening, trace, records, out)
         }
     }
 }
@@ -150,17 +150,17 @@ fn open_named<F: Files>(files: &F, name: Option<&str>) -> Option<Result<F::File,
 // gives if it is there.
 fn check_of<S: Source + Drop, K: Sink>(
     alloc: Global,
-    complete: bool,
+    options: &CheckOptions,
     opening: Option<Result<S, DeviceError>>,
     trace: Result<S, DeviceError>,
     records: Result<S, DeviceError>,
     out: &mut K,
 ) -> Result<Done, RunError>
-    ensures { OnFiles (devices S.remaining S.failures K.contents K.failures) complete opening
+    ensures { OnFiles (devices S.remaining S.failures K.contents K.failures) options.now opening
         trace records out.old out.new result }
 {
     match (trace, records) {
-        (Ok(trace), Ok(records)) => { check_opened(alloc, complete, opening, trace, records, out) }
+        (Ok(trace), Ok(records)) => { check_opened(alloc, options, opening, trace, records, out) }
         _ => Err(RunError::Read),
     }
 }
@@ -168,21 +168,21 @@ fn check_of<S: Source + Drop, K: Sink>(
 // The same where the other two were opened.
 fn check_opened<S: Source + Drop, K: Sink>(
     alloc: Global,
-    complete: bool,
+    options: &CheckOptions,
     opening: Option<Result<S, DeviceError>>,
     trace: S,
     records: S,
     out: &mut K,
 ) -> Result<Done, RunError>
-    ensures { OnOpening (devices S.remaining S.failures K.contents K.failures) complete opening
+    ensures { OnOpening (devices S.remaining S.failures K.contents K.failures) options.now opening
         trace records out.old out.new result }
 {
     match opening {
         None => {
             let zeros = Memory::new(alloc);
-            check_on(alloc, complete, &zeros, trace, records, out)
+            check_on(alloc, options, &zeros, trace, records, out)
         }
-        Some(Ok(opening)) => check_over(alloc, complete, opening, trace, records, out),
+        Some(Ok(opening)) => check_over(alloc, options, opening, trace, records, out),
         Some(Err(DeviceError)) => Err(RunError::Read),
     }
 }
@@ -190,34 +190,35 @@ fn check_opened<S: Source + Drop, K: Sink>(
 // Reads an opening, and then checks over its memory.
 fn check_over<S: Source + Drop, K: Sink>(
     alloc: Global,
-    complete: bool,
+    options: &CheckOptions,
     opening: S,
     trace: S,
     records: S,
     out: &mut K,
 ) -> Result<Done, RunError>
-    ensures { ChecksOver (devices S.remaining S.failures K.contents K.failures) complete
+    ensures { ChecksOver (devices S.remaining S.failures K.contents K.failures) options.now
         opening trace records out.old out.new result }
 {
     let mut source = opening;
     match opening_of(alloc, &mut source) {
-        Ok(memory) => check_on(alloc, complete, &memory, trace, records, out),
+        Ok(memory) => check_on(alloc, options, &memory, trace, records, out),
         Err(error) => Err(error),
     }
 }
 
 fn check_on<S: Source + Drop, K: Sink>(
     alloc: Global,
-    complete: bool,
+    options: &CheckOptions,
     opening: &Memory,
     trace: S,
     records: S,
     out: &mut K,
 ) -> Result<Done, RunError>
     ensures { Checks (devices S.remaining S.failures K.contents K.failures) (flat opening.now)
-        complete trace records out.old out.new result }
+        options.now trace records out.old out.new result }
 {
     let mut first = trace;
     let mut second = records;
-    check_history(alloc, &mut first, &mut second, out, opening, complete)
+    let layout = layout_of(options.json);
+    check_history(alloc, &mut first, &mut second, out, opening, options.complete, layout)
 }

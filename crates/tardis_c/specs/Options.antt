@@ -1,5 +1,5 @@
 -- What the options of C stand for.
-use Rattle.std.specs.Prelude.{ℕ, Bool, false, if◌then◌else◌, nat_lt}
+use Rattle.std.specs.Prelude.{ℕ, ◌==◌, Bool, Option, Some, None, if◌then◌else◌, nat_lt}
 use Rattle.run_options.specs.declared.options.LitmusOptions.{LitmusOptions}
 use Rattle.run_options.specs.declared.options.RunOptions.{RunOptions}
 use Rattle.run_options.specs.declared.options.Schedule.TheVariants.{Round, FairRound, Seed}
@@ -31,8 +31,18 @@ run_options plain = record {
   };
 }
 
+-- after how many operations each there is a row of counts: for 0 after none
+abbrev pub every_of : ℕ → Option ℕ
+every_of every = if every == 0 then None else Some every
+
 abbrev pub litmus_options : PlainOptions → LitmusOptions
-litmus_options plain = record { runs = plain.runs; run = run_options plain }
+litmus_options plain = record { runs = plain.runs; json = is_set plain.json; run = run_options plain }
 
 abbrev pub trace_options : PlainOptions → TraceOptions
-trace_options plain = record { records = is_set plain.records; counts = false; run = run_options plain }
+trace_options plain = record {
+  records = is_set plain.records;
+  counts = is_set plain.counts;
+  every = every_of plain.every;
+  json = is_set plain.json;
+  run = run_options plain;
+}

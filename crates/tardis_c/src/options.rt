@@ -2,7 +2,7 @@
 ghost use Rattle.std.specs.Prelude.{◌≡◌};
 ghost use Rattle.run_options.specs.declared.options.TheConstants.LitmusOptions.{DEFAULT as litmus_default};
 ghost use Rattle.run_options.specs.declared.options.TheConstants.TraceOptions.{DEFAULT as trace_default};
-ghost use Rattle.tardis_c.specs.Options.{litmus_options, run_options, trace_options};
+ghost use Rattle.tardis_c.specs.Options.{every_of, litmus_options, run_options, trace_options};
 
 use run_options::{LitmusOptions, MachineOptions, RunOptions, Schedule, TraceOptions};
 
@@ -42,6 +42,13 @@ pub struct PlainOptions {
     pub records: u64,
     /// A flag: rounds are fair. A run by a seed ignores it.
     pub fair: u64,
+    /// A flag: a report is a JSON object in place of lines. Records are always lines.
+    pub json: u64,
+    /// A flag: what a trace's run did, in numbers, stands behind its report; of no effect where records are written.
+    pub counts: u64,
+    /// After how many completed operations each there is one more row of counts; 0 for none. Of no effect without
+    /// counts.
+    pub every: u64,
 }
 
 // How the machine is built.
@@ -94,8 +101,19 @@ pub(crate) fn litmus_options(plain: &PlainOptions) -> LitmusOptions
 {
     LitmusOptions {
         runs: plain.runs,
+        json: plain.json != 0,
         run: run_options(plain),
     }
+}
+
+// After how many operations each there is a row of counts.
+fn every(plain: &PlainOptions) -> Option<u64>
+    ensures { result ≡ every_of plain.now.every }
+{
+    if plain.every == 0 {
+        return None;
+    }
+    Some(plain.every)
 }
 
 /// How a trace is run.
@@ -104,7 +122,9 @@ pub(crate) fn trace_options(plain: &PlainOptions) -> TraceOptions
 {
     TraceOptions {
         records: plain.records != 0,
-        counts: false,
+        counts: plain.counts != 0,
+        every: every(plain),
+        json: plain.json != 0,
         run: run_options(plain),
     }
 }
@@ -134,5 +154,8 @@ pub extern "C" fn tardis_c_defaults(options: &mut PlainOptions)
         runs: litmus.runs,
         records: 0,
         fair: 0,
+        json: 0,
+        counts: 0,
+        every: 0,
     };
 }

@@ -2,16 +2,18 @@
 ghost use Rattle.std.specs.Prelude.{◌≡◌, Some, false};
 ghost use Rattle.std.specs.FinMap.{empty};
 ghost use Rattle.physiological_order.specs.Order.{flat};
+ghost use Rattle.report.specs.Layouts.{layout_of};
 ghost use Rattle.report.specs.Litmus.{HasNoReportInMemory, IsLitmusReport};
 ghost use Rattle.report.specs.Openings.{HasNoOpenedReport, IsOpenedReport};
 ghost use Rattle.report.specs.Reports.{HasNoTraceReport, IsTraceReport};
 ghost use Rattle.report.specs.Verdicts.{HasNoVerdict, IsCheckReport};
+ghost use Rattle.report_lines.specs.declared.layout.Layout.TheVariants.{Lines};
 ghost use Rattle.tardis_c.specs.Answers.{IsTold};
 ghost use Rattle.tardis_c.specs.Options.{is_set, litmus_options, trace_options};
 
 use crate::answers::tell;
 use crate::options::{PlainOptions, litmus_options, trace_options};
-use report::{check_report, litmus_report, opened_report, trace_report};
+use report::{check_report, layout_of, litmus_report, opened_report, trace_report};
 use std::alloc::Global;
 
 /// Runs the litmus test that a text is, and puts the report into the buffer.
@@ -58,7 +60,7 @@ pub extern "C" fn tardis_c_check(
     buffer: &mut [u8],
     long: &mut usize,
 ) -> u32
-    ensures { IsTold (IsCheckReport (flat empty) false (Some trace.now) (Some records.now))
+    ensures { IsTold (IsCheckReport (flat empty) false Lines (Some trace.now) (Some records.now))
         (HasNoVerdict (Some trace.now) (Some records.now))
         buffer.old buffer.new long.new result }
 {
@@ -66,8 +68,9 @@ pub extern "C" fn tardis_c_check(
     tell(&came, buffer, long)
 }
 
-/// Checks records against a trace over the memory that an opening gives, all three as texts, and puts the line of the
-/// verdict into the buffer. Where `complete` isn't 0, each operation of the trace is to have its record.
+/// Checks records against a trace over the memory that an opening gives, all three as texts, and puts the verdict into
+/// the buffer: a line, or a JSON object where `json` isn't 0. Where `complete` isn't 0, each operation of the trace is
+/// to have its record.
 #[unsafe(no_mangle)]
 pub extern "C" fn tardis_c_check_opened(
     alloc: Global,
@@ -75,13 +78,16 @@ pub extern "C" fn tardis_c_check_opened(
     trace: &[u8],
     records: &[u8],
     complete: u32,
+    json: u32,
     buffer: &mut [u8],
     long: &mut usize,
 ) -> u32
-    ensures { IsTold (IsOpenedReport (is_set complete) opening.now trace.now records.now)
+    ensures { IsTold (IsOpenedReport (is_set complete) (layout_of (is_set json))
+        opening.now trace.now records.now)
         (HasNoOpenedReport opening.now trace.now records.now)
         buffer.old buffer.new long.new result }
 {
-    let came = opened_report(alloc, opening, trace, records, complete > 0);
+    let layout = layout_of(json > 0);
+    let came = opened_report(alloc, opening, trace, records, complete > 0, layout);
     tell(&came, buffer, long)
 }

@@ -11,6 +11,7 @@ use Rattle.physiological_order.specs.declared.verdict.Verdict.TheVariants.{Wrong
 use Rattle.physiological_order.specs.Faults.{IsVerdict}
 use Rattle.physiological_order.specs.Order.{Legal as IsLegal, Memory}
 use Rattle.programs.specs.declared.steps.Step.{Step}
+use Rattle.report_lines.specs.declared.layout.Layout.{Layout}
 use Rattle.trace_reader.specs.Steps.{ops_of, trace_ops}
 use Rattle.report.specs.Complete.{AreAll, HasRecord}
 use Rattle.report.specs.Verdicts.{TellsVerdict}
@@ -25,14 +26,14 @@ module _ (opening : Memory) (cores : ℕ) (issued : ℕ → List Op) (records : 
       let within = slice_get_within (issued core) place op at in
       record_at opening issued records legal core place op (omega (arith, count, within)) at
 
-  all_told : (verdict : Verdict) (text : List ℕ) → IsVerdict opening issued records verdict →
-      TellsVerdict true cores issued records verdict true text →
+  all_told : (layout : Layout) (verdict : Verdict) (text : List ℕ) → IsVerdict opening issued records verdict →
+      TellsVerdict true layout cores issued records verdict true text →
       IsLegal opening issued records × AreAll cores issued records
-  all_told Legal text is (inl told) = (is, told.0)
-  all_told Legal text is (inr lacking) = absurd (true≢false lacking.3)
-  all_told (BadNumber number) text is told = absurd (true≢false told.1)
-  all_told (OutOfProgramOrder number) text is told = absurd (true≢false told.1)
-  all_told (WrongValue number) text is told = absurd (true≢false told.1)
+  all_told layout Legal text is (inl told) = (is, told.0)
+  all_told layout Legal text is (inr lacking) = absurd (true≢false lacking.3)
+  all_told layout (BadNumber number) text is told = absurd (true≢false told.1)
+  all_told layout (OutOfProgramOrder number) text is told = absurd (true≢false told.1)
+  all_told layout (WrongValue number) text is told = absurd (true≢false told.1)
 
 -- an operation is that of a core of the trace
 core_of : (lanes : List (List Step)) (core place : ℕ) (op : Op) → slice_get (trace_ops lanes core) place ≡ Some op →
@@ -49,8 +50,9 @@ pub returns-clause-all : goal.returns-clause-all
 returns-clause-all c = of_all
 
 pub returns-clause-line : goal.returns-clause-line
-returns-clause-line c = λ opening lanes records text line core place op at.
-    let said = all_told opening (length lanes) (trace_ops lanes) records line.verdict text line.is_verdict line.told in
+returns-clause-line c = λ opening lanes records text layout line core place op at.
+    let said = all_told opening (length lanes) (trace_ops lanes) records layout line.verdict text line.is_verdict
+    line.told in
     of_all opening (length lanes) (trace_ops lanes) records said.0 said.1 core place op
     (core_of lanes core place op at) at
 

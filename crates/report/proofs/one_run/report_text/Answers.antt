@@ -3,10 +3,10 @@ use Rattle.std.specs.FinMap.{empty}
 use Rattle.physiological_order.specs.declared.operation.Record.{Record}
 use Rattle.physiological_order.specs.Order.{flat, Legal}
 use Rattle.trace_reader.specs.Steps.{trace_ops}
-use Rattle.report.proofs.one_run.text_of.Goals as goal
+use Rattle.report.proofs.one_run.report_text.Goals as goal
 
 pub legal_trace_text-requires : goal.legal_trace_text-requires
 legal_trace_text-requires g c =
     let shows = c.requires.shows in
     subst (λ (rs : List Record). Legal (flat empty) (trace_ops c.args.trace.now) rs)
-    (sym (c.records-2.ensures.records shows.0 shows.1)) shows.3
+    (sym (c.records.ensures.records shows.0 shows.1)) shows.3

@@ -1,2 +1,3 @@
 mod CompletedOps
+mod HashedMaps
 mod SentMessages

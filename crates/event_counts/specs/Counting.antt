@@ -1,43 +1,57 @@
 -- What each answered event of a run adds to the counts, by the machine after it.
-use Rattle.std.specs.Prelude.{Option, Some, None, slice_get}
+use Rattle.std.specs.Prelude.{ℕ, ◌<◌, ◌%◌, ◌==◌, nat_lt, Bool, true, false, ◌&&◌, if◌then◌else◌, List, [], ◌∷◌, ◌++◌}
+use Rattle.std.specs.Prelude.{Option, Some, None, is_some, length, slice_get}
+use Rattle.std.specs.FinMap.{empty}
 use Rattle.physiological_order.specs.declared.operation.Op.{Op}
 use Rattle.physiological_order.specs.declared.operation.Op.TheVariants.{Load, Store, Swap}
+use Rattle.network.specs.declared.message.Body.{Body}
+use Rattle.network.specs.declared.message.Body.TheVariants.{ShRep, FlushRep, WbRep}
+use Rattle.network.specs.declared.message.Message.{Message}
+use Rattle.network.specs.declared.message.Node.{Node}
+use Rattle.network.specs.declared.message.Node.TheVariants as node
 use Rattle.network.specs.NumberedMessages.{at_number}
 use Rattle.private_cache.specs.declared.line_copy.LineCopy.{LineCopy}
 use Rattle.private_cache.specs.CopyTable.{copy_of}
 use Rattle.core_pts.specs.CoreTable.{CoreState, line_of}
 use Rattle.machine_table.specs.declared.event.Event.{Event}
-use Rattle.machine_table.specs.declared.event.Event.TheVariants.{Attempt, EvictCache, EvictBank}
+use Rattle.machine_table.specs.declared.event.Event.TheVariants.{Attempt, Deliver, EvictCache, EvictBank}
 use Rattle.machine_table.specs.declared.event.Answer.{Answer}
 use Rattle.machine_table.specs.declared.event.Answer.TheVariants.{Completed, Requested, Evicted, Held, Dropped}
 use Rattle.machine_table.specs.Machine.{Machine}
-use Rattle.schedules.specs.Watches.{Watches, sees_by}
+use Rattle.schedules.specs.Watches.{Watches}
 use Rattle.event_counts.specs.declared.cause.Cause.{Cause}
-use Rattle.event_counts.specs.declared.cause.Cause.TheVariants.{Absent, Ended, Shared}
+use Rattle.event_counts.specs.declared.cause.Cause.TheVariants as cause
+use Rattle.event_counts.specs.Losses.{Lost, loss, lost_after}
 pub use Rattle.event_counts.specs.Counts.{EventCounts, no_counts}
-use Rattle.event_counts.specs.Counts.{at_bank, at_core, asked, completed, evicted_copy, evicted_entry, more, sent}
+use Rattle.event_counts.specs.Counts.{at_bank, at_core, asked, completed, evicted_copy, evicted_entry, held_at, more}
+use Rattle.event_counts.specs.Counts.{reloaded_line, returned_line, sent}
 
--- why an operation needs a request, by the copy of its line: without one it is absent; a load finds one whose lease
--- has ended; a store or swap finds a Shared one
-abbrev pub cause_on : Op → Option LineCopy → Cause
-cause_on op None = Absent
-cause_on (Load a) (Some copy) = Ended
-cause_on (Store a v) (Some copy) = Shared
-cause_on (Swap a v) (Some copy) = Shared
+-- why an operation needs a request on a line without a copy, by how the core lost its last one
+abbrev pub cause_without : Option Cause → Cause
+cause_without None = cause.Cold
+cause_without (Some lost) = lost
 
--- the cause of a core's open operation; a core that isn't there, or has none, counts as without a copy
-abbrev pub cause_open : CoreState → Option Op → Cause
-cause_open core None = Absent
-cause_open core (Some op) = cause_on op (copy_of core.cache (line_of core op))
+-- why it needs one, by the copy of its line: a load finds one whose lease has ended; a store or swap finds a Shared one
+abbrev pub cause_on : Op → Option LineCopy → Option Cause → Cause
+cause_on op None lost = cause_without lost
+cause_on (Load a) (Some copy) lost = cause.Ended
+cause_on (Store a v) (Some copy) lost = cause.Shared
+cause_on (Swap a v) (Some copy) lost = cause.Shared
 
-abbrev pub cause_of : Option CoreState → Cause
-cause_of None = Absent
-cause_of (Some core) = cause_open core core.open_op
+-- the cause of a core's open operation; a core that isn't there, or has none, counts as cold
+abbrev pub cause_open : Lost → ℕ → CoreState → Option Op → Cause
+cause_open lost number core None = cause.Cold
+cause_open lost number core (Some op) =
+    cause_on op (copy_of core.cache (line_of core op)) (loss lost number (line_of core op))
+
+abbrev pub cause_of : Lost → ℕ → Option CoreState → Cause
+cause_of lost number None = cause.Cold
+cause_of lost number (Some core) = cause_open lost number core core.open_op
 
 -- a request is sent by the core that made an attempt
-abbrev pub requested : EventCounts → Machine → Event → EventCounts
-requested n m (Attempt core) = at_core n core (asked (cause_of (slice_get m.cores core)))
-requested n m _ = n
+abbrev pub requested : EventCounts → Lost → Machine → Event → EventCounts
+requested n lost m (Attempt core) = at_core n core (asked (cause_of lost core (slice_get m.cores core)))
+requested n lost m _ = n
 
 -- a copy or an entry is evicted
 abbrev pub evicted : EventCounts → Event → EventCounts
@@ -45,21 +59,118 @@ evicted n (EvictCache core line) = at_core n core evicted_copy
 evicted n (EvictBank bank line) = at_bank n bank evicted_entry
 evicted n _ = n
 
+-- a delivery is held: its message is still in flight
+abbrev pub held_message : EventCounts → Option Message → EventCounts
+held_message n None = n
+held_message n (Some message) = held_at n message.to
+
+abbrev pub held : EventCounts → Machine → Event → EventCounts
+held n m (Deliver number) = held_message n (at_number number m.mail.messages)
+held n m _ = n
+
 -- what an answer adds, besides the messages
-abbrev pub answered : EventCounts → Machine → Event → Answer → EventCounts
-answered n m event (Completed done) = at_core n done.core (completed done)
-answered n m event Requested = requested n m event
-answered n m event Evicted = evicted n event
-answered n m event Held = record n { held = more n.held }
-answered n m event Dropped = record n { dropped = more n.dropped }
-answered n m event _ = n
+abbrev pub answered : EventCounts → Lost → Machine → Event → Answer → EventCounts
+answered n lost m event (Completed done) = at_core n done.core (completed done)
+answered n lost m event Requested = requested n lost m event
+answered n lost m event Evicted = evicted n event
+answered n lost m event Held = held (record n { held = more n.held }) m event
+answered n lost m event Dropped = record n { dropped = more n.dropped }
+answered n lost m event _ = n
 
--- what an event adds, with its answer and the machine after it
-abbrev pub seen : EventCounts → Machine → Event → Answer → EventCounts
-seen n m event answer =
-    let told = answered (record n { events = more n.events }) m event answer in
-    sent told (at_number n.next m.mail.messages)
+-- a core sends a line back: it does so because it evicts its copy, or in answer to a recall
+abbrev pub returned_by : EventCounts → ℕ → Body → EventCounts
+returned_by n core (FlushRep line) = at_core n core returned_line
+returned_by n core (WbRep line) = at_core n core returned_line
+returned_by n core _ = n
 
--- the counts watch a run
-abbrev pub counts_events : Watches EventCounts
-counts_events = sees_by seen
+abbrev pub returned : EventCounts → Event → Body → EventCounts
+returned n (EvictCache core line) body = returned_by n core body
+returned n _ body = n
+
+-- words are sent to a core that may have a copy of the line
+abbrev pub has_copy : Option CoreState → ℕ → Bool
+has_copy None line = false
+has_copy (Some core) line = is_some (copy_of core.cache line)
+
+abbrev pub reloaded : EventCounts → Machine → Node → ℕ → Body → EventCounts
+reloaded n m (node.Core core) line (ShRep words) =
+    if has_copy (slice_get m.cores core) line then at_core n core reloaded_line else n
+reloaded n m _ line _ = n
+
+-- what the message adds that an event sent, if any
+abbrev pub with_message : EventCounts → Machine → Event → Option Message → EventCounts
+with_message n m event None = n
+with_message n m event (Some message) =
+    returned (reloaded (sent n message) m message.to message.line message.body) event message.body
+
+-- what an event adds, with its answer, the machine after it and the message that it sent
+abbrev pub seen : EventCounts → Lost → Machine → Event → Answer → Option Message → EventCounts
+seen n lost m event answer message =
+    with_message (answered (record n { events = more n.events }) lost m event answer) m event message
+
+-- what a counter has: the counts, the copies that are lost, and the counts as they were each time that so many more
+-- operations had completed
+pub record Counter : Type 0 where
+  pub counts : EventCounts
+  pub lost : Lost
+  pub rows : List EventCounts
+  pub every : Option ℕ
+
+-- nothing is counted, of so many cores and banks
+abbrev pub no_counter : ℕ → ℕ → Option ℕ → Counter
+no_counter cores banks every = record { counts = no_counts cores banks; lost = empty; rows = []; every = every }
+
+-- whether an answer completes an operation, as the last of so many, and that is a multiple
+abbrev pub is_row : Option ℕ → ℕ → Answer → Bool
+is_row None done answer = false
+is_row (Some every) done (Completed last) = nat_lt 0 every && (done % every == 0)
+is_row (Some every) done _ = false
+
+abbrev pub with_row : Counter → Bool → Counter
+with_row k due = if due then record k { rows = k.rows ++ k.counts ∷ [] } else k
+
+-- what an event makes of it, with its answer, the machine after it and the message that it sent
+abbrev pub counted : Counter → Machine → Event → Answer → Option Message → Counter
+counted k m event answer message =
+    record k { counts = seen k.counts k.lost m event answer message; lost = lost_after k.lost event answer message }
+
+-- the message with the next number, if it is in flight after an event, was sent by that event
+abbrev pub counter_seen : Counter → Machine → Event → Answer → Counter
+counter_seen k m event answer =
+    with_row (counted k m event answer (at_number k.counts.next m.mail.messages))
+    (is_row k.every (length m.records) answer)
+
+-- rows, for how many more there is room, and counts that the next one can be copied to
+pub record Rows : Type 0 where
+  pub rows : List EventCounts
+  pub room : ℕ
+  pub spare : Option EventCounts
+
+-- there is room for a copy of these counts
+abbrev pub FitsIn : EventCounts → Option EventCounts → Type 0
+FitsIn n None = ⊥
+FitsIn n (Some spare) = (length spare.cores ≡ length n.cores) × (length spare.banks ≡ length n.banks)
+
+abbrev pub HasRow : EventCounts → Rows → Type 0
+HasRow n rows = (0 < rows.room) × FitsIn n rows.spare
+
+-- a counter in memory: what it has, and its room
+pub record CounterState : Type 0 where
+  pub seen : Counter
+  pub lost_room : ℕ
+  pub row_room : ℕ
+  pub spare : Option EventCounts
+
+-- there is room for what one more event adds
+abbrev pub HasRoom : CounterState → Type 0
+HasRoom w = (0 < w.lost_room) × (0 < w.row_room) × FitsIn w.seen.counts w.spare
+
+-- the counter watches a run
+abbrev pub counter_events : Watches CounterState
+counter_events = record {
+  Seen = Counter;
+  seen = λ w. w.seen;
+  sees = counter_seen;
+  HasRoom = HasRoom;
+  asks = true;
+}

@@ -1,6 +1,6 @@
 -- The counts of a run as data, and how each of them goes up.
-use Rattle.std.specs.Prelude.{◌≡◌, ℕ, zero, suc, ◌+◌, ◌-◌, ◌^◌, max, nat_lt, List, Option, Some, None, if◌then◌else◌}
-use Rattle.std.specs.Prelude.{map, replicate, slice_get, slice_set}
+use Rattle.std.specs.Prelude.{◌≡◌, ℕ, ◌+◌, ◌-◌, ◌^◌, max, nat_lt, List, Option, Some, None, if◌then◌else◌, replicate}
+use Rattle.std.specs.Prelude.{slice_get, slice_set}
 use Rattle.physiological_order.specs.declared.operation.Op.{Op}
 use Rattle.physiological_order.specs.declared.operation.Op.TheVariants.{Load, Store, Swap}
 use Rattle.physiological_order.specs.declared.operation.Record.{Record}
@@ -11,9 +11,8 @@ use Rattle.network.specs.declared.message.Body.TheVariants.{DramLd, DramLdRep, D
 use Rattle.network.specs.declared.message.Message.{Message}
 use Rattle.network.specs.declared.message.Node.{Node}
 use Rattle.network.specs.declared.message.Node.TheVariants as node
-use Rattle.network.specs.NumberedMessages.{at_number}
 use Rattle.event_counts.specs.declared.cause.Cause.{Cause}
-use Rattle.event_counts.specs.declared.cause.Cause.TheVariants.{Absent, Ended, Shared}
+use Rattle.event_counts.specs.declared.cause.Cause.TheVariants.{Cold, Evicted, Recalled, Ended, Shared}
 use Rattle.event_counts.specs.declared.kind_counts.KindCounts.{KindCounts}
 use Rattle.event_counts.specs.declared.part_counts.CoreCounts.{CoreCounts}
 use Rattle.event_counts.specs.declared.part_counts.BankCounts.{BankCounts}
@@ -58,25 +57,6 @@ with_kind n (DramLdRep words) = record n { dram_ld_rep = more n.dram_ld_rep }
 with_kind n (DramSt words) = record n { dram_st = more n.dram_st }
 with_kind n DramStRep = record n { dram_st_rep = more n.dram_st_rep }
 
--- kind by kind, the messages that were sent less those that are still in flight: the others were delivered or dropped
-abbrev pub without : KindCounts → KindCounts → KindCounts
-without n m = record {
-  sh_req = n.sh_req - m.sh_req;
-  ex_req = n.ex_req - m.ex_req;
-  sh_rep = n.sh_rep - m.sh_rep;
-  ex_rep = n.ex_rep - m.ex_rep;
-  renew_rep = n.renew_rep - m.renew_rep;
-  upgrade_rep = n.upgrade_rep - m.upgrade_rep;
-  flush_req = n.flush_req - m.flush_req;
-  wb_req = n.wb_req - m.wb_req;
-  flush_rep = n.flush_rep - m.flush_rep;
-  wb_rep = n.wb_rep - m.wb_rep;
-  dram_ld = n.dram_ld - m.dram_ld;
-  dram_ld_rep = n.dram_ld_rep - m.dram_ld_rep;
-  dram_st = n.dram_st - m.dram_st;
-  dram_st_rep = n.dram_st_rep - m.dram_st_rep;
-}
-
 -- nothing is counted of a core, or of a bank
 abbrev pub no_core_counts : CoreCounts
 no_core_counts = record {
@@ -84,17 +64,22 @@ no_core_counts = record {
   stores = 0;
   swaps = 0;
   hits = 0;
-  absent = 0;
+  cold = 0;
+  evicted = 0;
+  recalled = 0;
   ended = 0;
   shared = 0;
   asked = None;
-  evicted = 0;
+  evictions = 0;
+  returns = 0;
+  reloads = 0;
+  held = 0;
   last_time = 0;
   sent = no_kinds;
 }
 
 abbrev pub no_bank_counts : BankCounts
-no_bank_counts = record { evicted = 0; sent = no_kinds }
+no_bank_counts = record { evictions = 0; held = 0; sent = no_kinds }
 
 -- an operation counts by its kind
 abbrev pub with_op : CoreCounts → Op → CoreCounts
@@ -105,7 +90,9 @@ with_op n (Swap a v) = record n { swaps = more n.swaps }
 -- it is a hit if no request was sent for it, and a miss by the cause of its first request if one was
 abbrev pub with_end : CoreCounts → Option Cause → CoreCounts
 with_end n None = record n { hits = more n.hits }
-with_end n (Some Absent) = record n { absent = more n.absent }
+with_end n (Some Cold) = record n { cold = more n.cold }
+with_end n (Some Evicted) = record n { evicted = more n.evicted }
+with_end n (Some Recalled) = record n { recalled = more n.recalled }
 with_end n (Some Ended) = record n { ended = more n.ended }
 with_end n (Some Shared) = record n { shared = more n.shared }
 
@@ -124,10 +111,25 @@ asked cause n = record n { asked = Some (first_cause n.asked cause) }
 
 -- a copy, or an entry, is evicted
 abbrev pub evicted_copy : CoreCounts → CoreCounts
-evicted_copy n = record n { evicted = more n.evicted }
+evicted_copy n = record n { evictions = more n.evictions }
 
 abbrev pub evicted_entry : BankCounts → BankCounts
-evicted_entry n = record n { evicted = more n.evicted }
+evicted_entry n = record n { evictions = more n.evictions }
+
+-- a line goes back because its copy is evicted
+abbrev pub returned_line : CoreCounts → CoreCounts
+returned_line n = record n { returns = more n.returns }
+
+-- words are sent to a core that has a copy of the line
+abbrev pub reloaded_line : CoreCounts → CoreCounts
+reloaded_line n = record n { reloads = more n.reloads }
+
+-- a delivery to a core, or to a bank, is held
+abbrev pub core_held : CoreCounts → CoreCounts
+core_held n = record n { held = more n.held }
+
+abbrev pub bank_held : BankCounts → BankCounts
+bank_held n = record n { held = more n.held }
 
 -- a message was sent by a core or to it, or by a bank or to it
 abbrev pub core_sent : Body → CoreCounts → CoreCounts
@@ -182,30 +184,22 @@ at_node n (node.Dram bank) body = n
 abbrev pub at_ends : EventCounts → Message → EventCounts
 at_ends n message = at_node (at_node n message.from message.body) message.to message.body
 
--- the message with the next number, if it is in flight, was sent by the last event
-abbrev pub sent : EventCounts → Option Message → EventCounts
-sent n None = n
-sent n (Some message) = record (at_ends n message) { next = more n.next }
+-- a message was sent: it had the next number
+abbrev pub sent : EventCounts → Message → EventCounts
+sent n message = record (at_ends n message) { next = more n.next }
 
--- the message at a place in the list of those in flight: it is that of the number there
-abbrev pub of_number : List (ℕ × Message) → Option ℕ → Option Message
-of_number messages None = None
-of_number messages (Some number) = at_number number messages
-
-abbrev pub message_at : List (ℕ × Message) → ℕ → Option Message
-message_at messages place = of_number messages (slice_get (map (λ x. x.0) messages) place)
-
--- the messages in flight count as sent, those at the first places, one after the other
-abbrev pub first_sent : EventCounts → List (ℕ × Message) → ℕ → EventCounts
-first_sent n messages zero = n
-first_sent n messages (suc places) = sent (first_sent n messages places) (message_at messages places)
+-- a delivery is held at a node, if that is a core or a bank
+abbrev pub held_at : EventCounts → Node → EventCounts
+held_at n (node.Core core) = at_core n core core_held
+held_at n (node.Bank bank) = at_bank n bank bank_held
+held_at n (node.Dram bank) = n
 
 -- the operations of a core that completed, by their kinds; and the hits with the misses
 abbrev pub operations : CoreCounts → ℕ
 operations n = n.loads + n.stores + n.swaps
 
 abbrev pub hits_and_misses : CoreCounts → ℕ
-hits_and_misses n = n.hits + n.absent + n.ended + n.shared
+hits_and_misses n = n.hits + n.cold + n.evicted + n.recalled + n.ended + n.shared
 
 -- a core that is counted completed so many operations, and each was a hit or a miss
 abbrev pub HasCompleted : ℕ → Option CoreCounts → Type 0

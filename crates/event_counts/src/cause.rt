@@ -1,26 +1,42 @@
 //! Why an operation needs a request.
 ghost use Rattle.std.specs.Prelude.{◌≡◌, Some, slice_get};
 ghost use Rattle.private_cache.specs.declared.line_copy.LineCopy.{LineCopy};
-ghost use Rattle.event_counts.specs.Counting.{cause_of, cause_on, cause_open};
+ghost use Rattle.event_counts.specs.Counting.{cause_of, cause_on, cause_open, cause_without};
+ghost use Rattle.event_counts.specs.Losses.{loss};
 
+use crate::lost_copies::LostCopies;
 use core_pts::Core;
 use interleaving_core::System;
 use physiological_order::Op;
 
-/// Why a core needs a request for its open operation: what copy of the line it has.
+/// Why a core needs a request for its open operation: what copy of the line it has, or how it lost its last one.
 #[derive(Clone, Copy, Debug, PartialEq, Eq)]
 pub enum Cause {
-    /// It has none.
-    Absent,
+    /// It has none, and never lost one.
+    Cold,
+    /// It has none: it lost its last one by an eviction of its own.
+    Evicted,
+    /// It has none: it lost its last one by a recall.
+    Recalled,
     /// A load finds a Shared copy whose lease has ended.
     Ended,
     /// A store or swap finds a Shared copy.
     Shared,
 }
 
+// The cause of an operation whose line has no copy, by how the core lost its last one.
+fn cause_without(lost: Option<Cause>) -> Cause
+    ensures { result ≡ cause_without lost }
+{
+    match lost {
+        None => Cause::Cold,
+        Some(lost) => lost,
+    }
+}
+
 // The cause of an operation whose line has a copy.
 fn cause_on_copy(op: &Op) -> Cause
-    ensures { (copy : LineCopy) → result ≡ cause_on op.now (Some copy) }
+    ensures { (copy : LineCopy) (lost : _) → result ≡ cause_on op.now (Some copy) lost }
 {
     match *op {
         Op::Load(_) => Cause::Ended,
@@ -30,25 +46,25 @@ fn cause_on_copy(op: &Op) -> Cause
 }
 
 // The cause of a core's open operation.
-fn cause_open(core: &Core) -> Cause
-    ensures { result ≡ cause_open core.now core.now.open_op }
+fn cause_open(lost: &LostCopies, number: u32, core: &Core) -> Cause
+    ensures { result ≡ cause_open lost.now.lost number core.now core.now.open_op }
 {
     let Some((op, _)) = core.open_op() else {
-        return Cause::Absent;
+        return Cause::Cold;
     };
     let line = core.line_of(op);
     match core.copy(line) {
-        None => Cause::Absent,
+        None => cause_without(lost.loss(number, line)),
         Some(_) => cause_on_copy(&op),
     }
 }
 
 // The cause of a core that was answered Requested: its copy is as it was.
-pub(crate) fn cause_of(system: &System, core: u32) -> Cause
-    ensures { result ≡ cause_of (slice_get system.now.cores core) }
+pub(crate) fn cause_of(lost: &LostCopies, system: &System, core: u32) -> Cause
+    ensures { result ≡ cause_of lost.now.lost core (slice_get system.now.cores core) }
 {
     match system.core(core) {
-        None => Cause::Absent,
-        Some(core) => cause_open(core),
+        None => Cause::Cold,
+        Some(state) => cause_open(lost, core, state),
     }
 }

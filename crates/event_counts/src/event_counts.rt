@@ -1,17 +1,25 @@
 //! The counts of a run.
-ghost use Rattle.std.specs.Prelude.{◌≡◌, IfOk, None, Some, length};
+ghost use Rattle.std.specs.Prelude.{◌≡◌, IfOk, IsTrue, None, Some, option_copied, slice_get};
+ghost use Rattle.network.specs.declared.message.Body.TheVariants.{ShRep};
+ghost use Rattle.network.specs.declared.message.Node.TheVariants.{Core};
+ghost use Rattle.network.specs.declared.message.TimedLine.{TimedLine};
+ghost use Rattle.network.specs.NumberedMessages.{at_number};
 ghost use Rattle.machine_table.specs.declared.event.Event.{Event};
 ghost use Rattle.machine_table.specs.Machine.{Machine};
 ghost use Rattle.interleaving_core.specs.PartChanges.{answer_in};
-ghost use Rattle.event_counts.specs.Counts.{asked, at_bank, at_core, at_node, bank_sent, completed, core_sent};
-ghost use Rattle.event_counts.specs.Counts.{evicted_copy, evicted_entry, first_sent, message_at, no_counts, sent};
-ghost use Rattle.event_counts.specs.Counting.{answered, evicted, requested, seen};
+ghost use Rattle.event_counts.specs.Counts.{asked, at_bank, at_core, at_node, bank_held, bank_sent, completed};
+ghost use Rattle.event_counts.specs.Counts.{core_held, core_sent, evicted_copy, evicted_entry, held_at, more, no_counts};
+ghost use Rattle.event_counts.specs.Counts.{reloaded_line, returned_line, sent};
+ghost use Rattle.event_counts.specs.Losses.{Lost};
+ghost use Rattle.event_counts.specs.Counting.{FitsIn, answered, evicted, has_copy, held, held_message, reloaded};
+ghost use Rattle.event_counts.specs.Counting.{requested, returned_by, seen, with_message};
 
 use crate::cause::{Cause, cause_of};
 use crate::kind_counts::more;
+use crate::lost_copies::LostCopies;
 use crate::part_counts::{BankCounts, CoreCounts};
 use interleaving_core::{Event, PlainAnswer, System};
-use network::{Body, Message, MsgNo, Node};
+use network::{Body, LineNo, Message, MsgNo, Node};
 use physiological_order::Record;
 use std::alloc::{AllocError, Global};
 use std::marker::Model;
@@ -44,9 +52,9 @@ impl Model for EventCounts {
 }
 
 impl EventCounts {
-    /// The counts of a machine that has just opened, with this number of cores and banks: nothing is counted. All
-    /// memory is allocated here.
-    pub fn new(alloc: Global, cores: u32, banks: u32) -> Result<EventCounts, AllocError>
+    // The counts of a machine that has just opened, with this number of cores and banks: nothing is counted. All
+    // memory is allocated here.
+    pub(crate) fn new(alloc: Global, cores: u32, banks: u32) -> Result<EventCounts, AllocError>
         ensures { IfOk result (λ counts. counts ≡ no_counts cores banks) }
     {
         let cores = vec![in alloc; CoreCounts::NONE; cores as usize]?;
@@ -61,32 +69,80 @@ impl EventCounts {
         })
     }
 
-    /// Counts an event of a machine, which answered it so (as `System::step_plain` answers) and is now as it left it.
-    /// The call allocates nothing.
+    // Counts with as many cores and banks.
+    pub(crate) fn of_this_size(&self, alloc: Global) -> Result<EventCounts, AllocError>
+        ensures { IfOk result (λ counts. FitsIn self.now (Some counts)) }
+    {
+        let cores = vec![in alloc; CoreCounts::NONE; self.cores.len()]?;
+        let banks = vec![in alloc; BankCounts::NONE; self.banks.len()]?;
+        Ok(EventCounts {
+            cores,
+            banks,
+            events: 0,
+            held: 0,
+            dropped: 0,
+            next: 0,
+        })
+    }
+
+    // Whether these have as many cores and banks.
+    pub(crate) fn is_of_this_size(&self, other: &EventCounts) -> bool
+        ensures { IsTrue result → FitsIn self.now (Some other.now) }
+    {
+        other.cores.len() == self.cores.len() && other.banks.len() == self.banks.len()
+    }
+
+    // Becomes a copy of counts of as many cores and banks.
+    pub(crate) fn copy_from(&mut self, other: &EventCounts)
+        requires { FitsIn other.now (Some self.old) }
+        ensures { self.new ≡ other.now }
+    {
+        self.cores.copy_from_slice(&other.cores);
+        self.banks.copy_from_slice(&other.banks);
+        self.events = other.events;
+        self.held = other.held;
+        self.dropped = other.dropped;
+        self.next = other.next;
+    }
+
+    // Counts an event of a machine, which answered it so (as `System::step_plain` answers), is now as it left it, and
+    // sent this message for it.
     #[inline(always)]
-    pub fn see(&mut self, system: &System, event: &Event, plain: &Option<PlainAnswer>)
-        ensures { self.new ≡ seen self.old system.now event.now
-            (answer_in system.now.records plain.now) }
+    pub(crate) fn see(
+        &mut self,
+        lost: &LostCopies,
+        system: &System,
+        event: &Event,
+        plain: &Option<PlainAnswer>,
+        message: Option<&Message>,
+    )
+        ensures { self.new ≡ seen self.old lost.now.lost system.now event.now
+            (answer_in system.now.records plain.now) (option_copied message) }
     {
         self.events = more(self.events);
-        let next = MsgNo(self.next);
-        self.see_answer(system, event, plain);
-        if let Some(message) = system.look(next) {
-            self.see_sent(message);
+        self.see_answer(lost, system, event, plain);
+        if let Some(message) = message {
+            self.see_message(system, event, message);
         }
     }
 
     // Counts what an answer says.
     #[inline(always)]
-    fn see_answer(&mut self, system: &System, event: &Event, plain: &Option<PlainAnswer>)
-        ensures { self.new ≡ answered self.old system.now event.now
+    fn see_answer(
+        &mut self,
+        lost: &LostCopies,
+        system: &System,
+        event: &Event,
+        plain: &Option<PlainAnswer>,
+    )
+        ensures { self.new ≡ answered self.old lost.now.lost system.now event.now
             (answer_in system.now.records plain.now) }
     {
         match plain {
             None => self.see_completed(system.records()),
-            Some(PlainAnswer::Requested) => self.see_requested(system, event),
+            Some(PlainAnswer::Requested) => self.see_requested(lost, system, event),
             Some(PlainAnswer::Evicted) => self.see_evicted(event),
-            Some(PlainAnswer::Held) => self.held = more(self.held),
+            Some(PlainAnswer::Held) => self.see_held(system, event),
             Some(PlainAnswer::Dropped) => self.dropped = more(self.dropped),
             _ => (),
         }
@@ -95,8 +151,8 @@ impl EventCounts {
     // Counts the completion of the operation that the last record is of.
     #[inline(always)]
     fn see_completed(&mut self, records: &[Record])
-        ensures { (m : Machine) (event : Event) →
-            self.new ≡ answered self.old m event (answer_in records.now None) }
+        ensures { (lost : Lost) (m : Machine) (event : Event) →
+            self.new ≡ answered self.old lost m event (answer_in records.now None) }
     {
         if let Some(done) = records.last() {
             self.complete(done);
@@ -114,11 +170,11 @@ impl EventCounts {
     }
 
     // Counts an attempt that sent a request.
-    fn see_requested(&mut self, system: &System, event: &Event)
-        ensures { self.new ≡ requested self.old system.now event.now }
+    fn see_requested(&mut self, lost: &LostCopies, system: &System, event: &Event)
+        ensures { self.new ≡ requested self.old lost.now.lost system.now event.now }
     {
         if let Event::Attempt(core) = event {
-            self.ask(*core, cause_of(system, *core));
+            self.ask(*core, cause_of(lost, system, *core));
         }
     }
 
@@ -163,9 +219,114 @@ impl EventCounts {
         }
     }
 
+    // Counts a delivery that is held.
+    fn see_held(&mut self, system: &System, event: &Event)
+        ensures { self.new ≡ held (record self.old { held = more self.old.held }) system.now event.now }
+    {
+        self.held = more(self.held);
+        if let Event::Deliver(number) = event {
+            self.hold_message(system, *number);
+        }
+    }
+
+    // A delivery of the message with this number is held.
+    fn hold_message(&mut self, system: &System, number: MsgNo)
+        ensures { self.new ≡ held_message self.old (at_number number system.now.mail.messages) }
+    {
+        if let Some(message) = system.look(number) {
+            self.hold_at(message.to);
+        }
+    }
+
+    // A delivery to a node is held.
+    fn hold_at(&mut self, node: Node)
+        ensures { self.new ≡ held_at self.old node }
+    {
+        match node {
+            Node::Core(core) => self.hold_at_core(core),
+            Node::Bank(bank) => self.hold_at_bank(bank),
+            Node::Dram(_) => (),
+        }
+    }
+
+    // A delivery to a core is held.
+    fn hold_at_core(&mut self, core: u32)
+        ensures { self.new ≡ at_core self.old core core_held }
+    {
+        let at = core as usize;
+        if at < self.cores.len() {
+            self.cores[at].hold();
+        }
+    }
+
+    // A delivery to a bank is held.
+    fn hold_at_bank(&mut self, bank: u32)
+        ensures { self.new ≡ at_bank self.old bank bank_held }
+    {
+        let at = bank as usize;
+        if at < self.banks.len() {
+            self.banks[at].hold();
+        }
+    }
+
+    // Counts the message that an event sent.
+    fn see_message(&mut self, system: &System, event: &Event, message: &Message)
+        ensures { self.new ≡ with_message self.old system.now event.now (Some message.now) }
+    {
+        self.see_sent(message);
+        self.see_words(system, message);
+        if let Event::EvictCache(core, _) = event {
+            self.see_returned(*core, &message.body);
+        }
+    }
+
+    // A core that evicts a copy sends a message.
+    fn see_returned(&mut self, core: u32, body: &Body)
+        ensures { self.new ≡ returned_by self.old core body.now }
+    {
+        match body {
+            Body::FlushRep(_) => self.return_line(core),
+            Body::WbRep(_) => self.return_line(core),
+            _ => (),
+        }
+    }
+
+    // A core's eviction returns the line.
+    fn return_line(&mut self, core: u32)
+        ensures { self.new ≡ at_core self.old core returned_line }
+    {
+        let at = core as usize;
+        if at < self.cores.len() {
+            self.cores[at].return_line();
+        }
+    }
+
+    // Counts words that are sent to a core that has a copy of their line.
+    fn see_words(&mut self, system: &System, message: &Message)
+        ensures { self.new ≡ reloaded self.old system.now message.now.to message.now.line
+            message.now.body }
+    {
+        if let Node::Core(core) = message.to {
+            if let Body::ShRep(_) = message.body {
+                self.reload(system, core, message.line);
+            }
+        }
+    }
+
+    // Words of a line are sent to a core.
+    fn reload(&mut self, system: &System, core: u32, line: LineNo)
+        ensures { (words : TimedLine) →
+            self.new ≡ reloaded self.old system.now (Core core) line (ShRep words) }
+    {
+        let at = core as usize;
+        if has_copy(system, core, line) && at < self.cores.len() {
+            self.cores[at].reload();
+        }
+    }
+
     // Counts a message that was sent.
     fn see_sent(&mut self, message: &Message)
-        ensures { self.new ≡ sent self.old (Some message.now) }
+        ensures { self.new ≡ sent self.old message.now }
     {
         self.next = more(self.next);
         self.add_at(message.from, &message.body);
@@ -244,30 +405,14 @@ impl EventCounts {
     {
         self.next
     }
+}
 
-    // Counts the message at a place in the list of those in flight as sent.
-    fn see_nth(&mut self, system: &System, place: u32)
-        ensures { self.new ≡ sent self.old (message_at system.now.mail.messages place) }
-    {
-        let Some(number) = system.message(place) else {
-            return;
-        };
-        if let Some(message) = system.look(number) {
-            self.see_sent(message);
-        }
-    }
-
-    /// The messages of a machine that are in flight, counted as if they had just been sent, one after the other: by
-    /// core and by bank. What `KindCounts::without` leaves of those that were sent was delivered or dropped.
-    pub fn in_flight(alloc: Global, system: &System) -> Result<EventCounts, AllocError>
-        ensures { IfOk result (λ counts. counts ≡ first_sent
-            (no_counts system.now.config.cores system.now.config.banks)
-            system.now.mail.messages (length system.now.mail.messages)) }
-    {
-        let mut counts = EventCounts::new(alloc, system.cores(), system.banks())?;
-        for place in 0..system.messages() {
-            counts.see_nth(system, place);
-        }
-        Ok(counts)
+// Whether a core has a copy of a line.
+fn has_copy(system: &System, core: u32, line: LineNo) -> bool
+    ensures { result ≡ has_copy (slice_get system.now.cores core) line }
+{
+    match system.core(core) {
+        None => false,
+        Some(core) => core.copy(line).is_some(),
     }
 }

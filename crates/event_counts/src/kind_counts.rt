@@ -1,6 +1,6 @@
 //! Messages counted by their kinds.
 ghost use Rattle.std.specs.Prelude.{◌≡◌};
-ghost use Rattle.event_counts.specs.Counts.{more, with_kind, without};
+ghost use Rattle.event_counts.specs.Counts.{more, with_kind};
 
 use network::Body;
 
@@ -61,28 +61,6 @@ impl KindCounts {
             Body::DramLdRep(_) => self.dram_ld_rep = more(self.dram_ld_rep),
             Body::DramSt(_) => self.dram_st = more(self.dram_st),
             Body::DramStRep => self.dram_st_rep = more(self.dram_st_rep),
-        }
-    }
-
-    /// What is left, kind by kind, without others; 0 where those are more.
-    pub fn without(&self, other: &KindCounts) -> KindCounts
-        ensures { result ≡ without self.now other.now }
-    {
-        KindCounts {
-            sh_req: self.sh_req.saturating_sub(other.sh_req),
-            ex_req: self.ex_req.saturating_sub(other.ex_req),
-            sh_rep: self.sh_rep.saturating_sub(other.sh_rep),
-            ex_rep: self.ex_rep.saturating_sub(other.ex_rep),
-            renew_rep: self.renew_rep.saturating_sub(other.renew_rep),
-            upgrade_rep: self.upgrade_rep.saturating_sub(other.upgrade_rep),
-            flush_req: self.flush_req.saturating_sub(other.flush_req),
-            wb_req: self.wb_req.saturating_sub(other.wb_req),
-            flush_rep: self.flush_rep.saturating_sub(other.flush_rep),
-            wb_rep: self.wb_rep.saturating_sub(other.wb_rep),
-            dram_ld: self.dram_ld.saturating_sub(other.dram_ld),
-            dram_ld_rep: self.dram_ld_rep.saturating_sub(other.dram_ld_rep),
-            dram_st: self.dram_st.saturating_sub(other.dram_st),
-            dram_st_rep: self.dram_st_rep.saturating_sub(other.dram_st_rep),
         }
     }
 }

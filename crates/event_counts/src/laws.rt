@@ -1,5 +1,5 @@
 //! What holds of the counts of every run. The functions do nothing: their contracts are the laws.
-ghost use Rattle.std.specs.Prelude.{◌≡◌, ◌+◌, ◌^◌, ◌<◌, ◌≤◌, ℕ, List, length, slice_get};
+ghost use Rattle.std.specs.Prelude.{◌≡◌, ◌+◌, ◌^◌, ◌<◌, ◌≤◌, ℕ, List, Option, length, slice_get};
 ghost use Rattle.std.specs.Ordering.{nat_cmp};
 ghost use Rattle.std.specs.FinMap.{FinMap};
 ghost use Rattle.physiological_order.specs.Order.{of_core};
@@ -9,8 +9,8 @@ ghost use Rattle.machine_table.specs.Machine.{Machine};
 ghost use Rattle.machine_table.specs.Opening.{at_start};
 ghost use Rattle.machine_table.specs.Runs.{after_all};
 ghost use Rattle.machine_table.specs.Transition.{transition};
-ghost use Rattle.event_counts.specs.Counts.{HasCompleted, no_counts};
-ghost use Rattle.event_counts.specs.Counting.{counts_events};
+ghost use Rattle.event_counts.specs.Counts.{HasCompleted};
+ghost use Rattle.event_counts.specs.Counting.{counter_events, no_counter};
 ghost use Rattle.schedules.specs.Watches.{watched};
 
 /// An event sends one message at most. After any events since a machine opened, as many messages are counted as were
@@ -19,16 +19,17 @@ pub fn every_message_is_counted()
     ensures one { (m : Machine) (event : Event) →
         (transition m event).1.mail.next ≤ m.mail.next + 1 }
     ensures all { (config : Config) (memory : FinMap nat_cmp ℕ) (cores banks : ℕ)
-        (events : List Event) → let m = at_start config memory in
-        (watched counts_events (no_counts cores banks) m events).next ≡ (after_all m events).mail.next }
+        (every : Option ℕ) (events : List Event) → let m = at_start config memory in
+        (watched counter_events (no_counter cores banks every) m events).counts.next
+        ≡ (after_all m events).mail.next }
 {}
 
 /// After fewer than 2^64 events since a machine opened, the operations of a core that are counted as completed are as
 /// many as its records, and so are its hits and misses.
 pub fn every_record_is_counted()
     ensures { (config : Config) (memory : FinMap nat_cmp ℕ) (cores banks core : ℕ)
-        (events : List Event) → core < cores → length events < 2 ^ 64 →
+        (every : Option ℕ) (events : List Event) → core < cores → length events < 2 ^ 64 →
         let m = at_start config memory in
         HasCompleted (length (of_core core (after_all m events).records))
-        (slice_get (watched counts_events (no_counts cores banks) m events).cores core) }
+        (slice_get (watched counter_events (no_counter cores banks every) m events).counts.cores core) }
 {}

@@ -2,13 +2,17 @@
 #![tactic(auto)]
 
 pub mod cause;
+pub mod counter;
 pub mod event_counts;
 pub mod kind_counts;
 pub mod laws;
+mod lost_copies;
 pub mod part_counts;
+mod row_list;
 mod watching;
 
 pub use cause::Cause;
+pub use counter::Counter;
 pub use event_counts::EventCounts;
 pub use kind_counts::KindCounts;
 pub use part_counts::{BankCounts, CoreCounts};

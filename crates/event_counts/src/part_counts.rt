@@ -1,6 +1,7 @@
 //! What is counted of one core, and of one bank.
 ghost use Rattle.std.specs.Prelude.{◌≡◌};
-ghost use Rattle.event_counts.specs.Counts.{asked, bank_sent, completed, core_sent, evicted_copy, evicted_entry};
+ghost use Rattle.event_counts.specs.Counts.{asked, bank_held, bank_sent, completed, core_held, core_sent};
+ghost use Rattle.event_counts.specs.Counts.{evicted_copy, evicted_entry, reloaded_line, returned_line};
 ghost use Rattle.event_counts.specs.Counts.{with_end, with_op};
 
 use crate::cause::Cause;
@@ -18,13 +19,21 @@ pub struct CoreCounts {
     /// The operations that completed and sent no request.
     pub hits: u64,
     /// The others, by the cause of their first request.
-    pub absent: u64,
+    pub cold: u64,
+    pub evicted: u64,
+    pub recalled: u64,
     pub ended: u64,
     pub shared: u64,
     /// The cause of the open operation's first request, if one was sent.
     pub asked: Option<Cause>,
     /// The copies that were evicted.
-    pub evicted: u64,
+    pub evictions: u64,
+    /// The lines that went back because their copies were evicted: the other FlushReps and WbReps answered a recall.
+    pub returns: u64,
+    /// The ShReps that were sent to the core while it had a copy of the line: renewals with words.
+    pub reloads: u64,
+    /// The deliveries to the core that were held.
+    pub held: u64,
     /// The greatest time of an operation that completed; 0 if none did.
     pub last_time: u64,
     /// The messages that were sent by the core or to it.
@@ -38,11 +47,16 @@ impl CoreCounts {
         stores: 0,
         swaps: 0,
         hits: 0,
-        absent: 0,
+        cold: 0,
+        evicted: 0,
+        recalled: 0,
         ended: 0,
         shared: 0,
         asked: None,
-        evicted: 0,
+        evictions: 0,
+        returns: 0,
+        reloads: 0,
+        held: 0,
         last_time: 0,
         sent: KindCounts::NONE,
     };
@@ -64,7 +78,9 @@ impl CoreCounts {
     {
         match self.asked {
             None => self.hits = more(self.hits),
-            Some(Cause::Absent) => self.absent = more(self.absent),
+            Some(Cause::Cold) => self.cold = more(self.cold),
+            Some(Cause::Evicted) => self.evicted = more(self.evicted),
+            Some(Cause::Recalled) => self.recalled = more(self.recalled),
             Some(Cause::Ended) => self.ended = more(self.ended),
             Some(Cause::Shared) => self.shared = more(self.shared),
         }
@@ -93,7 +109,28 @@ impl CoreCounts {
     pub(crate) fn evict(&mut self)
         ensures { self.new ≡ evicted_copy self.old }
     {
-        self.evicted = more(self.evicted);
+        self.evictions = more(self.evictions);
+    }
+
+    // An eviction returns its line.
+    pub(crate) fn return_line(&mut self)
+        ensures { self.new ≡ returned_line self.old }
+    {
+        self.returns = more(self.returns);
+    }
+
+    // Words are sent to the core, which has a copy of their line.
+    pub(crate) fn reload(&mut self)
+        ensures { self.new ≡ reloaded_line self.old }
+    {
+        self.reloads = more(self.reloads);
+    }
+
+    // A delivery is held.
+    pub(crate) fn hold(&mut self)
+        ensures { self.new ≡ core_held self.old }
+    {
+        self.held = more(self.held);
     }
 
     // A message was sent.
@@ -108,7 +145,9 @@ impl CoreCounts {
 #[derive(Clone, Copy, Debug, PartialEq, Eq)]
 pub struct BankCounts {
     /// The entries that were evicted.
-    pub evicted: u64,
+    pub evictions: u64,
+    /// The deliveries to the bank that were held.
+    pub held: u64,
     /// The messages that were sent by the bank or to it, those between it and its DRAM included.
     pub sent: KindCounts,
 }
@@ -116,7 +155,8 @@ pub struct BankCounts {
 impl BankCounts {
     /// Nothing is counted.
     pub const NONE: BankCounts = BankCounts {
-        evicted: 0,
+        evictions: 0,
+        held: 0,
         sent: KindCounts::NONE,
     };
 
@@ -131,6 +171,13 @@ impl BankCounts {
     pub(crate) fn evict(&mut self)
         ensures { self.new ≡ evicted_entry self.old }
     {
-        self.evicted = more(self.evicted);
+        self.evictions = more(self.evictions);
+    }
+
+    // A delivery is held.
+    pub(crate) fn hold(&mut self)
+        ensures { self.new ≡ bank_held self.old }
+    {
+        self.held = more(self.held);
     }
 }

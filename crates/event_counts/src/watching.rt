@@ -1,22 +1,22 @@
-//! Counts as the watcher of a run.
-ghost use Rattle.event_counts.specs.Counting.{counts_events};
+//! A counter as the watcher of a run.
+ghost use Rattle.event_counts.specs.Counting.{counter_events};
 
-use crate::event_counts::EventCounts;
+use crate::counter::Counter;
 use interleaving_core::{Event, PlainAnswer, System};
 use schedules::Watcher;
 use std::alloc::AllocError;
 
-/// Counts each answered event of a run. It takes no memory for that.
-impl Watcher for EventCounts {
-    ghost watches = { counts_events };
+/// Counts each answered event of a run.
+impl Watcher for Counter {
+    ghost watches = { counter_events };
 
     #[inline(always)]
     fn reserve(&mut self) -> Result<(), AllocError> {
-        Ok(())
+        Counter::reserve(self)
     }
 
     #[inline(always)]
     fn see(&mut self, system: &System, event: &Event, plain: &Option<PlainAnswer>) {
-        EventCounts::see(self, system, event, plain);
+        Counter::see(self, system, event, plain);
     }
 }

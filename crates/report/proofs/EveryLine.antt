@@ -1,37 +1,11 @@
 -- The ends that are left of a list, and one less.
-use Rattle.std.proofs.Common.{◌≡◌, ℕ, zero, suc, ◌+◌, ◌≤◌, ◌++◌, Bool, true, false, cond, List, [], ◌∷◌, drop}
-use Rattle.std.proofs.Common.{Some, None, refl, sym, ap, ◌∙◌, append_assoc, append-nil, arith}
+use Rattle.std.proofs.Common.{◌≡◌, ℕ, ◌+◌, ◌≤◌, ◌++◌, Bool, true, false, cond, List, ◌∷◌, drop}
+use Rattle.std.proofs.Common.{Some, None, refl, ap, ◌∙◌, append_assoc, arith}
 use mir.Val.{bool_byte}
-use Rattle.std.specs.List.{flat_map}
 use Rattle.std.specs.Prelude.{slice_get}
 use Rattle.litmus_reader.specs.Litmus.{Litmus}
+use Rattle.report_lines.proofs.Lemmas.{drop_next, none_left}
 use Rattle.report.specs.EveryText.{held_of, is_held}
-
-drop_from : {X : Type 0} (ends : List X) (k : ℕ) (values : X) → slice_get ends k ≡ Some values →
-    drop k ends ≡ values ∷ drop (suc k) ends
-drop_from [] k values is = absurd (cc)
-drop_from (first ∷ ends) zero values is = cc
-drop_from (first ∷ ends) (suc k) values is = drop_from ends k values is
-
-pub drop_next : {X : Type 0} (ends : List X) (k : ℕ) (values : X) → slice_get ends k ≡ Some values →
-    drop k ends ≡ values ∷ drop (k + 1) ends
-drop_next ends k values is =
-    let next : suc k ≡ k + 1 = omega arith in
-    drop_from ends k values is ∙ ap (λ (n : ℕ). values ∷ drop n ends) next
-
-none_left : {X : Type 0} (ends : List X) (k : ℕ) → slice_get ends k ≡ None → drop k ends ≡ []
-none_left [] zero is = refl
-none_left [] (suc k) is = refl
-none_left (first ∷ ends) zero is = absurd (cc)
-none_left (first ∷ ends) (suc k) is = none_left ends k is
-
-pub lines_next : {X : Type 0} (line : X → List ℕ) (ends : List X) (k : ℕ) (values : X) (out more all : List ℕ) →
-    slice_get ends k ≡ Some values → out ++ flat_map line (drop k ends) ≡ all → more ≡ out ++ line values →
-    more ++ flat_map line (drop (k + 1) ends) ≡ all
-lines_next {X} line ends k values out more all at before is =
-    ap (λ (l : List ℕ). l ++ flat_map line (drop (k + 1) ends)) is
-    ∙ append_assoc out (line values) (flat_map line (drop (k + 1) ends))
-    ∙ ap (λ (left : List X). out ++ flat_map line left) (sym (drop_next ends k values at)) ∙ before
 
 byte_is : (b : Bool) → bool_byte b ≡ cond b 1 0
 byte_is true = refl
@@ -51,11 +25,6 @@ few_next true held more k few is = omega (arith, few, is)
 few_next false held more k few is = omega (arith, few, is)
 
 -- behind the last end
-pub lines_done : {X : Type 0} (line : X → List ℕ) (ends : List X) (k : ℕ) (out all : List ℕ) → slice_get ends k ≡ None →
-    out ++ flat_map line (drop k ends) ≡ all → out ≡ all
-lines_done {X} line ends k out all none done =
-    sym (append-nil out) ∙ ap (λ (left : List X). out ++ flat_map line left) (sym (none_left ends k none)) ∙ done
-
 pub held_done : (test : Litmus) (ends : List (List ℕ)) (k held all : ℕ) → slice_get ends k ≡ None →
     held + held_of test (drop k ends) ≡ all → held ≡ all
 held_done test ends k held all none done =

@@ -1,33 +1,43 @@
 //! The text that lists every end of a litmus test, part by part.
 ghost use Rattle.std.specs.Prelude.{◌≡◌, ◌<◌, ◌≤◌, ◌^◌, ◌++◌, ◌∷◌, length, IfOk, OnOk};
-ghost use Rattle.std.specs.List.{flat_map};
 ghost use Rattle.litmus_reader.specs.TestViews.{test_of};
 ghost use Rattle.sequential_ends.specs.Every.{values_in};
-ghost use Rattle.report.specs.EveryText.{condition_text, end_line, every_text, head_text, held_of};
-ghost use Rattle.report.specs.EveryText.{is_held, mark, observation_text, often, order_text, times, turn_text};
+ghost use Rattle.report.specs.EveryText.{condition_text, end_text, ends_text, every_text, has_order, head_text};
+ghost use Rattle.report.specs.EveryText.{held_of, is_held, mark, observation_line, observation_text, often};
+ghost use Rattle.report.specs.EveryText.{order_behind, order_text, times, turn_text};
 
 use itoa::Buffer;
 use litmus_reader::Test;
-use report_lines::{put_field, put_word};
+use report_lines::{
+    Layout, put_closing, put_either, put_field, put_list_closing, put_list_opening, put_opening,
+    put_parting, put_word,
+};
 use report_text::{put_values, quantifier_text};
 use sequential_ends::Ends;
 use std::alloc::{AllocError, Global};
 
 /// The test's name and threads, how many states were met, and how many ends there are.
-fn put_head(out: &mut Vec<u8>, test: &Test, every: &Ends) -> Result<(), AllocError>
-    ensures { OnOk result (out.new.items ≡ out.old.items ++ head_text (test_of test.now) every.now) }
+fn put_head(out: &mut Vec<u8>, layout: Layout, test: &Test, every: &Ends) -> Result<(), AllocError>
+    ensures { OnOk result (out.new.items ≡
+        out.old.items ++ head_text layout (test_of test.now) every.now) }
 {
-    put_word(out, b"test", test.name())?;
-    put_field(out, b"threads", test.threads() as u128)?;
-    put_field(out, b"states", u128::from(every.states()))?;
-    put_field(out, b"ends", every.len() as u128)
+    put_word(out, layout, b"test", test.name())?;
+    put_field(out, layout, b"threads", test.threads() as u128)?;
+    put_field(out, layout, b"states", u128::from(every.states()))?;
+    put_list_opening(out, layout, b"ends", every.len())
 }
 
-/// What stands before an end.
-fn mark(held: bool) -> u8
-    ensures { result ≡ mark held }
+/// What stands before the values of an end.
+#[tactic(auto, unfolding(crate::specs::EveryText::mark))]
+fn mark(layout: Layout, held: bool) -> &'static [u8]
+    ensures { result.now ≡ mark layout held }
 {
-    if held { b'*' } else { b' ' }
+    match (layout, held) {
+        (Layout::Lines, true) => b"*",
+        (Layout::Lines, false) => b" ",
+        (Layout::Json, true) => b"{\"holds\":true,\"values\":{",
+        (Layout::Json, false) => b"{\"holds\":false,\"values\":{",
+    }
 }
 
 /// How often a thread's number is among these.
@@ -47,56 +57,99 @@ fn times(thread: u8, done: &[u8]) -> usize
 }
 
 /// A thread, and which of its turns this is.
-fn put_turn(out: &mut Vec<u8>, thread: u8, number: usize) -> Result<(), AllocError>
-    ensures { OnOk result (out.new.items ≡ out.old.items ++ turn_text thread number) }
+#[tactic(auto, unfolding(crate::specs::EveryText::turn_text))]
+fn put_turn(out: &mut Vec<u8>, layout: Layout, thread: u8, number: usize) -> Result<(), AllocError>
+    ensures { OnOk result (out.new.items ≡ out.old.items ++ turn_text layout thread number) }
 {
     let mut digits = Buffer::new();
-    out.extend_from_slice(b" P")?;
+    put_either(out, layout, b" P", b"\"P")?;
     out.extend_from_slice(digits.format(thread).as_bytes())?;
     out.push(b':')?;
-    out.extend_from_slice(digits.format(number).as_bytes())
+    out.extend_from_slice(digits.format(number).as_bytes())?;
+    put_either(out, layout, b"", b"\"")
 }
 
-/// An order, if there is one.
-fn put_order(out: &mut Vec<u8>, order: &[u8]) -> Result<(), AllocError>
-    ensures { OnOk result (out.new.items ≡ out.old.items ++ order_text order.now) }
+/// An order.
+fn put_order(out: &mut Vec<u8>, layout: Layout, order: &[u8]) -> Result<(), AllocError>
+    ensures { OnOk result (out.new.items ≡ out.old.items ++ order_text layout order.now) }
 {
-    if order.is_empty() {
-        return Ok(());
-    }
-    out.extend_from_slice(b"  ")?;
+    put_either(out, layout, b"  ", b",\"order\":[")?;
     for at in 0..order.len() {
-        put_turn(out, order[at], times(order[at], &order[..at]) + 1)?;
+        put_parting(out, layout, at == 0)?;
+        put_turn(out, layout, order[at], times(order[at], &order[..at]) + 1)?;
+    }
+    put_list_closing(out, layout)
+}
+
+/// Whether an order stands behind an end.
+fn has_order(layout: Layout, orders: bool, order: &[u8]) -> bool
+    ensures { result ≡ has_order layout orders order.now }
+{
+    match layout {
+        Layout::Lines => order.len() > 0,
+        Layout::Json => orders,
+    }
+}
+
+/// An order behind an end, if there is to be one.
+#[tactic(auto, unfolding(crate::specs::EveryText::order_behind))]
+fn put_order_behind(
+    out: &mut Vec<u8>,
+    layout: Layout,
+    orders: bool,
+    order: &[u8],
+) -> Result<(), AllocError>
+    ensures { OnOk result (out.new.items ≡
+        out.old.items ++ order_behind layout orders order.now) }
+{
+    if has_order(layout, orders, order) {
+        return put_order(out, layout, order);
     }
     Ok(())
 }
 
-/// The line of an end. The answer is whether the condition's expression holds in it.
-fn put_end(out: &mut Vec<u8>, test: &Test, values: &[u64], order: &[u8]) -> Result<bool, AllocError>
-    ensures line { OnOk result (out.new.items ≡
-        out.old.items ++ end_line (test_of test.now) (values.now, order.now)) }
+/// An end. The answer is whether the condition's expression holds in it.
+#[tactic(auto, unfolding(crate::specs::EveryText::end_text))]
+fn put_end(
+    out: &mut Vec<u8>,
+    layout: Layout,
+    orders: bool,
+    test: &Test,
+    values: &[u64],
+    order: &[u8],
+) -> Result<bool, AllocError>
+    ensures text { OnOk result (out.new.items ≡
+        out.old.items ++ end_text layout orders (test_of test.now) (values.now, order.now)) }
     ensures held { IfOk result (λ held. held ≡ is_held (test_of test.now) values.now) }
 {
     let held = test.values_hold(values);
-    out.push(mark(held))?;
-    put_values(out, test, values)?;
-    put_order(out, order)?;
-    out.push(b'\n')?;
+    out.extend_from_slice(mark(layout, held))?;
+    put_values(out, layout, test, values)?;
+    put_either(out, layout, b"", b"}")?;
+    put_order_behind(out, layout, orders, order)?;
+    put_either(out, layout, b"\n", b"}")?;
     Ok(held)
 }
 
-/// A line for each end. The answer is in how many of them the condition's expression holds.
-fn put_ends(out: &mut Vec<u8>, test: &Test, every: &Ends) -> Result<usize, AllocError>
+/// Each end. The answer is in how many of them the condition's expression holds.
+fn put_ends(
+    out: &mut Vec<u8>,
+    layout: Layout,
+    orders: bool,
+    test: &Test,
+    every: &Ends,
+) -> Result<usize, AllocError>
     requires { length every.now.ends < 2 ^ 64 }
-    ensures lines { OnOk result (out.new.items ≡
-        out.old.items ++ flat_map (end_line (test_of test.now)) every.now.ends) }
+    ensures ends { OnOk result (out.new.items ≡
+        out.old.items ++ ends_text layout orders (test_of test.now) every.now.ends) }
     ensures held { IfOk result (λ held. held ≡ held_of (test_of test.now) (values_in every.now)) }
     ensures few { IfOk result (λ held. held ≤ length every.now.ends) }
 {
     let mut held = 0;
     let mut number = 0;
     while let Some((values, order)) = every.get(number) {
-        let is_held = put_end(out, test, values, order)?;
+        put_parting(out, layout, number == 0)?;
+        let is_held = put_end(out, layout, orders, test, values, order)?;
         held += usize::from(is_held);
         number += 1;
     }
@@ -117,12 +170,17 @@ fn often(held: usize, ends: usize) -> &'static [u8]
 }
 
 /// The condition, and in how many ends its expression holds.
-fn put_condition(out: &mut Vec<u8>, test: &Test, held: usize) -> Result<(), AllocError>
+fn put_condition(
+    out: &mut Vec<u8>,
+    layout: Layout,
+    test: &Test,
+    held: usize,
+) -> Result<(), AllocError>
     ensures { OnOk result (out.new.items ≡
-        out.old.items ++ condition_text (test_of test.now) held) }
+        out.old.items ++ condition_text layout (test_of test.now) held) }
 {
-    put_word(out, b"condition", quantifier_text(test.condition()))?;
-    put_field(out, b"held", held as u128)
+    put_word(out, layout, b"condition", quantifier_text(test.condition()))?;
+    put_field(out, layout, b"held", held as u128)
 }
 
 /// A space and a word.
@@ -134,7 +192,7 @@ fn put_next(out: &mut Vec<u8>, word: &[u8]) -> Result<(), AllocError>
 }
 
 /// The test's name, how often the expression holds, and in how many ends it does and doesn't.
-fn put_observation(
+fn put_observation_line(
     out: &mut Vec<u8>,
     test: &Test,
     held: usize,
@@ -142,28 +200,57 @@ fn put_observation(
 ) -> Result<(), AllocError>
     requires { held ≤ ends }
     ensures { OnOk result (out.new.items ≡
-        out.old.items ++ observation_text (test_of test.now) held ends) }
+        out.old.items ++ observation_line (test_of test.now) held ends) }
 {
     let mut digits = Buffer::new();
     out.extend_from_slice(b"observation")?;
     put_next(out, test.name())?;
     put_next(out, often(held, ends))?;
     put_next(out, digits.format(held).as_bytes())?;
-    put_field(out, b"", (ends - held) as u128)?;
+    put_field(out, Layout::Lines, b"", (ends - held) as u128)?;
     Ok(())
 }
 
-/// The text that lists every end of a test, in lines that end with a line feed: how many states were met and how many
-/// ends there are; each end, with a star if the condition's expression holds in it; and in how many ends it does.
+/// The same line, or the member that says how often the expression holds.
+#[tactic(auto, unfolding(crate::specs::EveryText::observation_text))]
+fn put_observation(
+    out: &mut Vec<u8>,
+    layout: Layout,
+    test: &Test,
+    held: usize,
+    ends: usize,
+) -> Result<(), AllocError>
+    requires { held ≤ ends }
+    ensures { OnOk result (out.new.items ≡
+        out.old.items ++ observation_text layout (test_of test.now) held ends) }
+{
+    match layout {
+        Layout::Lines => put_observation_line(out, test, held, ends),
+        Layout::Json => put_word(out, layout, b"observation", often(held, ends)),
+    }
+}
+
+/// The text that lists every end of a test, in lines that end with a line feed or as one JSON object: how many states
+/// were met and how many ends there are; each end, and whether the condition's expression holds in it, in a line by a
+/// star; and in how many ends it does. An object has an order with each end if orders were asked for.
 #[tactic(auto, unfolding(crate::specs::EveryText::every_text))]
-pub(crate) fn every_text(alloc: Global, test: &Test, every: &Ends) -> Result<Vec<u8>, AllocError>
-    ensures { IfOk result (λ text. text.items ≡ every_text (test_of test.now) every.now) }
+pub(crate) fn every_text(
+    alloc: Global,
+    layout: Layout,
+    test: &Test,
+    every: &Ends,
+    orders: bool,
+) -> Result<Vec<u8>, AllocError>
+    ensures { IfOk result (λ text. text.items ≡ every_text layout (test_of test.now) every.now orders) }
 {
     let ends = every.len();
     let mut out = Vec::new(alloc);
-    put_head(&mut out, test, every)?;
-    let held = put_ends(&mut out, test, every)?;
-    put_condition(&mut out, test, held)?;
-    put_observation(&mut out, test, held, ends)?;
+    put_opening(&mut out, layout, b"ends")?;
+    put_head(&mut out, layout, test, every)?;
+    let held = put_ends(&mut out, layout, orders, test, every)?;
+    put_list_closing(&mut out, layout)?;
+    put_condition(&mut out, layout, test, held)?;
+    put_observation(&mut out, layout, test, held, ends)?;
+    put_closing(&mut out, layout)?;
     Ok(out)
 }

@@ -1,2 +1,3 @@
 mod HexDigits
+mod PartedItems
 pub mod Lemmas

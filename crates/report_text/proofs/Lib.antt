@@ -1,4 +1,4 @@
 mod AddedUp
 mod EndedRuns
 mod OneMore
-mod LineByLine
+mod FirstItems

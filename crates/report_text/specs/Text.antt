@@ -25,10 +25,14 @@ ends_text layout test runs endings = word_field layout (codes "test") test.name
     ++ field layout (codes "exhausted") endings.exhausted
     ++ field layout (codes "memory") endings.no_memory
 
+-- the end states, in order
+abbrev pub state_list : Layout → Litmus → List (ℕ × NamedValues) → List ℕ
+state_list layout test states = parted layout (λ at. state_text layout test) 0 states
+
 -- how many end states there are, and each of them
 abbrev pub states_text : Layout → Litmus → List (ℕ × NamedValues) → List ℕ
-states_text layout test states = list_opening layout (codes "states") (length states)
-    ++ parted layout (λ at. state_text layout test) 0 states ++ list_closing layout
+states_text layout test states =
+    list_opening layout (codes "states") (length states) ++ state_list layout test states ++ list_closing layout
 
 -- exists: in some run; ~exists: in none; forall: in all that are all done
 abbrev pub is_yes : Quantifier → ℕ → ℕ → Bool

@@ -3,7 +3,8 @@
 ghost use Rattle.std.specs.Prelude.{◌≡◌, ◌++◌, OnOk, IfOk};
 ghost use Rattle.litmus_reader.specs.TestViews.{test_of};
 ghost use Rattle.report_text.specs.States.{state_entries};
-ghost use Rattle.report_text.specs.Text.{ends_text, states_text, is_yes, condition_text, sums_text, litmus_text};
+ghost use Rattle.report_text.specs.Text.{condition_text, ends_text, is_yes, litmus_text, state_list};
+ghost use Rattle.report_text.specs.Text.{states_text, sums_text};
 
 use crate::ends::{Endings, endings_of};
 use crate::lines::{put_state, quantifier_text};
@@ -19,7 +20,13 @@ use report_lines::{
 use std::alloc::{AllocError, Global};
 
 /// The test's name and threads, how many runs there are, and how many of them ended in which way.
-fn put_ends(out: &mut Vec<u8>, layout: Layout, test: &Test, runs: usize, endings: Endings) -> Result<(), AllocError>
+fn put_ends(
+    out: &mut Vec<u8>,
+    layout: Layout,
+    test: &Test,
+    runs: usize,
+    endings: Endings,
+) -> Result<(), AllocError>
     ensures { OnOk result (out.new.items ≡
         out.old.items ++ ends_text layout (test_of test.now) runs endings) }
 {
@@ -33,6 +40,25 @@ fn put_ends(out: &mut Vec<u8>, layout: Layout, test: &Test, runs: usize, endings
     put_field(out, layout, b"memory", endings.no_memory as u128)
 }
 
+/// The end states, in order.
+fn put_state_list(
+    out: &mut Vec<u8>,
+    layout: Layout,
+    test: &Test,
+    states: &IndexMap<&[u64], u64>,
+) -> Result<(), AllocError>
+    ensures { OnOk result (out.new.items ≡ out.old.items
+        ++ state_list layout (test_of test.now) (state_entries states.now.entries)) }
+{
+    let mut index = 0;
+    while let Some((values, count)) = states.get_index(index) {
+        put_parting(out, layout, index == 0)?;
+        put_state(out, layout, test, *count, *values)?;
+        index += 1;
+    }
+    Ok(())
+}
+
 /// How many end states there are, and each of them.
 fn put_states(
     out: &mut Vec<u8>,
@@ -44,12 +70,7 @@ fn put_states(
         out.old.items ++ states_text layout (test_of test.now) (state_entries states.now.entries)) }
 {
     put_list_opening(out, layout, b"states", states.len())?;
-    let mut index = 0;
-    while let Some((values, count)) = states.get_index(index) {
-        put_parting(out, layout, index == 0)?;
-        put_state(out, layout, test, *count, *values)?;
-        index += 1;
-    }
+    put_state_list(out, layout, test, states)?;
     put_list_closing(out, layout)
 }
 
@@ -65,7 +86,12 @@ fn is_yes(quantifier: Quantifier, held: usize, all_done: usize) -> bool
 }
 
 /// The condition, in how many runs its expression holds, and the verdict.
-fn put_condition(out: &mut Vec<u8>, layout: Layout, test: &Test, endings: Endings) -> Result<(), AllocError>
+fn put_condition(
+    out: &mut Vec<u8>,
+    layout: Layout,
+    test: &Test,
+    endings: Endings,
+) -> Result<(), AllocError>
     ensures { OnOk result (out.new.items ≡
         out.old.items ++ condition_text layout (test_of test.now) endings) }
 {

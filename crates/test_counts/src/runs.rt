@@ -1,5 +1,5 @@
 //! Runs whose counts were worked out by hand, from docs/COUNTS.md and docs/PROTOCOL.md.
-use event_counts::{BankCounts, CoreCounts, EventCounts, KindCounts};
+use event_counts::{BankCounts, CoreCounts, Counter, KindCounts};
 use interleaving_core::{Config, Event, LineNo, MsgNo, System};
 use physiological_order::{Memory, Op, WordAddr};
 use std::alloc::Global;
@@ -43,22 +43,33 @@ struct Wanted {
 
 const NO_CORE: CoreCounts = CoreCounts::NONE;
 
+const NO_BANK: BankCounts = BankCounts::NONE;
+
 const NO_KINDS: KindCounts = KindCounts::NONE;
 
 // The counts of a machine that has just opened and made these events; `None` if an allocation failed.
-fn counted(alloc: Global, system: &mut System, events: &[Event]) -> Option<EventCounts> {
-    let mut counts = EventCounts::new(alloc, system.cores(), system.banks()).ok()?;
+fn counted(
+    alloc: Global,
+    system: &mut System,
+    events: &[Event],
+    every: Option<u64>,
+) -> Option<Counter> {
+    let mut counter = Counter::new(alloc, system.cores(), system.banks(), every).ok()?;
     for event in events {
+        if counter.reserve().is_err() {
+            return None;
+        }
         let plain = system.step_plain(*event);
-        counts.see(system, event, &plain);
+        counter.see(system, event, &plain);
     }
-    Some(counts)
+    Some(counter)
 }
 
 // Whether a run of these events is counted so.
 fn is_counted(alloc: Global, events: &[Event], wanted: &Wanted) -> Option<bool> {
     let mut system = System::new(alloc, TWO_CORES, Memory::new(alloc)).ok()?;
-    let counts = counted(alloc, &mut system, events)?;
+    let counter = counted(alloc, &mut system, events, None)?;
+    let counts = counter.counts();
     let are_parts = counts.cores() == wanted.cores.as_slice()
         && counts.banks() == [wanted.bank].as_slice();
     let are_numbers = counts.events() == events.len() as u64
@@ -92,7 +103,7 @@ fn a_first_store_is_counted(rt: HostRuntime) {
         cores: [
             CoreCounts {
                 stores: 1,
-                absent: 1,
+                cold: 1,
                 last_time: 1,
                 sent,
                 ..NO_CORE
@@ -100,12 +111,13 @@ fn a_first_store_is_counted(rt: HostRuntime) {
             NO_CORE,
         ],
         bank: BankCounts {
-            evicted: 0,
+            held: 1,
             sent: KindCounts {
                 dram_ld: 1,
                 dram_ld_rep: 1,
                 ..sent
             },
+            ..NO_BANK
         },
         held: 1,
         dropped: 0,
@@ -150,7 +162,7 @@ fn an_ended_lease_and_a_write_back_are_counted(rt: HostRuntime) {
         cores: [
             CoreCounts {
                 stores: 1,
-                absent: 1,
+                cold: 1,
                 last_time: 4,
                 sent: KindCounts {
                     ex_req: 1,
@@ -164,7 +176,7 @@ fn an_ended_lease_and_a_write_back_are_counted(rt: HostRuntime) {
             CoreCounts {
                 loads: 3,
                 hits: 1,
-                absent: 1,
+                cold: 1,
                 ended: 1,
                 last_time: 4,
                 sent: KindCounts {
@@ -176,7 +188,6 @@ fn an_ended_lease_and_a_write_back_are_counted(rt: HostRuntime) {
             },
         ],
         bank: BankCounts {
-            evicted: 0,
             sent: KindCounts {
                 sh_req: 2,
                 sh_rep: 2,
@@ -188,6 +199,7 @@ fn an_ended_lease_and_a_write_back_are_counted(rt: HostRuntime) {
                 dram_ld_rep: 1,
                 ..NO_KINDS
             },
+            ..NO_BANK
         },
         held: 0,
         dropped: 0,
@@ -235,9 +247,10 @@ fn evictions_and_a_dropped_recall_are_counted(rt: HostRuntime) {
             CoreCounts {
                 loads: 1,
                 stores: 1,
-                absent: 1,
+                cold: 1,
                 shared: 1,
-                evicted: 1,
+                evictions: 1,
+                returns: 1,
                 last_time: 4,
                 sent,
                 ..NO_CORE
@@ -245,7 +258,7 @@ fn evictions_and_a_dropped_recall_are_counted(rt: HostRuntime) {
             NO_CORE,
         ],
         bank: BankCounts {
-            evicted: 1,
+            evictions: 1,
             sent: KindCounts {
                 dram_ld: 1,
                 dram_ld_rep: 1,
@@ -253,40 +266,10 @@ fn evictions_and_a_dropped_recall_are_counted(rt: HostRuntime) {
                 dram_st_rep: 1,
                 ..sent
             },
+            ..NO_BANK
         },
         held: 0,
         dropped: 1,
     };
     assert_eq!(rt; is_counted(rt.alloc(), &events, &wanted), Some(true));
-}
-
-// What the run of two cores with a request each has delivered when the first request is, as their bank's counts say.
-fn delivered(alloc: Global) -> Option<(KindCounts, u64)> {
-    let mut system = System::new(alloc, TWO_CORES, Memory::new(alloc)).ok()?;
-    let events = [
-        load(0, 0),
-        Event::Attempt(0),
-        load(1, 1),
-        Event::Attempt(1),
-        deliver(0),
-        deliver(2),
-        deliver(3),
-        deliver(0),
-    ];
-    let counts = counted(alloc, &mut system, &events)?;
-    let left = EventCounts::in_flight(alloc, &system).ok()?;
-    let (all, here) = (counts.banks().first()?, left.banks().first()?);
-    Some((all.sent.without(&here.sent), left.messages()))
-}
-
-// Messages 1, core 1's request, and 4, the reply to core 0, are in flight.
-#[test]
-fn what_is_not_in_flight_was_delivered(rt: HostRuntime) {
-    let wanted = KindCounts {
-        sh_req: 1,
-        dram_ld: 1,
-        dram_ld_rep: 1,
-        ..NO_KINDS
-    };
-    assert!(rt; delivered(rt.alloc()) == Some((wanted, 2)));
 }

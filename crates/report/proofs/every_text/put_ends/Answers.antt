@@ -3,9 +3,10 @@ use mir.Val.{bool_byte}
 use Rattle.std.specs.Borrow.{Bor}
 use Rattle.std.proofs.lemmas.Option.{slice_get-map, slice_get_within}
 use Rattle.litmus_reader.specs.TestViews.{test_of}
-use Rattle.report.specs.EveryText.{end_line}
+use Rattle.report_lines.proofs.Lemmas.{parted_done, parted_next}
+use Rattle.report.specs.EveryText.{end_text}
 use Rattle.sequential_ends.specs.Every.{values_in}
-use Rattle.report.proofs.EveryLine.{few_next, held_done, held_next, lines_done, lines_next}
+use Rattle.report.proofs.EveryLine.{few_next, held_done, held_next}
 use Rattle.report.proofs.every_text.put_ends.Goals as goal
 
 pub overflow_add-held : goal.overflow_add-held
@@ -34,8 +35,9 @@ loop-values-preserved c =
     let more = ap (λ (n : ℕ). c.loop-values.held + n) c.from-held.ensures in
     let within = slice_get_within ends c.loop-values.number _ (sym c.in-Some.ensures) in
     record {
-      lines = lines_next (end_line test) ends c.loop-values.number _ _ _ _ (sym c.in-Some.ensures)
-          c.loop-values.invariant.lines c.in_ok-is_held.ensures.line;
+      ends = parted_next c.args.layout (λ at. end_text c.args.layout c.args.orders test) ends c.loop-values.number
+          _ _ _ _ _ (sym c.in-Some.ensures) c.loop-values.invariant.ends c.in_ok-put_parting.ensures
+          c.in_ok-is_held.ensures.text;
       held = held_next test (values_in c.args.every.now) c.loop-values.number _ c.loop-values.held _ _
           (slice_get-map (λ (end : List ℕ × List ℕ). end.0) ends c.loop-values.number
           ∙ ap (option_map (λ (end : List ℕ × List ℕ). end.0)) (sym c.in-Some.ensures))
@@ -48,9 +50,11 @@ loop-values-preserved c =
 abbrev now_of : Option (Bor (List ℕ) × Bor (List ℕ)) → Option (List ℕ × List ℕ)
 now_of o = option_map (λ end. (end.0.now, end.1.now)) o
 
-pub returns-clause-lines : goal.returns-clause-lines
-returns-clause-lines c = lines_done (end_line (test_of c.args.test.now)) c.args.every.now.ends c.loop-values.number _ _
-    (sym c.get.ensures ∙ ap now_of c.in_default.is) c.loop-values.invariant.lines
+pub returns-clause-ends : goal.returns-clause-ends
+returns-clause-ends c =
+    parted_done c.args.layout (λ at. end_text c.args.layout c.args.orders (test_of c.args.test.now))
+    c.args.every.now.ends c.loop-values.number _ _ (sym c.get.ensures ∙ ap now_of c.in_default.is)
+    c.loop-values.invariant.ends
 
 pub returns-clause-held : goal.returns-clause-held
 returns-clause-held c = held_done (test_of c.args.test.now) (values_in c.args.every.now) c.loop-values.number _ _

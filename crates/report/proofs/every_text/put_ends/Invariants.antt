@@ -1,15 +1,16 @@
 use Rattle.std.proofs.Common.{◌≡◌, ◌+◌, ◌-◌, ◌≤◌, ◌++◌, length, drop}
-use Rattle.std.specs.List.{flat_map}
 use Rattle.litmus_reader.specs.TestViews.{test_of}
-use Rattle.report.specs.EveryText.{end_line, held_of}
+use Rattle.report_lines.specs.Layouts.{parted}
+use Rattle.report.specs.EveryText.{end_text, ends_text, held_of}
 use Rattle.sequential_ends.specs.Every.{values_in}
 use Rattle.report.proofs.every_text.put_ends.Given as goal
 
--- the lines so far and those of what is left are all, and so are the ends in which the expression holds
+-- the ends so far and those that are left are all, and so are the ends in which the expression holds
 abbrev pub invariant-loop-values : goal.invariant-loop-values
 invariant-loop-values l = record {
-  lines : l.out.items ++ flat_map (end_line (test_of l.test)) (drop l.number l.every.ends) ≡ l.fn.out.items
-      ++ flat_map (end_line (test_of l.test)) l.every.ends;
+  ends : l.out.items ++ parted l.layout (λ at. end_text l.layout l.orders (test_of l.test)) l.number
+      (drop l.number l.every.ends)
+      ≡ l.fn.out.items ++ ends_text l.layout l.orders (test_of l.test) l.every.ends;
   held : l.held + held_of (test_of l.test) (drop l.number (values_in l.every))
       ≡ held_of (test_of l.test) (values_in l.every);
   few : l.held ≤ l.number;

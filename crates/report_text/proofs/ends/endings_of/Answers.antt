@@ -3,7 +3,7 @@ use Rattle.litmus_reader.specs.TestViews.{test_of}
 use Rattle.report_text.specs.Ends.{endings_of, with_run}
 use Rattle.report_text.specs.declared.ends.Endings.{Endings}
 use Rattle.report_text.proofs.EndedRuns.{are_few, endings_next}
-use Rattle.report_text.proofs.LineByLine.{take_next}
+use Rattle.report_text.proofs.FirstItems.{take_next}
 use Rattle.report_text.proofs.ends.endings_of.Goals as goal
 
 pub loop-run-init : goal.loop-run-init

@@ -1,7 +1,7 @@
 use Rattle.std.proofs.Common.{◌≡◌, ◌<◌, ◌^◌, ◌∙◌, sym, ap, rules, arith, length, take, ◌+◌, ◌++◌, ◌∷◌, []}
 use Rattle.report_text.specs.States.{one_more}
 use Rattle.report_text.proofs.OneMore.{few_counted, with_state, with_none}
-use Rattle.report_text.proofs.LineByLine.{take_next}
+use Rattle.report_text.proofs.FirstItems.{take_next}
 use Rattle.report_text.proofs.states.count_states.Goals as goal
 use Rattle.report_text.proofs.states.count_states.Goals.{in-Some+in_ok-count_one, in_default}
 

@@ -2,7 +2,7 @@ use Rattle.std.proofs.Common.{◌∙◌, ap, sym, refl}
 use Rattle.report_text.specs.Sums.{sums_of, sums_after}
 use Rattle.report_text.specs.declared.sums.Sums.{Sums}
 use Rattle.report_text.proofs.AddedUp.{sums_next}
-use Rattle.report_text.proofs.LineByLine.{take_next}
+use Rattle.report_text.proofs.FirstItems.{take_next}
 use Rattle.report_text.proofs.sums.sums_of.Goals as goal
 
 pub loop-run-init : goal.loop-run-init

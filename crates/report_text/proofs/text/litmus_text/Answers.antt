@@ -1,5 +1,6 @@
-use Rattle.std.proofs.Common.{◌++◌, ap₂, length, ◌∙◌}
+use Rattle.std.proofs.Common.{◌++◌, List, ℕ, ap, ap₂, length, codes, ◌∙◌}
 use Rattle.litmus_reader.specs.TestViews.{test_of}
+use Rattle.report_lines.specs.Layouts.{closing, opening}
 use Rattle.report_text.specs.Text.{ends_text, states_text, condition_text, sums_text, litmus_text}
 use Rattle.report_text.proofs.text.litmus_text.Goals as goal
 
@@ -7,13 +8,17 @@ use Rattle.report_text.proofs.text.litmus_text.Goals as goal
 pub returns : goal.returns
 unfolding litmus_text
 returns c =
+    let layout = c.args.layout in
     let test = test_of c.args.test.now in
     let runs = length c.args.runs.now in
-    c.in_ok-put_sums.ensures ∙ ap₂ (λ t sums. t ++ sums_text sums)
-    (c.in_ok-put_condition.ensures ∙ ap₂ (λ t endings. t ++ condition_text test endings)
-    (c.in_ok-put_states.ensures ∙ ap₂ (λ t states. t ++ states_text test states)
-    (c.in_ok-put_ends.ensures ∙ ap₂ (λ t endings. t ++ ends_text test runs endings) c.new-out.ensures.items
+    let opened = c.in_ok-put_opening.ensures
+    ∙ ap (λ (t : List ℕ). t ++ opening layout (codes "litmus")) c.new-out.ensures.items in
+    c.in_ok-put_closing.ensures ∙ ap (λ (t : List ℕ). t ++ closing layout)
+    (c.in_ok-put_sums.ensures ∙ ap₂ (λ t sums. t ++ sums_text layout sums)
+    (c.in_ok-put_condition.ensures ∙ ap₂ (λ t endings. t ++ condition_text layout test endings)
+    (c.in_ok-put_states.ensures ∙ ap₂ (λ t states. t ++ states_text layout test states)
+    (c.in_ok-put_ends.ensures ∙ ap₂ (λ t endings. t ++ ends_text layout test runs endings) opened
     c.endings_of-endings.ensures)
     c.in_ok-states.ensures)
     c.endings_of-endings.ensures)
-    c.sums_of.ensures
+    c.sums_of.ensures)

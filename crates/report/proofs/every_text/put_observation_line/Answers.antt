@@ -2,7 +2,7 @@ use Rattle.std.proofs.Common.{◌++◌, ◌∷◌, ◌∙◌, codes, decimal}
 use Rattle.litmus_reader.specs.TestViews.{test_of}
 use Rattle.report.specs.EveryText.{often}
 use Rattle.report.proofs.EveryLine.{behind, word_behind}
-use Rattle.report.proofs.every_text.put_observation.Goals as goal
+use Rattle.report.proofs.every_text.put_observation_line.Goals as goal
 
 pub returns : goal.returns
 returns c =

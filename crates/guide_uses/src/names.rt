@@ -15,7 +15,7 @@ use mailboxes::{
 };
 use physiological_order::{Memory, Op, Record, WordAddr};
 use report::{
-    Done, RunError, ToWrite, TraceEnd, TraceOptions, litmus_text, records_text, run_check,
+    Done, Layout, RunError, ToWrite, TraceEnd, TraceOptions, litmus_text, records_text, run_check,
     run_trace, trace_text,
 };
 use std::alloc::{AllocError, Global};
@@ -96,7 +96,7 @@ pub fn report_by_seeds<R: Threads + Sync>(
     requires cores { config.cores ≡ (test_of test.now).threads }
 {
     let runs: Vec<RunEnd> = batch(rt, alloc, test, config, 0, 10, 1000, 2, &Free)?;
-    litmus_text(alloc, test, &runs)
+    litmus_text(alloc, Layout::Lines, test, &runs)
 }
 
 /// How many seats a shared machine has.
@@ -170,7 +170,7 @@ pub fn texts(
     records: &[Record],
     values: &[(WordAddr, u64)],
 ) -> Result<(Vec<u8>, Vec<u8>), AllocError> {
-    let report = trace_text(alloc, trace, run, records, values)?;
+    let report = trace_text(alloc, Layout::Lines, trace, run, records, values)?;
     Ok((report, records_text(alloc, records)?))
 }
 

@@ -15,6 +15,7 @@ use Rattle.sequential_ends.specs.Layers.{kept_at}
 use Rattle.sequential_ends.specs.Orders.{AreEndOrders}
 use Rattle.sequential_machine.specs.SequentialMachine.{IsOutcome}
 use Rattle.report.specs.EveryText.{every_text}
+use Rattle.report.specs.Layouts.{layout_of}
 use Rattle.report.specs.Litmus.{HasNoTest}
 
 -- an end is listed exactly if it is an outcome of the test; they rise, each once, and the points that were met are
@@ -34,7 +35,7 @@ pub record IsEndsReport (options : EndsOptions) (bytes : List ℕ) (all_done : B
   pub every : Every
   pub is_test : IsTest bytes test
   pub lists : ListsEnds test options every
-  pub text_is : text ≡ every_text test every
+  pub text_is : text ≡ every_text (layout_of options.json) test every options.orders
   pub done : all_done ≡ true
 
 -- why bytes have no list of ends: they are no test, or it has a layer that has more points with the next

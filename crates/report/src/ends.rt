@@ -7,7 +7,7 @@ ghost use Rattle.report.specs.Ends.{HasNoEnds, IsEndsReport};
 
 use crate::every_text::every_text;
 use crate::litmus::test_in;
-use crate::outputs::put_out;
+use crate::outputs::{layout_of, put_out};
 use crate::sources::text_of;
 use byte_streams::{Sink, Source};
 use run_options::EndsOptions;
@@ -67,7 +67,8 @@ fn list_of(alloc: Global, bytes: &[u8], options: &EndsOptions) -> Result<Vec<u8>
         }
         Err(EndsError::NoMemory) => return Err(RunError::NoMemory),
     };
-    match every_text(alloc, &test, &every) {
+    let layout = layout_of(options.json);
+    match every_text(alloc, layout, &test, &every, options.orders) {
         Ok(text) => Ok(text),
         Err(AllocError) => Err(RunError::NoMemory),
     }

@@ -161,7 +161,14 @@ pub fn check_report(alloc: Global, trace: &[u8], records: &[u8]) -> Result<Repor
     let mut trace = InMemory { rest: trace };
     let mut records = InMemory { rest: records };
     let zeros = Memory::new(alloc);
-    verdict_on(alloc, &mut trace, &mut records, &zeros, false, Layout::Lines)
+    verdict_on(
+        alloc,
+        &mut trace,
+        &mut records,
+        &zeros,
+        false,
+        Layout::Lines,
+    )
 }
 
 /// The report on the verdict on records for what a trace issues, over the memory that an opening gives, all three as

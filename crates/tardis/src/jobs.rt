@@ -220,5 +220,13 @@ fn check_on<S: Source + Drop, K: Sink>(
     let mut first = trace;
     let mut second = records;
     let layout = layout_of(options.json);
-    check_history(alloc, &mut first, &mut second, out, opening, options.complete, layout)
+    check_history(
+        alloc,
+        &mut first,
+        &mut second,
+        out,
+        opening,
+        options.complete,
+        layout,
+    )
 }

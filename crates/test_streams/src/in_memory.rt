@@ -89,6 +89,12 @@ word 0x8 5
 word 0x10 0
 ";
 
+const TOLD_OBJECT: &[u8] =
+    b"{\"version\":1,\"command\":\"trace\",\"cores\":1,\"issued\":4,\"completed\":4,\
+\"end\":\"all-done\",\"loads\":2,\"stores\":1,\"swaps\":1,\"renewals\":0,\"upgrades\":0,\"flushes\":0,\
+\"write-backs\":0,\"stale-hits\":0,\"order\":\"legal\",\"words\":{\"0x0\":7,\"0x8\":5,\"0x10\":0}}
+";
+
 fn by_rounds(limit: u64, lease: u64) -> RunOptions
     ensures { FollowsPolicy result }
 {
@@ -107,14 +113,32 @@ fn by_rounds(limit: u64, lease: u64) -> RunOptions
 fn litmus(alloc: Global, text: &[u8], runs: u64, run: RunOptions) -> Result<Report, RunError>
     requires { FollowsPolicy run }
 {
-    litmus_report(alloc, text, &LitmusOptions { runs, run })
+    let options = LitmusOptions {
+        runs,
+        run,
+        ..LitmusOptions::DEFAULT
+    };
+    litmus_report(alloc, text, &options)
 }
 
 fn trace(alloc: Global, text: &[u8], records: bool, run: RunOptions) -> Result<Report, RunError>
     requires { FollowsPolicy run }
 {
+    trace_as(alloc, text, records, false, run)
+}
+
+fn trace_as(
+    alloc: Global,
+    text: &[u8],
+    records: bool,
+    json: bool,
+    run: RunOptions,
+) -> Result<Report, RunError>
+    requires { FollowsPolicy run }
+{
     let options = TraceOptions {
         records,
+        json,
         run,
         ..TraceOptions::DEFAULT
     };
@@ -140,8 +164,18 @@ fn runs_in_memory(rt: HostRuntime) {
             true,
             RECORDS,
         ),
+        is_told(
+            &trace_as(alloc, TRACE, false, true, by_rounds(100, 10)),
+            true,
+            TOLD_OBJECT,
+        ),
+        is_told(
+            &trace_as(alloc, TRACE, true, true, by_rounds(100, 10)),
+            true,
+            RECORDS,
+        ),
     ];
-    assert!(rt; told == [true; 4]);
+    assert!(rt; told == [true; 6]);
 }
 
 // Records for the trace; whether they are legal, and the line.

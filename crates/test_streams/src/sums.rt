@@ -2,6 +2,7 @@
 use litmus_reader::read;
 use machine_table::Counts;
 use programs::End;
+use report::Layout;
 use report_text::{RunEnd, litmus_text};
 use std::alloc::{AllocError, Global};
 
@@ -112,7 +113,7 @@ fn runs(alloc: Global, counts: Counts) -> Result<Vec<RunEnd>, AllocError> {
 fn is_reported(alloc: Global, counts: Counts, report: &[u8]) -> Result<bool, AllocError> {
     let runs = runs(alloc, counts)?;
     match read(alloc, TEXT) {
-        Ok(test) => Ok(litmus_text(alloc, &test, &runs)?.as_slice() == report),
+        Ok(test) => Ok(litmus_text(alloc, Layout::Lines, &test, &runs)?.as_slice() == report),
         Err(_) => Ok(false),
     }
 }
@@ -145,7 +146,7 @@ fn is_state_reported(alloc: Global) -> Result<bool, AllocError> {
             counts: Counts::zeros(),
         })?;
     }
-    Ok(litmus_text(alloc, &test, &runs)?.as_slice() == STATE_REPORT)
+    Ok(litmus_text(alloc, Layout::Lines, &test, &runs)?.as_slice() == STATE_REPORT)
 }
 
 #[test]

@@ -4,7 +4,7 @@ use byte_streams::FromRead;
 use network::Counts;
 use physiological_order::{Op, WordAddr};
 use programs::End;
-use report::{TraceEnd, trace_text};
+use report::{Layout, TraceEnd, trace_text};
 use std::alloc::{AllocError, Global};
 use trace_reader::{Kind, Step, TraceError, read, read_records};
 
@@ -143,7 +143,14 @@ fn ends_with(alloc: Global, record: &[u8], end: &[u8]) -> Result<bool, AllocErro
         counts: Counts::zeros(),
         stale: 0,
     };
-    let report = trace_text(alloc, trace, &run, &records, &[(WordAddr::at(0), 9)])?;
+    let report = trace_text(
+        alloc,
+        Layout::Lines,
+        trace,
+        &run,
+        &records,
+        &[(WordAddr::at(0), 9)],
+    )?;
     Ok(report.as_slice().ends_with(end))
 }
 

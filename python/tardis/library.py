@@ -5,13 +5,13 @@ from typing import Any
 
 from tardis import found, version
 from tardis.errors import BadConfiguration, BadText, NoMemory, TardisError
-from tardis.options import MOST, Options
+from tardis.options import MOST, Asked, Options
 
 DONE, NO_MEMORY, BAD_TEST, BAD_LINE, BAD_MACHINE, NOT_DONE, SHORT_BUFFER, BAD_OPENING = 0, 3, 4, 5, 6, 7, 8, 12
 ERRORS = {NO_MEMORY: NoMemory, BAD_TEST: BadText, BAD_LINE: BadText, BAD_MACHINE: BadConfiguration,
           BAD_OPENING: BadText}
 FIELDS = ("lease", "time", "banks", "sets", "ways", "bank_sets", "bank_ways", "line_words", "messages", "private_write",
-          "by_seed", "seed", "limit", "runs", "records", "fair")
+          "by_seed", "seed", "limit", "runs", "records", "fair", "json", "counts", "every")
 
 
 class TardisOptions(ctypes.Structure):
@@ -46,10 +46,11 @@ def loaded() -> Any:
     return library
 
 
-def options_of(options: Options, records: bool) -> TardisOptions:
+def options_of(options: Options, asked: Asked) -> TardisOptions:
     """The options as the library takes them."""
     named = {name: int(getattr(options, name)) for name in FIELDS if hasattr(options, name)}
-    return TardisOptions(**named, by_seed=options.schedule == "seed", records=records)
+    return TardisOptions(**named, by_seed=options.schedule == "seed", records=asked.records, json=asked.json,
+                         counts=asked.counts, every=asked.every or 0)
 
 
 def told(call: Any, size: int, *arguments: Any) -> tuple[int, str]:
@@ -78,16 +79,16 @@ def text_argument(text: bytes) -> tuple[bytes, ctypes.c_size_t]:
     return text, ctypes.c_size_t(len(text))
 
 
-def run(kind: str, text: bytes, options: Options, records: bool = False) -> str:
+def run(kind: str, text: bytes, options: Options, asked: Asked) -> str:
     """The report of a litmus test or a trace, or a trace's records."""
     call = getattr(loaded(), f"tardis_c_{kind}")
-    return told(call, room(text), *text_argument(text), ctypes.byref(options_of(options, records)))[1]
+    return told(call, room(text), *text_argument(text), ctypes.byref(options_of(options, asked)))[1]
 
 
-def check(opening: bytes, trace: bytes, records: bytes, complete: bool) -> str:
-    """The line of the verdict on records."""
-    return told(loaded().tardis_c_check_opened, 100, *text_argument(opening), *text_argument(trace),
-                *text_argument(records), ctypes.c_uint32(complete))[1]
+def check(opening: bytes, trace: bytes, records: bytes, complete: bool, json: bool) -> str:
+    """The verdict on records: a line, or a JSON object."""
+    return told(loaded().tardis_c_check_opened, 200, *text_argument(opening), *text_argument(trace),
+                *text_argument(records), ctypes.c_uint32(complete), ctypes.c_uint32(json))[1]
 
 
 def items_argument(items: bytearray, size: int) -> tuple[Any, ctypes.c_size_t]:

@@ -67,3 +67,31 @@ class Options:
             if value != field.default and (field.name != "runs" or kind == "litmus"):
                 words += ["--" + field.name.replace("_", "-")] + ([] if value is True else [str(value)])
         return words
+
+
+@dataclass(frozen=True, kw_only=True)
+class Asked:
+    """What is asked of a run beside its options: what is written."""
+
+    records: bool = False        # of a trace, in place of a report
+    counts: bool = False         # of a trace, behind its report
+    every: int | None = None     # completed operations for each row of counts
+    json: bool = False           # an object in place of lines
+
+    def __post_init__(self) -> None:
+        for name in ("records", "counts", "json"):
+            if not isinstance(getattr(self, name), bool):
+                raise TypeError(f"{name} is {getattr(self, name)!r}: True or False is wanted")
+        if self.every is not None:
+            within("every", self.every, 1, MOST)
+        if self.every is not None and not self.counts:
+            raise BadConfiguration("every needs counts=True")
+        for name in ("counts", "json"):
+            if self.records and getattr(self, name):
+                raise BadConfiguration(f"{name} is not taken with records=True")
+
+    def words(self) -> list[str]:
+        """The options of a command that say the same."""
+        every = [] if self.every is None else ["--every", str(self.every)]
+        flags = [f"--{name}" for name in ("records", "counts", "json") if getattr(self, name)]
+        return [*flags, *every]

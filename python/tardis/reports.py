@@ -49,6 +49,17 @@ class EndsReport:
 
 
 @dataclass(frozen=True)
+class Counts:
+    """What a run did, in numbers (docs/COUNTS.md): of each core and each bank, the numbers by their names."""
+
+    events: int
+    held: int
+    dropped: int
+    cores: list[dict[str, int]]
+    banks: list[dict[str, int]]
+
+
+@dataclass(frozen=True)
 class TraceReport:
     """The report on a run of a trace."""
 
@@ -57,6 +68,8 @@ class TraceReport:
     end: str                 # all-done, stalled, limit, exhausted or memory
     numbers: dict[str, int]  # cores, issued, completed, loads, .., stale-hits
     words: dict[int, int]    # by byte address, the value that the run leaves
+    counts: Counts | None = field(default=None, repr=False)               # at the end, if asked for
+    rows: dict[int, Counts] = field(default_factory=dict, repr=False)     # by how many operations were completed
 
 
 class Record(NamedTuple):
@@ -118,13 +131,31 @@ def ends_report(text: str, is_proved: bool) -> EndsReport:
                       named["observation"][1])
 
 
+def counts_of(lines: list[list[str]]) -> Counts:
+    """What was counted, from its lines."""
+    totals = {line[0]: int(line[1]) for line in lines if len(line) == 2}
+    parts = {part: [dict(zip(line[2::2], map(int, line[3::2]))) for line in lines if line[0] == part]
+             for part in ("core", "bank")}
+    return Counts(**totals, cores=parts["core"], banks=parts["bank"])
+
+
+def counted(lines: list[list[str]]) -> tuple[dict[int, Counts], Counts | None]:
+    """The rows of counts, and the counts at the end, from the lines that stand behind a report."""
+    starts = [at for at, line in enumerate(lines) if line[0] in ("row", "events")]
+    rows = {int(lines[at][1]): counts_of(lines[at + 1:end])
+            for at, end in zip(starts[:-1:2], starts[2::2])}
+    return rows, counts_of(lines[starts[-1]:]) if starts else None
+
+
 def trace_report(text: str, is_proved: bool) -> TraceReport:
     """A report on a trace, from its text."""
-    pairs = [line.split() for line in text.splitlines()]
-    words = {int(name, 16): int(value) for _, name, value in (each for each in pairs if each[0] == "word")}
-    named = {each[0]: each[1] for each in pairs if len(each) == 2}
+    lines = [line.split() for line in text.splitlines()]
+    behind = next((at for at, line in enumerate(lines) if line[0] in ("row", "events")), len(lines))
+    words = {int(name, 16): int(value) for _, name, value in (each for each in lines[:behind] if each[0] == "word")}
+    named = {each[0]: each[1] for each in lines[:behind] if len(each) == 2}
     numbers = {name: int(value) for name, value in named.items() if value.isdigit()}
-    return TraceReport(text, is_proved, named["end"], numbers, words)
+    rows, counts = counted(lines[behind:])
+    return TraceReport(text, is_proved, named["end"], numbers, words, counts, rows)
 
 
 def records_of(text: str) -> Records:

@@ -3,11 +3,12 @@ import os
 import subprocess
 import tempfile
 from collections.abc import Mapping
+from json import loads
 from typing import Any, Literal, overload
 
 from tardis import found, library
 from tardis.errors import BadConfiguration, BadText, NoMemory, TardisError, TooManyStates
-from tardis.options import Options, within
+from tardis.options import Asked, Options, within
 from tardis.reports import EndsReport, LitmusReport, Records, TraceReport
 from tardis.reports import ends_report, litmus_report, records_of, trace_report
 
@@ -37,61 +38,107 @@ def by_second(words: list[str], *texts: bytes) -> str:
     return printed(found.second("oracle.py", "the shared library"), words, *texts)
 
 
-def run(kind: str, text: str | bytes, options: Options, records: bool = False) -> tuple[str, bool]:
+def run(kind: str, text: str | bytes, options: Options, asked: Asked) -> tuple[str, bool]:
     """The text of a report, and whether the proved library made it."""
     if library.loaded():
-        return library.run(kind, in_bytes(text), options, records), True
-    words = [kind, *options.words(kind)] + (["--records"] if records else [])
-    return by_second(words, in_bytes(text)), False
+        return library.run(kind, in_bytes(text), options, asked), True
+    return by_second([kind, *options.words(kind), *asked.words()], in_bytes(text)), False
 
 
-def litmus(text: str | bytes, **options: Any) -> LitmusReport:
+@overload
+def litmus(text: str | bytes, *, json: Literal[False] = False, **options: Any) -> LitmusReport: ...
+
+
+@overload
+def litmus(text: str | bytes, *, json: Literal[True], **options: Any) -> dict[str, Any]: ...
+
+
+def litmus(text: str | bytes, *, json: bool = False, **options: Any) -> LitmusReport | dict[str, Any]:
     """Runs a litmus test (docs/TEXTS.md), with the fields of `Options`: `litmus(text, runs=1000, schedule="seed")`.
+    With `json`, the report is the object that `--json` writes.
 
     Raises BadText, BadConfiguration or NoMemory."""
-    return litmus_report(*run("litmus", text, Options(**options)))
+    came = run("litmus", text, Options(**options), Asked(json=json))
+    return loads(came[0]) if json else litmus_report(*came)
 
 
-def ends(text: str | bytes, *, states: int = 4_194_304, orders: bool = False) -> EndsReport:
+@overload
+def ends(text: str | bytes, *, states: int = 4_194_304, orders: bool = False,
+         json: Literal[False] = False) -> EndsReport: ...
+
+
+@overload
+def ends(text: str | bytes, *, states: int = 4_194_304, orders: bool = False,
+         json: Literal[True]) -> dict[str, Any]: ...
+
+
+def ends(text: str | bytes, *, states: int = 4_194_304, orders: bool = False,
+         json: bool = False) -> EndsReport | dict[str, Any]:
     """Lists every end that a litmus test has, in any run, by the proved program. `states` may be kept at once, from 1
-    to 4294967295. With `orders`, each end has an order of the memory operations that leads there.
+    to 4294967295. With `orders`, each end has an order of the memory operations that leads there. With `json`, the list
+    is the object that `--json` writes.
 
     Raises BadText, BadConfiguration, TooManyStates or NoMemory."""
     within("states", states, 1, 2 ** 32 - 1)
     program = found.program()
     command = [program] if program else found.second("oracle.py", "the program")
-    words = ["ends", "--states", str(states), *(["--orders"] if orders else [])]
-    return ends_report(printed(command, words, in_bytes(text)), program is not None)
+    words = ["ends", "--states", str(states), *["--orders"] * orders, *["--json"] * json]
+    text = printed(command, words, in_bytes(text))
+    return loads(text) if json else ends_report(text, program is not None)
 
 
 @overload
-def trace(text: str | bytes, *, records: Literal[False] = False, **options: Any) -> TraceReport: ...
+def trace(text: str | bytes, *, records: Literal[False] = False, counts: bool = False, every: int | None = None,
+          json: Literal[False] = False, **options: Any) -> TraceReport: ...
+
+
+@overload
+def trace(text: str | bytes, *, records: Literal[False] = False, counts: bool = False, every: int | None = None,
+          json: Literal[True], **options: Any) -> dict[str, Any]: ...
 
 
 @overload
 def trace(text: str | bytes, *, records: Literal[True], **options: Any) -> Records: ...
 
 
-def trace(text: str | bytes, *, records: bool = False, **options: Any) -> TraceReport | Records:
-    """Runs a trace over a memory of zeros: its report, or its records by columns.
+def trace(text: str | bytes, *, records: bool = False, counts: bool = False, every: int | None = None,
+          json: bool = False, **options: Any) -> TraceReport | Records | dict[str, Any]:
+    """Runs a trace over a memory of zeros: its report, or its records by columns. With `counts`, the report has what
+    the run did, in numbers; with `every`, also each time that so many more operations were completed. With `json`, the
+    report is the object that `--json` writes.
 
     Raises BadText, BadConfiguration or NoMemory."""
     if "runs" in options:
         raise TypeError("runs is an option of a litmus test, and not of a trace")
+    asked = Asked(records=records, counts=counts, every=every, json=json)
+    came = run("trace", text, Options(**options), asked)
     if records:
-        return records_of(run("trace", text, Options(**options), True)[0])
-    return trace_report(*run("trace", text, Options(**options)))
+        return records_of(came[0])
+    return loads(came[0]) if json else trace_report(*came)
+
+
+@overload
+def check(trace: str | bytes, records: str | bytes, *, opening: Mapping[int, int] | str | bytes = "",
+          complete: bool = False, json: Literal[False] = False) -> str: ...
+
+
+@overload
+def check(trace: str | bytes, records: str | bytes, *, opening: Mapping[int, int] | str | bytes = "",
+          complete: bool = False, json: Literal[True]) -> dict[str, Any]: ...
 
 
 def check(trace: str | bytes, records: str | bytes, *, opening: Mapping[int, int] | str | bytes = "",
-          complete: bool = False) -> str:
+          complete: bool = False, json: bool = False) -> str | dict[str, Any]:
     """The checker's verdict on records of a trace's operations: `legal`, or what is wrong and the number of the record.
 
     `opening` has the values that words open with, by byte address or as a text; all others open with 0. With
-    `complete`, legal records that lack an operation's are told by its core and place. Raises BadText or NoMemory."""
+    `complete`, legal records that lack an operation's are told by its core and place. With `json`, the verdict is the
+    object that `--json` writes. Raises BadText or NoMemory."""
     if isinstance(opening, Mapping):
         opening = "".join(f"{address:#x} {value}\n" for address, value in opening.items())
     texts = in_bytes(opening), in_bytes(trace), in_bytes(records)
     if library.loaded():
-        return library.check(*texts, complete).strip()
-    return by_second(["check", *["--complete"] * complete, "--opening"], *texts).strip()
+        text = library.check(*texts, complete, json)
+    else:
+        text = by_second(["check", *["--complete"] * complete, *["--json"] * json, "--opening"], *texts)
+    return loads(text) if json else text.strip()

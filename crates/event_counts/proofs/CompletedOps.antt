@@ -32,13 +32,16 @@ use Rattle.machine_table.proofs.Lemmas.{every_answer}
 use Rattle.protocol.proofs.Lemmas.{of_core-own, of_core-other}
 use Rattle.machine_theorem.proofs.Lemmas.{get-set_other, get-set_same}
 use Rattle.event_counts.specs.declared.cause.Cause.{Cause}
-use Rattle.event_counts.specs.declared.cause.Cause.TheVariants.{Absent, Ended, Shared}
+use Rattle.event_counts.specs.declared.cause.Cause.TheVariants.{Cold, Evicted, Recalled, Ended, Shared}
 use Rattle.event_counts.specs.declared.part_counts.CoreCounts.{CoreCounts}
-use Rattle.event_counts.specs.Counts.{EventCounts, asked, at_core, at_node, changed_at, completed, core_sent}
-use Rattle.event_counts.specs.Counts.{evicted_copy, hits_and_misses, more, no_core_counts, no_counts, operations}
-use Rattle.event_counts.specs.Counts.{HasCompleted, sent, with_end, with_one, with_op}
+use Rattle.event_counts.specs.Counts.{EventCounts, HasCompleted, at_core, changed_at, completed, hits_and_misses}
+use Rattle.event_counts.specs.Counts.{more, no_core_counts, operations, sent, with_end, with_one, with_op}
+use Rattle.event_counts.specs.Losses.{Lost}
 use Rattle.schedules.specs.Watches.{watched}
-use Rattle.event_counts.specs.Counting.{answered, counts_events, cause_of, evicted, requested, seen}
+use Rattle.event_counts.specs.Counting.{Counter, answered, counted, counter_events, counter_seen, evicted, held, is_row}
+use Rattle.event_counts.specs.Counting.{no_counter, requested, with_message}
+use Rattle.event_counts.proofs.KeptCounts.{IsKept, Leaves, evicted_keeps, followed, held_keeps, requested_keeps}
+use Rattle.event_counts.proofs.KeptCounts.{row_counts, sent_keeps}
 
 -- one core
 more_is : (n : ℕ) → n < 2 ^ 64 - 1 → more n ≡ n + 1
@@ -57,13 +60,17 @@ op_keeps (Swap a v) x = refl
 end_rises : (o : Option Cause) (x : CoreCounts) → hits_and_misses x < 2 ^ 64 - 1 →
     hits_and_misses (with_end x o) ≡ hits_and_misses x + 1
 end_rises None x few = let q = more_is x.hits (omega (arith, few)) in omega (arith, q)
-end_rises (Some Absent) x few = let q = more_is x.absent (omega (arith, few)) in omega (arith, q)
+end_rises (Some Cold) x few = let q = more_is x.cold (omega (arith, few)) in omega (arith, q)
+end_rises (Some Evicted) x few = let q = more_is x.evicted (omega (arith, few)) in omega (arith, q)
+end_rises (Some Recalled) x few = let q = more_is x.recalled (omega (arith, few)) in omega (arith, q)
 end_rises (Some Ended) x few = let q = more_is x.ended (omega (arith, few)) in omega (arith, q)
 end_rises (Some Shared) x few = let q = more_is x.shared (omega (arith, few)) in omega (arith, q)
 
 end_keeps : (o : Option Cause) (x : CoreCounts) → operations (with_end x o) ≡ operations x
 end_keeps None x = refl
-end_keeps (Some Absent) x = refl
+end_keeps (Some Cold) x = refl
+end_keeps (Some Evicted) x = refl
+end_keeps (Some Recalled) x = refl
 end_keeps (Some Ended) x = refl
 end_keeps (Some Shared) x = refl
 
@@ -78,10 +85,6 @@ one_more done r (Some x) few has =
     (omega (arith, q1, q2, has.0), omega (arith, q0, q3, has.1))
 
 -- a change that leaves the sums
-abbrev Leaves : (CoreCounts → CoreCounts) → Type 0
-Leaves change =
-    (x : CoreCounts) → (operations (change x) ≡ operations x) × (hits_and_misses (change x) ≡ hits_and_misses x)
-
 left_so : (done : ℕ) (change : CoreCounts → CoreCounts) → Leaves change → (o : Option CoreCounts) →
     HasCompleted done o → HasCompleted done (option_map change o)
 left_so done change leaves None has = has
@@ -118,24 +121,18 @@ module _ (c done : ℕ) where
       (λ e. subst (HasCompleted done) (sym (changed_there n.cores a c change e.1)) has)
       (eqb_tells c a)
 
-  node_leaves : (n : EventCounts) (to : Node) (body : Body) → Done n → Done (at_node n to body)
-  node_leaves n (node.Core core) body has = leaves n core (core_sent body) (λ x. (refl, refl)) has
-  node_leaves n (node.Bank bank) body has = has
-  node_leaves n (node.Dram bank) body has = has
+  done_kept : IsKept Done
+  done_kept = record {
+    told = λ n events held dropped has. has;
+    at_cores = leaves;
+    at_banks = λ n bank change has. has;
+  }
 
-  sent_leaves : (n : EventCounts) (o : Option Message) → Done n → Done (sent n o)
-  sent_leaves n None has = has
-  sent_leaves n (Some x) has = node_leaves (at_node n x.from x.body) x.to x.body (node_leaves n x.from x.body has)
-
-  requested_leaves : (n : EventCounts) (m : Machine) (e : Event) → Done n → Done (requested n m e)
-  requested_leaves n m (event.Attempt core) has =
-      leaves n core (asked (cause_of (slice_get m.cores core))) (λ x. (refl, refl)) has
-  requested_leaves n m _ has = has
-
-  evicted_leaves : (n : EventCounts) (e : Event) → Done n → Done (evicted n e)
-  evicted_leaves n (event.EvictCache core line) has = leaves n core evicted_copy (λ x. (refl, refl)) has
-  evicted_leaves n (event.EvictBank bank line) has = has
-  evicted_leaves n _ has = has
+  message_leaves : (n : EventCounts) (m : Machine) (e : Event) (o : Option Message) → Done n →
+      Done (with_message n m e o)
+  message_leaves n m e None has = has
+  message_leaves n m e (Some x) has =
+      followed Done done_kept (sent n x) m e x (sent_keeps Done done_kept (λ n next has. has) n x has)
 
 -- how many records a core has
 abbrev records_of : ℕ → Machine → ℕ
@@ -151,7 +148,7 @@ refused_same m _ after is = ap (λ (n : Machine). n.records) is
 abbrev Counts : ℕ → Machine → Machine → EventCounts → Type 0
 Counts c m after n = Done c (records_of c after) n × (records_of c after ≤ records_of c m + 1)
 
-module _ (c : ℕ) (m after : Machine) (e : Event) (n : EventCounts) (few : records_of c m < 2 ^ 64 - 1)
+module _ (c : ℕ) (m after : Machine) (lost : Lost) (e : Event) (n : EventCounts) (few : records_of c m < 2 ^ 64 - 1)
     (has : Done c (records_of c m) n) where
   same : after.records ≡ m.records → (k : EventCounts) → Done c (records_of c m) k → Counts c m after k
   same is k so =
@@ -184,38 +181,47 @@ module _ (c : ℕ) (m after : Machine) (e : Event) (n : EventCounts) (few : reco
             omega (arith, many),
           )
 
-  answer_counts : (a : Answer) → Answered m a after → Counts c m after (answered n after e a)
+  answer_counts : (a : Answer) → Answered m a after → Counts c m after (answered n lost after e a)
   answer_counts (answer.Refused why) is = same (refused_same m why after is) n has
   answer_counts (answer.Completed r) is = completes r is.records
   answer_counts answer.Waiting is = same (ap (λ (k : Machine). k.records) is) n has
   answer_counts answer.Idle is = same (ap (λ (k : Machine). k.records) is) n has
   answer_counts answer.Held is =
-      same (ap (λ (k : Machine). k.records) is) (record n { held = more n.held }) has
+      let told = record n { held = more n.held } in
+      same (ap (λ (k : Machine). k.records) is) (held told after e)
+      (held_keeps (Done c (records_of c m)) (done_kept c (records_of c m)) told after e has)
   answer_counts answer.Issued is = same is.records n has
   answer_counts answer.Requested is =
-      same is.records (requested n after e) (requested_leaves c (records_of c m) n after e has)
+      same is.records (requested n lost after e)
+      (requested_keeps (Done c (records_of c m)) (done_kept c (records_of c m)) n lost after e has)
   answer_counts answer.Delivered is = same is.records n has
   answer_counts answer.Dropped is = same is.records (record n { dropped = more n.dropped }) has
   answer_counts answer.Started is = same is.records n has
-  answer_counts answer.Evicted is = same is.records (evicted n e) (evicted_leaves c (records_of c m) n e has)
+  answer_counts answer.Evicted is =
+      same is.records (evicted n e) (evicted_keeps (Done c (records_of c m)) (done_kept c (records_of c m)) n e has)
   answer_counts answer.Recalled is = same is.records n has
   answer_counts answer.Advanced is = same is.records n has
 
-event_counts : (c : ℕ) (m : Machine) (e : Event) (n : EventCounts) → records_of c m < 2 ^ 64 - 1 →
-    Done c (records_of c m) n → let next = transition m e in
-    Counts c m next.1 (seen n next.1 e next.0)
-event_counts c m e n few has =
-    let next = transition m e in
-    let told = answer_counts c m next.1 e (record n { events = more n.events }) few has next.0 (every_answer m e) in
-    (sent_leaves c (records_of c next.1) _ (at_number n.next next.1.mail.messages) told.0, told.1)
+event_counts : (c : ℕ) (m : Machine) (e : Event) (k : Counter) → records_of c m < 2 ^ 64 - 1 →
+    Done c (records_of c m) k.counts → let next = transition m e in
+    Counts c m next.1 (counter_seen k next.1 e next.0).counts
+event_counts c m e k few has =
+    let next = transition m e in let o = at_number k.counts.next next.1.mail.messages in
+    let told = answer_counts c m next.1 k.lost e (record k.counts { events = more k.counts.events }) few has next.0
+    (every_answer m e) in (
+      subst (Done c (records_of c next.1)) (sym (row_counts (counted k next.1 e next.0 o)
+      (is_row k.every (length next.1.records) next.0)))
+      (message_leaves c (records_of c next.1) _ next.1 e o told.0),
+      told.1,
+    )
 
-all_done : (c : ℕ) (m : Machine) (events : List Event) (n : EventCounts) →
-    records_of c m + length events < 2 ^ 64 → Done c (records_of c m) n →
-    Done c (records_of c (after_all m events)) (watched counts_events n m events)
-all_done c m [] n few has = has
-all_done c m (e ∷ events) n few has =
-    let next = transition m e in let one = event_counts c m e n (omega (arith, few)) has in
-    all_done c next.1 events (seen n next.1 e next.0) (omega (arith, few, one.1)) one.0
+all_done : (c : ℕ) (m : Machine) (events : List Event) (k : Counter) →
+    records_of c m + length events < 2 ^ 64 → Done c (records_of c m) k.counts →
+    Done c (records_of c (after_all m events)) (watched counter_events k m events).counts
+all_done c m [] k few has = has
+all_done c m (e ∷ events) k few has =
+    let next = transition m e in let one = event_counts c m e k (omega (arith, few)) has in
+    all_done c next.1 events (counter_seen k next.1 e next.0) (omega (arith, few, one.1)) one.0
 
 -- nothing is counted yet
 at_zeros : (cores c : ℕ) → c < cores → slice_get (replicate cores no_core_counts) c ≡ Some no_core_counts
@@ -223,10 +229,10 @@ at_zeros zero c there = absurd (omega (arith, there))
 at_zeros (suc cores) zero there = refl
 at_zeros (suc cores) (suc c) there = at_zeros cores c (omega (arith, there))
 
-pub all_completed : (config : Config) (memory : FinMap nat_cmp ℕ) (cores banks c : ℕ) (events : List Event) →
-    c < cores → length events < 2 ^ 64 → let m = at_start config memory in
+pub all_completed : (config : Config) (memory : FinMap nat_cmp ℕ) (cores banks c : ℕ) (every : Option ℕ)
+    (events : List Event) → c < cores → length events < 2 ^ 64 → let m = at_start config memory in
     HasCompleted (length (of_core c (after_all m events).records))
-    (slice_get (watched counts_events (no_counts cores banks) m events).cores c)
-all_completed config memory cores banks c events there few =
-    all_done c (at_start config memory) events (no_counts cores banks) (omega (arith, few))
+    (slice_get (watched counter_events (no_counter cores banks every) m events).counts.cores c)
+all_completed config memory cores banks c every events there few =
+    all_done c (at_start config memory) events (no_counter cores banks every) (omega (arith, few))
     (subst (HasCompleted 0) (sym (at_zeros cores c there)) (refl, refl))

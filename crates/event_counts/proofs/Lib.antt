@@ -1,3 +1,5 @@
 mod CompletedOps
+mod CountedRows
 mod HashedMaps
+mod KeptCounts
 mod SentMessages

@@ -1,6 +1,6 @@
 -- The messages that events send, one at most each, are counted.
 use Rattle.std.proofs.Common.{◌≡◌, ℕ, ◌+◌, ◌-◌, ◌^◌, ◌<◌, ◌≤◌, Bool, true, false, cond, eqb, List, [], ◌∷◌, ◌++◌}
-use Rattle.std.proofs.Common.{Option, Some, None, refl, ap, ◌∙◌, arith}
+use Rattle.std.proofs.Common.{length, Option, Some, None, refl, ap, ◌∙◌, arith}
 use Rattle.std.proofs.lemmas.Bool.{cond_both}
 use Rattle.std.proofs.lemmas.Bool.Decides.{nat_tests}
 use Rattle.std.proofs.lemmas.Grind.{common_steps}
@@ -18,9 +18,11 @@ use Rattle.machine_table.specs.Runs.{after_all}
 use Rattle.machine_table.specs.Step.{Step, Makes, Drops}
 use Rattle.machine_table.specs.Transition.{changed, refused, transition}
 use Rattle.machine_table.proofs.Lemmas.{Outcome, core_steps, bank_steps, dram_steps, transition_outcome}
-use Rattle.event_counts.specs.Counts.{EventCounts, more, sent}
+use Rattle.event_counts.specs.Counts.{EventCounts, more}
+use Rattle.event_counts.specs.Losses.{Lost}
 use Rattle.schedules.specs.Watches.{watched}
-use Rattle.event_counts.specs.Counting.{answered, counts_events, evicted, requested, seen}
+use Rattle.event_counts.specs.Counting.{Counter, answered, counted, counter_events, counter_seen, is_row, seen}
+use Rattle.event_counts.proofs.KeptCounts.{IsKept, answered_keeps, followed, row_counts}
 
 module _ {X : Type 0} where
   -- a number that nothing has is still free where something is taken
@@ -108,43 +110,37 @@ module _ (m : Machine) (opened : IsOpen m.mail) where
   event_sends e = outcome_sends e (transition m e) (transition_outcome m e)
 
 -- what an event adds to the counts leaves the next number, but for the message that was sent
-sent_next : (n : EventCounts) (o : Option Message) → (sent n o).next ≡ next_after n.next o
-sent_next n None = refl
-sent_next n (Some message) = refl
+next_is : (next : ℕ) → IsKept (λ n. n.next ≡ next)
+next_is next = record {
+  told = λ n events held dropped has. has;
+  at_cores = λ n core change leaves has. has;
+  at_banks = λ n bank change has. has;
+}
 
-requested_next : (n : EventCounts) (m : Machine) (e : Event) → (requested n m e).next ≡ n.next
-requested_next n m (event.Attempt core) = refl
-requested_next n m _ = refl
+seen_next : (n : EventCounts) (lost : Lost) (m : Machine) (e : Event) (a : Answer) (o : Option Message) →
+    (seen n lost m e a o).next ≡ next_after n.next o
+seen_next n lost m e a o = by o
+  where
+    told : (answered (record n { events = more n.events }) lost m e a).next ≡ n.next
+    told = answered_keeps (λ k. k.next ≡ n.next) (next_is n.next) (λ k r has. has)
+        (record n { events = more n.events }) lost m e a refl
 
-evicted_next : (n : EventCounts) (e : Event) → (evicted n e).next ≡ n.next
-evicted_next n (event.EvictCache core line) = refl
-evicted_next n (event.EvictBank bank line) = refl
-evicted_next n _ = refl
-
-answered_next : (n : EventCounts) (m : Machine) (e : Event) (a : Answer) → (answered n m e a).next ≡ n.next
-answered_next n m e (answer.Completed done) = refl
-answered_next n m e answer.Requested = requested_next n m e
-answered_next n m e answer.Evicted = evicted_next n e
-answered_next n m e answer.Held = refl
-answered_next n m e answer.Dropped = refl
-answered_next n m e _ = refl
-
-seen_next : (n : EventCounts) (m : Machine) (e : Event) (a : Answer) →
-    (seen n m e a).next ≡ next_after n.next (at_number n.next m.mail.messages)
-seen_next n m e a =
-    let told = answered (record n { events = more n.events }) m e a in
-    sent_next told (at_number n.next m.mail.messages)
-    ∙ ap (λ next. next_after next (at_number n.next m.mail.messages))
-    (answered_next (record n { events = more n.events }) m e a)
+    by : (o : Option Message) → (seen n lost m e a o).next ≡ next_after n.next o
+    by None = told
+    by (Some x) = followed (λ k. k.next ≡ more n.next) (next_is (more n.next)) _ m e x (ap more told)
 
 -- counts that have all messages sent so far have all that a list of events sends
-pub all_counted : (m : Machine) (events : List Event) (n : EventCounts) → IsOpen m.mail → n.next ≡ m.mail.next →
-    (watched counts_events n m events).next ≡ (after_all m events).mail.next
-all_counted m [] n opened has = has
-all_counted m (e ∷ events) n opened has =
+pub all_counted : (m : Machine) (events : List Event) (k : Counter) → IsOpen m.mail → k.counts.next ≡ m.mail.next →
+    (watched counter_events k m events).counts.next ≡ (after_all m events).mail.next
+all_counted m [] k opened has = has
+all_counted m (e ∷ events) k opened has =
     let next = transition m e in let sends = event_sends m opened e in
-    all_counted next.1 events (seen n next.1 e next.0) sends.opened
-    (seen_next n next.1 e next.0 ∙ ap (λ k. next_after k (at_number k next.1.mail.messages)) has ∙ sends.counted)
+    let o = at_number k.counts.next next.1.mail.messages in
+    all_counted next.1 events (counter_seen k next.1 e next.0) sends.opened
+    (ap (λ (n : EventCounts). n.next) (row_counts (counted k next.1 e next.0 o)
+    (is_row k.every (length next.1.records) next.0))
+    ∙ seen_next k.counts k.lost next.1 e next.0 o
+    ∙ ap (λ n. next_after n (at_number n next.1.mail.messages)) has ∙ sends.counted)
 
 -- one event sends one message at most, whatever is in flight
 pub one_at_most : (m : Machine) (e : Event) → (transition m e).1.mail.next ≤ m.mail.next + 1

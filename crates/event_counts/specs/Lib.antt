@@ -1,3 +1,4 @@
 pub mod Counting
 pub mod Counts
 pub mod Losses
+pub mod RowLaw

@@ -52,7 +52,7 @@ impl Counter {
     ) -> Result<Counter, AllocError>
         ensures { IfOk result (λ counter. counter.seen ≡ no_counter cores banks every) }
     {
-        let counts = EventCounts::new(alloc, cores, banks)?;
+        let counts = EventCounts::new(alloc, cores as usize, banks as usize)?;
         Ok(Counter {
             counts,
             lost: LostCopies::new(alloc),

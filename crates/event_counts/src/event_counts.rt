@@ -54,11 +54,11 @@ impl Model for EventCounts {
 impl EventCounts {
     // The counts of a machine that has just opened, with this number of cores and banks: nothing is counted. All
     // memory is allocated here.
-    pub(crate) fn new(alloc: Global, cores: u32, banks: u32) -> Result<EventCounts, AllocError>
+    pub(crate) fn new(alloc: Global, cores: usize, banks: usize) -> Result<EventCounts, AllocError>
         ensures { IfOk result (λ counts. counts ≡ no_counts cores banks) }
     {
-        let cores = vec![in alloc; CoreCounts::NONE; cores as usize]?;
-        let banks = vec![in alloc; BankCounts::NONE; banks as usize]?;
+        let cores = vec![in alloc; CoreCounts::NONE; cores]?;
+        let banks = vec![in alloc; BankCounts::NONE; banks]?;
         Ok(EventCounts {
             cores,
             banks,
@@ -69,20 +69,11 @@ impl EventCounts {
         })
     }
 
-    // Counts with as many cores and banks.
+    // Counts of as many cores and banks.
     pub(crate) fn of_this_size(&self, alloc: Global) -> Result<EventCounts, AllocError>
         ensures { IfOk result (λ counts. FitsIn self.now (Some counts)) }
     {
-        let cores = vec![in alloc; CoreCounts::NONE; self.cores.len()]?;
-        let banks = vec![in alloc; BankCounts::NONE; self.banks.len()]?;
-        Ok(EventCounts {
-            cores,
-            banks,
-            events: 0,
-            held: 0,
-            dropped: 0,
-            next: 0,
-        })
+        EventCounts::new(alloc, self.cores.len(), self.banks.len())
     }
 
     // Whether these have as many cores and banks.

@@ -126,7 +126,7 @@ fn a_first_store_is_counted(rt: HostRuntime) {
 }
 
 // Core 1 reads a word, core 0 stores to it, core 1 hits under its lease up to 3, advances to 4, and needs a request:
-// the bank has core 0 write the line back.
+// the bank has core 0 write the line back. It sends core 1 the new words, while that has its old copy.
 #[test]
 fn an_ended_lease_and_a_write_back_are_counted(rt: HostRuntime) {
     let events = [
@@ -178,6 +178,7 @@ fn an_ended_lease_and_a_write_back_are_counted(rt: HostRuntime) {
                 hits: 1,
                 cold: 1,
                 ended: 1,
+                reloads: 1,
                 last_time: 4,
                 sent: KindCounts {
                     sh_req: 2,
@@ -207,8 +208,8 @@ fn an_ended_lease_and_a_write_back_are_counted(rt: HostRuntime) {
     assert_eq!(rt; is_counted(rt.alloc(), &events, &wanted), Some(true));
 }
 
-// Core 0 reads a word and stores to it. The bank recalls the line, and core 0 evicts its copy first: so the recall is
-// dropped. The bank evicts the entry, which is dirty.
+// Core 0 reads a word and stores to it. The bank recalls the line, and core 0 evicts its copy first, which returns the
+// line: so the recall is dropped. The bank evicts the entry, which is dirty.
 #[test]
 fn evictions_and_a_dropped_recall_are_counted(rt: HostRuntime) {
     let events = [
@@ -272,4 +273,154 @@ fn evictions_and_a_dropped_recall_are_counted(rt: HostRuntime) {
         dropped: 1,
     };
     assert_eq!(rt; is_counted(rt.alloc(), &events, &wanted), Some(true));
+}
+
+// What the words of one line come to at core 0: it reads one, evicts its copy, reads it again, stores to it, and the
+// bank recalls the line. The core reads the word once more first, so the recall is held. It returns the line, and then
+// needs it again.
+fn lost_twice() -> [Event; 30] {
+    [
+        load(0, 0),
+        Event::Attempt(0),
+        deliver(0),
+        deliver(1),
+        deliver(2),
+        deliver(0),
+        deliver(3),
+        Event::Attempt(0),
+        Event::EvictCache(0, LineNo(0)),
+        load(0, 0),
+        Event::Attempt(0),
+        deliver(4),
+        deliver(5),
+        Event::Attempt(0),
+        store(0, 0),
+        Event::Attempt(0),
+        deliver(6),
+        deliver(7),
+        Event::Attempt(0),
+        Event::EvictBank(0, LineNo(0)),
+        load(0, 0),
+        deliver(8),
+        Event::Attempt(0),
+        deliver(8),
+        deliver(9),
+        load(0, 0),
+        Event::Attempt(0),
+        deliver(10),
+        deliver(11),
+        Event::Attempt(0),
+    ]
+}
+
+// A copy that was evicted, and one that was recalled, are missed for these causes.
+#[test]
+fn lost_copies_are_causes(rt: HostRuntime) {
+    let sent = KindCounts {
+        sh_req: 3,
+        sh_rep: 3,
+        ex_req: 1,
+        upgrade_rep: 1,
+        flush_req: 1,
+        flush_rep: 1,
+        ..NO_KINDS
+    };
+    let wanted = Wanted {
+        cores: [
+            CoreCounts {
+                loads: 4,
+                stores: 1,
+                hits: 1,
+                cold: 1,
+                evicted: 1,
+                recalled: 1,
+                shared: 1,
+                evictions: 1,
+                held: 1,
+                last_time: 4,
+                sent,
+                ..NO_CORE
+            },
+            NO_CORE,
+        ],
+        bank: BankCounts {
+            sent: KindCounts {
+                dram_ld: 1,
+                dram_ld_rep: 1,
+                ..sent
+            },
+            ..NO_BANK
+        },
+        held: 1,
+        dropped: 0,
+    };
+    assert_eq!(rt; is_counted(rt.alloc(), &lost_twice(), &wanted), Some(true));
+}
+
+// What is expected of a row: the events, and the counts of core 0.
+#[derive(Clone, Copy)]
+struct Row {
+    events: u64,
+    core: CoreCounts,
+}
+
+// After two of the five operations, and after four: the fifth is in no row.
+const ROWS: [Row; 2] = [
+    Row {
+        events: 14,
+        core: CoreCounts {
+            loads: 2,
+            cold: 1,
+            evicted: 1,
+            evictions: 1,
+            sent: KindCounts {
+                sh_req: 2,
+                sh_rep: 2,
+                ..NO_KINDS
+            },
+            ..NO_CORE
+        },
+    },
+    Row {
+        events: 23,
+        core: CoreCounts {
+            loads: 3,
+            stores: 1,
+            hits: 1,
+            cold: 1,
+            evicted: 1,
+            shared: 1,
+            evictions: 1,
+            held: 1,
+            last_time: 4,
+            sent: KindCounts {
+                sh_req: 2,
+                sh_rep: 2,
+                ex_req: 1,
+                upgrade_rep: 1,
+                flush_req: 1,
+                ..NO_KINDS
+            },
+            ..NO_CORE
+        },
+    },
+];
+
+// How many of the rows of that run are as expected, with the number of rows.
+fn right_rows(alloc: Global) -> Option<(usize, usize)> {
+    let mut system = System::new(alloc, TWO_CORES, Memory::new(alloc)).ok()?;
+    let counter = counted(alloc, &mut system, &lost_twice(), Some(2))?;
+    let rows = counter.rows();
+    let mut right = 0;
+    for (row, wanted) in rows.iter().zip(ROWS.iter()) {
+        if row.events() == wanted.events && row.cores().first() == Some(&wanted.core) {
+            right += 1;
+        }
+    }
+    Some((right, rows.len()))
+}
+
+#[test]
+fn rows_are_taken_as_operations_complete(rt: HostRuntime) {
+    assert_eq!(rt; right_rows(rt.alloc()), Some((2, 2)));
 }

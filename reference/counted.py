@@ -35,8 +35,8 @@ class Part:
 
 
 class Counts:
-    """Counts what its machine does; a run may drive it in the machine's place. With `every` it keeps a row behind each
-    so many completed operations: how many these are, and what is counted by then."""
+    """Counts what its machine does; a run may drive it in the machine's place. With `every` it keeps a row behind
+    each such number of completed operations: how many had completed, and what is counted by then."""
 
     def __init__(self, machine, every=None):
         self.machine, self.every, self.rows = machine, every, []

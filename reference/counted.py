@@ -4,10 +4,16 @@ from collections import Counter
 NAMES = {"load": "loads", "store": "stores", "swap": "swaps"}
 KINDS = ("ShReq", "ExReq", "ShRep", "ExRep", "RenewRep", "UpgradeRep", "FlushReq", "WbReq", "FlushRep", "WbRep",
          "DramLd", "DramLdRep", "DramSt", "DramStRep")
-OF_CORE = ("loads", "stores", "swaps", "hits", "misses", "stale", "evicted", "time")
-CAUSES = ("absent", "ended", "shared")
-# What the program counts of a core, and of the run.
-OF_PROGRAM, OF_RUN = (*OF_CORE[:4], *CAUSES, "evicted", "time"), ("events", "held", "dropped")
+# What a player counts of a core and of a bank, each with its name there.
+PLAYED = {"core": {**{name: name for name in ("loads", "stores", "swaps", "hits", "misses", "stale")},
+                   "evictions": "evicted", "time": "time"},
+          "bank": {"evictions": "evicted"}}
+CAUSES = ("cold", "evicted", "recalled", "ended", "shared")
+# What the program counts of the run, of a core and of a bank.
+OF_RUN = ("events", "held", "dropped")
+OF_PROGRAM = {"core": ("loads", "stores", "swaps", "hits", *CAUSES, "evictions", "returns", "reloads", "held", "time"),
+              "bank": ("evictions", "held")}
+PARTS = {"c": "core", "b": "bank"}
 
 
 class Part:
@@ -16,17 +22,25 @@ class Part:
     def __init__(self):
         self.number, self.sent, self.delivered = Counter(), Counter(), Counter()
         self.cause = None  # of a core: why the first request for its open operation went out, if one did
+        self.lost = {}     # of a core: by line, whether the last copy that it lost was evicted or recalled
 
     def told(self, names):
-        yield from (f"{name} {self.number[name]}" for name in names)
+        """What a player tells."""
+        yield from (f"{name} {self.number[what]}" for what, name in names.items())
         yield from (f"{kind} {self.sent[kind]} {self.delivered[kind]}" for kind in KINDS if self.sent[kind])
+
+    def found(self, names):
+        """The program's numbers by their names: a kind of message is there if one was sent."""
+        return {name: self.number[name] for name in names} | {kind: self.sent[kind] for kind in KINDS if self.sent[kind]}
 
 
 class Counts:
-    """Counts what its machine does; a run may drive it in the machine's place."""
+    """Counts what its machine does; a run may drive it in the machine's place. With `every` it keeps a row behind
+    each such number of completed operations: how many had completed, and what is counted by then."""
 
-    def __init__(self, machine):
-        self.machine, self.written = machine, {}  # by word the greatest time of a write so far
+    def __init__(self, machine, every=None):
+        self.machine, self.every, self.rows = machine, every, []
+        self.written = {}  # by word the greatest time of a write so far
         self.whole = Counter()
         self.parts = {("core", core): Part() for core in range(len(machine.cores))}
         self.parts |= {("bank", bank): Part() for bank in range(machine.o.banks)}
@@ -47,24 +61,43 @@ class Counts:
         if answer in ("Delivered", "Dropped"):
             for part in self.parts_of(message):
                 part.delivered[message.kind] += 1
+        if answer == "Held":
+            letter, number = machine.nodes(message)[1]
+            self.parts[PARTS[letter], number].number["held"] += 1
         for number in range(sent, machine.sent):
-            for part in self.parts_of(machine.flight[number]):
-                part.sent[machine.flight[number].kind] += 1
+            self.see_sent(machine.flight[number], name)
         if answer == "Requested":
             part = self.parts["core", of[0]]
             part.cause = part.cause or self.cause(of[0])
         if answer == "Evicted":
-            self.parts["core" if name == "EvictCache" else "bank", of[0]].number["evicted"] += 1
+            self.parts["core" if name == "EvictCache" else "bank", of[0]].number["evictions"] += 1
+            if name == "EvictCache":
+                self.parts["core", of[0]].lost[of[1]] = "evicted"
         if answer == "Completed":
             self.complete(machine.records[-1])
         return answer
+
+    def see_sent(self, message, event):
+        """A message that an event of this name sent."""
+        for part in self.parts_of(message):
+            part.sent[message.kind] += 1
+        core = self.parts.get(("core", message.core))
+        if message.kind in ("FlushRep", "WbRep") and event == "EvictCache":
+            core.number["returns"] += 1
+        elif message.kind == "FlushRep":
+            core.lost[message.line] = "recalled"
+        if message.kind == "ShRep":
+            core.number["reloads"] += self.has_copy(message.core, message.line)
+
+    def has_copy(self, core, line):
+        return self.machine.find(line, self.machine.cache_set(core, line))[0] is not None
 
     def cause(self, core):
         """Why a core needs a request, by its copy of the line."""
         kind, word, _ = self.machine.cores[core].op
         line = self.machine.line(word)
-        if not self.machine.find(line, self.machine.cache_set(core, line))[0]:
-            return "absent"
+        if not self.has_copy(core, line):
+            return self.parts["core", core].lost.get(line, "cold")
         return "ended" if kind == "load" else "shared"
 
     def complete(self, record):
@@ -77,18 +110,30 @@ class Counts:
             part.number["stale"] += newest > record.time
         else:
             self.written[record.word] = max(newest, record.time)
+        if self.every and len(self.machine.records) % self.every == 0:
+            self.rows.append((len(self.machine.records), self.found()))
 
     def text(self, turns):
         """The answer to `counts` of docs/EVENTS.md."""
-        told = [" ".join([what, str(number), *part.told(OF_CORE if what == "core" else ["evicted"])])
-                for (what, number), part in self.parts.items()]
+        told = [" ".join([what, str(number), *part.told(PLAYED[what])]) for (what, number), part in self.parts.items()]
         return "; ".join([*told, f"turns {turns}"])
 
+    def found(self):
+        """The program's counts by their names; of each core and each bank there is one of its own."""
+        found = {name: self.whole[name if name == "events" else name.title()] for name in OF_RUN}
+        return found | {f"{kind}s": [part.found(OF_PROGRAM[kind]) for (what, _), part in self.parts.items()
+                                     if what == kind] for kind in OF_PROGRAM}
+
     def lines(self):
-        """The lines of the program's counts."""
-        yield from (f"{name} {self.whole[name if name == 'events' else name.title()]}" for name in OF_RUN)
-        for (what, number), part in self.parts.items():
-            names = OF_PROGRAM if what == "core" else ["evicted"]
-            told = [f"{name} {part.number[name]}" for name in names]
-            told += [f"{kind} {part.sent[kind]}" for kind in KINDS if part.sent[kind]]
-            yield " ".join([what, str(number), *told])
+        """The lines of the program's counts: those of each row, and those at the end."""
+        for completed, found in self.rows:
+            yield f"row {completed}"
+            yield from lines_of(found)
+        yield from lines_of(self.found())
+
+
+def lines_of(found):
+    yield from (f"{name} {found[name]}" for name in OF_RUN)
+    for what in OF_PROGRAM:
+        yield from (" ".join([what, str(number), *(f"{name} {count}" for name, count in part.items())])
+                    for number, part in enumerate(found[f"{what}s"]))

@@ -5,10 +5,10 @@ Written from docs/ alone: PROTOCOL.md, SCHEDULES.md, SEATS.md, TEXTS.md, ORDER.m
 refusal has the program's status and its line on standard error. But a wrong option has this script's own words, with
 status 2.
 
-    reference/oracle.py litmus [--schedule seed --seed N] [--runs N] [--fair] [--lease N] .. [--private-write] FILE
-    reference/oracle.py ends [--states N] [--orders] FILE
-    reference/oracle.py trace [--records | --counts] [--schedule seed --seed N] [--fair] [--lease N] .. FILE
-    reference/oracle.py check [--complete] [--opening FILE] TRACE RECORDS
+    reference/oracle.py litmus [--schedule seed --seed N] [--runs N] [--fair] [--lease N] .. [--json] FILE
+    reference/oracle.py ends [--states N] [--orders] [--json] FILE
+    reference/oracle.py trace [--records | [--counts [--every N]] [--json]] [--schedule seed --seed N] [--fair] .. FILE
+    reference/oracle.py check [--complete] [--opening FILE] [--json] TRACE RECORDS
     reference/oracle.py --rows <ROWS
     reference/oracle.py --self-test
 
@@ -24,13 +24,13 @@ import sys
 from pathlib import Path
 
 sys.path.insert(0, str(Path(__file__).resolve().parent.parent))
-from reference import litmus_faults, sequential  # noqa: E402
+from reference import litmus_faults, objects, sequential  # noqa: E402
 from reference.events import list_of_events  # noqa: E402
 from reference.given import NUMBERS, Bad, has_machine  # noqa: E402
 from reference.litmus import Test  # noqa: E402
 from reference.litmus_faults import LitmusFault  # noqa: E402
-from reference.order import check, first_lack  # noqa: E402
-from reference.reports import litmus_report, trace_report  # noqa: E402
+from reference.order import lack_line, lacking, verdict, verdict_line  # noqa: E402
+from reference.reports import litmus_report, text_of, trace_report  # noqa: E402
 from reference.schedules import test_generator  # noqa: E402
 from reference.traces import Fault, Trace, read_opening, read_records, record_line  # noqa: E402
 from reference.worked import test_machine  # noqa: E402
@@ -53,7 +53,7 @@ def number(name, least=0, most=MOST):
     def read(text):
         wrong = "invalid digit found in string" if not re.fullmatch("[+]?[0-9]+", text, re.ASCII) else \
             "number too large to fit in target type" if int(text) > MOST else \
-            f"{text} is not in {least}..={most}" if not least <= int(text) <= most else None
+            f"{text} is not in {least}..{'=' if most < MOST else ''}{most}" if not least <= int(text) <= most else None
         if wrong:
             raise Refused(3, f"error: invalid value '{text}' for '--{name} <{name}>': {wrong}{MORE}")
         return int(text)
@@ -80,6 +80,7 @@ def words():
     commands.choices["litmus"].add_argument("--runs", type=number("runs", 1, 1_000_000), default=1)
     commands.choices["trace"].add_argument("--records", action="store_true")
     commands.choices["trace"].add_argument("--counts", action="store_true")
+    commands.choices["trace"].add_argument("--every", type=number("every", 1), metavar="N")
     command = commands.add_parser("ends", allow_abbrev=False)
     command.add_argument("--states", type=number("states", 1, sequential.GREATEST), default=sequential.MOST_STATES)
     command.add_argument("--orders", action="store_true")
@@ -89,6 +90,8 @@ def words():
     command.add_argument("--opening", metavar="FILE")
     command.add_argument("TRACE")
     command.add_argument("RECORDS")
+    for command in commands.choices.values():
+        command.add_argument("--json", action="store_true")
     return parser
 
 
@@ -135,6 +138,18 @@ def refuse_counts(options):
         raise Refused(3, f"error: '--counts' needs '--schedule round' or '--schedule seed', and no '--records'{MORE}")
 
 
+def refuse_every(options):
+    """Rows are counts."""
+    if options.command == "trace" and options.every and not options.counts:
+        raise Refused(3, f"error: '--every' needs '--counts'{MORE}")
+
+
+def refuse_json(options):
+    """Records are lines."""
+    if options.command == "trace" and options.json and options.records:
+        raise Refused(3, f"error: '--json' cannot be used with '--records'{MORE}")
+
+
 def refuse_threads(options):
     """Runs by several threads differ from one time to the next, and those by threads have no list of events."""
     if options.workers > 1:
@@ -145,23 +160,31 @@ def refuse_threads(options):
 
 def ends_report(options):
     try:
-        return sequential.report(read_litmus(options.FILE), options.states, options.orders)
+        listing = sequential.Listing(read_litmus(options.FILE), options.states)
     except sequential.TooManyStates as many:
         raise Refused(1, f"tardis: {many}") from None
+    return objects.ends(listing, options.orders) if options.json else text_of(listing.lines(options.orders))
+
+
+def check_report(options):
+    """What is printed, and whether the records are legal and, if that is asked for, complete."""
+    opening = opening_of(options.opening)
+    issued = read_trace(options.TRACE).issued()
+    records = read_records(contents(options.RECORDS))
+    found, lack = verdict(opening, issued, records), None
+    if options.complete and found == ("legal",):
+        lack = lacking(issued, records)
+    line = lack_line(*lack) if lack else verdict_line(found)
+    return objects.check(found, lack) if options.json else line + "\n", line == "legal"
 
 
 def run(options):
     """What is printed, and the status."""
-    refuse_fair(options)
-    refuse_counts(options)
+    for refuse in (refuse_fair, refuse_counts, refuse_every, refuse_json):
+        refuse(options)
     if options.command == "check":
-        opening = opening_of(options.opening)
-        issued = read_trace(options.TRACE).issued()
-        records = read_records(contents(options.RECORDS))
-        verdict = check(opening, issued, records)
-        if options.complete and verdict == "legal":
-            verdict = first_lack(issued, records) or verdict
-        return verdict + "\n", int(verdict != "legal")
+        text, is_good = check_report(options)
+        return text, int(not is_good)
     if options.command == "ends":
         return ends_report(options), 0
     read = read_litmus(options.FILE) if options.command == "litmus" else read_trace(options.FILE)
@@ -182,7 +205,7 @@ def run(options):
     if options.command == "litmus":
         text, all_done = litmus_report(read, options, options.tell and tell, after)
     else:
-        text, all_done = trace_report(read, options, options.tell and tell, after, options.counts)
+        text, all_done = trace_report(read, options, options.tell and tell, after)
     return "".join(events) if options.events else text, int(not all_done)
 
 

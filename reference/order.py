@@ -19,20 +19,29 @@ def flat_step(memory, record):
 
 def check(opening, issued, records):
     """The verdict's line. `issued` is a list of operations for each core."""
+    return verdict_line(verdict(opening, issued, records))
+
+
+def verdict_line(found):
+    return " ".join(map(str, found))
+
+
+def verdict(opening, issued, records):
+    """What the checker finds, in words, and behind them the number of a record that isn't legal."""
     numbers = {record.number for record in records}
     for number in range(len(records)):
         if number not in numbers:
-            return f"bad number {number}"
+            return "bad number", number
     memory, places = dict(opening), {}
     for record in arrange(records):
         place = places.get(record.core, 0)
         wanted = issued[record.core] if record.core < len(issued) else []
         if record.place != place or place >= len(wanted) or wanted[place] != operation(record):
-            return f"out of program order {record.number}"
+            return "out of program order", record.number
         places[record.core] = place + 1
         if flat_step(memory, record) != record.received:
-            return f"wrong value {record.number}"
-    return "legal"
+            return "wrong value", record.number
+    return ("legal",)
 
 
 def expected(opening, records, number):
@@ -50,10 +59,20 @@ def expected(opening, records, number):
 
 def first_lack(issued, records):
     """The line on legal records that lack those of some core; None if each operation has its record."""
+    lack = lacking(issued, records)
+    return lack and lack_line(*lack)
+
+
+def lack_line(place, core):
+    return f"no record of operation {place} of core {core}"
+
+
+def lacking(issued, records):
+    """The first core of which legal records lack some, behind the place of its first operation without one; or None."""
     for core, operations in enumerate(issued):
         place = sum(record.core == core for record in records)
         if place != len(operations):
-            return f"no record of operation {place} of core {core}"
+            return place, core
     return None
 
 

@@ -1,4 +1,4 @@
-from reference import order
+from reference import objects, order
 from reference.counted import Counts
 from reference.machine import COUNTED, Machine
 from reference.schedules import Run, by_rounds, by_seed
@@ -47,18 +47,35 @@ class Batch:
             values = self.test.end_values(run.programs, memory)
             self.states[values] = self.states.get(values, 0) + 1
 
+    def held(self):
+        return sum(count for values, count in self.states.items() if self.test.holds(values))
+
+    def is_yes(self):
+        held, all_done = self.held(), self.ends["all-done"]
+        return {"exists": held > 0, "~exists": held == 0, "forall": held == all_done}[self.test.kind]
+
+    def head(self):
+        """What a report has before the states."""
+        return {"test": self.test.name, "threads": len(self.test.threads), "runs": self.runs, **self.ends}
+
+    def foot(self):
+        """What a report has behind them."""
+        sums = {name: min(total, 2 ** 128 - 1) for name, total in self.sums.items()}
+        return {"condition": self.test.kind, "held": self.held(), "verdict": "yes" if self.is_yes() else "no", **sums}
+
+    def lines(self):
+        yield from (f"{name} {value}" for name, value in self.head().items())
+        yield f"states {len(self.states)}"
+        yield from (" ".join([str(count)] + [f"{name}={value}" for name, value in values])
+                    for values, count in self.states.items())
+        yield from (f"{name} {value}" for name, value in self.foot().items())
+
     def text(self):
-        test, all_done = self.test, self.ends["all-done"]
-        held = sum(count for values, count in self.states.items() if test.holds(values))
-        verdict = {"exists": held > 0, "~exists": held == 0, "forall": held == all_done}[test.kind]
-        lines = [f"test {test.name}", f"threads {len(test.threads)}", f"runs {self.runs}"]
-        lines += [f"{end} {count}" for end, count in self.ends.items()]
-        lines.append(f"states {len(self.states)}")
-        lines += [" ".join([str(count)] + [f"{name}={value}" for name, value in values])
-                  for values, count in self.states.items()]
-        lines += [f"condition {test.kind}", f"held {held}", f"verdict {'yes' if verdict else 'no'}"]
-        lines += [f"{name} {min(total, 2 ** 128 - 1)}" for name, total in self.sums.items()]
-        return "".join(line + "\n" for line in lines)
+        return text_of(self.lines())
+
+
+def text_of(lines):
+    return "".join(line + "\n" for line in lines)
 
 
 def litmus_report(test, options, tell=None, after=None):
@@ -70,33 +87,49 @@ def litmus_report(test, options, tell=None, after=None):
         batch.add(run, end)
         if after:
             after(run, end, seed)
-    return batch.text(), batch.ends["all-done"] == options.runs
+    return objects.litmus(batch) if options.json else batch.text(), batch.ends["all-done"] == options.runs
 
 
-def trace_report(trace, options, tell=None, after=None, counts=False):
+def trace_report(trace, options, tell=None, after=None):
     """The report, with counts or without, or the records' text; and whether the run was all done."""
-    run, end = drive(options, trace.programs(), {}, options.seed, tell, machine=counted if counts else Machine)
+    run, end = drive(options, trace.programs(), {}, options.seed, tell, machine=machine_of(options))
     if after:
         after(run, end, options.seed)
-    records = run.machine.records
+    return trace_text(trace, options, run, end), end == "all-done"
+
+
+def machine_of(options):
+    """What opens the machine of a trace's run, whose events are counted if that is asked for."""
+    if not options.counts:
+        return Machine
+    return lambda options, cores, memory: Counts(Machine(options, cores, memory), options.every)
+
+
+def trace_text(trace, options, run, end):
+    """What the options ask for of a run."""
+    counts = run.machine if options.counts else None
     if options.records:
-        return "".join(record_line(record) + "\n" for record in records), end == "all-done"
-    lines = [*trace_lines(trace, run, end), *(run.machine.lines() if counts else [])]
-    return "".join(line + "\n" for line in lines), end == "all-done"
-
-
-def counted(options, cores, memory):
-    """A machine whose events are counted."""
-    return Counts(Machine(options, cores, memory))
+        return text_of(map(record_line, run.machine.records))
+    if options.json:
+        return objects.trace(trace_fields(trace, run, end), trace_words(trace, run), counts)
+    return text_of([*trace_lines(trace, run, end), *(counts.lines() if counts else [])])
 
 
 def trace_lines(trace, run, end):
+    yield from (f"{name} {value}" for name, value in trace_fields(trace, run, end).items())
+    yield from (f"word {address} {value}" for address, value in trace_words(trace, run).items())
+
+
+def trace_fields(trace, run, end):
+    """What a report has before the words."""
     machine, records = run.machine, run.machine.records
-    memory = order.end_memory({}, records)
     kinds = [record.kind for record in records]
-    yield from (f"cores {trace.cores}", f"issued {machine.issued}", f"completed {len(records)}", f"end {end}")
-    yield from (f"{kind}s {kinds.count(kind)}" for kind in ("load", "store", "swap"))
-    yield from (f"{name} {count}" for name, count in machine.totals().items())
-    yield f"stale-hits {order.stale_hits(records)}"
-    yield f"order {order.check({}, trace.issued(), records)}"
-    yield from (f"word {8 * word:#x} {memory.get(word, 0)}" for word in trace.words())
+    return {"cores": trace.cores, "issued": machine.issued, "completed": len(records), "end": end,
+            **{f"{kind}s": kinds.count(kind) for kind in ("load", "store", "swap")}, **machine.totals(),
+            "stale-hits": order.stale_hits(records), "order": order.check({}, trace.issued(), records)}
+
+
+def trace_words(trace, run):
+    """By its address each word that the trace names, with the value that the records leave there."""
+    memory = order.end_memory({}, run.machine.records)
+    return {f"{8 * word:#x}": memory.get(word, 0) for word in trace.words()}

@@ -186,17 +186,37 @@ def order_text(order):
     return "   " + " ".join(order) if order else ""
 
 
+class Listing:
+    """The list of all ends of a test: by rising values each end, with the first order that leads there."""
+
+    def __init__(self, test, most=MOST_STATES, kind=Flat):
+        ends, sizes = explored(kind(test), most)
+        self.test, self.states, self.ends = test, sum(sizes), sorted(ends.items())
+        self.held = sum(test.holds(end) for end, _ in self.ends)
+
+    def head(self):
+        return {"test": self.test.name, "threads": len(self.test.threads), "states": self.states}
+
+    def foot(self):
+        return {"condition": self.test.kind, "held": self.held}
+
+    def observation(self):
+        """In herd7's words, whether an end with a star was met."""
+        return "Never" if self.held == 0 else "Always" if self.held == len(self.ends) else "Sometimes"
+
+    def lines(self, has_orders):
+        yield from (f"{name} {value}" for name, value in self.head().items())
+        yield f"ends {len(self.ends)}"
+        yield from (f"{'*' if self.test.holds(end) else ' '} {text_of(end)}" + order_text(order) * has_orders
+                    for end, order in self.ends)
+        yield from (f"{name} {value}" for name, value in self.foot().items())
+        yield f"observation {self.test.name} {self.observation()} {self.held} {len(self.ends) - self.held}"
+
+
 def report(test, most=MOST_STATES, has_orders=False, kind=Flat):
     """The text of all ends of a test."""
-    ends, sizes = explored(kind(test), most)
-    held = sum(map(test.holds, ends))
-    word = "Never" if held == 0 else "Always" if held == len(ends) else "Sometimes"
     lines = [f"model {kind.name}"] * (kind.name is not None)
-    lines += [f"test {test.name}", f"threads {len(test.threads)}", f"states {sum(sizes)}", f"ends {len(ends)}"]
-    lines += [f"{'*' if test.holds(end) else ' '} {text_of(end)}" + order_text(order) * has_orders
-              for end, order in sorted(ends.items())]
-    lines += [f"condition {test.kind}", f"held {held}", f"observation {test.name} {word} {held} {len(ends) - held}"]
-    return "\n".join(lines) + "\n"
+    return "\n".join([*lines, *Listing(test, most, kind).lines(has_orders)]) + "\n"
 
 
 def words_of(words):

@@ -3,15 +3,15 @@
 A run ends so only before an event that allocates: one that opens an operation, or brings DRAM the first store of a
 line. Or it ends where the schedule lists something: the messages in flight, before a round's first delivery, and the
 lines of all parts, before the first eviction that a seed drew. From then on the machine keeps them in order, and no
-later eviction allocates. The run then reports the events before that.
+later eviction allocates. The run then reports the events before that. A run whose events are counted may end so before
+any event: the room for the next row and the next lost copy is found ahead.
 """
 from itertools import product
 
 from reference import oracle
 from reference.machine import Machine
-from reference.reports import Batch, counted, seed_of, trace_lines
+from reference.reports import Batch, machine_of, seed_of, trace_text
 from reference.schedules import Run, by_rounds, by_seed
-from reference.traces import record_line
 from tools import merge
 
 
@@ -56,10 +56,11 @@ def run_of(options, programs, memory, seed, last=None, machine=Machine):
         return run, "memory"
 
 
-def ends_of(start, tell):
-    """The report of a run that ends before each event that allocates, in the order of the events."""
+def ends_of(start, tell, is_counted=False):
+    """The report of a run that ends before each event that allocates, or each event of a run that is counted, in the
+    order of the events."""
     whole, _ = start(None)
-    return [tell(*start(last)) for last in whole.asks]
+    return [tell(*start(last)) for last in (range(len(whole.made)) if is_counted else whole.asks)]
 
 
 def cuts_of(options):
@@ -98,11 +99,11 @@ def of_trace(options):
     trace = oracle.read_trace(options.FILE)
 
     def tell(run, end):
-        lines = map(record_line, run.machine.records) if options.records else trace_lines(trace, run, end)
-        return "".join(line + "\n" for line in [*lines, *(run.machine.lines() if options.counts else [])])
+        return trace_text(trace, options, run, end)
 
-    machine = counted if options.counts else Machine
-    return ends_of(lambda last: run_of(options, trace.programs(), {}, options.seed, last, machine), tell)
+    machine = machine_of(options)
+    return ends_of(lambda last: run_of(options, trace.programs(), {}, options.seed, last, machine), tell,
+                   options.counts)
 
 
 def told_of(words):

@@ -5,6 +5,11 @@ FILE is a trace or a litmus test. docs/COUNTS.md says what each row of the table
 makes the run and counts. That is the proved machine's, ./play, if it is built and no source is newer. Otherwise it is
 the second program's, reference/play.py, and standard error says so; nothing is built. --player names another.
 
+With --program PATH that program counts, as ./tardis or reference/oracle.py: the numbers of its `trace --counts`, with
+misses by cause. Then --every N also shows what was counted behind each N operations, and --skip N leaves out what the
+first N operations counted, in all tables; last-time stays. --columns NAME,.. prints a line for each of these points in
+place of tables: how many operations had completed, and these numbers of the whole run.
+
 The status is 0 if the run is all done, 1 if it was counted and ended otherwise, and 2 if nothing was counted.
 """
 import re
@@ -16,12 +21,11 @@ from pathlib import Path
 sys.path.insert(0, str(Path(__file__).resolve().parent.parent))
 from reference import told  # noqa: E402
 from reference.given import Bad, Subject, bad_configuration, Words, contents, tool  # noqa: E402
-from tools.program import TOP  # noqa: E402
+from tools.count_tables import KINDS, Tables, points_of, printed, table, words_of  # noqa: E402
+from tools.program import TOP, number  # noqa: E402
 from tools.shown.played import drive_call, machine_call, player_of, say_second, steps_of  # noqa: E402
 
 
-KINDS = ("ShReq", "ExReq", "ShRep", "ExRep", "RenewRep", "UpgradeRep", "FlushReq", "WbReq", "FlushRep", "WbRep",
-         "DramLd", "DramLdRep", "DramSt", "DramStRep")
 # The rows of cores, each with its name in the player's answer; and those of banks, each with what it is the sum of.
 OF_CORES = {"loads": "loads", "stores": "stores", "swaps": "swaps", "hits": "hits", "misses": "misses",
             "stale-hits": "stale", "evicted-copies": "evicted", "last-time": "time"}
@@ -67,34 +71,19 @@ def plain_programs(text):
     return [b"; ".join(steps.get(core, [])).decode("ascii") for core in range(max(steps, default=0) + 1)]
 
 
-class Counts:
-    """What a run counts: its end, how many events it made in how many turns, and by part the numbers by names."""
+class Counts(Tables):
+    """What a player counts of a run: its end, how many events it made in how many turns, and by part the numbers by
+    names."""
 
     def __init__(self, drive, counts):
         self.end, events = drive.removesuffix(" events").split(", ")
         *parts, turns = counts.split("; ")
-        self.run = {"turns": int(turns.split(" ")[1]), "events": int(events)}
-        self.parts = {}
+        run, of = {"turns": int(turns.split(" ")[1]), "events": int(events)}, {}
         for part in parts:
             what, number, *rest = part.split(" ")
-            self.parts[f"{what} {number}"] = numbers_of(rest)
-
-    def rows(self):
-        """By table its rows; a row has its name, the sum over the cores or the banks, and the number of each part."""
-        cores = [part for part in self.parts if part.startswith("core")]
-        banks = [part for part in self.parts if part.startswith("bank")]
-        yield "cores", cores, [(row, max if row == "last-time" else sum, [name], cores)
-                               for row, name in OF_CORES.items()]
-        yield "banks", banks, [(row, sum, names, banks) for row, names in OF_BANKS.items()]
-        yield "messages", cores + banks, [(row, sum, [row], banks) for row in OF_MESSAGES]
-
-    def number(self, part, names):
-        return sum(self.parts[part].get(name, 0) for name in names)
-
-    def totals(self):
-        """All numbers of the run as a whole, by the names of the rows."""
-        return self.run | {row: total(self.number(part, names) for part in of)
-                           for _, _, rows in self.rows() for row, total, names, of in rows}
+            of[f"{what} {number}"] = numbers_of(rest)
+        super().__init__(run, of, {row: [name] for row, name in OF_CORES.items()}, OF_BANKS,
+                         {row: [row] for row in OF_MESSAGES})
 
 
 def numbers_of(words):
@@ -144,22 +133,92 @@ def one_run(_):
     raise ArgumentTypeError("one run is counted: tools/sweep.py --counts --seed 0..99 makes a table of many")
 
 
-def main(words):
+def column_lines(points, columns):
+    """A line for each point, with how many operations had completed and these numbers of the whole run."""
+    rows = [["completed", *columns]]
+    for completed, counts in points:
+        totals = counts.totals()
+        lacking = [name for name in columns if name not in totals]
+        if lacking:
+            raise Bad(f"--columns {lacking[0]}: there are {', '.join(totals)}")
+        rows.append([str(completed), *(str(totals[name]) for name in columns)])
+    return table(rows)
+
+
+def run_lines(counts, is_shown):
+    return [*(f"{name} {number}" for name, number in counts.run.items()), *tables(counts, is_shown)]
+
+
+def words_of_line():
     parser = Words(__doc__)
     parser.run_options()
     parser.add_argument("--runs", type=one_run, help=SUPPRESS)
     parser.player_option()
-    options = parser.parse_args(words)
+    parser.add_argument("--program", metavar="PATH", help="the program that counts in a player's place (./tardis)")
+    parser.add_argument("--every", type=number(1, 2 ** 64 - 1), metavar="N",
+                        help="with --program, also what is counted behind each N operations")
+    parser.add_argument("--skip", type=number(1, 2 ** 64 - 1), metavar="N",
+                        help="with --program, leaves out the first N operations")
+    parser.add_argument("--columns", metavar="NAME,..", help="a line for each row, with these numbers of the whole run")
+    return parser
+
+
+def by_program(options):
+    """How the run ended; the rows, by how many operations had completed; and the counts at the end. The program counts
+    traces."""
+    if options.player:
+        raise Bad("--program and --player: one of them counts")
+    if contents(options.FILE).split(None, 1)[:1] == [b"RISCV"]:
+        raise Bad(f"{options.FILE} is a litmus test: a player counts it, without --program")
+
+    def ask(every):
+        return printed(options.program, words_of(options), options.FILE, every)
+
+    try:
+        found, rows, last = points_of(ask, options.every, options.skip)
+    except Bad as cause:
+        raise Bad(bad_configuration(options) if str(cause) == "bad configuration" else cause) from None
+    return found.report["end"], rows, last, None
+
+
+def by_player(options):
+    """The same by a player, which has no rows; and who played."""
+    if options.every or options.skip:
+        raise Bad("--every and --skip need --program: a player counts the whole run")
     given = Given(options.FILE)
-    shown = {f"core {core}" for core in options.cores or range(given.cores)}
-    if not shown <= {f"core {core}" for core in range(given.cores)}:
-        raise Bad(f"{options.FILE} has the cores 0 to {given.cores - 1}")
+    refuse_cores(options, given.cores)
     command, made_by = player_of(options)
     counts = counted(command, given, options)
-    print("\n".join([f"end {counts.end}", *(f"{name} {number}" for name, number in counts.run.items()),
-                     *tables(counts, lambda part: part in shown or part.startswith("bank"))]))
-    say_second("counts.py", made_by, options)
-    return int(counts.end != "all-done")
+    return counts.end, {}, counts, made_by
+
+
+def refuse_cores(options, cores):
+    if not set(options.cores or ()) <= set(range(cores)):
+        raise Bad(f"{options.FILE} has the cores 0 to {cores - 1}")
+
+
+def main(words):
+    options = words_of_line().parse_args(words)
+    end, rows, last, made_by = (by_program if options.program else by_player)(options)
+    cores = sum(part.startswith("core") for part in last.parts)
+    refuse_cores(options, cores)
+    shown = {f"core {core}" for core in options.cores or range(cores)}
+
+    def is_shown(part):
+        return part in shown or part.startswith("bank")
+
+    if options.columns:
+        points = rows | {last.completed() + (options.skip or 0): last}
+        lines = column_lines(points.items(), options.columns.split(","))
+    else:
+        lines = [f"end {end}"]
+        for completed, counts in rows.items():
+            lines += [f"row {completed}", *run_lines(counts, is_shown), ""]
+        lines += run_lines(last, is_shown)
+    print("\n".join(lines))
+    if made_by:
+        say_second("counts.py", made_by, options)
+    return int(end != "all-done")
 
 
 if __name__ == "__main__":

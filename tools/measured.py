@@ -9,6 +9,7 @@ from reference.machine import Machine
 from reference.traces import Fault, Trace
 from tools import sweep
 from tools.advance import new_trace
+from tools.count_tables import table  # noqa: F401 (compare.py and clock.py have it from here)
 from tools.program import text_of
 
 
@@ -62,10 +63,3 @@ def row_of(counts):
 def varied(combinations):
     """The options that have several values."""
     return [name for name in sweep.OPTIONS if len({chosen[name] for chosen in combinations}) > 1]
-
-
-def table(rows):
-    """Lines with columns below each other: the first to the left, the others to the right."""
-    wide = [max(map(len, column)) for column in zip(*rows)]
-    for first, *rest in rows:
-        yield "  ".join([first.ljust(wide[0]), *(word.rjust(space) for word, space in zip(rest, wide[1:]))]).rstrip()

@@ -1,4 +1,5 @@
 """The checker of docs/ORDER.md, by a plain method, and the count of stale hits. Memory is a mapping of words."""
+from collections import Counter
 
 
 def arrange(records):
@@ -48,13 +49,16 @@ def expected(opening, records, number):
     return None
 
 
+def lack(issued, records):
+    """The first core that hasn't as many records as operations, and how many it has; None if there is none."""
+    done = Counter(record.core for record in records)
+    return next(((core, done[core]) for core, operations in enumerate(issued) if done[core] != len(operations)), None)
+
+
 def first_lack(issued, records):
     """The line on legal records that lack those of some core; None if each operation has its record."""
-    for core, operations in enumerate(issued):
-        place = sum(record.core == core for record in records)
-        if place != len(operations):
-            return f"no record of operation {place} of core {core}"
-    return None
+    found = lack(issued, records)
+    return found and f"no record of operation {found[1]} of core {found[0]}"
 
 
 def end_memory(opening, records):

@@ -23,6 +23,8 @@ import tardis  # noqa: E402
 from reference.machine_texts import MachinePlayer  # noqa: E402
 from reference.texts import examples_of, is_answer  # noqa: E402
 
+OF_MACHINES = "lease, time, banks, sets, ways, bank_sets, bank_ways, line_words, messages, private_write"
+OF_TRACES = f"records, {OF_MACHINES}, schedule, fair, seed, limit"
 STORE_BUFFERING = TOP / "examples/litmus/SB.litmus"
 
 
@@ -108,7 +110,7 @@ def machine():
             fail("the look-ups after it")
         if opened.deliver(7) != tardis.Answer("refused", "NoSuch") or opened.open_operation(1) is not None:
             fail("a message that isn't there")
-        if opened.records(1) or opened.records().columns()["received"] != [5]:
+        if opened.records(1) or opened.records().columns()["received"] != [5] or opened.records().end is not None:
             fail("columns")
     for make, kind in ((lambda: tardis.Machine(cores=65), tardis.BadConfiguration),
                        (lambda: tardis.Machine(ways=17), tardis.BadConfiguration)):
@@ -160,6 +162,9 @@ def troubles():
     before = len(os.listdir("/proc/self/fd"))
     for options in ({"runs": 5}, {"fair": True}, {"cores": 2.0}, {"lease": True}, {"private_write": "no"}):
         refuses(TypeError, lambda: tardis.Machine(**options), options)
+    told = str(refuses(TypeError, lambda: tardis.Machine(core=4), "an option that there isn't"))
+    if told != f"Machine has no option 'core': it takes cores, memory, {OF_MACHINES}":
+        fail(f"an option that there isn't: {told}")
     refuses(ValueError, lambda: tardis.Machine(memory={4: 1}), "an address of no word")
     closed = tardis.Machine()
     if os.getpgid(closed._player.pid) == os.getpgid(0):
@@ -236,8 +241,7 @@ def runs(is_proved):
     records = tardis.trace("0 W 0x8 7\n", records=True)
     if records != [tardis.Record(0, 0, "W", 8, 7, None, 1, 0)]:
         fail(f"records: {records}")
-    if tardis.trace("", records=True) or tardis.trace("0 W 0x8 7\n", records=True, limit=1):
-        fail("records where none is")
+    cut_off()
     with warnings.catch_warnings(record=True) as told:
         warnings.simplefilter("always")
         tardis.trace("0 R 0x0\n")
@@ -254,6 +258,18 @@ def runs(is_proved):
     faults(is_proved)
     ends(is_proved)
     histories(is_proved)
+
+
+def cut_off():
+    """Records say how their run ended. By hand: a store's round, a second load, and a time that can't go on."""
+    first = tardis.Record(0, 0, "W", 8, 7, None, 1, 0)
+    for text, options, wanted in (("", {}, ([], "all-done")), ("0 W 0x8 7\n", {}, ([first], "all-done")),
+                                  ("0 W 0x8 7\n", {"limit": 1}, ([], "limit")),
+                                  ("0 W 0x8 7\n0 R 0x80\n", {"limit": 7}, ([first], "limit")),
+                                  ("0 W 0x8 7\n", {"time": 2 ** 64 - 1}, ([], "exhausted"))):
+        came = tardis.trace(text, records=True, **options)
+        if (came, came.end) != wanted:
+            fail(f"the end of {text!r} with {options}: {came}, {came.end}")
 
 
 def of_cores(cores, received):
@@ -292,6 +308,36 @@ def histories(is_proved):
     must(grown, "legal")
     grown.add(tardis.Record(70, 1, "S", 0x10, 2, 0, 2, 3))
     must(grown, "bad number 2", 2)
+    lacks(is_proved)
+
+
+def lacks(is_proved):
+    """By hand: legal records of two cores, of which the greater one's come first, and one that isn't legal."""
+    grown = tardis.History()
+
+    def must(*wanted):
+        told = grown.verdict(complete=True)
+        lack = {"core": wanted[1], "place": wanted[2]} if len(wanted) == 3 else {}
+        if told != tardis.Verdict(wanted[0], is_proved, **lack) or told.is_legal != (not lack):
+            fail(f"a history that is to be complete: {told}, not {wanted}")
+
+    must("legal")
+    for core, address in ((3, 0x8), (3, 0x10), (1_048_575, 0x8)):
+        grown.issue(core, "R", address)
+    must("no record of operation 0 of core 3", 3, 0)
+    if not grown.verdict().is_legal:
+        fail("a history that may lack records")
+    grown.add(tardis.Record(1_048_575, 0, "R", 0x8, None, 0, 0, 1))
+    grown.add(tardis.Record(3, 0, "R", 0x8, None, 0, 0, 0))
+    must("no record of operation 1 of core 3", 3, 1)
+    grown.add(tardis.Record(3, 1, "R", 0x10, None, 0, 0, 2))
+    must("legal")
+    grown.issue(0, "S", 0x10, 1)
+    must("no record of operation 0 of core 0", 0, 0)
+    grown.add(tardis.Record(0, 0, "S", 0x10, 1, 4, 9, 3))
+    told = grown.verdict(complete=True)
+    if told != tardis.Verdict("wrong value 3", is_proved, 3, 0, None):
+        fail(f"a wrong value where records are missing: {told}")
 
 
 def refused(grown, loaded):
@@ -329,7 +375,9 @@ def ends(is_proved):
     orders = [end.order for end in tardis.ends(text, orders=True).ends]
     if orders != [("P0:1", "P0:2", "P1:1", "P1:2"), ("P1:1", "P1:2", "P0:1", "P0:2"), ("P0:1", "P1:1", "P0:2", "P1:2")]:
         fail(f"orders: {orders}")
-    refuses(tardis.TooManyStates, lambda: tardis.ends(text, states=6), "a seventh state")
+    many = refuses(tardis.TooManyStates, lambda: tardis.ends(text, states=6), "a seventh state")
+    if (many.states, many.enough) != (6, 9):  # a layer of 3 states, and 2 threads
+        fail(f"a seventh state: {many}")
     refuses(tardis.BadConfiguration, lambda: tardis.ends(text, states=0), "no state")
     refuses(tardis.BadText, lambda: tardis.ends("RISCV\n"), "no litmus test")
     program = os.environ.get("TARDIS")
@@ -375,13 +423,18 @@ def faults(is_proved):
                              (lambda: tardis.check("", "", opening={4: 5}), tardis.BadText, 1),
                              (lambda: tardis.trace("0 R 0x0\n", lease=0), tardis.BadConfiguration, None),
                              (lambda: tardis.trace("0 R 0x0\n", schedule="seed", fair=True), tardis.BadConfiguration,
-                              None), (lambda: tardis.trace("", runs=2), TypeError, None)):
+                              None)):
         try:
             make()
             fail("what is refused was taken")
         except kind as error:
             if line is not None and (error.line != line or f" {line}: {error.kind}" not in str(error)):
                 fail(f"{error}: line {error.line}, not {line}, and {error.kind}")
+    for name, make, more in (("trace", lambda: tardis.trace("", runs=2), OF_TRACES),
+                             ("litmus", lambda: tardis.litmus("", records=True), f"{OF_TRACES[9:]}, runs")):
+        told = str(refuses(TypeError, make, f"an option that {name} hasn't"))
+        if told != f"{name} has no option {'runs' if name == 'trace' else 'records'!r}: it takes {more}":
+            fail(f"an option that {name} hasn't: {told}")
 
 
 def packaged():

@@ -7,7 +7,7 @@ from typing import Any, Literal, overload
 
 from tardis import found, library
 from tardis.errors import BadConfiguration, BadText, NoMemory, TardisError, TooManyStates
-from tardis.options import Options, within
+from tardis.options import OF_RUNS, OF_TRACE, Options, given_options, within
 from tardis.reports import EndsReport, LitmusReport, Records, TraceReport
 from tardis.reports import ends_report, litmus_report, records_of, trace_report
 
@@ -16,8 +16,9 @@ def in_bytes(text: str | bytes) -> bytes:
     return text.encode() if isinstance(text, str) else text
 
 
-def printed(program: list[str], words: list[str], *texts: bytes) -> str:
-    """What a program prints of a command on these texts, whose files are named behind the words."""
+def printed(program: list[str], words: list[str], *texts: bytes) -> tuple[bool, str]:
+    """Whether all is done, and what a program prints of a command on these texts, whose files are named behind the
+    words."""
     with tempfile.TemporaryDirectory(prefix="tardis-") as folder:
         paths = [os.path.join(folder, str(number)) for number in range(len(texts))]
         for path, text in zip(paths, texts):
@@ -25,31 +26,39 @@ def printed(program: list[str], words: list[str], *texts: bytes) -> str:
                 file.write(text)
         came = subprocess.run(program + words + paths, capture_output=True, text=True)
     if came.returncode in (0, 1) and (came.stdout or not came.stderr):  # of records there may be none
-        return came.stdout
+        return came.returncode == 0, came.stdout
     told = came.stderr.strip()
     if told.startswith("tardis: more than "):
         raise TooManyStates(told)
     raise {1: NoMemory, 2: BadText, 3: BadConfiguration}.get(came.returncode, TardisError)(told)
 
 
-def by_second(words: list[str], *texts: bytes) -> str:
-    """What the second program prints, which stands for the shared library."""
+def by_second(words: list[str], *texts: bytes) -> tuple[bool, str]:
+    """Likewise, of the second program, which stands for the shared library."""
     return printed(found.second("oracle.py", "the shared library"), words, *texts)
 
 
-def run(kind: str, text: str | bytes, options: Options, records: bool = False) -> tuple[str, bool]:
+def run(kind: str, text: bytes, options: Options) -> tuple[str, bool]:
     """The text of a report, and whether the proved library made it."""
     if library.loaded():
-        return library.run(kind, in_bytes(text), options, records), True
-    words = [kind, *options.words(kind)] + (["--records"] if records else [])
-    return by_second(words, in_bytes(text)), False
+        return library.run(kind, text, options)[1], True
+    return by_second([kind, *options.words(kind)], text)[1], False
+
+
+def recorded(text: bytes, options: Options) -> Records:
+    """The records of a trace. If its run was cut, a second one says how: they are alike."""
+    if library.loaded():
+        is_done, records = library.run("trace", text, options, records=True)
+    else:
+        is_done, records = by_second(["trace", *options.words("trace"), "--records"], text)
+    return records_of(records, "all-done" if is_done else trace_report(*run("trace", text, options)).end)
 
 
 def litmus(text: str | bytes, **options: Any) -> LitmusReport:
     """Runs a litmus test (docs/TEXTS.md), with the fields of `Options`: `litmus(text, runs=1000, schedule="seed")`.
 
     Raises BadText, BadConfiguration or NoMemory."""
-    return litmus_report(*run("litmus", text, Options(**options)))
+    return litmus_report(*run("litmus", in_bytes(text), given_options("litmus", OF_RUNS, options)))
 
 
 def ends(text: str | bytes, *, states: int = 4_194_304, orders: bool = False) -> EndsReport:
@@ -61,7 +70,7 @@ def ends(text: str | bytes, *, states: int = 4_194_304, orders: bool = False) ->
     program = found.program()
     command = [program] if program else found.second("oracle.py", "the program")
     words = ["ends", "--states", str(states), *(["--orders"] if orders else [])]
-    return ends_report(printed(command, words, in_bytes(text)), program is not None)
+    return ends_report(printed(command, words, in_bytes(text))[1], program is not None)
 
 
 @overload
@@ -73,14 +82,11 @@ def trace(text: str | bytes, *, records: Literal[True], **options: Any) -> Recor
 
 
 def trace(text: str | bytes, *, records: bool = False, **options: Any) -> TraceReport | Records:
-    """Runs a trace over a memory of zeros: its report, or its records by columns.
+    """Runs a trace over a memory of zeros: its report, or its records, whose `end` says how the run ended.
 
     Raises BadText, BadConfiguration or NoMemory."""
-    if "runs" in options:
-        raise TypeError("runs is an option of a litmus test, and not of a trace")
-    if records:
-        return records_of(run("trace", text, Options(**options), True)[0])
-    return trace_report(*run("trace", text, Options(**options)))
+    built = given_options("trace", OF_TRACE, options, "records")
+    return recorded(in_bytes(text), built) if records else trace_report(*run("trace", in_bytes(text), built))
 
 
 def check(trace: str | bytes, records: str | bytes, *, opening: Mapping[int, int] | str | bytes = "",
@@ -94,4 +100,4 @@ def check(trace: str | bytes, records: str | bytes, *, opening: Mapping[int, int
     texts = in_bytes(opening), in_bytes(trace), in_bytes(records)
     if library.loaded():
         return library.check(*texts, complete).strip()
-    return by_second(["check", *["--complete"] * complete, "--opening"], *texts).strip()
+    return by_second(["check", *["--complete"] * complete, "--opening"], *texts)[1].strip()

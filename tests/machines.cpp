@@ -39,10 +39,46 @@ void calls(const char *player) {
     tardis_machine_close(&machine);
 }
 
+// Whether an answer has this record.
+bool has(const char *answer, const tardis_record &wanted) {
+    const auto record = tardis::record_of(answer);
+    return record && std::memcmp(&*record, &wanted, sizeof wanted) == 0;
+}
+
+// Answers in their parts, by hand.
+void records() {
+    const uint64_t most = UINT64_MAX;
+    expect(has("completed 1 2 R 0x8 5 6 7", {{1, TARDIS_LOAD, 8, 0}, 2, 5, 6, 7}), "a load's record");
+    expect(has("63 0 W 0x10 9 1 2", {{63, TARDIS_STORE, 16, 9}, 0, 0, 1, 2}), "a store's record");
+    expect(has("1048575 3 S 0xfffffffffffffff8 18446744073709551615 4 18446744073709551615 6",
+               {{1048575, TARDIS_SWAP, most - 7, most}, 3, 4, most, 6}),
+           "a swap's record");
+    for (const char *answer :
+         {"", "completed", "completed ", "none", "requested", "refused NoRoom", "issued 1 0 R 0x8 5 0 0",
+          "1 0 R 0x8 5 0", "1 0 R 0x8 5 0 0 0", "1 0 W 0x8 5 6 0 0", "1 0 S 0x8 5 0 0", "1 0 X 0x8 5 0 0",
+          "1 0  0x8 5 0 0", "1 0 R 8 5 0 0", "1 0 R 0x 5 0 0", "1 0 R 0xg 5 0 0", "1 0 R 0x8 a 0 0",
+          "1 0 R 0x8  5 0 0", "1 0 RW 0x8 5 0 0", "-1 0 R 0x8 5 0 0", "1048576 0 R 0x8 5 0 0", "1 0", "1 0 ", "1 0 R",
+          "1 0 R 0x8 18446744073709551616 0 0", "1 0 R 0x10000000000000000 5 0 0"})
+        expect(!tardis::record_of(answer), answer);
+    const tardis::Answer refused = tardis::answer_of("refused NoRoom"), plain = tardis::answer_of("requested");
+    expect(refused.name == "refused" && refused.cause == "NoRoom" && !refused.record, "a refusal's parts");
+    expect(plain.name == "requested" && plain.cause.empty() && !plain.record, "a plain answer's parts");
+    const tardis::Answer done = tardis::answer_of("completed 1 2 R 0x8 5 6 7");
+    expect(done.name == "completed" && done.cause.empty(), "a completion's parts");
+    expect(done.record && done.record->received == 5, "a completion's record");
+    expect(tardis_machine_cause("refused Busy") == std::string("Busy") && !tardis_machine_cause("refused") &&
+               !tardis_machine_cause("completed 1"),
+           "a cause in C");
+    tardis_record kept{{7, 7, 7, 7}, 7, 7, 7, 7};
+    expect(tardis_machine_record("1 0 R 0x8 5 0", &kept) == TARDIS_MACHINE_LINE, "no record");
+    expect(kept.operation.core == 7 && kept.number == 7, "what stays");
+}
+
 }  // namespace
 
 int main(int, char **words) {
     alarm(60);
+    records();
     calls(words[1]);
     std::string why = "?";
     expect(!tardis::Machine::open("/none", "", &why) && why.empty(), "a player that isn't there");
@@ -60,9 +96,15 @@ int main(int, char **words) {
                sent->address == 0x28 && sent->carries == "pts 0 version none",
            "its request");
     expect(second->deliver(0) == "started" && second->message(1) && second->message(1)->carries.empty(), "its fetch");
+    expect(!second->record(0), "a record that there isn't yet");
     uint64_t sum = 0;
     for (const uint64_t number : second->in_flight()) sum += number + 1;  // of the request and its fetch
     expect(sum == 3, "what is in flight");
+    for (const uint64_t number : {1, 2, 0, 3}) second->deliver(number);
+    const tardis::Answer done = tardis::answer_of(second->attempt(0));
+    const tardis_record loaded{{0, TARDIS_LOAD, 0x28, 0}, 0, 0, 0, 0};
+    expect(done.record && std::memcmp(&*done.record, &loaded, sizeof loaded) == 0, "its record");
+    expect(second->record(0) && !second->record(1), "a record by its number");
     expect(!second->message(7), "a message that isn't there");
     expect(second->call("machine cores 1") == "opened", "another machine");
     expect(second->call("").empty() && second->call(" \r").empty(), "a blank line");

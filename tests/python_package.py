@@ -22,6 +22,7 @@ sys.path[:0] = [str(TOP), str(TOP / "python")]
 import tardis  # noqa: E402
 from reference.machine_texts import MachinePlayer  # noqa: E402
 from reference.texts import examples_of, is_answer  # noqa: E402
+from tardis.options import Options  # noqa: E402
 
 OF_MACHINES = "lease, time, banks, sets, ways, bank_sets, bank_ways, line_words, messages, private_write"
 OF_TRACES = f"records, {OF_MACHINES}, schedule, fair, seed, limit"
@@ -97,6 +98,8 @@ def machine():
     """A load of core 1 by hand, and what is refused."""
     with tardis.Machine(cores=2, lease=10, memory={8: 5}) as opened:
         names = [opened.load(1, 8).name, opened.attempt(1).name]
+        if opened.open_operation(1) != "R 0x8 requested" or opened.open_operation(0) is not None:
+            fail("open operations")
         sent = opened.message(0)
         names += [opened.deliver(number).name for number in (0, 1, 2, 0, 3)]
         done = opened.attempt(1)
@@ -112,6 +115,15 @@ def machine():
             fail("a message that isn't there")
         if opened.records(1) or opened.records().columns()["received"] != [5] or opened.records().end is not None:
             fail("columns")
+        if opened.store(0, 16, 9).name != "issued" or opened.open_operation(0) != "W 0x10 9":
+            fail("a store")
+        opened.attempt(0)
+        opened.load(1, 24)
+        opened.attempt(1)
+        if [message.number for message in opened] != [4, 5]:
+            fail("the messages of a store and a load")
+    refuses(tardis.TardisError, opened.in_flight, "a machine that its with closed")
+    opened_with()
     for make, kind in ((lambda: tardis.Machine(cores=65), tardis.BadConfiguration),
                        (lambda: tardis.Machine(ways=17), tardis.BadConfiguration)):
         try:
@@ -120,6 +132,32 @@ def machine():
         except kind:
             pass
     return opened.is_proved
+
+
+class Heard(tardis.Machine):
+    """A machine whose calls are kept."""
+
+    def call(self, line):
+        self.calls = [*getattr(self, "calls", []), line]
+        return super().call(line)
+
+
+def opened_with():
+    """A machine is opened with all of its options, by hand: the options' order says nothing."""
+    given = {"banks": 2, "sets": 4, "ways": 3, "bank_sets": 8, "bank_ways": 5, "line_words": 8, "lease": 7,
+             "messages": 9, "time": 11, "private_write": True}
+    with Heard(cores=3, memory={8: 5, 64: 2 ** 64 - 1}, **given) as heard:
+        words, _, opening = heard.calls[0].partition(" with ")
+        if heard.call("shape") != "cores 3 banks 2 line-words 8" or heard.call("time 2") != "11":
+            fail("the shape of a machine")
+    words = words.split()
+    wanted = {"cores": "3", "banks": "2", "sets": "4", "ways": "3", "bank-sets": "8", "bank-ways": "5",
+              "line-words": "8", "lease": "7", "messages": "9", "time": "11", "private-write": "yes"}
+    if (words[0], dict(zip(words[1::2], words[2::2])), opening) != ("machine", wanted, f"0x8 5 0x40 {2 ** 64 - 1}"):
+        fail(f"the options of a machine: {heard.calls[0]}")
+    with Heard() as heard:
+        if "private-write no" not in heard.calls[0] or " with" in heard.calls[0]:
+            fail(f"a machine without options: {heard.calls[0]}")
 
 
 def places():
@@ -234,6 +272,7 @@ def runs(is_proved):
         fail("the report of a trace")
     if tardis.trace("0 W 0x8 7\n1 W 0x10 9\n").words != {8: 7, 16: 9}:
         fail("the words that a trace leaves")
+    numbers(seeded)
     for name in OPTIONS:
         trace = TOP / f"examples/traces/{name}.trace"
         if tardis.trace(trace.read_bytes(), **options_of(trace)).text != trace.with_suffix(".report").read_text():
@@ -258,6 +297,23 @@ def runs(is_proved):
     faults(is_proved)
     ends(is_proved)
     histories(is_proved)
+
+
+def numbers(seeded):
+    """Numbers of reports: of 300 runs with two stores and two loads each; of a trace, which has one of either; and of a
+    test that is named by a number."""
+    told = seeded.numbers
+    if (told["runs"], told["all-done"], told["completed"], told["threads"]) != (300, 300, 1200, 2) or \
+            any(told[name] for name in ("stalled", "limit", "exhausted", "memory")):
+        fail(f"numbers of 300 runs: {told}")
+    report = tardis.trace("0 W 0x8 7\n1 R 0x8\n")
+    if (report.end, report.words, report.numbers) != ("all-done", {8: 7}, {
+            "cores": 2, "issued": 2, "completed": 2, "loads": 1, "stores": 1, "swaps": 0, "renewals": 0, "upgrades": 0,
+            "flushes": 0, "write-backs": 1, "stale-hits": 0}):
+        fail(f"numbers of a trace: {report}")
+    named = tardis.litmus(STORE_BUFFERING.read_text().replace("RISCV SB", "RISCV 7"))
+    if named.name != "7" or "test" in named.numbers:
+        fail(f"a test named 7: {named}")
 
 
 def cut_off():
@@ -437,6 +493,53 @@ def faults(is_proved):
             fail(f"an option that {name} hasn't: {told}")
 
 
+# The least and the greatest value of each option that is a whole number, as docs/ have them.
+RANGES = {"lease": (1, 4_294_967_296), "time": (0, 18_446_744_073_709_551_615), "banks": (1, 8), "sets": (1, 1024),
+          "ways": (1, 16), "bank_sets": (1, 1024), "bank_ways": (1, 16), "messages": (1, 65_536),
+          "limit": (1, 4_294_967_295), "runs": (1, 1_000_000), "seed": (0, 18_446_744_073_709_551_615)}
+
+
+def ranges():
+    """Each option at the ends of its range, and one beyond."""
+    for name, (least, most) in RANGES.items():
+        for value in (least, most):
+            Options(**{name: value})
+        for value in (least - 1, most + 1):
+            told = str(refuses(tardis.BadConfiguration, lambda: tardis.litmus("", **{name: value}), f"{name} {value}"))
+            if told != f"{name} is {value}: it goes from {least} to {most}":
+                fail(f"{name} {value}: {told}")
+    for words in (0, 2, 4, 16):
+        refuses(tardis.BadConfiguration, lambda: tardis.trace("", line_words=words), f"lines of {words} words")
+    refuses(tardis.BadConfiguration, lambda: tardis.trace("", schedule="threads"), "a schedule that isn't here")
+    refuses(tardis.BadConfiguration, lambda: tardis.ends("", states=2 ** 32), "states of 33 bits")
+
+
+def found_there():
+    """The program and the player: the checkout's, else those on the path; none without them."""
+    kept, top = dict(os.environ), tardis.found.TOP
+    with tempfile.TemporaryDirectory() as folder:
+        tardis.found.TOP = Path(folder)
+        os.environ.pop("TARDIS", None)
+        os.environ.pop("TARDIS_PLAYER", None)
+        os.environ["PATH"] = f"{folder}/path"
+        os.makedirs(f"{folder}/path")
+        for place in ("", "path/", "crates/"):
+            for name, find in (("tardis", tardis.found.program), ("play_events", tardis.found.player)):
+                installed = {"play_events": "tardis-play-events"}.get(name, name)
+                path = Path(folder, f"path/{installed}" if place == "path/" else f"crates/{name}/out/{name}")
+                if place:
+                    path.parent.mkdir(parents=True, exist_ok=True)
+                    path.write_text(f"#!/bin/sh\necho tardis {tardis.__version__} >&2\n")
+                    path.chmod(0o755)
+                tardis.found.program.cache_clear()
+                if find() != (str(path) if place else None):
+                    fail(f"{name} in {place or 'no place'}: {find()}")
+    tardis.found.TOP = top
+    os.environ.clear()
+    os.environ.update(kept)
+    tardis.found.program.cache_clear()
+
+
 def packaged():
     """What setuptools builds of the package, where it is there: each module, and the version."""
     if importlib.util.find_spec("setuptools") is None:
@@ -471,6 +574,8 @@ def main(words):
     packaged()
     typed()
     warnings.simplefilter("ignore")
+    ranges()
+    found_there()
     player = words[0]
     told = []
     for command, named in (([player], player), ([sys.executable, str(TOP / "reference/play.py")], "")):

@@ -3,6 +3,7 @@
 #include "tardis.hpp"
 
 #include <csignal>
+#include <cstdio>
 #include <cstdlib>
 #include <cstring>
 #include <iostream>
@@ -26,6 +27,7 @@ void calls(const char *player) {
     };
     expect(tardis_machine_start(&machine, player) == TARDIS_MACHINE_DONE, "a start");
     expect(is("machine cores 2", TARDIS_MACHINE_DONE, "opened"), "an answer that just fits");
+    expect(getpgid(machine.player) == machine.player, "a process group of its own");
     expect(is("shape", TARDIS_MACHINE_LONG, "cores "), "an answer that doesn't fit");
     expect(is("state 64", TARDIS_MACHINE_LONG, "core 0"), "an answer that takes more than one read");
     expect(is(" \t\r\v\f", TARDIS_MACHINE_LINE, "") && is("", TARDIS_MACHINE_LINE, ""), "a blank line in C");
@@ -37,6 +39,44 @@ void calls(const char *player) {
     expect(tardis_machine_start(&machine, "/none") == TARDIS_MACHINE_DONE, "a start of nothing");
     expect(is("flight", TARDIS_MACHINE_GONE, ""), "a player that isn't there, in C");
     tardis_machine_close(&machine);
+}
+
+// A machine of a program that has no standard input and output: its ends get their numbers.
+void without_standard_files(const char *player) {
+    const pid_t child = fork();
+    if (child == 0) {
+        close(0);
+        close(1);
+        auto machine = tardis::Machine::open(player, "cores 1");
+        _exit(machine && machine->call("flight") == "none" ? 0 : 1);
+    }
+    int status = 1;
+    expect(waitpid(child, &status, 0) == child && status == 0, "a program without standard files");
+}
+
+// A machine that is moved from one value to another, whose own player then ends.
+void moved(const char *player) {
+    auto first = tardis::Machine::open(player, "cores 3"), second = tardis::Machine::open(player, "cores 4");
+    *first = std::move(*second);
+    second.reset();
+    expect(first->call("shape").rfind("cores 4 ", 0) == 0, "a machine that was moved");
+    const tardis::Machine last = std::move(*first);
+    expect(first->call("shape").empty(), "a machine that was moved from");
+}
+
+// A call that is longer than what a socket holds, and an answer that takes many reads.
+void long_lines(tardis::Machine &machine) {
+    std::string opening = "machine cores 1 with";
+    for (unsigned word = 0; word < 20000; word++) {
+        char text[40];
+        std::snprintf(text, sizeof text, " 0x%x 1", 8 * word);
+        opening += text;
+    }
+    expect(machine.call(opening) == "opened", "a long call");
+    const std::string state = machine.call("state 20000"), end = "; stopped no";
+    expect(state.size() > 100000 && state.rfind("core 0 ", 0) == 0, "a long answer");
+    expect(state.compare(state.size() - end.size(), end.size(), end) == 0, "the end of a long answer");
+    expect(machine.call("flight") == "none", "the answer behind it");
 }
 
 // Whether an answer has this record.
@@ -80,6 +120,8 @@ int main(int, char **words) {
     alarm(60);
     records();
     calls(words[1]);
+    without_standard_files(words[1]);
+    moved(words[1]);
     std::string why = "?";
     expect(!tardis::Machine::open("/none", "", &why) && why.empty(), "a player that isn't there");
     expect(!tardis::Machine::open(words[1], "cores 65", &why) && why == "refused BadConfig", "65 cores");
@@ -119,6 +161,7 @@ int main(int, char **words) {
             usleep(1000);
             if (kill(parent, SIGUSR1) != 0 || getppid() != parent) _exit(0);
         }
+    long_lines(*second);
     expect(second->call("program 0 300000 R 0x0") == "given", "a program");
     expect(second->call("rounds 4000000").rfind("all-done", 0) == 0, "an interrupted wait");
     kill(child, SIGKILL);

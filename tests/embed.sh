@@ -87,6 +87,15 @@ silent directory 0 completion
 silent tardis litmus "$top/examples/litmus/SB.litmus"
 silent tardis trace --records "$top/examples/traces/MIGRATORY.trace"
 
+# The program in C++ that docs/USES.md shows, by the lines that it shows, prints what it shows.
+ln -s "$top/crates" "$work/crates"
+for kind in cpp sh text; do
+    awk -v kind="$kind" '/^```/ { inside = $0 == "```" kind; next } inside' "$top/docs/USES.md" >"$work/shown.$kind"
+done
+mv "$work/shown.cpp" "$work/mine.cpp"
+(cd "$work" && grep -B 1 '^g++ .* mine.cpp ' shown.sh >shown.line && sh ./shown.line && ./mine >said
+    [ $? -eq 1 ] && tail -n 2 shown.text | diff - said) || { echo "embed.sh: the C++ of docs/USES.md"; exit 1; }
+
 "$top/tests/histories.py" "$work/history_c" "$work/history_cpp" || exit 1
 
 # checks TRACE RECORDS STATUS LINE: what the check of two files prints, on either stream, and its status.

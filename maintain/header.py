@@ -12,9 +12,9 @@ import sys
 from pathlib import Path
 
 TOP = Path(__file__).resolve().parent.parent
-NAMES = "options", "operation", "record", "told", "word", "found"  # what is handed over
+NAMES = "options", "operation", "record", "told", "word", "found", "lack"  # what is handed over
 OF_CALLERS = {"history"}  # what no call of the library takes
-NOT_IN_RUST = {"told"}    # what history.rs does without
+NOT_IN_RUST = {"told", "lack"}  # what history.rs does without
 
 
 def fields(found):

@@ -1,4 +1,5 @@
 """The checker of docs/ORDER.md, by a plain method, and the count of stale hits. Memory is a mapping of words."""
+from collections import Counter
 
 
 def arrange(records):
@@ -57,10 +58,16 @@ def expected(opening, records, number):
     return None
 
 
+def lack(issued, records):
+    """The first core that hasn't as many records as operations, and how many it has; None if there is none."""
+    done = Counter(record.core for record in records)
+    return next(((core, done[core]) for core, operations in enumerate(issued) if done[core] != len(operations)), None)
+
+
 def first_lack(issued, records):
     """The line on legal records that lack those of some core; None if each operation has its record."""
-    lack = lacking(issued, records)
-    return lack and lack_line(*lack)
+    found = lacking(issued, records)
+    return found and lack_line(*found)
 
 
 def lack_line(place, core):
@@ -68,12 +75,9 @@ def lack_line(place, core):
 
 
 def lacking(issued, records):
-    """The first core of which legal records lack some, behind the place of its first operation without one; or None."""
-    for core, operations in enumerate(issued):
-        place = sum(record.core == core for record in records)
-        if place != len(operations):
-            return place, core
-    return None
+    """The place of the first operation without a record, and its core, where legal records lack some; or None."""
+    found = lack(issued, records)
+    return found and found[::-1]
 
 
 def end_memory(opening, records):

@@ -2,8 +2,9 @@
 # Builds callers of the static library of crates/tardis_c in C, C++ and Rust (examples/embed), and tries them:
 # tests/embed.sh [--build | --kept]. Each number that a call answers is met once, by hand; the examples are run, and
 # records checked, through the library, with the reports that the program must give, and at a cost that hardly grows
-# with the cores. Histories that grow are compared with the second program (tests/histories.py). It needs gcc, g++, valgrind and the Rattle kit, whose C file for memory is linked; without rustc it
-# says so and leaves out the caller in Rust. At its end tests/installed.sh tries what is installed.
+# with the cores. Valgrind says nothing of any of them. Histories that grow are compared with the second program
+# (tests/histories.py). It needs gcc, g++, valgrind and the Rattle kit, whose C file for memory is linked; without rustc
+# it says so and leaves out the caller in Rust. At its end tests/installed.sh tries what is installed.
 #
 # With --build the library is proved and built first, with all below it. That takes two minutes where ./tardis is built,
 # and half an hour on a new machine. With --kept it is built over what rt ci kept of the crates below, in a minute or
@@ -51,11 +52,49 @@ strict="-O1 -Wall -Wextra -Werror -I$crate"
 } || exit 1
 
 timeout 120 "$work/numbers_cpp" || exit 1
-# Without a word of valgrind: nothing is read or written that isn't the caller's, and nothing is left.
-for each in numbers_c reports; do
-    timeout 300 valgrind -q --leak-check=full --show-leak-kinds=all "$work/$each" >"$work/said" 2>&1 &&
-        [ ! -s "$work/said" ] || { echo "embed.sh: $each:"; cat "$work/said"; exit 1; }
+
+# silent PROGRAM WORDS..: valgrind adds no word to what it says, and its status stays: nothing is read or written that
+# isn't the caller's, and nothing is left.
+silent() {
+    program=$1
+    shift
+    "$work/$program" "$@" <"$work/lines" >"$work/plain" 2>&1
+    status=$?
+    timeout 300 valgrind -q --leak-check=full --show-leak-kinds=all "$work/$program" "$@" <"$work/lines" \
+        >"$work/said" 2>&1
+    [ "$?" = "$status" ] && diff "$work/plain" "$work/said" || { echo "embed.sh: $program $* by valgrind"; exit 1; }
+}
+
+# A history of 40 cores that grows, with items that are refused.
+awk 'BEGIN {
+    print "word 0x8 5\nword 0x9 5\nverdict"
+    for (core = 0; core < 40; core++) {
+        print "issue", core, "S 0x8", core "\ncomplete"
+        print "record", core, "0 S 0x8", core, core ? core - 1 : 5, 0, core "\nrecord 0 0 X 0x8 0 0 0 0\nverdict"
+    }
+    print "complete\nissue 7 R 0x8 0\nrecord 7 1 R 0x8 0 38 1 40\ncomplete"
+}' >"$work/lines"
+for each in history_c history_cpp; do
+    silent "$each"
+    [ "$status $(tail -n 1 "$work/said")" = "0 wrong value 40: expected 39 of record 39" ] ||
+        { echo "embed.sh: $each: status $status: $(tail -n 1 "$work/said")"; exit 1; }
 done
+: >"$work/lines"
+silent numbers_c
+silent reports
+silent directory 0
+silent directory 0 completion
+silent tardis litmus "$top/examples/litmus/SB.litmus"
+silent tardis trace --records "$top/examples/traces/MIGRATORY.trace"
+
+# The program in C++ that docs/USES.md shows, by the lines that it shows, prints what it shows.
+ln -s "$top/crates" "$work/crates"
+for kind in cpp sh text; do
+    awk -v kind="$kind" '/^```/ { inside = $0 == "```" kind; next } inside' "$top/docs/USES.md" >"$work/shown.$kind"
+done
+mv "$work/shown.cpp" "$work/mine.cpp"
+(cd "$work" && grep -B 1 '^g++ .* mine.cpp ' shown.sh >shown.line && sh ./shown.line && ./mine >said
+    [ $? -eq 1 ] && tail -n 2 shown.text | diff - said) || { echo "embed.sh: the C++ of docs/USES.md"; exit 1; }
 
 "$top/tests/histories.py" "$work/history_c" "$work/history_cpp" || exit 1
 
@@ -76,6 +115,9 @@ checks "$work/trace" "$work/long" 1 'wrong value 0'
 checks "$work/legal" "$work/legal" 2 'tardis: line 1: 5 BadOperation'
 checks "$work/trace" "$work/none" 2 'check: give a trace and its records: two files that can be read'
 checks "$work/trace" "$work" 2 'check: give a trace and its records: two files that can be read'
+silent check "$work/trace" "$work/long"
+silent tardis check --complete "$work/trace" "$work/wrong"
+(export EMBED_ARRAYS=1 && silent tardis check --complete "$work/trace" "$work/legal") || exit 1
 
 # Lines of a log that lack a value, or have one too many.
 for line in 'load 0x0' 'store 0x0 got 5' 'load 0x0 value 5' 'swap 0x0 value 5' 'store 0x0 value 5 sent 3 overtaken'; do
@@ -103,7 +145,8 @@ else
 fi
 PARTS='litmus settings seeds traces seeded_traces verdicts complete opening trace_faults' "$top/tests/check.sh" \
     "$work/tardis" >"$work/said" || { cat "$work/said"; exit 1; }
-EMBED_ARRAYS=1 PARTS=verdicts "$top/tests/check.sh" "$work/tardis" >"$work/said" || { cat "$work/said"; exit 1; }
+EMBED_ARRAYS=1 PARTS='verdicts complete' "$top/tests/check.sh" "$work/tardis" >"$work/said" ||
+    { cat "$work/said"; exit 1; }
 
 # A machine that has its own history checked: its verdict is that of the second program on its log. By effect a right
 # machine's is legal; by completion some has an order that isn't its own, and a lost invalidation is met.

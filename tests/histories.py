@@ -12,7 +12,7 @@ from pathlib import Path
 from typing import NamedTuple
 
 sys.path.insert(0, str(Path(__file__).resolve().parent.parent))
-from reference.order import check, expected  # noqa: E402
+from reference.order import check, expected, first_lack  # noqa: E402
 
 HISTORIES = 60
 MOST_CORES = 1_048_576
@@ -75,10 +75,12 @@ def changed(draw, records):
     return records[:at] + [one._replace(**{what: to})] + records[at + 1:]
 
 
-def answer(opening, issued, records):
-    """The line of the verdict on what there is."""
+def answer(opening, issued, records, word):
+    """The line of the verdict on what there is; with the word `complete`, on whether that is all."""
     lists = [issued.get(core, []) for core in range(max(issued, default=-1) + 1)]
     told = check(opening, lists, records)
+    if told == "legal" and word == "complete":
+        return first_lack(lists, records) or told
     if not told.startswith("wrong value "):
         return told
     value, writer = expected(opening, records, int(told.split()[2]))
@@ -107,9 +109,10 @@ def history(draw):
             lines.append(line)
             printed.append(f"number {number}")
         if draw.random() < 0.05:
-            lines.append("verdict")
-            printed.append(answer(dict(words), issued, done))
-    return [*lines, "verdict"], [*printed, answer(dict(words), issued, done)]
+            lines.append(draw.choice(("verdict", "complete")))
+            printed.append(answer(dict(words), issued, done, lines[-1]))
+    return [*lines, "verdict", "complete"], [*printed, *(answer(dict(words), issued, done, word)
+                                                         for word in ("verdict", "complete"))]
 
 
 def main(commands):
@@ -125,7 +128,7 @@ def main(commands):
                 sys.exit(f"histories.py: {command}: history {seed}: status {came.returncode}: {came.stdout}"
                          f"{came.stderr}and not\n" + "\n".join(wanted))
     lacks = {"legal", "bad number ", "out of program order ", "wrong value : expected  of the opening memory",
-             "wrong value : expected  of record ", "number "} - met
+             "wrong value : expected  of record ", "no record of operation  of core ", "number "} - met
     if lacks:
         sys.exit(f"histories.py: never met: {lacks}")
 

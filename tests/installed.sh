@@ -93,7 +93,8 @@ for each in "$embed/latency.cpp" "$top/tests/machines.cpp"; do
 done
 # The machine from C: a load of a word that opens with 5, by hand.
 gcc -std=c11 -pedantic -O1 -Wall -Wextra -Werror -I"$prefix/include" -o "$work/drive" "$embed/drive.c" || exit 1
-"$work/drive" tardis-play-events >"$work/said" || fail "drive: $(cat "$work/said")"
+valgrind -q --leak-check=full --show-leak-kinds=all "$work/drive" tardis-play-events >"$work/said" 2>&1 ||
+    fail "drive: $(cat "$work/said")"
 diff - "$work/said" <<'END' || exit 1
 opened
 issued
@@ -104,6 +105,7 @@ m2 DramLdRep dram 0 > bank 0 0x8 words 5: delivered
 m0 ShReq core 1 > bank 0 0x8 pts 0 version none: delivered
 m3 ShRep bank 0 > core 1 0x8 wts 0 rts 10 words 5: delivered
 completed 1 0 R 0x8 5 0 0
+core 1 received 5
 END
 # A network of one's own, in C++ and in Python: the same cycles.
 awk 'BEGIN { for (line = 0; line < 9; line++) printf "0 W 0x%x 1\n", 2048 * line }' >"$work/full.trace"

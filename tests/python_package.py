@@ -22,7 +22,10 @@ sys.path[:0] = [str(TOP), str(TOP / "python")]
 import tardis  # noqa: E402
 from reference.machine_texts import MachinePlayer  # noqa: E402
 from reference.texts import examples_of, is_answer  # noqa: E402
+from tardis.options import Options  # noqa: E402
 
+OF_MACHINES = "lease, time, banks, sets, ways, bank_sets, bank_ways, line_words, messages, private_write"
+OF_TRACES = f"records, {OF_MACHINES}, schedule, fair, seed, limit"
 STORE_BUFFERING = TOP / "examples/litmus/SB.litmus"
 
 
@@ -95,6 +98,8 @@ def machine():
     """A load of core 1 by hand, and what is refused."""
     with tardis.Machine(cores=2, lease=10, memory={8: 5}) as opened:
         names = [opened.load(1, 8).name, opened.attempt(1).name]
+        if opened.open_operation(1) != "R 0x8 requested" or opened.open_operation(0) is not None:
+            fail("open operations")
         sent = opened.message(0)
         names += [opened.deliver(number).name for number in (0, 1, 2, 0, 3)]
         done = opened.attempt(1)
@@ -108,8 +113,17 @@ def machine():
             fail("the look-ups after it")
         if opened.deliver(7) != tardis.Answer("refused", "NoSuch") or opened.open_operation(1) is not None:
             fail("a message that isn't there")
-        if opened.records(1) or opened.records().columns()["received"] != [5]:
+        if opened.records(1) or opened.records().columns()["received"] != [5] or opened.records().end is not None:
             fail("columns")
+        if opened.store(0, 16, 9).name != "issued" or opened.open_operation(0) != "W 0x10 9":
+            fail("a store")
+        opened.attempt(0)
+        opened.load(1, 24)
+        opened.attempt(1)
+        if [message.number for message in opened] != [4, 5]:
+            fail("the messages of a store and a load")
+    refuses(tardis.TardisError, opened.in_flight, "a machine that its with closed")
+    opened_with()
     for make, kind in ((lambda: tardis.Machine(cores=65), tardis.BadConfiguration),
                        (lambda: tardis.Machine(ways=17), tardis.BadConfiguration)):
         try:
@@ -118,6 +132,32 @@ def machine():
         except kind:
             pass
     return opened.is_proved
+
+
+class Heard(tardis.Machine):
+    """A machine whose calls are kept."""
+
+    def call(self, line):
+        self.calls = [*getattr(self, "calls", []), line]
+        return super().call(line)
+
+
+def opened_with():
+    """A machine is opened with all of its options, by hand: the options' order says nothing."""
+    given = {"banks": 2, "sets": 4, "ways": 3, "bank_sets": 8, "bank_ways": 5, "line_words": 8, "lease": 7,
+             "messages": 9, "time": 11, "private_write": True}
+    with Heard(cores=3, memory={8: 5, 64: 2 ** 64 - 1}, **given) as heard:
+        words, _, opening = heard.calls[0].partition(" with ")
+        if heard.call("shape") != "cores 3 banks 2 line-words 8" or heard.call("time 2") != "11":
+            fail("the shape of a machine")
+    words = words.split()
+    wanted = {"cores": "3", "banks": "2", "sets": "4", "ways": "3", "bank-sets": "8", "bank-ways": "5",
+              "line-words": "8", "lease": "7", "messages": "9", "time": "11", "private-write": "yes"}
+    if (words[0], dict(zip(words[1::2], words[2::2])), opening) != ("machine", wanted, f"0x8 5 0x40 {2 ** 64 - 1}"):
+        fail(f"the options of a machine: {heard.calls[0]}")
+    with Heard() as heard:
+        if "private-write no" not in heard.calls[0] or " with" in heard.calls[0]:
+            fail(f"a machine without options: {heard.calls[0]}")
 
 
 def places():
@@ -160,6 +200,9 @@ def troubles():
     before = len(os.listdir("/proc/self/fd"))
     for options in ({"runs": 5}, {"fair": True}, {"cores": 2.0}, {"lease": True}, {"private_write": "no"}):
         refuses(TypeError, lambda: tardis.Machine(**options), options)
+    told = str(refuses(TypeError, lambda: tardis.Machine(core=4), "an option that there isn't"))
+    if told != f"Machine has no option 'core': it takes cores, memory, {OF_MACHINES}":
+        fail(f"an option that there isn't: {told}")
     refuses(ValueError, lambda: tardis.Machine(memory={4: 1}), "an address of no word")
     closed = tardis.Machine()
     if os.getpgid(closed._player.pid) == os.getpgid(0):
@@ -229,6 +272,7 @@ def runs(is_proved):
         fail("the report of a trace")
     if tardis.trace("0 W 0x8 7\n1 W 0x10 9\n").words != {8: 7, 16: 9}:
         fail("the words that a trace leaves")
+    numbers(seeded)
     for name in OPTIONS:
         trace = TOP / f"examples/traces/{name}.trace"
         if tardis.trace(trace.read_bytes(), **options_of(trace)).text != trace.with_suffix(".report").read_text():
@@ -236,8 +280,7 @@ def runs(is_proved):
     records = tardis.trace("0 W 0x8 7\n", records=True)
     if records != [tardis.Record(0, 0, "W", 8, 7, None, 1, 0)]:
         fail(f"records: {records}")
-    if tardis.trace("", records=True) or tardis.trace("0 W 0x8 7\n", records=True, limit=1):
-        fail("records where none is")
+    cut_off()
     with warnings.catch_warnings(record=True) as told:
         warnings.simplefilter("always")
         tardis.trace("0 R 0x0\n")
@@ -254,6 +297,35 @@ def runs(is_proved):
     faults(is_proved)
     ends(is_proved)
     histories(is_proved)
+
+
+def numbers(seeded):
+    """Numbers of reports: of 300 runs with two stores and two loads each; of a trace, which has one of either; and of a
+    test that is named by a number."""
+    told = seeded.numbers
+    if (told["runs"], told["all-done"], told["completed"], told["threads"]) != (300, 300, 1200, 2) or \
+            any(told[name] for name in ("stalled", "limit", "exhausted", "memory")):
+        fail(f"numbers of 300 runs: {told}")
+    report = tardis.trace("0 W 0x8 7\n1 R 0x8\n")
+    if (report.end, report.words, report.numbers) != ("all-done", {8: 7}, {
+            "cores": 2, "issued": 2, "completed": 2, "loads": 1, "stores": 1, "swaps": 0, "renewals": 0, "upgrades": 0,
+            "flushes": 0, "write-backs": 1, "stale-hits": 0}):
+        fail(f"numbers of a trace: {report}")
+    named = tardis.litmus(STORE_BUFFERING.read_text().replace("RISCV SB", "RISCV 7"))
+    if named.name != "7" or "test" in named.numbers:
+        fail(f"a test named 7: {named}")
+
+
+def cut_off():
+    """Records say how their run ended. By hand: a store's round, a second load, and a time that can't go on."""
+    first = tardis.Record(0, 0, "W", 8, 7, None, 1, 0)
+    for text, options, wanted in (("", {}, ([], "all-done")), ("0 W 0x8 7\n", {}, ([first], "all-done")),
+                                  ("0 W 0x8 7\n", {"limit": 1}, ([], "limit")),
+                                  ("0 W 0x8 7\n0 R 0x80\n", {"limit": 7}, ([first], "limit")),
+                                  ("0 W 0x8 7\n", {"time": 2 ** 64 - 1}, ([], "exhausted"))):
+        came = tardis.trace(text, records=True, **options)
+        if (came, came.end) != wanted:
+            fail(f"the end of {text!r} with {options}: {came}, {came.end}")
 
 
 def of_cores(cores, received):
@@ -292,6 +364,36 @@ def histories(is_proved):
     must(grown, "legal")
     grown.add(tardis.Record(70, 1, "S", 0x10, 2, 0, 2, 3))
     must(grown, "bad number 2", 2)
+    lacks(is_proved)
+
+
+def lacks(is_proved):
+    """By hand: legal records of two cores, of which the greater one's come first, and one that isn't legal."""
+    grown = tardis.History()
+
+    def must(*wanted):
+        told = grown.verdict(complete=True)
+        lack = {"core": wanted[1], "place": wanted[2]} if len(wanted) == 3 else {}
+        if told != tardis.Verdict(wanted[0], is_proved, **lack) or told.is_legal != (not lack):
+            fail(f"a history that is to be complete: {told}, not {wanted}")
+
+    must("legal")
+    for core, address in ((3, 0x8), (3, 0x10), (1_048_575, 0x8)):
+        grown.issue(core, "R", address)
+    must("no record of operation 0 of core 3", 3, 0)
+    if not grown.verdict().is_legal:
+        fail("a history that may lack records")
+    grown.add(tardis.Record(1_048_575, 0, "R", 0x8, None, 0, 0, 1))
+    grown.add(tardis.Record(3, 0, "R", 0x8, None, 0, 0, 0))
+    must("no record of operation 1 of core 3", 3, 1)
+    grown.add(tardis.Record(3, 1, "R", 0x10, None, 0, 0, 2))
+    must("legal")
+    grown.issue(0, "S", 0x10, 1)
+    must("no record of operation 0 of core 0", 0, 0)
+    grown.add(tardis.Record(0, 0, "S", 0x10, 1, 4, 9, 3))
+    told = grown.verdict(complete=True)
+    if told != tardis.Verdict("wrong value 3", is_proved, 3, 0, None):
+        fail(f"a wrong value where records are missing: {told}")
 
 
 def refused(grown, loaded):
@@ -329,7 +431,9 @@ def ends(is_proved):
     orders = [end.order for end in tardis.ends(text, orders=True).ends]
     if orders != [("P0:1", "P0:2", "P1:1", "P1:2"), ("P1:1", "P1:2", "P0:1", "P0:2"), ("P0:1", "P1:1", "P0:2", "P1:2")]:
         fail(f"orders: {orders}")
-    refuses(tardis.TooManyStates, lambda: tardis.ends(text, states=6), "a seventh state")
+    many = refuses(tardis.TooManyStates, lambda: tardis.ends(text, states=6), "a seventh state")
+    if (many.states, many.enough) != (6, 9):  # a layer of 3 states, and 2 threads
+        fail(f"a seventh state: {many}")
     refuses(tardis.BadConfiguration, lambda: tardis.ends(text, states=0), "no state")
     refuses(tardis.BadText, lambda: tardis.ends("RISCV\n"), "no litmus test")
     program = os.environ.get("TARDIS")
@@ -375,13 +479,65 @@ def faults(is_proved):
                              (lambda: tardis.check("", "", opening={4: 5}), tardis.BadText, 1),
                              (lambda: tardis.trace("0 R 0x0\n", lease=0), tardis.BadConfiguration, None),
                              (lambda: tardis.trace("0 R 0x0\n", schedule="seed", fair=True), tardis.BadConfiguration,
-                              None), (lambda: tardis.trace("", runs=2), TypeError, None)):
+                              None)):
         try:
             make()
             fail("what is refused was taken")
         except kind as error:
             if line is not None and (error.line != line or f" {line}: {error.kind}" not in str(error)):
                 fail(f"{error}: line {error.line}, not {line}, and {error.kind}")
+    for name, make, more in (("trace", lambda: tardis.trace("", runs=2), OF_TRACES),
+                             ("litmus", lambda: tardis.litmus("", records=True), f"{OF_TRACES[9:]}, runs")):
+        told = str(refuses(TypeError, make, f"an option that {name} hasn't"))
+        if told != f"{name} has no option {'runs' if name == 'trace' else 'records'!r}: it takes {more}":
+            fail(f"an option that {name} hasn't: {told}")
+
+
+# The least and the greatest value of each option that is a whole number, as docs/ have them.
+RANGES = {"lease": (1, 4_294_967_296), "time": (0, 18_446_744_073_709_551_615), "banks": (1, 8), "sets": (1, 1024),
+          "ways": (1, 16), "bank_sets": (1, 1024), "bank_ways": (1, 16), "messages": (1, 65_536),
+          "limit": (1, 4_294_967_295), "runs": (1, 1_000_000), "seed": (0, 18_446_744_073_709_551_615)}
+
+
+def ranges():
+    """Each option at the ends of its range, and one beyond."""
+    for name, (least, most) in RANGES.items():
+        for value in (least, most):
+            Options(**{name: value})
+        for value in (least - 1, most + 1):
+            told = str(refuses(tardis.BadConfiguration, lambda: tardis.litmus("", **{name: value}), f"{name} {value}"))
+            if told != f"{name} is {value}: it goes from {least} to {most}":
+                fail(f"{name} {value}: {told}")
+    for words in (0, 2, 4, 16):
+        refuses(tardis.BadConfiguration, lambda: tardis.trace("", line_words=words), f"lines of {words} words")
+    refuses(tardis.BadConfiguration, lambda: tardis.trace("", schedule="threads"), "a schedule that isn't here")
+    refuses(tardis.BadConfiguration, lambda: tardis.ends("", states=2 ** 32), "states of 33 bits")
+
+
+def found_there():
+    """The program and the player: the checkout's, else those on the path; none without them."""
+    kept, top = dict(os.environ), tardis.found.TOP
+    with tempfile.TemporaryDirectory() as folder:
+        tardis.found.TOP = Path(folder)
+        os.environ.pop("TARDIS", None)
+        os.environ.pop("TARDIS_PLAYER", None)
+        os.environ["PATH"] = f"{folder}/path"
+        os.makedirs(f"{folder}/path")
+        for place in ("", "path/", "crates/"):
+            for name, find in (("tardis", tardis.found.program), ("play_events", tardis.found.player)):
+                installed = {"play_events": "tardis-play-events"}.get(name, name)
+                path = Path(folder, f"path/{installed}" if place == "path/" else f"crates/{name}/out/{name}")
+                if place:
+                    path.parent.mkdir(parents=True, exist_ok=True)
+                    path.write_text(f"#!/bin/sh\necho tardis {tardis.__version__} >&2\n")
+                    path.chmod(0o755)
+                tardis.found.program.cache_clear()
+                if find() != (str(path) if place else None):
+                    fail(f"{name} in {place or 'no place'}: {find()}")
+    tardis.found.TOP = top
+    os.environ.clear()
+    os.environ.update(kept)
+    tardis.found.program.cache_clear()
 
 
 def packaged():
@@ -418,6 +574,8 @@ def main(words):
     packaged()
     typed()
     warnings.simplefilter("ignore")
+    ranges()
+    found_there()
     player = words[0]
     told = []
     for command, named in (([player], player), ([sys.executable, str(TOP / "reference/play.py")], "")):

@@ -131,6 +131,13 @@ struct tardis_found {
     uint64_t writer; /* the number of the record, on TARDIS_A_RECORD */
 };
 
+/* The first core that hasn't as many records as operations, and how many records it has. If these are legal, its
+   operation at this place is the first one that lacks its record. It says something on TARDIS_NOT_DONE alone. */
+struct tardis_lack {
+    uint64_t core;
+    uint64_t place; /* in the core's program order, from 0 on */
+};
+
 /* The exports. A slice is a pointer, which is never null, and then how many items there are, below 2^63 bytes. */
 uint32_t tardis_c_version(void);
 void tardis_c_defaults(struct tardis_options *options);
@@ -148,6 +155,8 @@ uint32_t tardis_c_check_arrays(const struct tardis_operation *operations, size_t
 uint32_t tardis_c_check_history(const struct tardis_word *opening, size_t opening_count,
                                 const struct tardis_operation *operations, size_t operation_count,
                                 const struct tardis_record *records, size_t record_count, struct tardis_found *found);
+uint32_t tardis_c_first_lack(const struct tardis_operation *operations, size_t operation_count,
+                             const struct tardis_record *records, size_t record_count, struct tardis_lack *lack);
 uint32_t tardis_c_word_fault(const struct tardis_word *word);
 uint32_t tardis_c_operation_fault(const struct tardis_operation *operation);
 uint32_t tardis_c_record_fault(const struct tardis_record *record);
@@ -247,6 +256,20 @@ static inline int tardis_check_history(const struct tardis_word *opening, size_t
                                        found);
 }
 
+/* Whether each core has as many records as operations: TARDIS_DONE if so, and else TARDIS_NOT_DONE. Whether the records
+   are legal isn't looked at: with tardis_check_history the two say what `tardis check --complete` does. A fault of
+   an operation takes precedence over one of a record; tardis_check_records says which item has it. */
+static inline int tardis_first_lack(const struct tardis_operation *operations, size_t operation_count,
+                                    const struct tardis_record *records, size_t record_count,
+                                    struct tardis_lack *lack) {
+    if (tardis_is_null(operations, operation_count) || tardis_is_null(records, record_count)) return TARDIS_NULL;
+    if (!lack) return TARDIS_NULL;
+    lack->core = lack->place = 0;
+    if (!operations) operations = (const struct tardis_operation *)&tardis_nothing;
+    if (!records) records = (const struct tardis_record *)&tardis_nothing;
+    return (int)tardis_c_first_lack(operations, operation_count, records, record_count, lack);
+}
+
 /* A history that grows: begin with one of all zeros, as `struct tardis_history history = {0}`, and end it with
    tardis_history_free. What is added is copied. An item with a fault is refused: TARDIS_BAD_OPENING,
    TARDIS_BAD_OPERATION or TARDIS_BAD_RECORD. Then, and on TARDIS_NO_MEMORY, the history stays as it was. */
@@ -305,6 +328,13 @@ static inline int tardis_history_verdict(const struct tardis_history *history, s
     if (!history) return TARDIS_NULL;
     return tardis_check_history(history->opening, history->opening_count, history->operations,
                                 history->operation_count, history->records, history->record_count, found);
+}
+
+/* Whether each operation so far has its record, as of tardis_first_lack. Ask for the verdict, too. */
+static inline int tardis_history_lack(const struct tardis_history *history, struct tardis_lack *lack) {
+    if (!history) return TARDIS_NULL;
+    return tardis_first_lack(history->operations, history->operation_count, history->records, history->record_count,
+                             lack);
 }
 
 /* Gives the memory back; the history is empty then. */

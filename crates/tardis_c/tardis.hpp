@@ -80,6 +80,15 @@ inline Report check(std::string_view trace, std::string_view records, std::strin
     });
 }
 
+// The verdict on a history: the number of tardis.h; what is wrong, and with a wrong value what was expected and who
+// wrote it; and of legal records, if that was asked for, which operation lacks its own.
+struct Verdict {
+    int number = TARDIS_NULL;
+    tardis_found found{};
+    std::optional<tardis_lack> lack{};
+    bool is_legal() const { return number == TARDIS_DONE; }
+};
+
 // What words open with, what cores were issued, each core's operations in its order, and records of what is completed.
 // It grows: an item is added if it has no fault; else the number says so, and nothing changes. Words that aren't opened
 // hold 0, and a word that is opened again opens with the later value.
@@ -95,13 +104,19 @@ class History {
     int complete(const tardis_record &record) {
         return added(records, record, tardis_c_record_fault(&record), TARDIS_BAD_RECORD);
     }
-    // The verdict on all that there is so far, and with a wrong value what was expected and who wrote it. Each call
-    // goes through the whole history: asked after each of n records, it takes time in proportion to n * n.
-    std::pair<int, tardis_found> verdict() const {
-        tardis_found found{};
-        const int number = tardis_check_history(opening.data(), opening.size(), operations.data(), operations.size(),
-                                                records.data(), records.size(), &found);
-        return {number, found};
+    // The verdict on all that there is so far; with `complete`, legal records must be those of all operations. Each
+    // call goes through the whole history: asked after each of n records, it takes time in proportion to n * n.
+    Verdict verdict(bool complete = false) const {
+        Verdict verdict;
+        verdict.number = tardis_check_history(opening.data(), opening.size(), operations.data(), operations.size(),
+                                              records.data(), records.size(), &verdict.found);
+        if (complete && verdict.is_legal()) {
+            tardis_lack lack{};
+            verdict.number =
+                tardis_first_lack(operations.data(), operations.size(), records.data(), records.size(), &lack);
+            if (verdict.number == TARDIS_NOT_DONE) verdict.lack = lack;
+        }
+        return verdict;
     }
 
   private:
@@ -123,6 +138,25 @@ struct Message {
     uint64_t address;
     std::string carries;
 };
+
+// The record of an answer, `completed 1 0 R 0x8 5 0 0` or that of `record 0`, if it has one. A load has the value 0, and
+// a store receives 0.
+inline std::optional<tardis_record> record_of(const std::string &answer) {
+    tardis_record record{};
+    if (tardis_machine_record(answer.c_str(), &record) != TARDIS_MACHINE_DONE) return std::nullopt;
+    return record;
+}
+
+// An answer in its parts: its first word, the cause of a refusal, and the record of a completion.
+struct Answer {
+    std::string name, cause;
+    std::optional<tardis_record> record;
+};
+
+inline Answer answer_of(const std::string &told) {
+    const char *const cause = tardis_machine_cause(told.c_str());
+    return {told.substr(0, told.find(' ')), cause ? cause : "", record_of(told)};
+}
 
 // The numbers of the messages in flight, in the order of sending, for a loop to go through. There are none, and
 // `is_told` is false, where memory is refused or the player is gone.
@@ -173,6 +207,9 @@ class Machine {
 
     std::string attempt(unsigned core) { return call("attempt " + std::to_string(core)); }
     std::string deliver(uint64_t number) { return call("deliver m" + std::to_string(number)); }
+
+    // The record of the operation that completed as this one, from 0 on; none if there is none yet.
+    std::optional<tardis_record> record(uint64_t number) { return record_of(call("record " + std::to_string(number))); }
 
     InFlight in_flight() {
         InFlight flight;

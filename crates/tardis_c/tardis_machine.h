@@ -1,13 +1,15 @@
 /* A machine that a program in C or C++ drives: it says which core attempts, and when each message arrives. The machine
    runs in the player of events, a process of its own, which answers each call at once: the program can break nothing
-   that is proved of it. Calls and answers are lines as docs/EVENTS.md has them: `issue 1 R 0x8`, `deliver m3`. Nothing
-   here is proved, and no library is needed.
+   that is proved of it. Calls and answers are lines as docs/EVENTS.md has them: `issue 1 R 0x8`, `deliver m3`. A record
+   that an answer has is taken apart into that of tardis.h. Nothing here is proved, and no library is needed.
 
    It is for POSIX: in strict C define _POSIX_C_SOURCE as 200809L first. One thread at a time may call one machine. For
    cores and banks on threads of your own there is no call: a seat is a value that its thread owns, which only Rattle
    can check (crates/mailboxes). From C, let one thread call, or run `tardis trace --schedule threads`. */
 #ifndef TARDIS_MACHINE_H
 #define TARDIS_MACHINE_H
+
+#include "tardis.h"
 
 #include <errno.h>
 #include <fcntl.h>
@@ -26,7 +28,7 @@ extern "C" {
 enum tardis_machine_number {
     TARDIS_MACHINE_DONE = 0,
     TARDIS_MACHINE_LONG = 1, /* the answer doesn't fit: the buffer has its front */
-    TARDIS_MACHINE_LINE = 2, /* that isn't one line: nothing was called */
+    TARDIS_MACHINE_LINE = 2, /* that isn't one line: nothing was called; or it has no record */
     TARDIS_MACHINE_GONE = 3  /* there is no player, or it is gone */
 };
 
@@ -111,6 +113,51 @@ static inline int tardis_machine_call(struct tardis_machine *machine, const char
         answer[filled] = 0;
     } while (block[count - 1] != '\n');
     return is_long ? TARDIS_MACHINE_LONG : TARDIS_MACHINE_DONE;
+}
+
+/* The cause of an answer that is a refusal, as NoRoom; null of another answer. */
+static inline const char *tardis_machine_cause(const char *answer) {
+    return strncmp(answer, "refused ", 8) == 0 ? answer + 8 : NULL;
+}
+
+/* The number in front of a text, in digits of this base, and then a blank or the end, behind which the text goes on;
+   0 if there is none, or if it has more than 64 bits. */
+static inline int tardis_machine_digits(const char **text, unsigned base, uint64_t *number) {
+    static const char all[] = "0123456789abcdef";
+    const char *at = *text, *digit;
+    uint64_t value = 0;
+    for (; *at && (digit = strchr(all, *at)) && (unsigned)(digit - all) < base; at++) {
+        const uint64_t more = (uint64_t)(digit - all);
+        if (value > (UINT64_MAX - more) / base) return 0;
+        value = base * value + more;
+    }
+    if (at == *text || (*at && *at != ' ')) return 0;
+    *text = *at ? at + 1 : at;
+    *number = value;
+    return 1;
+}
+
+/* The record of an answer: `completed 1 0 R 0x8 5 0 0`, or that of `record 0`, which lacks the first word. A load has
+   the value 0, and a store receives 0. TARDIS_MACHINE_LINE if the answer has no record; it stays as it was then. */
+static inline int tardis_machine_record(const char *answer, struct tardis_record *record) {
+    static const char kinds[] = "RWS"; /* as enum tardis_kind has them */
+    const char *at = strncmp(answer, "completed ", 10) == 0 ? answer + 10 : answer, *kind;
+    struct tardis_record read;
+    uint64_t core;
+    memset(&read, 0, sizeof read);
+    if (!tardis_machine_digits(&at, 10, &core) || core >= TARDIS_MOST_CORES) return TARDIS_MACHINE_LINE;
+    if (!tardis_machine_digits(&at, 10, &read.place) || !*at) return TARDIS_MACHINE_LINE;
+    if (!(kind = strchr(kinds, *at)) || strncmp(at + 1, " 0x", 3) != 0) return TARDIS_MACHINE_LINE;
+    read.operation.core = (uint32_t)core;
+    read.operation.kind = (uint32_t)(kind - kinds);
+    at += 4;
+    if (!tardis_machine_digits(&at, 16, &read.operation.address)) return TARDIS_MACHINE_LINE;
+    if (*kind != 'R' && !tardis_machine_digits(&at, 10, &read.operation.value)) return TARDIS_MACHINE_LINE;
+    if (*kind != 'W' && !tardis_machine_digits(&at, 10, &read.received)) return TARDIS_MACHINE_LINE;
+    if (!tardis_machine_digits(&at, 10, &read.time)) return TARDIS_MACHINE_LINE;
+    if (!tardis_machine_digits(&at, 10, &read.number) || *at) return TARDIS_MACHINE_LINE;
+    *record = read;
+    return TARDIS_MACHINE_DONE;
 }
 
 #ifdef __cplusplus

@@ -20,6 +20,7 @@ static const char *call(const char *line) {
 
 int main(int count, char **words) {
     char line[100];
+    struct tardis_record record;
     if (count != 2 || tardis_machine_start(&machine, words[1]) != TARDIS_MACHINE_DONE) {
         fputs("drive: give the player of events\n", stderr);
         return 2;
@@ -35,6 +36,8 @@ int main(int count, char **words) {
         printf("%s\n", call(line));
     }
     printf("%s\n", call("attempt 1"));
+    if (tardis_machine_record(answer, &record) == TARDIS_MACHINE_DONE)
+        printf("core %u received %llu\n", (unsigned)record.operation.core, (unsigned long long)record.received);
     tardis_machine_close(&machine);
     return 0;
 }

@@ -5,6 +5,7 @@
        issue CORE KIND ADDRESS WRITTEN          the next operation of a core; of a load, WRITTEN is 0
        record CORE PLACE KIND ADDRESS WRITTEN RECEIVED TIME NUMBER
        verdict
+       complete                                 the verdict, for which each operation must have its record
 
    An item that is refused gets a line with the number of tardis.h that says why. */
 #include "tardis.h"
@@ -13,11 +14,21 @@
 #include <stdio.h>
 #include <string.h>
 
-static void print_verdict(const struct tardis_history *history) {
+/* What is said of a history that is legal. */
+static void print_lack(const struct tardis_history *history) {
+    struct tardis_lack lack;
+    const int number = tardis_history_lack(history, &lack);
+    if (number == TARDIS_DONE) puts("legal");
+    else if (number != TARDIS_NOT_DONE) printf("number %d\n", number);
+    else printf("no record of operation %" PRIu64 " of core %" PRIu64 "\n", lack.place, lack.core);
+}
+
+static void print_verdict(const struct tardis_history *history, int is_complete) {
     static const char *const words[] = {"legal", "bad number", "out of program order", "wrong value"};
     struct tardis_found found;
     const int number = tardis_history_verdict(history, &found);
-    if (number == TARDIS_DONE) puts("legal");
+    if (number == TARDIS_DONE && is_complete) print_lack(history);
+    else if (number == TARDIS_DONE) puts("legal");
     else if (number != TARDIS_NOT_DONE) printf("number %d\n", number);
     else if (found.source == TARDIS_NOTHING_EXPECTED) printf("%s %" PRIu64 "\n", words[found.kind], found.number);
     else {
@@ -60,7 +71,8 @@ int main(void) {
     char line[256]; /* eight numbers of 20 digits at most, and two words */
     int number = TARDIS_DONE;
     while (number >= 0 && fgets(line, sizeof line, stdin)) {
-        if (!strcmp(line, "verdict\n")) print_verdict(&history);
+        if (!strcmp(line, "verdict\n")) print_verdict(&history, 0);
+        else if (!strcmp(line, "complete\n")) print_verdict(&history, 1);
         else if ((number = add(&history, line)) > TARDIS_DONE) printf("number %d\n", number);
     }
     if (number < 0) fprintf(stderr, "history: %s", line);

@@ -5,12 +5,13 @@
 
 namespace {
 
-void print_verdict(const tardis::History &history) {
+void print_verdict(const tardis::Verdict &verdict) {
     static const char *const WORDS[] = {"legal", "bad number", "out of program order", "wrong value"};
-    const auto [number, found] = history.verdict();
+    const auto &[number, found, lack] = verdict;
     if (number != TARDIS_DONE && number != TARDIS_NOT_DONE) std::cout << "number " << number;
+    else if (lack) std::cout << "no record of operation " << lack->place << " of core " << lack->core;
     else std::cout << WORDS[found.kind];
-    if (number == TARDIS_NOT_DONE) std::cout << ' ' << found.number;
+    if (number == TARDIS_NOT_DONE && !lack) std::cout << ' ' << found.number;
     if (found.source != TARDIS_NOTHING_EXPECTED) std::cout << ": expected " << found.expected << " of ";
     if (found.source == TARDIS_OPENING_MEMORY) std::cout << "the opening memory";
     if (found.source == TARDIS_A_RECORD) std::cout << "record " << found.writer;
@@ -49,8 +50,8 @@ std::optional<int> add(tardis::History &history, const std::string &line) {
 int main() {
     tardis::History history;
     for (std::string line; std::getline(std::cin, line);) {
-        if (line == "verdict") {
-            print_verdict(history);
+        if (line == "verdict" || line == "complete") {
+            print_verdict(history.verdict(line == "complete"));
             continue;
         }
         const auto number = add(history, line);

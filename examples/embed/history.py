@@ -35,8 +35,8 @@ def main():
     history = tardis.History()
     for line in sys.stdin:
         item, *fields = line.split()
-        if item == "verdict":
-            print(line_of(history.verdict()))
+        if item in ("verdict", "complete"):
+            print(line_of(history.verdict(complete=item == "complete")))
             continue
         try:
             add(history, item, fields)

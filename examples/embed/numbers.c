@@ -79,7 +79,11 @@ static void types(void) {
     uint32_t (*c_checks_history)(const struct tardis_word *, size_t, const struct tardis_operation *, size_t,
                                  const struct tardis_record *, size_t, struct tardis_found *) = tardis_c_check_history;
     (void)checks_records, (void)checks_arrays, (void)checks_opened, (void)c_checks_opened, (void)c_version;
-    (void)checks_history, (void)c_checks_history;
+    int (*finds_lack)(const struct tardis_operation *, size_t, const struct tardis_record *, size_t,
+                      struct tardis_lack *) = tardis_first_lack;
+    uint32_t (*c_finds_lack)(const struct tardis_operation *, size_t, const struct tardis_record *, size_t,
+                             struct tardis_lack *) = tardis_c_first_lack;
+    (void)checks_history, (void)c_checks_history, (void)finds_lack, (void)c_finds_lack;
 }
 
 static const char TRACE[] = "0 W 0x0 1\n1 R 0x0\n";
@@ -226,6 +230,7 @@ static void nulls(void) {
     struct tardis_options options;
     struct tardis_told told;
     struct tardis_found found = {7, 7, 7, 7, 7};
+    struct tardis_lack lack = {7, 7};
     tardis_defaults(&options);
     length = told.kind = told.number = 7;
     MUST(tardis_defaults(NULL) == TARDIS_NULL);
@@ -255,6 +260,10 @@ static void nulls(void) {
     MUST(tardis_check_history(NULL, 0, NULL, 1, NULL, 0, &found) == TARDIS_NULL);
     MUST(tardis_check_history(NULL, 0, NULL, 0, NULL, 1, &found) == TARDIS_NULL);
     MUST(tardis_check_history(NULL, 0, NULL, 0, NULL, 0, NULL) == TARDIS_NULL);
+    MUST(tardis_first_lack(NULL, 1, NULL, 0, &lack) == TARDIS_NULL);
+    MUST(tardis_first_lack(NULL, 0, NULL, 1, &lack) == TARDIS_NULL);
+    MUST(tardis_first_lack(NULL, 0, NULL, 0, NULL) == TARDIS_NULL);
+    MUST(tardis_history_lack(NULL, &lack) == TARDIS_NULL && lack.core == 7 && lack.place == 7);
     MUST(found.kind == 7 && found.number == 7 && found.expected == 7 && found.source == 7 && found.writer == 7);
     MUST(length == 7 && told.kind == 7 && told.number == 7); /* nothing is written */
     length = 0;
@@ -472,6 +481,36 @@ static void last_core(void) {
     MUST(finds(NULL, 0, &load, 1, &record, 1, TARDIS_NOT_DONE, of(TARDIS_OUT_OF_PROGRAM_ORDER, 0, 0, 0, 0)));
 }
 
+/* Whether this number is answered, and this core and place told. */
+static int lacks(size_t operation_count, size_t record_count, int wanted, uint64_t core, uint64_t place) {
+    static const struct tardis_operation loads[5] = {{3, TARDIS_LOAD, 0, 0}, {1, TARDIS_LOAD, 0, 0},
+        {TARDIS_MOST_CORES - 1, TARDIS_LOAD, 0, 0}, {3, TARDIS_LOAD, 8, 0}, {TARDIS_MOST_CORES, TARDIS_LOAD, 0, 0}};
+    static const struct tardis_record loaded[6] = {{{1, TARDIS_LOAD, 0, 0}, 0, 0, 0, 0},
+        {{3, TARDIS_LOAD, 0, 0}, 0, 0, 0, 1}, {{TARDIS_MOST_CORES - 1, TARDIS_LOAD, 0, 0}, 0, 0, 0, 2},
+        {{3, TARDIS_LOAD, 8, 0}, 1, 0, 0, 3}, {{0, TARDIS_LOAD, 0, 0}, 0, 0, 0, 4},
+        {{0, TARDIS_LOAD, 0, 0}, 4294967296, 0, 0, 5}};
+    struct tardis_lack lack = {7, 7};
+    int got = tardis_first_lack(operation_count ? loads : NULL, operation_count, record_count ? loaded : NULL,
+                                record_count, &lack);
+    return got == wanted && lack.core == core && lack.place == place;
+}
+
+/* The first core whose records aren't as many as its operations; one that has records alone, too. */
+static void lacking(void) {
+    MUST(lacks(0, 0, TARDIS_DONE, 0, 0));
+    MUST(lacks(4, 0, TARDIS_NOT_DONE, 1, 0));
+    MUST(lacks(4, 1, TARDIS_NOT_DONE, 3, 0));
+    MUST(lacks(4, 2, TARDIS_NOT_DONE, 3, 1));
+    MUST(lacks(4, 3, TARDIS_NOT_DONE, 3, 1));
+    MUST(lacks(4, 4, TARDIS_DONE, 0, 0));
+    MUST(lacks(3, 2, TARDIS_NOT_DONE, TARDIS_MOST_CORES - 1, 0));
+    MUST(lacks(3, 4, TARDIS_NOT_DONE, 3, 2));
+    MUST(lacks(0, 3, TARDIS_NOT_DONE, 1, 1));
+    MUST(lacks(4, 5, TARDIS_NOT_DONE, 0, 1));
+    MUST(lacks(5, 6, TARDIS_BAD_OPERATION, 0, 0));
+    MUST(lacks(4, 6, TARDIS_BAD_RECORD, 0, 0));
+}
+
 /* A history that grows, asked after each record; what is refused changes nothing. */
 static void grows(void) {
     static struct tardis_history history;
@@ -479,8 +518,10 @@ static void grows(void) {
     struct tardis_operation load = {70, TARDIS_LOAD, 0, 0}, store = {71, TARDIS_STORE, 0, 1};
     struct tardis_record loaded = {{70, TARDIS_LOAD, 0, 0}, 0, 9, 0, 0};
     struct tardis_record stored = {{71, TARDIS_STORE, 0, 1}, 0, 0, 1, 1};
+    struct tardis_lack lack;
     uint64_t at;
     MUST(tardis_history_verdict(&history, &found) == TARDIS_DONE);
+    MUST(tardis_history_lack(&history, &lack) == TARDIS_DONE && tardis_history_lack(&history, NULL) == TARDIS_NULL);
     MUST(tardis_history_open(&history, &word) == TARDIS_DONE && tardis_history_issue(&history, &load) == TARDIS_DONE);
     MUST(tardis_history_complete(&history, &loaded) == TARDIS_DONE);
     MUST(tardis_history_verdict(&history, &found) == TARDIS_DONE);
@@ -501,7 +542,10 @@ static void grows(void) {
     MUST(tardis_history_open(NULL, &word) == TARDIS_NULL && tardis_history_issue(NULL, &load) == TARDIS_NULL);
     MUST(tardis_history_complete(NULL, &loaded) == TARDIS_NULL);
     MUST(history.opening_count == 1 && history.operation_count == 1 && history.record_count == 1);
+    MUST(tardis_history_lack(&history, &lack) == TARDIS_DONE);
     MUST(tardis_history_issue(&history, &store) == TARDIS_DONE);
+    MUST(tardis_history_verdict(&history, &found) == TARDIS_DONE);
+    MUST(tardis_history_lack(&history, &lack) == TARDIS_NOT_DONE && lack.core == 71 && lack.place == 0);
     MUST(tardis_history_complete(&history, &stored) == TARDIS_DONE);
     MUST(tardis_history_verdict(&history, &found) == TARDIS_DONE);
     load.core = loaded.operation.core = 70;
@@ -573,6 +617,7 @@ static void refused_histories(void) {
 
 /* Each growth of memory is refused in turn, until a call asks for no more. */
 static void refusals(void) {
+    struct tardis_lack lack = {7, 7};
     struct tardis_options options;
     int number;
     tardis_defaults(&options);
@@ -598,6 +643,13 @@ static void refusals(void) {
         MUST(number == TARDIS_NO_MEMORY && told.kind == 0 && told.number == 0);
     }
     MUST(refused_at > 1 && number == TARDIS_DONE);
+    for (refused_at = 1;; refused_at++) {
+        growths = 0;
+        number = tardis_first_lack(issued, 3, done, 3, &lack);
+        if (growths < refused_at) break;
+        MUST(number == TARDIS_NO_MEMORY && lack.core == 0 && lack.place == 0);
+    }
+    MUST(refused_at > 2 && number == TARDIS_DONE);
     refused_histories();
     refused_at = 1;
     growths = 0;
@@ -624,6 +676,7 @@ int main(void) {
     many_cores(65);
     many_cores(1000);
     last_core();
+    lacking();
     grows();
     refusals();
     return 0;

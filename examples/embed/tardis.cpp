@@ -102,7 +102,7 @@ tardis_operation operation_of(const std::vector<std::string> &fields, size_t at)
 }
 
 // What `check` prints, from arrays.
-int check_arrays(const std::string &trace, const std::string &text) {
+int check_arrays(const std::string &trace, const std::string &text, bool complete) {
     tardis::History history;
     for (const auto &line : fields_of(trace))
         if (line[0] != "trace" && line[1] != "A") history.issue(operation_of(line, 1));
@@ -112,11 +112,12 @@ int check_arrays(const std::string &trace, const std::string &text) {
         history.complete({operation, std::stoull(line[1]), received, std::stoull(line[line.size() - 2]),
                           std::stoull(line.back())});
     }
-    const auto [number, told] = history.verdict();
+    const auto [number, told, lack] = history.verdict(complete);
     static const char *const WORDS[] = {"legal", "bad number", "out of program order", "wrong value"};
     if (number != TARDIS_DONE && number != TARDIS_NOT_DONE) fail("number " + std::to_string(number), 1);
-    std::cout << WORDS[told.kind];
-    if (number == TARDIS_NOT_DONE) std::cout << ' ' << told.number;
+    if (lack) std::cout << "no record of operation " << lack->place << " of core " << lack->core;
+    else std::cout << WORDS[told.kind];
+    if (number == TARDIS_NOT_DONE && !lack) std::cout << ' ' << told.number;
     std::cout << '\n';
     return number == TARDIS_DONE ? 0 : 1;
 }
@@ -134,6 +135,6 @@ int main(int count, char **words) {
     if (command == "trace") return told(tardis::trace(text, options));
     if (command != "check") fail("bad command line", 3);
     const std::string records = text_of(files[1]);
-    if (std::getenv("EMBED_ARRAYS")) return check_arrays(text, records);
+    if (std::getenv("EMBED_ARRAYS")) return check_arrays(text, records, asked.complete);
     return told(tardis::check(text, records, asked.opening, asked.complete, asked.json));
 }

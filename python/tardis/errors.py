@@ -1,4 +1,5 @@
 """Why a call has no answer."""
+import re
 
 
 class TardisError(Exception):
@@ -10,7 +11,12 @@ class NoMemory(TardisError):
 
 
 class TooManyStates(TardisError):
-    """A list of ends would keep more states at once than it may."""
+    """A list of ends would keep more than `states` states at once, as many as it may. `enough` would do to go on; a
+    later layer may need more (docs/TEXTS.md)."""
+
+    def __init__(self, told: str) -> None:
+        super().__init__(told)
+        self.states, self.enough = map(int, re.findall("[0-9]+", told))
 
 
 class BadConfiguration(TardisError):

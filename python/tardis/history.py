@@ -26,6 +26,8 @@ class Verdict:
     number: int | None = None     # of the record that is wrong; or the least number that no record has
     expected: int | None = None   # with a wrong value, what the record should have received
     writer: int | None = None     # the number of the record that wrote that; None if it was the opening memory
+    core: int | None = None       # if a record is missing, of its operation
+    place: int | None = None      # likewise, in the core's program order
 
     @property
     def is_legal(self) -> bool:
@@ -116,29 +118,30 @@ class History:
                                      ranged("received", 0 if received is None else received, MOST),
                                      ranged("time", time, MOST), ranged("number", number, MOST))
 
-    def verdict(self) -> Verdict:
-        """The verdict on all so far, and with a wrong value what was expected and who wrote it. Each call goes through
-        the whole history. A later record may mend what is wrong, or break what is legal, if it comes before another
-        one by time and number.
+    def verdict(self, complete: bool = False) -> Verdict:
+        """The verdict on all so far, and with a wrong value what was expected and who wrote it. With `complete`, legal
+        records that lack an operation's are told by its core and place. Each call goes through the whole history. A
+        later record may mend what is wrong, or break what is legal, if it comes before another one by time and number.
 
         Raises NoMemory."""
         if not library.loaded():
-            return self._by_second(second(found.second("order.py", "the shared library")[1]))
+            return self._by_second(second(found.second("order.py", "the shared library")[1]), complete)
         kind, number, expected, source, writer = library.check_history(self._opening, self._operations, self._records)
         if kind == 0:
-            return Verdict("legal", True)
+            return lacking(library.first_lack(self._operations, self._records) if complete else None, True)
         return Verdict(f"{LINES[kind]} {number}", True, number, expected if source else None,
                        writer if source == 2 else None)
 
-    def _by_second(self, order: ModuleType) -> Verdict:
+    def _by_second(self, order: ModuleType, complete: bool) -> Verdict:
         opening = {address // 8: value for address, value in WORD.iter_unpack(self._opening)}
         issued: dict[int, list[tuple[str, int, int | None]]] = {}
         for core, *plain in OPERATION.iter_unpack(self._operations):
             issued.setdefault(core, []).append(as_second(*plain))
+        lists = [issued.get(core, []) for core in range(max(issued, default=-1) + 1)]
         records = list(self._done())
-        text = order.check(opening, [issued.get(core, []) for core in range(max(issued, default=-1) + 1)], records)
+        text = order.check(opening, lists, records)
         if text == "legal":
-            return Verdict(text, False)
+            return lacking(order.lack(lists, records) if complete else None, False)
         number = int(text.rpartition(" ")[2])
         return Verdict(text, False, number, *order.expected(opening, records, number) if "value" in text else ())
 
@@ -146,6 +149,14 @@ class History:
         for core, kind, address, value, place, received, time, number in RECORD.iter_unpack(self._records):
             named, word, written = as_second(kind, address, value)
             yield Done(core, place, named, word, written, None if named == "store" else received, time, number)
+
+
+def lacking(lack: tuple[int, int] | None, is_proved: bool) -> Verdict:
+    """The verdict on legal records that lack that of this operation: its core and its place."""
+    if lack is None:
+        return Verdict("legal", is_proved)
+    core, place = lack
+    return Verdict(f"no record of operation {place} of core {core}", is_proved, core=core, place=place)
 
 
 def as_second(kind: int, address: int, value: int) -> tuple[str, int, int | None]:

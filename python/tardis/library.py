@@ -26,6 +26,12 @@ class TardisFound(ctypes.Structure):
     _fields_ = [(name, ctypes.c_uint64) for name in ("kind", "number", "expected", "source", "writer")]
 
 
+class TardisLack(ctypes.Structure):
+    """struct tardis_lack."""
+
+    _fields_ = [(name, ctypes.c_uint64) for name in ("core", "place")]
+
+
 @functools.cache
 def loaded() -> Any:
     """The library; None where there is none."""
@@ -37,7 +43,8 @@ def loaded() -> Any:
     library.tardis_c_defaults(fields)
     if list(fields) != [*(int(getattr(Options(), name, 0)) for name in FIELDS), *[MOST] * 8]:
         raise TardisError(f"{path} is of another version: its options are others")
-    calls = "tardis_c_litmus", "tardis_c_trace", "tardis_c_check_opened", "tardis_c_check_history"
+    calls = ("tardis_c_litmus", "tardis_c_trace", "tardis_c_check_opened", "tardis_c_check_history",
+             "tardis_c_first_lack")
     if not all(hasattr(library, name) for name in ("tardis_c_version", *calls)) \
             or library.tardis_c_version() != version.number():
         raise TardisError(f"{path} is of another version than {version.VERSION}")
@@ -79,10 +86,11 @@ def text_argument(text: bytes) -> tuple[bytes, ctypes.c_size_t]:
     return text, ctypes.c_size_t(len(text))
 
 
-def run(kind: str, text: bytes, options: Options, asked: Asked) -> str:
-    """The report of a litmus test or a trace, or a trace's records."""
+def run(kind: str, text: bytes, options: Options, asked: Asked) -> tuple[bool, str]:
+    """Whether all runs ended all done, and the report of a litmus test or a trace, or a trace's records."""
     call = getattr(loaded(), f"tardis_c_{kind}")
-    return told(call, room(text), *text_argument(text), ctypes.byref(options_of(options, asked)))[1]
+    number, report = told(call, room(text), *text_argument(text), ctypes.byref(options_of(options, asked)))
+    return number == DONE, report
 
 
 def check(opening: bytes, trace: bytes, records: bytes, complete: bool, json: bool) -> str:
@@ -96,14 +104,28 @@ def items_argument(items: bytearray, size: int) -> tuple[Any, ctypes.c_size_t]:
     return ctypes.byref((ctypes.c_char * len(items)).from_buffer(items)), ctypes.c_size_t(len(items) // size)
 
 
-def check_history(opening: bytearray, operations: bytearray, records: bytearray) -> tuple[int, int, int, int, int]:
-    """What is found of a history, as arrays of struct tardis_word, tardis_operation and tardis_record: kind, number,
-    expected, source and writer."""
-    found = TardisFound()
-    number = loaded().tardis_c_check_history(*items_argument(opening, 16), *items_argument(operations, 24),
-                                             *items_argument(records, 56), ctypes.byref(found))
+def is_done(number: int) -> bool:
+    """Whether a call on a history, which answered this number, found nothing wrong."""
     if number == NO_MEMORY:
         raise NoMemory("tardis: no memory")
     if number not in (DONE, NOT_DONE):
         raise TardisError(f"number {number}")
+    return number == DONE
+
+
+def check_history(opening: bytearray, operations: bytearray, records: bytearray) -> tuple[int, int, int, int, int]:
+    """What is found of a history, as arrays of struct tardis_word, tardis_operation and tardis_record: kind, number,
+    expected, source and writer."""
+    found = TardisFound()
+    is_done(loaded().tardis_c_check_history(*items_argument(opening, 16), *items_argument(operations, 24),
+                                            *items_argument(records, 56), ctypes.byref(found)))
     return found.kind, found.number, found.expected, found.source, found.writer
+
+
+def first_lack(operations: bytearray, records: bytearray) -> tuple[int, int] | None:
+    """The first core that hasn't as many records as operations, and how many it has; None if there is none."""
+    lack = TardisLack()
+    if is_done(loaded().tardis_c_first_lack(*items_argument(operations, 24), *items_argument(records, 56),
+                                            ctypes.byref(lack))):
+        return None
+    return lack.core, lack.place

@@ -7,10 +7,8 @@ from typing import Any
 
 from tardis import found
 from tardis.errors import NoMemory, TardisError
-from tardis.options import Options, within
+from tardis.options import OF_MACHINE, Options, given_options, within
 from tardis.reports import Record, Records, record_of
-
-OF_MACHINE = ("banks", "sets", "ways", "bank_sets", "bank_ways", "line_words", "lease", "messages", "time")
 
 
 @dataclass(frozen=True)
@@ -45,10 +43,7 @@ class Machine:
     For the same reason one thread at a time may call it."""
 
     def __init__(self, cores: int = 2, memory: Mapping[int, int] | None = None, **options: Any) -> None:
-        built = Options(**options)
-        for name in options:
-            if name not in (*OF_MACHINE, "private_write"):
-                raise TypeError(f"{name} is an option of a run, and not of a machine")
+        built = given_options("Machine", OF_MACHINE, options, "cores", "memory")
         within("cores", cores, 1, 64)
         path = found.player()
         self.is_proved = path is not None
@@ -63,7 +58,8 @@ class Machine:
             raise
 
     def _open(self, cores: int, built: Options, memory: Mapping[int, int]) -> None:
-        words = " ".join(f"{name.replace('_', '-')} {getattr(built, name)}" for name in OF_MACHINE)
+        words = " ".join(f"{name.replace('_', '-')} {getattr(built, name)}" for name in OF_MACHINE
+                         if name != "private_write")
         opening = " ".join(f"{address:#x} {value}" for address, value in memory.items())
         opened = self.call(f"machine cores {cores} {words} private-write {'yes' if built.private_write else 'no'}"
                            + (f" with {opening}" if opening else ""))

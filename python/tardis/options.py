@@ -95,3 +95,16 @@ class Asked:
         every = [] if self.every is None else ["--every", str(self.every)]
         flags = [f"--{name}" for name in ("records", "counts", "json") if getattr(self, name)]
         return [*flags, *every]
+
+
+OF_RUNS = tuple(field.name for field in fields(Options))
+OF_TRACE = tuple(name for name in OF_RUNS if name != "runs")
+OF_MACHINE = OF_RUNS[:OF_RUNS.index("schedule")]
+
+
+def given_options(call: str, names: tuple[str, ...], given: dict[str, Any], *more: str) -> Options:
+    """The options that a call was given, which takes these, and more by names of its own."""
+    for name in given:
+        if name not in names:
+            raise TypeError(f"{call} has no option {name!r}: it takes {', '.join((*more, *names))}")
+    return Options(**given)

@@ -1,4 +1,5 @@
 """What reports say (docs/TEXTS.md), as objects."""
+from collections.abc import Iterable
 from dataclasses import dataclass, field
 from typing import Any, NamedTuple
 
@@ -86,7 +87,12 @@ class Record(NamedTuple):
 
 
 class Records(list[Record]):
-    """Records, in the order of completion."""
+    """Records, in the order of completion. `end` says how the run ended that they are of: all-done, stalled, limit,
+    exhausted or memory. It is None of a machine that you drive."""
+
+    def __init__(self, records: Iterable[Record] = (), end: str | None = None) -> None:
+        super().__init__(records)
+        self.end = end
 
     def columns(self) -> dict[str, list[Any]]:
         """The records by columns, as `pandas.DataFrame` takes them."""
@@ -158,6 +164,6 @@ def trace_report(text: str, is_proved: bool) -> TraceReport:
     return TraceReport(text, is_proved, named["end"], numbers, words, counts, rows)
 
 
-def records_of(text: str) -> Records:
-    """Records, from their text."""
-    return Records(map(record_of, text.splitlines()))
+def records_of(text: str, end: str) -> Records:
+    """Records, from their text, of a run that ended so."""
+    return Records(map(record_of, text.splitlines()), end)

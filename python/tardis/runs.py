@@ -8,7 +8,7 @@ from typing import Any, Literal, overload
 
 from tardis import found, library
 from tardis.errors import BadConfiguration, BadText, NoMemory, TardisError, TooManyStates
-from tardis.options import Asked, Options, within
+from tardis.options import OF_RUNS, OF_TRACE, Asked, Options, given_options, within
 from tardis.reports import EndsReport, LitmusReport, Records, TraceReport
 from tardis.reports import ends_report, litmus_report, records_of, trace_report
 
@@ -17,8 +17,9 @@ def in_bytes(text: str | bytes) -> bytes:
     return text.encode() if isinstance(text, str) else text
 
 
-def printed(program: list[str], words: list[str], *texts: bytes) -> str:
-    """What a program prints of a command on these texts, whose files are named behind the words."""
+def printed(program: list[str], words: list[str], *texts: bytes) -> tuple[bool, str]:
+    """Whether all is done, and what a program prints of a command on these texts, whose files are named behind the
+    words."""
     with tempfile.TemporaryDirectory(prefix="tardis-") as folder:
         paths = [os.path.join(folder, str(number)) for number in range(len(texts))]
         for path, text in zip(paths, texts):
@@ -26,23 +27,34 @@ def printed(program: list[str], words: list[str], *texts: bytes) -> str:
                 file.write(text)
         came = subprocess.run(program + words + paths, capture_output=True, text=True)
     if came.returncode in (0, 1) and (came.stdout or not came.stderr):  # of records there may be none
-        return came.stdout
+        return came.returncode == 0, came.stdout
     told = came.stderr.strip()
     if told.startswith("tardis: more than "):
         raise TooManyStates(told)
     raise {1: NoMemory, 2: BadText, 3: BadConfiguration}.get(came.returncode, TardisError)(told)
 
 
-def by_second(words: list[str], *texts: bytes) -> str:
-    """What the second program prints, which stands for the shared library."""
+def by_second(words: list[str], *texts: bytes) -> tuple[bool, str]:
+    """Likewise, of the second program, which stands for the shared library."""
     return printed(found.second("oracle.py", "the shared library"), words, *texts)
 
 
-def run(kind: str, text: str | bytes, options: Options, asked: Asked) -> tuple[str, bool]:
+def run(kind: str, text: bytes, options: Options, asked: Asked) -> tuple[str, bool]:
     """The text of a report, and whether the proved library made it."""
     if library.loaded():
-        return library.run(kind, in_bytes(text), options, asked), True
-    return by_second([kind, *options.words(kind), *asked.words()], in_bytes(text)), False
+        return library.run(kind, text, options, asked)[1], True
+    return by_second([kind, *options.words(kind), *asked.words()], text)[1], False
+
+
+def recorded(text: bytes, options: Options) -> Records:
+    """The records of a trace. If its run was cut, a second one says how: they are alike."""
+    asked = Asked(records=True)
+    if library.loaded():
+        is_done, records = library.run("trace", text, options, asked)
+    else:
+        is_done, records = by_second(["trace", *options.words("trace"), *asked.words()], text)
+    end = "all-done" if is_done else trace_report(*run("trace", text, options, Asked())).end
+    return records_of(records, end)
 
 
 @overload
@@ -58,7 +70,8 @@ def litmus(text: str | bytes, *, json: bool = False, **options: Any) -> LitmusRe
     With `json`, the report is the object that `--json` writes.
 
     Raises BadText, BadConfiguration or NoMemory."""
-    came = run("litmus", text, Options(**options), Asked(json=json))
+    built = given_options("litmus", OF_RUNS, options, "json")
+    came = run("litmus", in_bytes(text), built, Asked(json=json))
     return loads(came[0]) if json else litmus_report(*came)
 
 
@@ -83,8 +96,8 @@ def ends(text: str | bytes, *, states: int = 4_194_304, orders: bool = False,
     program = found.program()
     command = [program] if program else found.second("oracle.py", "the program")
     words = ["ends", "--states", str(states), *["--orders"] * orders, *["--json"] * json]
-    text = printed(command, words, in_bytes(text))
-    return loads(text) if json else ends_report(text, program is not None)
+    listed = printed(command, words, in_bytes(text))[1]
+    return loads(listed) if json else ends_report(listed, program is not None)
 
 
 @overload
@@ -103,17 +116,16 @@ def trace(text: str | bytes, *, records: Literal[True], **options: Any) -> Recor
 
 def trace(text: str | bytes, *, records: bool = False, counts: bool = False, every: int | None = None,
           json: bool = False, **options: Any) -> TraceReport | Records | dict[str, Any]:
-    """Runs a trace over a memory of zeros: its report, or its records by columns. With `counts`, the report has what
-    the run did, in numbers; with `every`, also each time that so many more operations were completed. With `json`, the
-    report is the object that `--json` writes.
+    """Runs a trace over a memory of zeros: its report, or its records by columns, whose `end` says how the run ended.
+    With `counts`, the report has what the run did, in numbers; with `every`, also each time that so many more
+    operations were completed. With `json`, the report is the object that `--json` writes.
 
     Raises BadText, BadConfiguration or NoMemory."""
-    if "runs" in options:
-        raise TypeError("runs is an option of a litmus test, and not of a trace")
+    built = given_options("trace", OF_TRACE, options, "records", "counts", "every", "json")
     asked = Asked(records=records, counts=counts, every=every, json=json)
-    came = run("trace", text, Options(**options), asked)
     if records:
-        return records_of(came[0])
+        return recorded(in_bytes(text), built)
+    came = run("trace", in_bytes(text), built, asked)
     return loads(came[0]) if json else trace_report(*came)
 
 
@@ -138,7 +150,7 @@ def check(trace: str | bytes, records: str | bytes, *, opening: Mapping[int, int
         opening = "".join(f"{address:#x} {value}\n" for address, value in opening.items())
     texts = in_bytes(opening), in_bytes(trace), in_bytes(records)
     if library.loaded():
-        text = library.check(*texts, complete, json)
+        told = library.check(*texts, complete, json)
     else:
-        text = by_second(["check", *["--complete"] * complete, *["--json"] * json, "--opening"], *texts)
-    return loads(text) if json else text.strip()
+        told = by_second(["check", *["--complete"] * complete, *["--json"] * json, "--opening"], *texts)[1]
+    return loads(told) if json else told.strip()

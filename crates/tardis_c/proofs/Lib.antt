@@ -1,3 +1,4 @@
+mod CoreCounts
 mod LastWrites
 mod MetValues
 mod Told

@@ -5,6 +5,7 @@ mod answers;
 mod arrays;
 mod expected;
 mod histories;
+mod lacks;
 mod options;
 mod plain;
 mod texts;

@@ -55,9 +55,10 @@ class Said:
         return {function} if own or not rests else set().union(*(self.roots(name, seen) for name in rests))
 
     def is_refused(self, function, others):
-        """Whether it isn't proved for a reason of its own, not for that of one of the others, or of a closure there."""
+        """Whether it isn't proved for a reason of its own, not for that of one of the others or of a closure there."""
         def is_of(root, other):
-            return root == other or "::fn::" in root and other.rpartition("::")[2] in root.split("::fn::")[1].split("::")
+            within = root.split("::fn::")[1:]
+            return root == other or bool(within) and other.rpartition("::")[2] in within[0].split("::")
 
         if not re.match("not proved|no proof", self.functions.get(function, "")):
             return False

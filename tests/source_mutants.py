@@ -44,7 +44,7 @@ LEFT_OUT = re.compile(r"test_|bench|guide_uses")
 ERROR = re.compile(r"^(?:\./)?(src/\S+\.rt):(\d+):\d+: error", re.M)
 NAMES = re.compile(r"has no field|is not in scope|has no `|was not admitted")
 SOURCE_SCRIPTS = ("maintain/memory.py --check", "maintain/literals.py --check")
-AT_ONCE = 10  # mutants in a check
+AT_ONCE = 16  # mutants in a check
 
 
 class Mutant(NamedTuple):
@@ -62,7 +62,7 @@ class Tree:
     """The crates, as the kit sees them."""
 
     def __init__(self):
-        self.kit = own_kit.loaded(CALLS, KEPT_WORK) or sys.exit("mutants.py: this kit lacks calls that the script takes")
+        self.kit = own_kit.loaded(CALLS, KEPT_WORK) or sys.exit("mutants.py: this kit lacks calls that are taken")
         rtlib = self.kit["rtlib"]
         rtlib.Crate = self.kit["Crate"]
         rtlib.Crate.cuts_libraries, rtlib.Crate.allowed = True, self.kit["handles_of"](str(TOP))
@@ -359,11 +359,11 @@ def main(words):
         told = said_of(sample, kept, options.scripts)
     refused = sum(count for kind, count in told.items() if kind not in ("scripts", "excused", "left"))
     scripts = f"{told['scripts']} refused by scripts that read sources, " if options.scripts else ""
-    print(f"{len(sample)} mutants of {len(names)} crates, seed {options.seed} ({counts['no source']} more don't compile, "
-          f"of {counts['no name']} the prover's name isn't known): {refused} refused by the prover "
+    print(f"{len(sample)} mutants of {len(names)} crates, seed {options.seed}: {refused} refused by the prover "
           f"({told['goal']} with a goal open, {told['names']} with a proof that names what was taken away, "
           f"{told['limit']} at a limit, {told['whole']} by the whole crate alone), {scripts}"
-          f"{told['excused']} in tests/source_mutants.table, {told['left']} survive")
+          f"{told['excused']} in tests/source_mutants.table, {told['left']} survive; "
+          f"{counts['no source']} more don't compile, of {counts['no name']} the prover's name isn't known")
     return int(told["left"] > 0)
 
 
@@ -402,7 +402,7 @@ BY_HAND = [
 OWN = """fn a::f: proved
 fn a::g: no proof: it calls `a::h` and `a::k`, which are not proved
 fn a::h: no proof: expected answers in ./proofs/h/Answers.antt; `search` did not prove `returns`
-fn a::k: no proof: expected answers in ./proofs/k/Answers.antt; `search` did not prove `returns`; it calls `a::h`, which is not proved
+fn a::k: no proof: expected answers in ./k.antt; `search` did not prove `it`; it calls `a::h`, which is not proved
 fn a::m: no proof: it passes `a::fn::m::all`, which is not proved
 fn a::fn::m::all: not proved
 fn a::n: no proof: it calls `a::g`, which is not proved

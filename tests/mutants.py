@@ -1,6 +1,7 @@
 #!/usr/bin/env python3
 """Changes one place of the Python that users run, and asks the gate: tests/mutants.py [options] PROGRAM EVENTS SEATS.
 tests/mutants.py --self-test tries the script itself, without programs.
+tests/mutants.py --source [options] changes the proved code, and asks the prover: --source --help says more.
 
 A mutant is a file of tools/, reference/ or python/ with one change: a comparison turned round or off by one, another
 operator, `and` for `or`, no `not`, a number one more, a test always true or always false, a statement or the bound of a
@@ -35,6 +36,9 @@ from hashlib import sha256
 from pathlib import Path
 
 TOP = Path(__file__).resolve().parent.parent
+sys.path.insert(0, str(TOP))
+from tests import source_mutants  # noqa: E402
+
 TABLE = TOP / "tests/mutants.table"
 CRATES = {"program": "tardis", "events": "play_events", "seats": "play_seats"}
 FOLDERS = ("tools", "reference", "python")
@@ -275,6 +279,7 @@ def self_test():
     with tempfile.TemporaryDirectory() as folder:
         yield from self_test_of_rooms(folder)
         yield from self_test_of_files(Path(folder, "kept"))
+    yield from source_mutants.self_test()
 
 
 def self_test_of_rooms(folder):
@@ -314,6 +319,8 @@ def parsed():
 
 
 def main():
+    if sys.argv[1:2] == ["--source"]:
+        return source_mutants.main(sys.argv[2:])
     if sys.argv[1:] == ["--self-test"]:
         wrong = list(self_test())
         print("\n".join([*wrong, f"{len(wrong)} wrong"]))

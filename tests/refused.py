@@ -3,8 +3,9 @@
 
 An edit is a file crates/NAME/refused/*.edit with the lines `file:`, `old:` and `new:`, and `fn:`, the function whose
 proof must fail. Each old text stands once in the file. The edits of a crate that lie in different functions are tried
-in one check of these functions and of those that they call: since a proof takes nothing but contracts from other
-functions, each must fail for itself.
+in one check of these functions and of those that they call: a proof takes nothing but contracts from other functions.
+Each edit must fail for itself. Where the check says only that a function calls one that isn't proved, which another
+edit may have caused, that edit is tried once more, without those that it may rest on.
 The check begins with the libraries that maintain/build.py has built. With --wait, a crate waits until an `rt ci` that
 began at the same time has built those below it, or has ended, which SIGUSR1 says. What was refused is kept in
 ~/.cache/tardis-refused by the checksums of all that it depends on, and isn't tried again but with --anew.
@@ -29,6 +30,44 @@ from maintain import kit as own_kit  # noqa: E402
 KEPT = Path(os.path.expanduser("~/.cache/tardis-refused"))
 CALLS = (("cuts_libraries = False", "def stamp(self):", "def words(self, flags"),
          ("KIT = ", "def handles_of(root):", "def checked(crate, texts, flags, kept):"))
+RESTS = re.compile(r"it (?:calls|passes) .*not proved")
+
+
+class Said:
+    """What a check says of each function: that it is proved, or why it isn't."""
+
+    def __init__(self, text):
+        self.text, self.functions = text, dict(re.findall(r"^fn (\S+): (.*)$", text, re.M))
+
+    def reasons(self, function):
+        """Why a function isn't proved: what it lacks itself, and the unproved ones that it calls."""
+        why = re.sub(r"^(?:not proved|no proof)[:;]? ?", "", self.functions[function])
+        parts = [part for part in why.split("; ") if part]
+        rests = [name for part in parts if RESTS.match(part) for name in re.findall("`([^`]*)`", part)]
+        return [part for part in parts if not RESTS.match(part)], rests
+
+    def roots(self, function, seen):
+        """The functions that lack something themselves among those that a function's proof rests on."""
+        if function in seen or self.functions.get(function, "proved").startswith("proved"):
+            return set()
+        seen.add(function)
+        own, rests = self.reasons(function)
+        return {function} if own or not rests else set().union(*(self.roots(name, seen) for name in rests))
+
+    def is_refused(self, function, others):
+        """Whether it isn't proved for a reason of its own, not for that of one of the others or of a closure there."""
+        def is_of(root, other):
+            within = root.split("::fn::")[1:]
+            return root == other or bool(within) and other.rpartition("::")[2] in within[0].split("::")
+
+        if not re.match("not proved|no proof", self.functions.get(function, "")):
+            return False
+        roots = self.roots(function, set())
+        rest = {root for root in roots for other in others if other != function and is_of(root, other)}
+        return function in roots or bool(roots - rest)
+
+    def is_proved(self, function):
+        return self.functions.get(function, "").startswith("proved")
 
 
 class Edit:
@@ -65,29 +104,41 @@ def groups(folder, edits):
 
 
 def faults(kit, crate, taken, texts, room):
-    """What is wrong with a check of edits, which leaves in the room what it proved: nothing if all are refused."""
+    """What is wrong with a check of edits, which leaves in the room what it proved: nothing if all are refused. And
+    those that aren't proved, but only for what they call."""
     flags = ["--jobs", "1", *(word for function in taken for word in ("--only", function))]
     ran = kit["checked"](crate, texts, flags, room)
     if ran.returncode not in (0, 1) or not re.search(r"^only=\d+ proved=\d+$", ran.stdout, re.M):
-        yield f"{crate.name}: not tried, the check of edits ended with status {ran.returncode}:\n{ran.stdout[-2000:]}"
-        return
-    refused = re.findall(r"^fn (\S+): (?:not proved|no proof)", ran.stdout, re.M)
+        return [f"{crate.name}: not tried, the check of edits ended with status {ran.returncode}:\n"
+                f"{ran.stdout[-2000:]}"], []
+    said, wrong, unsure = Said(ran.stdout), [], []
+    names = {function: f"{crate.name}::{function}" for function in taken}
     for function, edit in taken.items():
-        if f"{crate.name}::{function}" not in refused:
-            yield f"{edit.name}: not refused: {function} is proved with it"
+        if said.is_refused(names[function], names.values()):
+            continue
+        if said.is_proved(names[function]) or len(taken) == 1:
+            wrong.append(f"{edit.name}: not refused: {function} is proved with it")
+        else:
+            unsure.append(edit)
+    return wrong, unsure
 
 
 def tried(kit, crate, is_anew):
     """Tries a crate's edits, and gives what is wrong with them."""
     folder = Path(crate.folder)
-    edits = [Edit(path) for path in sorted(folder.glob("refused/*.edit"))]
-    kept = KEPT / hashlib.sha256(repr([crate.stamp(), *(edit.text for edit in edits)]).encode()).hexdigest()
+    left = [Edit(path) for path in sorted(folder.glob("refused/*.edit"))]
+    kept = KEPT / hashlib.sha256(repr([crate.stamp(), *(edit.text for edit in left)]).encode()).hexdigest()
     if os.path.exists(kept) and not is_anew:
         return []
+    found = []
     try:
         with tempfile.TemporaryDirectory() as room:
-            found = [fault for taken, texts in groups(folder, edits)
-                     for fault in faults(kit, crate, taken, texts, room)]
+            while left:
+                unsure = []
+                for taken, texts in groups(folder, left):
+                    wrong, more = faults(kit, crate, taken, texts, room)
+                    found, unsure = found + wrong, unsure + more
+                left = unsure if len(unsure) < len(left) else left[:1]
     except ValueError as error:
         return [str(error)]
     if not found:

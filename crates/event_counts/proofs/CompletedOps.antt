@@ -210,8 +210,8 @@ event_counts c m e k few has =
     let told = answer_counts c m next.1 k.lost e (record k.counts { events = more k.counts.events }) few has next.0
     (every_answer m e) in (
       subst (Done c (records_of c next.1)) (sym (row_counts (counted k next.1 e next.0 o)
-      (is_row k.every (length next.1.records) next.0)))
-      (message_leaves c (records_of c next.1) _ next.1 e o told.0),
+          (is_row k.every (length next.1.records) next.0)))
+          (message_leaves c (records_of c next.1) _ next.1 e o told.0),
       told.1,
     )
 

@@ -198,8 +198,8 @@ module _ (first : Counter) (m : Machine) (every : ℕ) (some : 0 < every) where
     more =
         let next = transition now e in
         let seen : (counter_seen k next.1 e next.0 ≡ watched counter_events first m longer_by)
-            = ap₂ (λ (c : Counter) (n : Machine). let made = transition n e in counter_seen c made.1 e made.0)
-                has.counter has.leads ∙ sym (watched_more first m events e) in
+        = ap₂ (λ (c : Counter) (n : Machine). let made = transition n e in counter_seen c made.1 e made.0)
+        has.counter has.leads ∙ sym (watched_more first m events e) in
         let leads = ap (λ n. (transition n e).1) has.leads ∙ sym (after_more m events e) in
         subst (λ o. Rows longer_by (with_row (behind next.1 next.0) (is_row o (length next.1.records) next.0)) next.1)
         (sym has.every_is)

@@ -11,14 +11,10 @@ use Rattle.physiological_order.specs.declared.operation.Op.{Op}
 use Rattle.physiological_order.specs.declared.operation.Op.TheVariants.{Load, Store, Swap}
 use Rattle.physiological_order.specs.declared.operation.Record.{Record}
 use Rattle.physiological_order.specs.Order.{of_core}
-use Rattle.network.specs.declared.message.Body.{Body}
 use Rattle.network.specs.declared.message.Message.{Message}
-use Rattle.network.specs.declared.message.Node.{Node}
-use Rattle.network.specs.declared.message.Node.TheVariants as node
 use Rattle.network.specs.NumberedMessages.{at_number}
 use Rattle.machine_table.specs.declared.config.Config.{Config}
 use Rattle.machine_table.specs.declared.event.Event.{Event}
-use Rattle.machine_table.specs.declared.event.Event.TheVariants as event
 use Rattle.machine_table.specs.declared.event.Answer.{Answer}
 use Rattle.machine_table.specs.declared.event.Answer.TheVariants as answer
 use Rattle.machine_table.specs.declared.event.Refusal.{Refusal}

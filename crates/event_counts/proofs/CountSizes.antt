@@ -1,14 +1,13 @@
 -- There are as many cores and banks in the counts as before.
-use Rattle.std.proofs.Common.{◌≡◌, ℕ, List, length, Option, Some, None, refl, sym, ◌∙◌, slice_set}
+use Rattle.std.proofs.Common.{◌≡◌, ℕ, List, length, Option, Some, None, refl, sym, ◌∙◌}
 use Rattle.std.specs.List.{slice_get}
 use Rattle.std.proofs.lemmas.List.{length-set}
-use Rattle.physiological_order.specs.declared.operation.Record.{Record}
 use Rattle.network.specs.declared.message.Message.{Message}
 use Rattle.machine_table.specs.declared.event.Event.{Event}
 use Rattle.machine_table.specs.declared.event.Answer.{Answer}
 use Rattle.machine_table.specs.Machine.{Machine}
 use Rattle.event_counts.specs.declared.part_counts.CoreCounts.{CoreCounts}
-use Rattle.event_counts.specs.Counts.{EventCounts, at_core, changed_at, completed, more, sent, with_one}
+use Rattle.event_counts.specs.Counts.{EventCounts, at_core, changed_at, completed, more, with_one}
 use Rattle.event_counts.specs.Losses.{Lost}
 use Rattle.event_counts.specs.Counting.{FitsIn, answered, seen}
 use Rattle.event_counts.proofs.KeptCounts.{IsKept, answered_keeps, followed, sent_keeps}

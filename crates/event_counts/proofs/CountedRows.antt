@@ -1,5 +1,5 @@
 -- The rows of a counter are what it counted after the first events of a run.
-use Rattle.std.proofs.Common.{◌≡◌, ◌≢◌, ℕ, zero, suc, ◌+◌, ◌-◌, ◌*◌, ◌/◌, ◌%◌, ◌<◌, ◌≤◌, Bool, true, false, eqb, List, []}
+use Rattle.std.proofs.Common.{◌≡◌, ◌≢◌, ℕ, zero, suc, ◌+◌, ◌-◌, ◌*◌, ◌/◌, ◌%◌, ◌<◌, ◌≤◌, Bool, true, false, List, []}
 use Rattle.std.proofs.Common.{◌∷◌, ◌++◌, length, Option, Some, None, refl, sym, ap, ◌∙◌, subst, arith, append_assoc}
 use Rattle.std.proofs.Common.{⊎_elim, ap₂, append-nil, length-append, nat_lt, ◌&&◌, ◌==◌}
 use Rattle.std.specs.Prelude.{IfSome}
@@ -26,7 +26,6 @@ use Rattle.schedules.specs.Watches.{watched}
 use Rattle.event_counts.specs.Counting.{Counter, EventCounts, counted, counter_events, counter_seen, is_row, no_counter}
 use Rattle.event_counts.specs.Counting.{with_row}
 use Rattle.event_counts.specs.RowLaw.{IsRow}
-use Rattle.event_counts.proofs.KeptCounts.{row_counts}
 
 -- one event more, behind others
 after_more : (m : Machine) (events : List Event) (e : Event) →

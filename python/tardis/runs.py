@@ -38,6 +38,12 @@ def by_second(words: list[str], *texts: bytes) -> str:
     return printed(found.second("oracle.py", "the shared library"), words, *texts)
 
 
+def object_of(text: str) -> dict[str, Any]:
+    """The object that a JSON text is."""
+    read: dict[str, Any] = loads(text)
+    return read
+
+
 def run(kind: str, text: str | bytes, options: Options, asked: Asked) -> tuple[str, bool]:
     """The text of a report, and whether the proved library made it."""
     if library.loaded():
@@ -59,7 +65,7 @@ def litmus(text: str | bytes, *, json: bool = False, **options: Any) -> LitmusRe
 
     Raises BadText, BadConfiguration or NoMemory."""
     came = run("litmus", text, Options(**options), Asked(json=json))
-    return loads(came[0]) if json else litmus_report(*came)
+    return object_of(came[0]) if json else litmus_report(*came)
 
 
 @overload
@@ -83,8 +89,8 @@ def ends(text: str | bytes, *, states: int = 4_194_304, orders: bool = False,
     program = found.program()
     command = [program] if program else found.second("oracle.py", "the program")
     words = ["ends", "--states", str(states), *["--orders"] * orders, *["--json"] * json]
-    text = printed(command, words, in_bytes(text))
-    return loads(text) if json else ends_report(text, program is not None)
+    listed = printed(command, words, in_bytes(text))
+    return object_of(listed) if json else ends_report(listed, program is not None)
 
 
 @overload
@@ -114,7 +120,7 @@ def trace(text: str | bytes, *, records: bool = False, counts: bool = False, eve
     came = run("trace", text, Options(**options), asked)
     if records:
         return records_of(came[0])
-    return loads(came[0]) if json else trace_report(*came)
+    return object_of(came[0]) if json else trace_report(*came)
 
 
 @overload
@@ -138,7 +144,7 @@ def check(trace: str | bytes, records: str | bytes, *, opening: Mapping[int, int
         opening = "".join(f"{address:#x} {value}\n" for address, value in opening.items())
     texts = in_bytes(opening), in_bytes(trace), in_bytes(records)
     if library.loaded():
-        text = library.check(*texts, complete, json)
+        told = library.check(*texts, complete, json)
     else:
-        text = by_second(["check", *["--complete"] * complete, *["--json"] * json, "--opening"], *texts)
-    return loads(text) if json else text.strip()
+        told = by_second(["check", *["--complete"] * complete, *["--json"] * json, "--opening"], *texts)
+    return object_of(told) if json else told.strip()

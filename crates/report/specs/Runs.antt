@@ -109,8 +109,8 @@ counter_text layout (Some counter) = event_counts_text layout counter.every coun
 
 -- the report, with what a counter has behind it; the records are a legal history of the trace's operations
 -- (`legal_in_trace`), and so a check's verdict on them is Legal
-abbrev pub report_text : Layout → List (List Step) → End → Machine → Option Counter → List ℕ
-report_text layout lanes end m counter =
+abbrev pub whole_report : Layout → List (List Step) → End → Machine → Option Counter → List ℕ
+whole_report layout lanes end m counter =
     trace_text layout (trace_cores lanes) (trace_end_of lanes end m) LegalVerdict m.records
     (values_in m (words_below lanes (trace_cores lanes)))
     ++ counter_text layout counter ++ closing layout
@@ -118,7 +118,7 @@ report_text layout lanes end m counter =
 -- the text of the records alone, in lines, or the report
 abbrev pub run_text : (records : Bool) → Layout → List (List Step) → End → Machine → Option Counter → List ℕ
 run_text true layout lanes end m counter = records_text m.records
-run_text false layout lanes end m counter = report_text layout lanes end m counter
+run_text false layout lanes end m counter = whole_report layout lanes end m counter
 
 abbrev pub is_all_done : End → Bool
 is_all_done AllDone = true

@@ -11,7 +11,7 @@ ghost use Rattle.thread_driver.specs.ThreadRuns.{machine_of};
 ghost use Rattle.worker_driver.specs.declared.set_up.Driver.TheVariants.{ByPolicy, ByThreads};
 ghost use Rattle.report.specs.Reports.{TellsRecords};
 ghost use Rattle.trace_reader.specs.Steps.{trace_cores, trace_ops};
-ghost use Rattle.report.specs.Runs.{IsTraceRun, IsWatched, counter_text, may_be_cut, report_text};
+ghost use Rattle.report.specs.Runs.{IsTraceRun, IsWatched, counter_text, may_be_cut, whole_report};
 ghost use Rattle.report.specs.Runs.{run_text, seen_by, trace_end_of};
 
 use crate::trace_programs::programs_of;
@@ -159,7 +159,7 @@ fn put_counter(
 }
 
 // The report on a run, with what its counter has behind it.
-fn report_text<M: Finished + Drop>(
+fn whole_report<M: Finished + Drop>(
     alloc: Global,
     layout: Layout,
     trace: &Trace,
@@ -169,7 +169,7 @@ fn report_text<M: Finished + Drop>(
     requires shows { (m : Machine) × M.shows ran.now.machine m
         × Legal (flat empty) (trace_ops trace.now) m.records }
     ensures { IfOk result (λ text. (m : Machine) → M.shows ran.now.machine m →
-        text.items ≡ report_text layout trace.now ran.now.end m (seen_by counter)) }
+        text.items ≡ whole_report layout trace.now ran.now.end m (seen_by counter)) }
 {
     let end = end_of(alloc, trace, ran)?;
     let values = values_of(alloc, trace, &ran.machine)?;
@@ -198,5 +198,5 @@ pub(crate) fn text_of<M: Finished + Drop>(
     if records {
         return records_text(alloc, ran.machine.records());
     }
-    report_text(alloc, layout, trace, ran, counter)
+    whole_report(alloc, layout, trace, ran, counter)
 }

@@ -112,13 +112,17 @@ abbrev pub counter_text : Layout → Option Counter → List ℕ
 counter_text layout None = []
 counter_text layout (Some counter) = event_counts_text layout counter.every counter.rows counter.counts
 
--- the report, with what a counter has behind it; the records are a legal history of the trace's operations
+-- the report without that, and without what closes it; the records are a legal history of the trace's operations
 -- (`legal_in_trace`), and so a check's verdict on them is Legal
-abbrev pub whole_report : Layout → List (List Step) → End → Machine → Option Counter → List ℕ
-whole_report layout lanes end m counter =
+abbrev pub bare_report : Layout → List (List Step) → End → Machine → List ℕ
+bare_report layout lanes end m =
     trace_text layout (trace_cores lanes) (trace_end_of lanes end m) LegalVerdict m.records
     (values_in m (words_below lanes (trace_cores lanes)))
-    ++ counter_text layout counter ++ closing layout
+
+-- the report, with what a counter has behind it
+abbrev pub whole_report : Layout → List (List Step) → End → Machine → Option Counter → List ℕ
+whole_report layout lanes end m counter =
+    bare_report layout lanes end m ++ counter_text layout counter ++ closing layout
 
 -- the text of the records alone, in lines, or the report
 abbrev pub run_text : (records : Bool) → Layout → List (List Step) → End → Machine → Option Counter → List ℕ

@@ -11,7 +11,7 @@ ghost use Rattle.thread_driver.specs.ThreadRuns.{machine_of};
 ghost use Rattle.worker_driver.specs.declared.set_up.Driver.TheVariants.{ByPolicy, ByThreads};
 ghost use Rattle.report.specs.Reports.{TellsRecords};
 ghost use Rattle.trace_reader.specs.Steps.{trace_cores, trace_ops};
-ghost use Rattle.report.specs.Runs.{IsTraceRun, IsWatched, counter_text, run_text, seen_by};
+ghost use Rattle.report.specs.Runs.{IsTraceRun, IsWatched, bare_report, counter_text, run_text, seen_by};
 ghost use Rattle.report.specs.Runs.{trace_end_of, whole_report};
 
 use crate::trace_programs::programs_of;
@@ -146,6 +146,23 @@ fn put_counter(
     }
 }
 
+// The report on a run, without what its counter has.
+fn bare_report<M: Finished + Drop>(
+    alloc: Global,
+    layout: Layout,
+    trace: &Trace,
+    ran: &Ran<M>,
+) -> Result<Vec<u8>, AllocError>
+    requires shows { (m : Machine) × M.shows ran.now.machine m
+        × Legal (flat empty) (trace_ops trace.now) m.records }
+    ensures { IfOk result (λ text. (m : Machine) → M.shows ran.now.machine m →
+        text.items ≡ bare_report layout trace.now ran.now.end m) }
+{
+    let end = end_of(alloc, trace, ran)?;
+    let values = values_of(alloc, trace, &ran.machine)?;
+    legal_trace_text(alloc, layout, trace, &end, ran.machine.records(), &values)
+}
+
 // The report on a run, with what its counter has behind it.
 fn whole_report<M: Finished + Drop>(
     alloc: Global,
@@ -159,9 +176,7 @@ fn whole_report<M: Finished + Drop>(
     ensures { IfOk result (λ text. (m : Machine) → M.shows ran.now.machine m →
         text.items ≡ whole_report layout trace.now ran.now.end m (seen_by counter)) }
 {
-    let end = end_of(alloc, trace, ran)?;
-    let values = values_of(alloc, trace, &ran.machine)?;
-    let mut text = legal_trace_text(alloc, layout, trace, &end, ran.machine.records(), &values)?;
+    let mut text = bare_report(alloc, layout, trace, ran)?;
     put_counter(&mut text, layout, counter)?;
     put_closing(&mut text, layout)?;
     Ok(text)

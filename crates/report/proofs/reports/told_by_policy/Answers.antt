@@ -6,6 +6,16 @@ use Rattle.report.specs.Runs.{IsWatched}
 use Rattle.report.proofs.Told.{told_run}
 use Rattle.report.proofs.reports.told_by_policy.Goals as goal
 
+pub report_on-requires : goal.report_on-requires
+report_on-requires c =
+    let is = c.in_ok-ran.ensures.run in
+    record { shows = (c.in_ok-ran.ran.machine, refl, is.complete, is.legal_in_trace) }
+
+pub report_on-2-requires : goal.report_on-2-requires
+report_on-2-requires c =
+    let is = c.in_ok-ran-2.ensures.run in
+    record { shows = (c.in_ok-ran-2.ran.machine, refl, is.complete, is.legal_in_trace) }
+
 pub returns-then-is_counted : goal.returns-then-is_counted
 returns-then-is_counted c =
     let options = c.args.options.now in

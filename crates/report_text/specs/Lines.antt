@@ -42,8 +42,12 @@ values_text layout locations first names values = []
 abbrev pub named_values : Layout → Litmus → List ℕ → List ℕ
 named_values layout test values = values_text layout test.locations true test.seen values
 
+-- before the values of an end state: how often it occurred
+unfoldable pub times_text : Layout → ℕ → List ℕ
+times_text layout count = either layout [] (codes "{\"count\":") ++ decimal count
+    ++ either layout [] (codes ",\"values\":{")
+
 -- an end state: how often it occurred, and its values
-abbrev pub state_text : Layout → Litmus → ℕ × List ℕ → List ℕ
-state_text layout test state = either layout [] (codes "{\"count\":") ++ decimal state.0
-    ++ either layout [] (codes ",\"values\":{") ++ named_values layout test state.1
-    ++ either layout newline (codes "}}")
+unfoldable pub state_text : Layout → Litmus → ℕ × List ℕ → List ℕ
+state_text layout test state =
+    times_text layout state.0 ++ named_values layout test state.1 ++ either layout newline (codes "}}")

@@ -3,7 +3,7 @@
 ghost use Rattle.std.specs.Prelude.{◌≡◌, ◌++◌, ◌∷◌, OnOk, map};
 ghost use Rattle.litmus_reader.specs.TestViews.{test_of};
 ghost use Rattle.report_text.specs.Lines.{name_text, named_values, register_text, state_text, value_text};
-ghost use Rattle.report_text.specs.Lines.{quantifier_text};
+ghost use Rattle.report_text.specs.Lines.{quantifier_text, times_text};
 
 use itoa::Buffer;
 use litmus_reader::{Name, Quantifier, Test};
@@ -90,7 +90,19 @@ pub fn put_values(
     Ok(())
 }
 
+/// How often an end state occurred, before its values.
+#[tactic(auto, unfolding(crate::specs::Lines::times_text))]
+fn put_times(out: &mut Vec<u8>, layout: Layout, count: u64) -> Result<(), AllocError>
+    ensures { OnOk result (out.new.items ≡ out.old.items ++ times_text layout count) }
+{
+    let mut digits = Buffer::new();
+    put_either(out, layout, b"", b"{\"count\":")?;
+    out.extend_from_slice(digits.format(count).as_bytes())?;
+    put_either(out, layout, b"", b",\"values\":{")
+}
+
 /// An end state: how often it occurred, and the condition's names with their values.
+#[tactic(auto, unfolding(crate::specs::Lines::state_text))]
 pub(crate) fn put_state(
     out: &mut Vec<u8>,
     layout: Layout,
@@ -101,10 +113,7 @@ pub(crate) fn put_state(
     ensures { OnOk result (out.new.items ≡
         out.old.items ++ state_text layout (test_of test.now) (count, values.now)) }
 {
-    let mut digits = Buffer::new();
-    put_either(out, layout, b"", b"{\"count\":")?;
-    out.extend_from_slice(digits.format(count).as_bytes())?;
-    put_either(out, layout, b"", b",\"values\":{")?;
+    put_times(out, layout, count)?;
     put_values(out, layout, test, values)?;
     put_either(out, layout, b"\n", b"}}")
 }

@@ -50,6 +50,8 @@ fn put_state_list(
     ensures { OnOk result (out.new.items ≡ out.old.items
         ++ state_list layout (test_of test.now) (state_entries states.now.entries)) }
 {
+    // Its contract says how few there are.
+    let _few = states.len();
     let mut index = 0;
     while let Some((values, count)) = states.get_index(index) {
         put_parting(out, layout, index == 0)?;

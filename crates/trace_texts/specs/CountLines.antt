@@ -108,11 +108,15 @@ banks_text layout banks =
 unfoldable pub counted_text : Layout → EventCounts → List ℕ
 counted_text layout n = totals_text layout n ++ cores_text layout n.cores ++ banks_text layout n.banks
 
--- a row: how many operations had completed, and what was counted by then
+-- before the counts of a row: how many operations had completed
+unfoldable pub completed_text : Layout → ℕ → List ℕ
+completed_text layout completed =
+    either layout (codes "row ") (codes "{\"completed\":") ++ decimal completed ++ either layout newline (codes ",")
+
+-- a row, by its number: how many operations had completed, and what was counted by then
 unfoldable pub row_text : Layout → (every row : ℕ) → EventCounts → List ℕ
-row_text layout every row n = either layout (codes "row ") (codes "{\"completed\":")
-    ++ decimal (every * (row + 1)) ++ either layout newline (codes ",") ++ counted_text layout n
-    ++ either layout [] (codes "}")
+row_text layout every row n =
+    completed_text layout (every * (row + 1)) ++ counted_text layout n ++ either layout [] (codes "}")
 
 -- the rows, each `every` operations, if there are to be any
 unfoldable pub rows_text : Layout → (every : Option ℕ) → List EventCounts → List ℕ
@@ -120,7 +124,11 @@ rows_text layout None rows = []
 rows_text layout (Some every) rows =
     either layout [] (codes ",\"rows\":[") ++ parted layout (row_text layout every) 0 rows ++ list_closing layout
 
+-- the counts at the end: in an object a member
+unfoldable pub end_counts_text : Layout → EventCounts → List ℕ
+end_counts_text layout n =
+    either layout [] (codes ",\"counts\":{") ++ counted_text layout n ++ either layout [] (codes "}")
+
 -- the rows, and the counts at the end: in an object members behind the others
 unfoldable pub event_counts_text : Layout → (every : Option ℕ) → List EventCounts → EventCounts → List ℕ
-event_counts_text layout every rows n = rows_text layout every rows
-    ++ either layout [] (codes ",\"counts\":{") ++ counted_text layout n ++ either layout [] (codes "}")
+event_counts_text layout every rows n = rows_text layout every rows ++ end_counts_text layout n

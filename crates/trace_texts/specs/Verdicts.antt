@@ -1,5 +1,5 @@
 -- A verdict on records in words.
-use Rattle.std.specs.Prelude.{ℕ, List, [], ◌++◌, codes, decimal}
+use Rattle.std.specs.Prelude.{ℕ, List, [], ◌++◌, Option, Some, None, codes, decimal}
 use Rattle.physiological_order.specs.declared.verdict.Verdict.{Verdict}
 use Rattle.physiological_order.specs.declared.verdict.Verdict.TheVariants.{Legal, BadNumber, OutOfProgramOrder}
 use Rattle.physiological_order.specs.declared.verdict.Verdict.TheVariants.{WrongValue}
@@ -8,24 +8,33 @@ use Rattle.report_lines.specs.declared.layout.Layout.TheVariants.{Lines, Json}
 use Rattle.report_lines.specs.Layouts.{closing, either, opening}
 use Rattle.report_lines.specs.Lines.{field, word_field}
 use Rattle.report_lines.specs.Members.{newline}
+use Rattle.trace_texts.specs.Records.{spaced_value}
 
--- one line; the number is the missing one, or that of the record at fault
+-- a verdict: `legal`, or what is wrong
+unfoldable pub verdict_name : Verdict → List ℕ
+verdict_name Legal = codes "legal"
+verdict_name (BadNumber number) = codes "bad number"
+verdict_name (OutOfProgramOrder number) = codes "out of program order"
+verdict_name (WrongValue number) = codes "wrong value"
+
+-- the number that it is wrong with: the missing one, or that of the record at fault
+abbrev pub wrong_number : Verdict → Option ℕ
+wrong_number Legal = None
+wrong_number (BadNumber number) = Some number
+wrong_number (OutOfProgramOrder number) = Some number
+wrong_number (WrongValue number) = Some number
+
+-- a verdict in a line
 abbrev pub verdict_line : Verdict → List ℕ
-verdict_line Legal = codes "legal" ++ newline
-verdict_line (BadNumber number) = field Lines (codes "bad number") number
-verdict_line (OutOfProgramOrder number) = field Lines (codes "out of program order") number
-verdict_line (WrongValue number) = field Lines (codes "wrong value") number
+verdict_line verdict = verdict_name verdict ++ spaced_value (wrong_number verdict) ++ newline
 
--- what is wrong, and the number that it is wrong with
-abbrev pub fault_members : List ℕ → List ℕ → ℕ → List ℕ
-fault_members label fault number = word_field Json label fault ++ field Json (codes "number") number
+abbrev pub number_member : Option ℕ → List ℕ
+number_member None = []
+number_member (Some number) = field Json (codes "number") number
 
 -- the same as members, the first of them with this label
 abbrev pub verdict_members : List ℕ → Verdict → List ℕ
-verdict_members label Legal = word_field Json label (codes "legal")
-verdict_members label (BadNumber number) = fault_members label (codes "bad number") number
-verdict_members label (OutOfProgramOrder number) = fault_members label (codes "out of program order") number
-verdict_members label (WrongValue number) = fault_members label (codes "wrong value") number
+verdict_members label verdict = word_field Json label (verdict_name verdict) ++ number_member (wrong_number verdict)
 
 unfoldable pub verdict_text : Layout → List ℕ → Verdict → List ℕ
 verdict_text Lines label verdict = verdict_line verdict
@@ -37,9 +46,11 @@ check_text layout verdict =
     opening layout (codes "check") ++ verdict_text layout (codes "verdict") verdict ++ closing layout
 
 -- that no record is of the operation of a core at this place
+unfoldable pub lack_words : List ℕ
+lack_words = codes "no record of operation "
+
 unfoldable pub lacking_text : Layout → (place core : ℕ) → List ℕ
-lacking_text Lines place core =
-    codes "no record of operation " ++ decimal place ++ field Lines (codes " of core") core
+lacking_text Lines place core = lack_words ++ decimal place ++ field Lines (codes " of core") core
 lacking_text Json place core = word_field Json (codes "verdict") (codes "no record")
     ++ field Json (codes "place") place ++ field Json (codes "core") core
 

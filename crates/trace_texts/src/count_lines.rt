@@ -6,7 +6,7 @@ ghost use Rattle.trace_texts.specs.CountLines.{asked_text, bank_text, banks_text
 ghost use Rattle.trace_texts.specs.CountLines.{cores_text, counted_text, done_text, dram_text};
 ghost use Rattle.trace_texts.specs.CountLines.{event_counts_text, found_text, kind_text, named, next_named};
 ghost use Rattle.trace_texts.specs.CountLines.{part_text, recalled_text, row_text, rows_text, sent_text};
-ghost use Rattle.trace_texts.specs.CountLines.{totals_text};
+ghost use Rattle.trace_texts.specs.CountLines.{completed_text, end_counts_text, totals_text};
 
 use event_counts::{BankCounts, CoreCounts, EventCounts, KindCounts};
 use itoa::Buffer;
@@ -15,12 +15,7 @@ use std::alloc::AllocError;
 
 // A name and a number, behind what opens the name.
 #[tactic(auto, unfolding(crate::specs::CountLines::named))]
-fn put_named(
-    out: &mut Vec<u8>,
-    layout: Layout,
-    name: &[u8],
-    number: u64,
-) -> Result<(), AllocError>
+fn put_named(out: &mut Vec<u8>, layout: Layout, name: &[u8], number: u64) -> Result<(), AllocError>
     ensures { OnOk result (out.new.items ≡ out.old.items ++ named layout name.now number) }
 {
     let mut digits = Buffer::new();
@@ -31,12 +26,7 @@ fn put_named(
 
 // The same behind another number.
 #[tactic(auto, unfolding(crate::specs::CountLines::next_named))]
-fn put_next(
-    out: &mut Vec<u8>,
-    layout: Layout,
-    name: &[u8],
-    number: u64,
-) -> Result<(), AllocError>
+fn put_next(out: &mut Vec<u8>, layout: Layout, name: &[u8], number: u64) -> Result<(), AllocError>
     ensures { OnOk result (out.new.items ≡ out.old.items ++ next_named layout name.now number) }
 {
     put_either(out, layout, b" ", b",\"")?;
@@ -44,12 +34,7 @@ fn put_next(
 }
 
 // A kind of message and how many were sent, if any were.
-fn put_kind(
-    out: &mut Vec<u8>,
-    layout: Layout,
-    name: &[u8],
-    number: u64,
-) -> Result<(), AllocError>
+fn put_kind(out: &mut Vec<u8>, layout: Layout, name: &[u8], number: u64) -> Result<(), AllocError>
     ensures { OnOk result (out.new.items ≡ out.old.items ++ kind_text layout name.now number) }
 {
     if number == 0 {
@@ -101,12 +86,7 @@ fn put_sent(out: &mut Vec<u8>, layout: Layout, sent: &KindCounts) -> Result<(), 
 
 // What stands before the first number of a part.
 #[tactic(auto, unfolding(crate::specs::CountLines::part_text))]
-fn put_part(
-    out: &mut Vec<u8>,
-    layout: Layout,
-    part: &[u8],
-    number: usize,
-) -> Result<(), AllocError>
+fn put_part(out: &mut Vec<u8>, layout: Layout, part: &[u8], number: usize) -> Result<(), AllocError>
     ensures { OnOk result (out.new.items ≡ out.old.items ++ part_text layout part.now number) }
 {
     match layout {
@@ -245,6 +225,17 @@ fn completed_at(every: u64, row: usize) -> u128
     u128::from(every) * (row as u128 + 1)
 }
 
+// Before the counts of a row: how many operations had completed.
+#[tactic(auto, unfolding(crate::specs::CountLines::completed_text))]
+fn put_completed(out: &mut Vec<u8>, layout: Layout, completed: u128) -> Result<(), AllocError>
+    ensures { OnOk result (out.new.items ≡ out.old.items ++ completed_text layout completed) }
+{
+    let mut digits = Buffer::new();
+    put_either(out, layout, b"row ", b"{\"completed\":")?;
+    out.extend_from_slice(digits.format(completed).as_bytes())?;
+    put_either(out, layout, b"\n", b",")
+}
+
 // A row: how many operations had completed, and what was counted by then.
 #[tactic(auto, unfolding(crate::specs::CountLines::row_text))]
 fn put_row(
@@ -258,10 +249,7 @@ fn put_row(
     ensures { OnOk result (out.new.items ≡
         out.old.items ++ row_text layout every row counts.now) }
 {
-    let mut digits = Buffer::new();
-    put_either(out, layout, b"row ", b"{\"completed\":")?;
-    out.extend_from_slice(digits.format(completed_at(every, row)).as_bytes())?;
-    put_either(out, layout, b"\n", b",")?;
+    put_completed(out, layout, completed_at(every, row))?;
     put_counted(out, layout, counts)?;
     put_either(out, layout, b"", b"}")
 }
@@ -301,6 +289,16 @@ fn put_rows(
     }
 }
 
+// The counts at the end.
+#[tactic(auto, unfolding(crate::specs::CountLines::end_counts_text))]
+fn put_end_counts(out: &mut Vec<u8>, layout: Layout, counts: &EventCounts) -> Result<(), AllocError>
+    ensures { OnOk result (out.new.items ≡ out.old.items ++ end_counts_text layout counts.now) }
+{
+    put_either(out, layout, b"", b",\"counts\":{")?;
+    put_counted(out, layout, counts)?;
+    put_either(out, layout, b"", b"}")
+}
+
 /// What a run did, in numbers, behind its report: if there is a row each `every` operations, each row with the counts
 /// at that point, and then the counts at the end. They are the events, the deliveries that were held and those that were
 /// dropped, and what was counted of each core and each bank, with the messages by kind that were sent by it or to it
@@ -317,7 +315,5 @@ pub fn put_event_counts(
         out.old.items ++ event_counts_text layout every rows.now counts.now) }
 {
     put_rows(out, layout, every, rows)?;
-    put_either(out, layout, b"", b",\"counts\":{")?;
-    put_counted(out, layout, counts)?;
-    put_either(out, layout, b"", b"}")
+    put_end_counts(out, layout, counts)
 }

@@ -164,7 +164,15 @@ pub fn legal_trace_text(
     ensures { IfOk result (λ text. text.items ≡
         trace_text layout (trace_cores trace.now) run.now Verdict.Legal records.now values.now) }
 {
-    told(alloc, layout, trace.cores(), run, Verdict::Legal, records, values)
+    told(
+        alloc,
+        layout,
+        trace.cores(),
+        run,
+        Verdict::Legal,
+        records,
+        values,
+    )
 }
 
 // The report without what closes it, with this verdict on the records.

@@ -2,9 +2,10 @@
 
 ghost use Rattle.std.specs.Prelude.{◌≡◌, ◌++◌, OnOk, IfOk};
 ghost use Rattle.report_lines.specs.declared.layout.Layout.TheVariants.{Lines, Json};
-ghost use Rattle.trace_texts.specs.Verdicts.{check_text, fault_members, lack_text, lacking_text};
-ghost use Rattle.trace_texts.specs.Verdicts.{order_text, verdict_line, verdict_members};
-ghost use Rattle.trace_texts.specs.Verdicts.{verdict_text};
+ghost use Rattle.trace_texts.specs.Records.{spaced_value};
+ghost use Rattle.trace_texts.specs.Verdicts.{check_text, lack_text, lack_words, lacking_text, number_member};
+ghost use Rattle.trace_texts.specs.Verdicts.{order_text, verdict_line, verdict_members, verdict_name};
+ghost use Rattle.trace_texts.specs.Verdicts.{verdict_text, wrong_number};
 
 use itoa::Buffer;
 use physiological_order::Verdict;
@@ -42,12 +43,7 @@ pub fn lack_text(
 
 // That a core lacks a record.
 #[tactic(auto, unfolding(crate::specs::Verdicts::lacking_text))]
-fn put_lacking(
-    out: &mut Vec<u8>,
-    layout: Layout,
-    place: u64,
-    core: u64,
-) -> Result<(), AllocError>
+fn put_lacking(out: &mut Vec<u8>, layout: Layout, place: u64, core: u64) -> Result<(), AllocError>
     ensures { OnOk result (out.new.items ≡ out.old.items ++ lacking_text layout place core) }
 {
     match layout {
@@ -56,12 +52,19 @@ fn put_lacking(
     }
 }
 
+#[tactic(auto, unfolding(crate::specs::Verdicts::lack_words))]
+fn lack_words() -> &'static [u8]
+    ensures { result.now ≡ lack_words }
+{
+    b"no record of operation "
+}
+
 #[tactic(auto, unfolding(crate::specs::Verdicts::lacking_text))]
 fn put_lack_line(out: &mut Vec<u8>, place: u64, core: u64) -> Result<(), AllocError>
     ensures { OnOk result (out.new.items ≡ out.old.items ++ lacking_text Lines place core) }
 {
     let mut digits = Buffer::new();
-    out.extend_from_slice(b"no record of operation ")?;
+    out.extend_from_slice(lack_words())?;
     out.extend_from_slice(digits.format(place).as_bytes())?;
     put_field(out, Layout::Lines, b" of core", u128::from(core))
 }
@@ -91,43 +94,67 @@ fn put_verdict(
     }
 }
 
+// A verdict's name: `legal`, or what is wrong.
+#[tactic(auto, unfolding(crate::specs::Verdicts::verdict_name))]
+fn verdict_name(verdict: Verdict) -> &'static [u8]
+    ensures { result.now ≡ verdict_name verdict }
+{
+    match verdict {
+        Verdict::Legal => b"legal",
+        Verdict::BadNumber(_) => b"bad number",
+        Verdict::OutOfProgramOrder(_) => b"out of program order",
+        Verdict::WrongValue(_) => b"wrong value",
+    }
+}
+
+// The number that it is wrong with.
+fn wrong_number(verdict: Verdict) -> Option<u64>
+    ensures { result ≡ wrong_number verdict }
+{
+    match verdict {
+        Verdict::Legal => None,
+        Verdict::BadNumber(number) => Some(number),
+        Verdict::OutOfProgramOrder(number) => Some(number),
+        Verdict::WrongValue(number) => Some(number),
+    }
+}
+
 fn put_line(out: &mut Vec<u8>, verdict: Verdict) -> Result<(), AllocError>
     ensures { OnOk result (out.new.items ≡ out.old.items ++ verdict_line verdict) }
 {
-    let layout = Layout::Lines;
-    match verdict {
-        Verdict::Legal => out.extend_from_slice(b"legal\n"),
-        Verdict::BadNumber(number) => put_field(out, layout, b"bad number", u128::from(number)),
-        Verdict::OutOfProgramOrder(number) => {
-            put_field(out, layout, b"out of program order", u128::from(number))
-        }
-        Verdict::WrongValue(number) => put_field(out, layout, b"wrong value", u128::from(number)),
-    }
+    out.extend_from_slice(verdict_name(verdict))?;
+    put_behind(out, wrong_number(verdict))?;
+    out.push(b'\n')?;
+    Ok(())
+}
+
+// A number behind a space, if there is one.
+fn put_behind(out: &mut Vec<u8>, number: Option<u64>) -> Result<(), AllocError>
+    ensures { OnOk result (out.new.items ≡ out.old.items ++ spaced_value number) }
+{
+    let mut digits = Buffer::new();
+    let Some(number) = number else {
+        return Ok(());
+    };
+    out.push(b' ')?;
+    out.extend_from_slice(digits.format(number).as_bytes())
 }
 
 fn put_members(out: &mut Vec<u8>, label: &[u8], verdict: Verdict) -> Result<(), AllocError>
     ensures { OnOk result (out.new.items ≡ out.old.items ++ verdict_members label.now verdict) }
 {
-    match verdict {
-        Verdict::Legal => put_word(out, Layout::Json, label, b"legal"),
-        Verdict::BadNumber(number) => put_fault(out, label, b"bad number", number),
-        Verdict::OutOfProgramOrder(number) => put_fault(out, label, b"out of program order", number),
-        Verdict::WrongValue(number) => put_fault(out, label, b"wrong value", number),
-    }
+    put_word(out, Layout::Json, label, verdict_name(verdict))?;
+    put_number(out, wrong_number(verdict))
 }
 
-// What is wrong, and the number that it is wrong with.
-fn put_fault(
-    out: &mut Vec<u8>,
-    label: &[u8],
-    fault: &[u8],
-    number: u64,
-) -> Result<(), AllocError>
-    ensures { OnOk result (out.new.items ≡
-        out.old.items ++ fault_members label.now fault.now number) }
+// The member of a number, if there is one.
+fn put_number(out: &mut Vec<u8>, number: Option<u64>) -> Result<(), AllocError>
+    ensures { OnOk result (out.new.items ≡ out.old.items ++ number_member number) }
 {
-    put_word(out, Layout::Json, label, fault)?;
-    put_field(out, Layout::Json, b"number", u128::from(number))
+    match number {
+        Some(number) => put_field(out, Layout::Json, b"number", u128::from(number)),
+        None => Ok(()),
+    }
 }
 
 /// A verdict in the report on a run.

@@ -10,6 +10,9 @@ use Rattle.report_text.proofs.text.put_state_list.Goals as goal
 abbrev entry : Bor NamedValues × ℕ → ℕ × NamedValues
 entry e = (e.1, (e.0).now)
 
+abbrev now_of : Option (Bor (Bor NamedValues) × Bor ℕ) → Option (Bor NamedValues × ℕ)
+now_of o = option_map (λ e. (e.0.now, e.1.now)) o
+
 pub loop-values-preserved : goal.loop-values-preserved
 loop-values-preserved c =
     let entries = c.args.states.now.entries in
@@ -26,4 +29,4 @@ returns c =
     let entries = c.args.states.now.entries in
     parted_done c.args.layout (λ at. state_text c.args.layout (test_of c.args.test.now))
     (state_entries entries) c.loop-values.index _ _
-    (slice_get-map entry entries c.loop-values.index ∙ ap (option_map entry) ?) c.loop-values.invariant.states
+    (slice_get-map entry entries c.loop-values.index ∙ ap (option_map entry) (sym c.get_index.ensures.entry ∙ ap now_of c.in_default.is)) c.loop-values.invariant.states

@@ -11,14 +11,10 @@ use Rattle.physiological_order.specs.declared.operation.Op.{Op}
 use Rattle.physiological_order.specs.declared.operation.Op.TheVariants.{Load, Store, Swap}
 use Rattle.physiological_order.specs.declared.operation.Record.{Record}
 use Rattle.physiological_order.specs.Order.{of_core}
-use Rattle.network.specs.declared.message.Body.{Body}
 use Rattle.network.specs.declared.message.Message.{Message}
-use Rattle.network.specs.declared.message.Node.{Node}
-use Rattle.network.specs.declared.message.Node.TheVariants as node
 use Rattle.network.specs.NumberedMessages.{at_number}
 use Rattle.machine_table.specs.declared.config.Config.{Config}
 use Rattle.machine_table.specs.declared.event.Event.{Event}
-use Rattle.machine_table.specs.declared.event.Event.TheVariants as event
 use Rattle.machine_table.specs.declared.event.Answer.{Answer}
 use Rattle.machine_table.specs.declared.event.Answer.TheVariants as answer
 use Rattle.machine_table.specs.declared.event.Refusal.{Refusal}
@@ -210,8 +206,8 @@ event_counts c m e k few has =
     let told = answer_counts c m next.1 k.lost e (record k.counts { events = more k.counts.events }) few has next.0
     (every_answer m e) in (
       subst (Done c (records_of c next.1)) (sym (row_counts (counted k next.1 e next.0 o)
-      (is_row k.every (length next.1.records) next.0)))
-      (message_leaves c (records_of c next.1) _ next.1 e o told.0),
+          (is_row k.every (length next.1.records) next.0)))
+          (message_leaves c (records_of c next.1) _ next.1 e o told.0),
       told.1,
     )
 

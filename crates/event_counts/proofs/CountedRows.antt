@@ -1,5 +1,5 @@
 -- The rows of a counter are what it counted after the first events of a run.
-use Rattle.std.proofs.Common.{◌≡◌, ◌≢◌, ℕ, zero, suc, ◌+◌, ◌-◌, ◌*◌, ◌/◌, ◌%◌, ◌<◌, ◌≤◌, Bool, true, false, eqb, List, []}
+use Rattle.std.proofs.Common.{◌≡◌, ◌≢◌, ℕ, zero, suc, ◌+◌, ◌-◌, ◌*◌, ◌/◌, ◌%◌, ◌<◌, ◌≤◌, Bool, true, false, List, []}
 use Rattle.std.proofs.Common.{◌∷◌, ◌++◌, length, Option, Some, None, refl, sym, ap, ◌∙◌, subst, arith, append_assoc}
 use Rattle.std.proofs.Common.{⊎_elim, ap₂, append-nil, length-append, nat_lt, ◌&&◌, ◌==◌}
 use Rattle.std.specs.Prelude.{IfSome}
@@ -26,7 +26,6 @@ use Rattle.schedules.specs.Watches.{watched}
 use Rattle.event_counts.specs.Counting.{Counter, EventCounts, counted, counter_events, counter_seen, is_row, no_counter}
 use Rattle.event_counts.specs.Counting.{with_row}
 use Rattle.event_counts.specs.RowLaw.{IsRow}
-use Rattle.event_counts.proofs.KeptCounts.{row_counts}
 
 -- one event more, behind others
 after_more : (m : Machine) (events : List Event) (e : Event) →
@@ -198,8 +197,8 @@ module _ (first : Counter) (m : Machine) (every : ℕ) (some : 0 < every) where
     more =
         let next = transition now e in
         let seen : (counter_seen k next.1 e next.0 ≡ watched counter_events first m longer_by)
-            = ap₂ (λ (c : Counter) (n : Machine). let made = transition n e in counter_seen c made.1 e made.0)
-                has.counter has.leads ∙ sym (watched_more first m events e) in
+        = ap₂ (λ (c : Counter) (n : Machine). let made = transition n e in counter_seen c made.1 e made.0)
+        has.counter has.leads ∙ sym (watched_more first m events e) in
         let leads = ap (λ n. (transition n e).1) has.leads ∙ sym (after_more m events e) in
         subst (λ o. Rows longer_by (with_row (behind next.1 next.0) (is_row o (length next.1.records) next.0)) next.1)
         (sym has.every_is)

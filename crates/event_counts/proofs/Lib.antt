@@ -1,4 +1,5 @@
 mod CompletedOps
+mod CountSizes
 mod CountedRows
 mod HashedMaps
 mod KeptCounts

@@ -1,6 +1,6 @@
 -- What each answered event of a run adds to the counts, by the machine after it.
-use Rattle.std.specs.Prelude.{ℕ, ◌<◌, ◌%◌, ◌==◌, nat_lt, Bool, true, false, ◌&&◌, if◌then◌else◌, List, [], ◌∷◌, ◌++◌}
-use Rattle.std.specs.Prelude.{Option, Some, None, is_some, length, slice_get}
+use Rattle.std.specs.Prelude.{◌≡◌, ℕ, ◌<◌, ◌%◌, ◌==◌, nat_lt, Bool, true, false, ◌&&◌, if◌then◌else◌, List, [], ◌∷◌}
+use Rattle.std.specs.Prelude.{◌++◌, Option, Some, None, is_some, length, slice_get}
 use Rattle.std.specs.FinMap.{empty}
 use Rattle.physiological_order.specs.declared.operation.Op.{Op}
 use Rattle.physiological_order.specs.declared.operation.Op.TheVariants.{Load, Store, Swap}
@@ -92,9 +92,11 @@ abbrev pub has_copy : Option CoreState → ℕ → Bool
 has_copy None line = false
 has_copy (Some core) line = is_some (copy_of core.cache line)
 
+abbrev pub reloaded_at : EventCounts → Machine → ℕ → ℕ → EventCounts
+reloaded_at n m core line = if has_copy (slice_get m.cores core) line then at_core n core reloaded_line else n
+
 abbrev pub reloaded : EventCounts → Machine → Node → ℕ → Body → EventCounts
-reloaded n m (node.Core core) line (ShRep words) =
-    if has_copy (slice_get m.cores core) line then at_core n core reloaded_line else n
+reloaded n m (node.Core core) line (ShRep words) = reloaded_at n m core line
 reloaded n m _ line _ = n
 
 -- what the message adds that an event sent, if any

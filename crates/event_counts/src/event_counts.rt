@@ -1,8 +1,5 @@
 //! The counts of a run.
 ghost use Rattle.std.specs.Prelude.{◌≡◌, IfOk, IsTrue, None, Some, option_copied, slice_get};
-ghost use Rattle.network.specs.declared.message.Body.TheVariants.{ShRep};
-ghost use Rattle.network.specs.declared.message.Node.TheVariants.{Core};
-ghost use Rattle.network.specs.declared.message.TimedLine.{TimedLine};
 ghost use Rattle.network.specs.NumberedMessages.{at_number};
 ghost use Rattle.machine_table.specs.declared.event.Event.{Event};
 ghost use Rattle.machine_table.specs.Machine.{Machine};
@@ -12,7 +9,7 @@ ghost use Rattle.event_counts.specs.Counts.{core_held, core_sent, evicted_copy, 
 ghost use Rattle.event_counts.specs.Counts.{reloaded_line, returned_line, sent};
 ghost use Rattle.event_counts.specs.Losses.{Lost};
 ghost use Rattle.event_counts.specs.Counting.{FitsIn, answered, evicted, has_copy, held, held_message, reloaded};
-ghost use Rattle.event_counts.specs.Counting.{requested, returned_by, seen, with_message};
+ghost use Rattle.event_counts.specs.Counting.{reloaded_at, requested, returned_by, seen, with_message};
 
 use crate::cause::{Cause, cause_of};
 use crate::kind_counts::more;
@@ -108,13 +105,11 @@ impl EventCounts {
         message: Option<&Message>,
     )
         ensures { self.new ≡ seen self.old lost.now.lost system.now event.now
-            (answer_in system.now.records plain.now) (option_copied message) }
+            (answer_in system.now.records plain.now) (option_copied message.entry) }
     {
         self.events = more(self.events);
         self.see_answer(lost, system, event, plain);
-        if let Some(message) = message {
-            self.see_message(system, event, message);
-        }
+        self.see_sent_by(system, event, message);
     }
 
     // Counts what an answer says.
@@ -260,6 +255,16 @@ impl EventCounts {
         }
     }
 
+    // Counts the message that an event sent, if any.
+    fn see_sent_by(&mut self, system: &System, event: &Event, message: Option<&Message>)
+        ensures { self.new ≡ with_message self.old system.now event.now
+            (option_copied message.entry) }
+    {
+        if let Some(message) = message {
+            self.see_message(system, event, message);
+        }
+    }
+
     // Counts the message that an event sent.
     fn see_message(&mut self, system: &System, event: &Event, message: &Message)
         ensures { self.new ≡ with_message self.old system.now event.now (Some message.now) }
@@ -306,8 +311,7 @@ impl EventCounts {
 
     // Words of a line are sent to a core.
     fn reload(&mut self, system: &System, core: u32, line: LineNo)
-        ensures { (words : TimedLine) →
-            self.new ≡ reloaded self.old system.now (Core core) line (ShRep words) }
+        ensures { self.new ≡ reloaded_at self.old system.now core line }
     {
         let at = core as usize;
         if has_copy(system, core, line) && at < self.cores.len() {

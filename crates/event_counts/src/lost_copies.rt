@@ -88,7 +88,7 @@ impl LostCopies {
     )
         requires { 0 < self.old.room }
         ensures { self.new.lost ≡ lost_after self.old.lost event.now
-            (answer_in records.now plain.now) (option_copied sent) }
+            (answer_in records.now plain.now) (option_copied sent.entry) }
     {
         match event {
             Event::EvictCache(core, line) => self.see_evicted(*core, *line, plain),
@@ -111,7 +111,7 @@ impl LostCopies {
     // A delivery sent a message, or none.
     fn see_sent(&mut self, sent: Option<&Message>)
         requires { 0 < self.old.room }
-        ensures { self.new.lost ≡ recalled_by self.old.lost (option_copied sent) }
+        ensures { self.new.lost ≡ recalled_by self.old.lost (option_copied sent.entry) }
     {
         if let Some(message) = sent {
             self.see_message(message);

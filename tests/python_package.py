@@ -294,6 +294,8 @@ def runs(is_proved):
                          (tardis.check("0 R 0x8\n", "", complete=True), "no record of operation 0 of core 0")):
         if told != wanted:
             fail(f"a verdict: {told}, not {wanted}")
+    counted()
+    objects()
     faults(is_proved)
     ends(is_proved)
     histories(is_proved)
@@ -326,6 +328,44 @@ def cut_off():
         came = tardis.trace(text, records=True, **options)
         if (came, came.end) != wanted:
             fail(f"the end of {text!r} with {options}: {came}, {came.end}")
+
+
+def counted():
+    """What a load did, in numbers: the only core and the only bank send and get a request, a read of the DRAM and two
+    replies, as in docs/COUNTS.md; the request is held twice, while the DRAM is read."""
+    messages = {"ShReq": 1, "ShRep": 1}
+    none = dict.fromkeys(("stores", "swaps", "hits", "evicted", "recalled", "ended", "shared", "evictions", "returns",
+                          "reloads", "held", "time"), 0)
+    wanted = tardis.Counts(14, 2, 0, [{"loads": 1, "cold": 1, **none, **messages}],
+                           [{"evictions": 0, "held": 2, **messages, "DramLd": 1, "DramLdRep": 1}])
+    report, plain = tardis.trace("0 R 0x0\n", counts=True, every=1), tardis.trace("0 R 0x0\n")
+    if (report.counts, report.rows) != (wanted, {1: wanted}) or (plain.counts, plain.rows) != (None, {}):
+        fail(f"counts: {report.counts}, {report.rows}")
+    report = tardis.trace("0 R 0x0\n0 R 0x0\n0 R 0x8\n", counts=True, every=2)
+    if list(report.rows) != [2] or report.rows[2].cores[0]["loads"] != 2 or report.counts.cores[0]["loads"] != 3:
+        fail(f"rows: {report.rows}, {report.counts}")
+    if (report.end, report.numbers["loads"], report.words) != ("all-done", 3, {0: 0, 8: 0}):
+        fail(f"a report before its counts: {report}")
+
+
+def objects():
+    """Reports as the objects that --json writes."""
+    text = STORE_BUFFERING.read_text()
+    told = tardis.litmus(text, json=True)
+    if (told["version"], told["command"], told["states"]) != (1, "litmus", [{"count": 1,
+                                                                             "values": {"0:x7": 1, "1:x7": 1}}]):
+        fail(f"a litmus test's object: {told}")
+    told = tardis.ends(text, orders=True, json=True)
+    if (told["observation"], [end["holds"] for end in told["ends"]]) != ("Never", [False] * 3) \
+            or told["ends"][0]["order"] != ["P0:1", "P0:2", "P1:1", "P1:2"]:
+        fail(f"a list of ends: {told}")
+    told = tardis.trace("0 W 0x8 18446744073709551615\n", counts=True, every=1, json=True)
+    if (told["words"], [row["completed"] for row in told["rows"]]) != ({"0x8": 18446744073709551615}, [1]) \
+            or {**told["rows"][0], "completed": None} != {**told["counts"], "completed": None}:
+        fail(f"a trace's object: {told}")
+    told = tardis.check("0 R 0x8\n", "", complete=True, json=True)
+    if told != {"version": 1, "command": "check", "verdict": "no record", "place": 0, "core": 0}:
+        fail(f"a verdict's object: {told}")
 
 
 def of_cores(cores, received):
@@ -451,6 +491,8 @@ report: tardis.TraceReport = tardis.trace("0 R 0x0", lease=5)
 records: tardis.Records = tardis.trace("0 R 0x0", records=True)
 listed: list[tardis.End] = tardis.ends("").ends
 wrote: int | None = tardis.History({8: 5}).verdict().writer
+counted: tardis.Counts | None = tardis.trace("0 R 0x0", counts=True, every=2).counts
+rows: dict[str, object] = tardis.trace("0 R 0x0", counts=True, json=True)["rows"]
 with tardis.Machine(cores=2) as machine:
     sent: tardis.Message | None = machine.message(0)
 """
@@ -479,7 +521,11 @@ def faults(is_proved):
                              (lambda: tardis.check("", "", opening={4: 5}), tardis.BadText, 1),
                              (lambda: tardis.trace("0 R 0x0\n", lease=0), tardis.BadConfiguration, None),
                              (lambda: tardis.trace("0 R 0x0\n", schedule="seed", fair=True), tardis.BadConfiguration,
-                              None)):
+                              None), (lambda: tardis.trace("", runs=2), TypeError, None),
+                             (lambda: tardis.trace("", every=1), tardis.BadConfiguration, None),
+                             (lambda: tardis.trace("", counts=True, every=0), tardis.BadConfiguration, None),
+                             (lambda: tardis.trace("", records=True, counts=True), tardis.BadConfiguration, None),
+                             (lambda: tardis.trace("", records=True, json=True), tardis.BadConfiguration, None)):
         try:
             make()
             fail("what is refused was taken")

@@ -42,7 +42,7 @@ enum { MANY = 1000, RUNS = 1001 };
 enum { MANY = 100000, RUNS = 1000001 };
 #endif
 
-static char buffer[1000];
+static char buffer[2000];
 static size_t length;
 
 /* Whether the buffer has this text in front and what it had before behind that, and the length is the text's. */
@@ -224,6 +224,47 @@ static void runs(void) {
     options.records = 1;
     options.lease = options.limit = 4294967296; /* the greatest lease, and one turn more than a run has */
     MUST(trace("0 R 0x0\n", &options, 1000) == TARDIS_DONE && has("0 0 R 0x0 0 0 0\n"));
+}
+
+/* Reports with counts and rows of them, and as JSON: by the second program. */
+#define LOADED "cores 1\nissued 1\ncompleted 1\nend all-done\nloads 1\nstores 0\nswaps 0\nrenewals 0\nupgrades 0\n" \
+               "flushes 0\nwrite-backs 0\nstale-hits 0\norder legal\nword 0x0 0\n"
+#define COUNTED "events 14\nheld 2\ndropped 0\ncore 0 loads 1 stores 0 swaps 0 hits 0 cold 1 evicted 0 recalled 0 " \
+                "ended 0 shared 0 evictions 0 returns 0 reloads 0 held 0 time 0 ShReq 1 ShRep 1\n" \
+                "bank 0 evictions 0 held 2 ShReq 1 ShRep 1 DramLd 1 DramLdRep 1\n"
+#define OBJECT "{\"version\":1,\"command\":\"trace\",\"cores\":1,\"issued\":1,\"completed\":1,\"end\":\"all-done\"," \
+               "\"loads\":1,\"stores\":0,\"swaps\":0,\"renewals\":0,\"upgrades\":0,\"flushes\":0,\"write-backs\":0," \
+               "\"stale-hits\":0,\"order\":\"legal\",\"words\":{\"0x0\":0}"
+#define NUMBERS "\"events\":14,\"held\":2,\"dropped\":0,\"cores\":[{\"loads\":1,\"stores\":0,\"swaps\":0,\"hits\":0," \
+                "\"cold\":1,\"evicted\":0,\"recalled\":0,\"ended\":0,\"shared\":0,\"evictions\":0,\"returns\":0," \
+                "\"reloads\":0,\"held\":0,\"time\":0,\"ShReq\":1,\"ShRep\":1}],\"banks\":[{\"evictions\":0," \
+                "\"held\":2,\"ShReq\":1,\"ShRep\":1,\"DramLd\":1,\"DramLdRep\":1}]"
+
+static void counts(void) {
+    static const char load[] = "0 R 0x0\n";
+    struct tardis_options options;
+    tardis_defaults(&options);
+    MUST(options.json == 0 && options.counts == 0 && options.every == 0);
+    options.every = 1; /* of no effect without counts */
+    MUST(trace(load, &options, 2000) == TARDIS_DONE && has(LOADED));
+    options.counts = 4294967296;
+    MUST(trace(load, &options, 2000) == TARDIS_DONE && has(LOADED "row 1\n" COUNTED COUNTED));
+    options.every = 0;
+    MUST(trace(load, &options, 2000) == TARDIS_DONE && has(LOADED COUNTED));
+    options.json = 4294967296;
+    MUST(trace(load, &options, 2000) == TARDIS_DONE && has(OBJECT ",\"counts\":{" NUMBERS "}}\n"));
+    options.every = 4294967296; /* more than are completed */
+    MUST(trace(load, &options, 2000) == TARDIS_DONE && has(OBJECT ",\"rows\":[],\"counts\":{" NUMBERS "}}\n"));
+    options.every = 1;
+    MUST(trace(load, &options, 2000) == TARDIS_DONE);
+    MUST(has(OBJECT ",\"rows\":[{\"completed\":1," NUMBERS "}],\"counts\":{" NUMBERS "}}\n"));
+    options.records = 1; /* they are lines, and have no counts */
+    MUST(trace(load, &options, 2000) == TARDIS_DONE && has("0 0 R 0x0 0 0 0\n"));
+    MUST(litmus(TEST, &options, 2000) == TARDIS_DONE);
+    MUST(has("{\"version\":1,\"command\":\"litmus\",\"test\":\"ONE\",\"threads\":1,\"runs\":1,\"all-done\":1,"
+             "\"stalled\":0,\"limit\":0,\"exhausted\":0,\"memory\":0,\"states\":[{\"count\":1,\"values\":{\"x\":1}}],"
+             "\"condition\":\"exists\",\"held\":1,\"verdict\":\"yes\",\"completed\":1,\"renewals\":0,\"upgrades\":0,"
+             "\"flushes\":0,\"write-backs\":0,\"stale-hits\":0}\n"));
 }
 
 static void nulls(void) {
@@ -666,6 +707,7 @@ int main(void) {
     checks();
     openings();
     runs();
+    counts();
     nulls();
     arrays();
     many();

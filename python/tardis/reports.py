@@ -142,7 +142,7 @@ def counts_of(lines: list[list[str]]) -> Counts:
     totals = {line[0]: int(line[1]) for line in lines if len(line) == 2}
     parts = {part: [dict(zip(line[2::2], map(int, line[3::2]))) for line in lines if line[0] == part]
              for part in ("core", "bank")}
-    return Counts(**totals, cores=parts["core"], banks=parts["bank"])
+    return Counts(totals["events"], totals["held"], totals["dropped"], parts["core"], parts["bank"])
 
 
 def counted(lines: list[list[str]]) -> tuple[dict[int, Counts], Counts | None]:

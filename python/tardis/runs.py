@@ -39,6 +39,12 @@ def by_second(words: list[str], *texts: bytes) -> tuple[bool, str]:
     return printed(found.second("oracle.py", "the shared library"), words, *texts)
 
 
+def object_of(text: str) -> dict[str, Any]:
+    """The object that a JSON text is."""
+    read: dict[str, Any] = loads(text)
+    return read
+
+
 def run(kind: str, text: bytes, options: Options, asked: Asked) -> tuple[str, bool]:
     """The text of a report, and whether the proved library made it."""
     if library.loaded():
@@ -72,7 +78,7 @@ def litmus(text: str | bytes, *, json: bool = False, **options: Any) -> LitmusRe
     Raises BadText, BadConfiguration or NoMemory."""
     built = given_options("litmus", OF_RUNS, options, "json")
     came = run("litmus", in_bytes(text), built, Asked(json=json))
-    return loads(came[0]) if json else litmus_report(*came)
+    return object_of(came[0]) if json else litmus_report(*came)
 
 
 @overload
@@ -97,7 +103,7 @@ def ends(text: str | bytes, *, states: int = 4_194_304, orders: bool = False,
     command = [program] if program else found.second("oracle.py", "the program")
     words = ["ends", "--states", str(states), *["--orders"] * orders, *["--json"] * json]
     listed = printed(command, words, in_bytes(text))[1]
-    return loads(listed) if json else ends_report(listed, program is not None)
+    return object_of(listed) if json else ends_report(listed, program is not None)
 
 
 @overload
@@ -126,7 +132,7 @@ def trace(text: str | bytes, *, records: bool = False, counts: bool = False, eve
     if records:
         return recorded(in_bytes(text), built)
     came = run("trace", in_bytes(text), built, asked)
-    return loads(came[0]) if json else trace_report(*came)
+    return object_of(came[0]) if json else trace_report(*came)
 
 
 @overload
@@ -153,4 +159,4 @@ def check(trace: str | bytes, records: str | bytes, *, opening: Mapping[int, int
         told = library.check(*texts, complete, json)
     else:
         told = by_second(["check", *["--complete"] * complete, *["--json"] * json, "--opening"], *texts)[1]
-    return loads(told) if json else told.strip()
+    return object_of(told) if json else told.strip()

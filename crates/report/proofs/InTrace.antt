@@ -23,7 +23,6 @@ use Rattle.machine_table.specs.Opening.{at_start, open_core, row}
 use Rattle.machine_theorem.specs.Coherence.{coherent}
 use Rattle.machine_theorem.specs.Consistency.{IsConsistent}
 use Rattle.trace_texts.specs.Records.{AreComplete, HasItsValue}
-use Rattle.worker_driver.specs.Orders.{LeadsTo}
 use Rattle.programs.specs.declared.ends.End.{End}
 use Rattle.programs.specs.declared.steps.Step.{Step}
 use Rattle.programs.specs.declared.steps.Step.TheVariants as step
@@ -31,7 +30,7 @@ use Rattle.trace_reader.specs.Steps.{lane, ops_of, trace_cores, trace_ops}
 use Rattle.machine_theorem.specs.Service.{AreServed}
 use Rattle.programs.specs.Performs.{Performs, Told, rests, advances, does}
 use Rattle.worker_driver.specs.declared.set_up.Driver.{Driver}
-use Rattle.report.specs.Runs.{IsTraceRun, programs_below, step_acts}
+use Rattle.report.specs.Runs.{IsTraceRun, LeadsFromZeros, programs_below, step_acts}
 use Rattle.report.proofs.CoreCounts.{programs_count}
 
 -- ---- what a program of steps gave
@@ -202,10 +201,10 @@ module _ (lanes : List (List Step)) (config : Config) (m : Machine) (programs : 
 
   -- a run that came to a consistent machine
   pub is_run : IsConsistent m → m.opening ≡ empty → RisesByNumber m.records → config.cores ≤ 64 →
-      (driver : Driver) (limit : ℕ) (end : End) →
-      LeadsTo step_acts driver limit config empty (programs_below lanes (trace_cores lanes)) m programs end →
-      IsTraceRun driver limit config lanes end m
-  is_run consistent opened rising few driver limit end led =
+      (asks : Bool) (driver : Driver) (limit : ℕ) (end : End) →
+      LeadsFromZeros asks driver limit config (programs_below lanes (trace_cores lanes)) m programs end →
+      IsTraceRun asks driver limit config lanes end m
+  is_run consistent opened rising few asks driver limit end led =
       let legal = subst (λ (ws : FinMap nat_cmp ℕ). Legal (flat ws) (λ core. slice_index_or m.issued core []) m.records)
       opened consistent.legal in
       record {

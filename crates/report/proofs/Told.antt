@@ -1,5 +1,5 @@
 -- What is told of a run of a trace, with its counter or none.
-use Rattle.std.proofs.Common.{◌≡◌, ℕ, true, List, Option, sym, subst}
+use Rattle.std.proofs.Common.{◌≡◌, ℕ, Bool, true, List, Option, sym, subst}
 use Rattle.event_counts.specs.Counting.{Counter}
 use Rattle.machine_table.specs.declared.config.Config.{Config}
 use Rattle.machine_table.specs.Machine.{Machine}
@@ -17,19 +17,20 @@ use Rattle.report.specs.Runs.{IsTraceRun}
 
 -- on a good machine, by the driver and the limit of the options
 pub told_run : (options : TraceOptions) (lanes : List (List Step)) (config : Config) (driver : Driver) (limit : ℕ)
-    (end : End) (m : Machine) (counter : Option Counter) → is_good config ≡ true →
+    (end : End) (m : Machine) (asks : Bool) (counter : Option Counter) → is_good config ≡ true →
     config ≡ config_of options.run.machine (trace_cores lanes) → driver_of options.run ≡ driver →
-    limit ≡ limit_of options.run → IsTraceRun driver limit config lanes end m →
-    IsCounted (is_counted options) options.every driver limit config lanes end m counter → (report : Report) →
+    limit ≡ limit_of options.run → is_counted options ≡ asks → IsTraceRun asks driver limit config lanes end m →
+    IsCounted asks options.every driver limit config lanes end m counter → (report : Report) →
     TellsOf options.records (layout_of options.json) lanes end m counter report.all_done report.text.items →
     TellsTraceRun options lanes report.all_done report.text.items
-told_run options lanes config driver limit end m counter good set_up driven limited run counted report told =
-    let Both : Driver → ℕ → Config → Type 0 = λ d n k. IsTraceRun d n k lanes end m
-    × IsCounted (is_counted options) options.every d n k lanes end m counter in
-    let both : Both (driver_of options.run) (limit_of options.run) (config_of options.run.machine (trace_cores lanes)) =
-    subst (λ d. Both d (limit_of options.run) (config_of options.run.machine (trace_cores lanes))) (sym driven)
-    (subst (λ n. Both driver n (config_of options.run.machine (trace_cores lanes))) limited
-    (subst (Both driver limit) set_up (run, counted))) in record {
+told_run options lanes config driver limit end m asks counter good set_up driven limited asked run counted report told =
+    let Both : Bool → Driver → ℕ → Config → Type 0 = λ b d n k. IsTraceRun b d n k lanes end m
+    × IsCounted b options.every d n k lanes end m counter in
+    let there = config_of options.run.machine (trace_cores lanes) in
+    let both : Both (is_counted options) (driver_of options.run) (limit_of options.run) there =
+    subst (λ b. Both b (driver_of options.run) (limit_of options.run) there) (sym asked)
+    (subst (λ d. Both asks d (limit_of options.run) there) (sym driven)
+    (subst (λ n. Both asks driver n there) limited (subst (Both asks driver limit) set_up (run, counted)))) in record {
       good = subst (λ (k : Config). is_good k ≡ true) set_up good;
       end = end;
       machine = m;

@@ -53,13 +53,14 @@ IsCounted false every driver limit config lanes end machine counter = counter �
 abbrev pub is_counted : TraceOptions → Bool
 is_counted options = options.counts && not options.records
 
--- it reports a run of the trace on a good machine
+-- it reports a run of the trace on a good machine; a counter asks for memory, so its run may end for want of it before
+-- any event
 pub record TellsTraceRun (options : TraceOptions) (lanes : List (List Step)) (all_done : Bool) (text : List ℕ)
     : Type 0 where
   pub good : is_good (config_of options.run.machine (trace_cores lanes)) ≡ true
   pub end : End
   pub machine : Machine
-  pub run : IsTraceRun (driver_of options.run) (limit_of options.run)
+  pub run : IsTraceRun (is_counted options) (driver_of options.run) (limit_of options.run)
       (config_of options.run.machine (trace_cores lanes)) lanes end machine
   pub counter : Option Counter
   pub counted : IsCounted (is_counted options) options.every (driver_of options.run) (limit_of options.run)

@@ -16,7 +16,7 @@ use Rattle.physiological_order.specs.Order.{address, flat, Legal, Arrangement, r
 use Rattle.physiological_order.specs.StaleHits.{RisesByNumber, stale_count}
 use Rattle.trace_texts.specs.Records.{AreComplete, records_text}
 use Rattle.schedules.specs.declared.policy.Policy.{Policy}
-use Rattle.schedules.specs.Policies.{EndedBy}
+use Rattle.schedules.specs.Policies.{EndsBy}
 use Rattle.schedules.specs.Watches.{Watches, watched}
 use Rattle.worker_driver.specs.Orders.{LeadsTo}
 use Rattle.programs.specs.declared.ends.End.{End}
@@ -31,6 +31,7 @@ use Rattle.trace_texts.specs.CountLines.{event_counts_text}
 use Rattle.trace_texts.specs.Reports.{trace_text}
 use Rattle.programs.specs.Acts.{Acts, first_step, behind_first}
 use Rattle.worker_driver.specs.declared.set_up.Driver.{Driver}
+use Rattle.worker_driver.specs.declared.set_up.Driver.TheVariants.{ByPolicy, ByThreads}
 
 -- the steps of a core are its program
 abbrev pub step_acts : Acts (List Step)
@@ -41,13 +42,22 @@ abbrev pub programs_below : List (List Step) → ℕ → List (List Step)
 programs_below lanes zero = []
 programs_below lanes (suc core) = programs_below lanes core ++ lane lanes core ∷ []
 
+-- A run leads from a machine with this set-up over zeros, and these programs, to a machine, other programs and an end.
+-- If it is by a policy and is watched so that this asks for memory, memory may be refused before any of its events.
+abbrev pub LeadsFromZeros : (asks : Bool) → Driver → ℕ → Config → List (List Step) → Machine → List (List Step) → End →
+    Type 0
+LeadsFromZeros asks (ByPolicy policy) limit config before m after end =
+    (events : List Event) × EndsBy asks step_acts policy limit (at_start config empty) before events m after end
+LeadsFromZeros asks (ByThreads fair) limit config before m after end =
+    LeadsTo step_acts (ByThreads fair) limit config empty before m after end
+
 -- A run of a trace over a memory of zeros, by a policy or by threads. Its records are a legal history of what the
 -- cores were issued, and so of the operations of the trace. They are in rising order of number, and a text of records
 -- can write them. The words have the values that the records leave, one after the other in the order of their times.
-pub record IsTraceRun (driver : Driver) (limit : ℕ) (config : Config) (lanes : List (List Step)) (end : End)
-    (machine : Machine) : Type 0 where
+pub record IsTraceRun (asks : Bool) (driver : Driver) (limit : ℕ) (config : Config) (lanes : List (List Step))
+    (end : End) (machine : Machine) : Type 0 where
   pub programs : List (List Step)
-  pub led : LeadsTo step_acts driver limit config empty (programs_below lanes (trace_cores lanes)) machine programs end
+  pub led : LeadsFromZeros asks driver limit config (programs_below lanes (trace_cores lanes)) machine programs end
   pub legal : Legal (flat empty) (λ core. slice_index_or machine.issued core []) machine.records
   pub legal_in_trace : Legal (flat empty) (trace_ops lanes) machine.records
   pub rising : RisesByNumber machine.records
@@ -61,14 +71,9 @@ pub record IsWatched {W : Type 0} (watches : Watches W) (before : watches.Seen) 
     (config : Config) (lanes : List (List Step)) (end : End) (machine : Machine) (after : watches.Seen) : Type 0 where
   pub events : List Event
   pub programs : List (List Step)
-  pub ended : EndedBy step_acts policy limit (at_start config empty) (programs_below lanes (trace_cores lanes)) events
-      machine programs end
+  pub ended : EndsBy watches.asks step_acts policy limit (at_start config empty)
+      (programs_below lanes (trace_cores lanes)) events machine programs end
   pub seen : after ≡ watched watches before (at_start config empty) events
-
--- a run that asks for memory beside what its machine asks for may have ended for want of that
-abbrev pub may_be_cut : (asks : Bool) → End → Bool
-may_be_cut asks NoMemory = asks
-may_be_cut asks end = false
 
 -- how many operations the cores below a number were issued
 abbrev pub issued_below : Machine → ℕ → ℕ
@@ -107,18 +112,22 @@ abbrev pub counter_text : Layout → Option Counter → List ℕ
 counter_text layout None = []
 counter_text layout (Some counter) = event_counts_text layout counter.every counter.rows counter.counts
 
--- the report, with what a counter has behind it; the records are a legal history of the trace's operations
+-- the report without that, and without what closes it; the records are a legal history of the trace's operations
 -- (`legal_in_trace`), and so a check's verdict on them is Legal
-abbrev pub report_text : Layout → List (List Step) → End → Machine → Option Counter → List ℕ
-report_text layout lanes end m counter =
+abbrev pub bare_report : Layout → List (List Step) → End → Machine → List ℕ
+bare_report layout lanes end m =
     trace_text layout (trace_cores lanes) (trace_end_of lanes end m) LegalVerdict m.records
     (values_in m (words_below lanes (trace_cores lanes)))
-    ++ counter_text layout counter ++ closing layout
+
+-- the report, with what a counter has behind it
+abbrev pub whole_report : Layout → List (List Step) → End → Machine → Option Counter → List ℕ
+whole_report layout lanes end m counter =
+    bare_report layout lanes end m ++ counter_text layout counter ++ closing layout
 
 -- the text of the records alone, in lines, or the report
 abbrev pub run_text : (records : Bool) → Layout → List (List Step) → End → Machine → Option Counter → List ℕ
 run_text true layout lanes end m counter = records_text m.records
-run_text false layout lanes end m counter = report_text layout lanes end m counter
+run_text false layout lanes end m counter = whole_report layout lanes end m counter
 
 abbrev pub is_all_done : End → Bool
 is_all_done AllDone = true

@@ -1,5 +1,5 @@
 //! One run of a trace, by a policy or by threads, and its text.
-ghost use Rattle.std.specs.Prelude.{◌≡◌, ◌<◌, ◌≤◌, ◌++◌, true, IfOk, OnOk};
+ghost use Rattle.std.specs.Prelude.{◌≡◌, ◌<◌, ◌≤◌, ◌++◌, Bool, true, IfOk, OnOk};
 ghost use Rattle.std.specs.FinMap.{empty};
 ghost use Rattle.machine_table.specs.Machine.{Machine};
 ghost use Rattle.machine_table.specs.SetUp.{is_good};
@@ -11,8 +11,8 @@ ghost use Rattle.thread_driver.specs.ThreadRuns.{machine_of};
 ghost use Rattle.worker_driver.specs.declared.set_up.Driver.TheVariants.{ByPolicy, ByThreads};
 ghost use Rattle.report.specs.Reports.{TellsRecords};
 ghost use Rattle.trace_reader.specs.Steps.{trace_cores, trace_ops};
-ghost use Rattle.report.specs.Runs.{IsTraceRun, IsWatched, counter_text, may_be_cut, report_text};
-ghost use Rattle.report.specs.Runs.{run_text, seen_by, trace_end_of};
+ghost use Rattle.report.specs.Runs.{IsTraceRun, IsWatched, bare_report, counter_text, run_text, seen_by};
+ghost use Rattle.report.specs.Runs.{trace_end_of, whole_report};
 
 use crate::trace_programs::programs_of;
 use crate::words::{issued_below, values_of};
@@ -39,15 +39,7 @@ pub(crate) struct Ran<M: Drop> {
     pub(crate) end: End,
 }
 
-// Whether a run may have ended for want of memory for its watcher, where that asks for memory.
-fn may_be_cut(asks: bool, end: End) -> bool
-    ensures { result ≡ may_be_cut asks end }
-{
-    asks && matches!(end, End::NoMemory)
-}
-
-/// A run of the trace over a memory of zeros, by this policy, with at most so many turns, and its watcher. If that asks
-/// for memory, a run that ends for want of memory is an error.
+/// A run of the trace over a memory of zeros, by this policy, with at most so many turns, and its watcher.
 pub(crate) fn run_by_policy<W: Watcher + Drop>(
     alloc: Global,
     trace: &Trace,
@@ -55,13 +47,11 @@ pub(crate) fn run_by_policy<W: Watcher + Drop>(
     policy: Policy,
     limit: u32,
     watcher: W,
-    asks: bool,
 ) -> Result<(Ran<System>, W), AllocError>
     requires good { is_good config ≡ true }
     requires cores { config.cores ≡ trace_cores trace.now }
-    requires watcher { W.watches.asks ≡ asks }
-    ensures run { IfOk result (λ r. IsTraceRun (ByPolicy policy) limit config trace.now r.0.end
-        r.0.machine) }
+    ensures run { IfOk result (λ r. IsTraceRun W.watches.asks (ByPolicy policy) limit config trace.now
+        r.0.end r.0.machine) }
     ensures watched { IfOk result (λ r. IsWatched W.watches (W.watches.seen watcher) policy limit
         config trace.now r.0.end r.0.machine (W.watches.seen r.1)) }
 {
@@ -74,9 +64,6 @@ pub(crate) fn run_by_policy<W: Watcher + Drop>(
     let mut programs = programs_of(alloc, trace)?;
     let steps = programs.as_mut_slice();
     let (end, watcher) = run_watched(alloc, &mut system, steps, watcher, policy, limit);
-    if may_be_cut(asks, end) {
-        return Err(AllocError);
-    }
     // Its contract says that they rise by number.
     let _rising = system.records();
     let ran = Ran {
@@ -101,7 +88,8 @@ pub(crate) fn run_by_threads<R: Threads + Sync>(
     requires cores { config.cores ≡ trace_cores trace.now }
     requires workers { (0 < workers) × (workers ≤ 16) }
     ensures { IfOk result (λ ran. (parts : Parts ran.machine) ×
-        IsTraceRun (ByThreads fair) limit config trace.now ran.end (machine_of ran.machine parts)) }
+        ((asks : Bool) → IsTraceRun asks (ByThreads fair) limit config trace.now ran.end
+        (machine_of ran.machine parts))) }
 {
     closed_machines_are_consistent();
     // Its contract says how few cores there are.
@@ -158,8 +146,25 @@ fn put_counter(
     }
 }
 
+// The report on a run, without what its counter has.
+fn bare_report<M: Finished + Drop>(
+    alloc: Global,
+    layout: Layout,
+    trace: &Trace,
+    ran: &Ran<M>,
+) -> Result<Vec<u8>, AllocError>
+    requires shows { (m : Machine) × M.shows ran.now.machine m
+        × Legal (flat empty) (trace_ops trace.now) m.records }
+    ensures { IfOk result (λ text. (m : Machine) → M.shows ran.now.machine m →
+        text.items ≡ bare_report layout trace.now ran.now.end m) }
+{
+    let end = end_of(alloc, trace, ran)?;
+    let values = values_of(alloc, trace, &ran.machine)?;
+    legal_trace_text(alloc, layout, trace, &end, ran.machine.records(), &values)
+}
+
 // The report on a run, with what its counter has behind it.
-fn report_text<M: Finished + Drop>(
+fn whole_report<M: Finished + Drop>(
     alloc: Global,
     layout: Layout,
     trace: &Trace,
@@ -169,11 +174,9 @@ fn report_text<M: Finished + Drop>(
     requires shows { (m : Machine) × M.shows ran.now.machine m
         × Legal (flat empty) (trace_ops trace.now) m.records }
     ensures { IfOk result (λ text. (m : Machine) → M.shows ran.now.machine m →
-        text.items ≡ report_text layout trace.now ran.now.end m (seen_by counter)) }
+        text.items ≡ whole_report layout trace.now ran.now.end m (seen_by counter)) }
 {
-    let end = end_of(alloc, trace, ran)?;
-    let values = values_of(alloc, trace, &ran.machine)?;
-    let mut text = legal_trace_text(alloc, layout, trace, &end, ran.machine.records(), &values)?;
+    let mut text = bare_report(alloc, layout, trace, ran)?;
     put_counter(&mut text, layout, counter)?;
     put_closing(&mut text, layout)?;
     Ok(text)
@@ -198,5 +201,5 @@ pub(crate) fn text_of<M: Finished + Drop>(
     if records {
         return records_text(alloc, ran.machine.records());
     }
-    report_text(alloc, layout, trace, ran, counter)
+    whole_report(alloc, layout, trace, ran, counter)
 }

@@ -133,10 +133,10 @@ pub(crate) fn told_by_policy(
     let limit = limit_of(&options.run);
     if is_counted(options) {
         let counter = Counter::new(alloc, config.cores, config.banks, options.every)?;
-        let (ran, counter) = run_by_policy(alloc, trace, config, policy, limit, counter, true)?;
+        let (ran, counter) = run_by_policy(alloc, trace, config, policy, limit, counter)?;
         return report_on(alloc, trace, &ran, options, Some(&counter));
     }
-    let (ran, _) = run_by_policy(alloc, trace, config, policy, limit, (), false)?;
+    let (ran, _) = run_by_policy(alloc, trace, config, policy, limit, ())?;
     report_on(alloc, trace, &ran, options, None)
 }
 

@@ -1,4 +1,4 @@
-use Rattle.std.proofs.Common.{◌≡◌, ℕ, Bool, true, false, List, ap, sym, subst, length, ◌∙◌, arith, inl, inr, true≢false}
+use Rattle.std.proofs.Common.{◌≡◌, ℕ, Bool, List, ap, sym, subst, length, ◌∙◌, arith}
 use Rattle.std.specs.FinMap.{empty}
 use Rattle.physiological_order.specs.StaleHits.{RisesByNumber}
 use Rattle.machine_table.specs.declared.config.Config.{Config}
@@ -10,53 +10,26 @@ use Rattle.machine_theorem.specs.Consistency.{IsConsistent}
 use Rattle.programs.specs.declared.ends.End.{End}
 use Rattle.programs.specs.declared.steps.Step.{Step}
 use Rattle.schedules.specs.declared.policy.Policy.{Policy}
-use Rattle.schedules.specs.declared.policy.Policy.TheVariants.{Rounds, FairRounds, Seed}
-use Rattle.schedules.specs.Policies.{EndedBy, EndsBy}
-use Rattle.schedules.specs.Runs.{Ended, Plan, Position}
+use Rattle.schedules.specs.Policies.{EndsBy}
 use Rattle.schedules.specs.Watches.{watched}
 use Rattle.machine_theorem.specs.Service.{AreServed}
 use Rattle.trace_reader.specs.Steps.{trace_cores}
 use Rattle.worker_driver.specs.declared.set_up.Driver.TheVariants.{ByPolicy}
-use Rattle.report.specs.Runs.{may_be_cut, programs_below, step_acts}
+use Rattle.report.specs.Runs.{programs_below, step_acts}
 use Rattle.report.proofs.CoreCounts.{programs_count}
 use Rattle.report.proofs.InTrace.{is_run}
 use Rattle.report.proofs.one_run.run_by_policy.Goals as goal
 
--- a run that was cut for want of memory ends so
-uncut : {P S : Type 0} (asks : Bool) (plan : Plan P S) (start : Position P S) (events : List Event) (m : Machine)
-    (programs : List P) (end : End) → may_be_cut asks end ≡ false → Ended asks plan start events m programs end →
-    Ended false plan start events m programs end
-uncut false plan start events m programs end whole ended = ended
-uncut true plan start events m programs end whole ended = record {
-  last = ended.last;
-  machine_is = ended.machine_is;
-  programs_are = ended.programs_are;
-  ends = elim (ended.ends) [
-    | inl has_run ↦ inl has_run
-    | inr cut ↦ absurd (true≢false (sym (ap (may_be_cut true) cut.end_is) ∙ whole))
-  ];
-}
-
-uncut_by : (policy : Policy) (limit : ℕ) (asks : Bool) (start : Machine) (before : List (List Step))
-    (events : List Event) (m : Machine) (last : List (List Step)) (end : End) → may_be_cut asks end ≡ false →
+-- a run from a machine and programs that are those of the trace
+of_trace : (policy : Policy) (limit : ℕ) (config : Config) (lanes : List (List Step)) (asks : Bool) (start : Machine)
+    (before : List (List Step)) (events : List Event) (m : Machine) (last : List (List Step)) (end : End) →
+    start ≡ at_start config empty → before ≡ programs_below lanes (trace_cores lanes) →
     EndsBy asks step_acts policy limit start before events m last end →
-    EndedBy step_acts policy limit start before events m last end
-uncut_by Rounds limit asks start before events m last end = uncut asks _ _ events m last end
-uncut_by FairRounds limit asks start before events m last end = uncut asks _ _ events m last end
-uncut_by (Seed seed) limit asks start before events m last end = uncut asks _ _ events m last end
-
--- a run that wasn't cut for its watcher, from a machine and programs that are those of the trace
-of_trace : (policy : Policy) (limit : ℕ) (config : Config) (lanes : List (List Step)) (watches asks : Bool)
-    (start : Machine) (before : List (List Step)) (events : List Event) (m : Machine) (last : List (List Step))
-    (end : End) → watches ≡ asks → may_be_cut asks end ≡ false → start ≡ at_start config empty →
-    before ≡ programs_below lanes (trace_cores lanes) →
-    EndsBy watches step_acts policy limit start before events m last end →
-    EndedBy step_acts policy limit (at_start config empty) (programs_below lanes (trace_cores lanes)) events m last end
-of_trace policy limit config lanes watches asks start before events m last end said whole opened given ended =
-    subst (λ (ts : List (List Step)). EndedBy step_acts policy limit (at_start config empty) ts events m last end)
-    given (subst (λ (k : Machine). EndedBy step_acts policy limit k before events m last end) opened
-    (uncut_by policy limit asks start before events m last end whole
-    (subst (λ (b : Bool). EndsBy b step_acts policy limit start before events m last end) said ended)))
+    EndsBy asks step_acts policy limit (at_start config empty) (programs_below lanes (trace_cores lanes)) events m last
+    end
+of_trace policy limit config lanes asks start before events m last end opened given ended =
+    subst (λ (ts : List (List Step)). EndsBy asks step_acts policy limit (at_start config empty) ts events m last end)
+    given (subst (λ (k : Machine). EndsBy asks step_acts policy limit k before events m last end) opened ended)
 
 pub run_watched-end-requires : goal.run_watched-end-requires
 run_watched-end-requires g c = record {
@@ -85,11 +58,11 @@ returns-clause-run g c =
     is_run c.args.trace.now config m last c.requires.cores served consistent opened
     (subst RisesByNumber c.records-rising.ensures.records c.records-rising.ensures.rising)
     (let few = c.cores-few.ensures.few in let same = c.cores-few.ensures.cores in let cores = c.requires.cores in
-    omega (arith, few, same, cores)) (ByPolicy c.args.policy) c.args.limit c.run_watched-end.result.0 (
+    omega (arith, few, same, cores)) g.W.Watcher.watches.asks (ByPolicy c.args.policy) c.args.limit
+    c.run_watched-end.result.0 (
       ended.0,
-      of_trace c.args.policy c.args.limit config c.args.trace.now _ c.args.asks _ _ ended.0 m last
-          c.run_watched-end.result.0 c.requires.watcher (sym c.may_be_cut.ensures ∙ c.if-may_be_cut.false) first given
-          ended.1,
+      of_trace c.args.policy c.args.limit config c.args.trace.now _ _ _ ended.0 m last c.run_watched-end.result.0
+          first given ended.1,
     )
 
 pub returns-clause-watched : goal.returns-clause-watched
@@ -98,10 +71,9 @@ returns-clause-watched g c =
     let first = c.in-Ok.ensures.opened ∙ ap (at_start c.args.config) c.new.ensures in record {
       events = ended.0;
       programs = c.run_watched-end.new.programs;
-      ended = of_trace c.args.policy c.args.limit c.args.config c.args.trace.now _ c.args.asks _ _ ended.0
-          c.run_watched-end.new.system c.run_watched-end.new.programs c.run_watched-end.result.0 c.requires.watcher
-          (sym c.may_be_cut.ensures ∙ c.if-may_be_cut.false) first
-          (c.as_mut_slice-steps.ensures.value ∙ c.in_ok-programs.ensures) ended.1;
+      ended = of_trace c.args.policy c.args.limit c.args.config c.args.trace.now _ _ _ ended.0
+          c.run_watched-end.new.system c.run_watched-end.new.programs c.run_watched-end.result.0
+          first (c.as_mut_slice-steps.ensures.value ∙ c.in_ok-programs.ensures) ended.1;
       seen = ended.3 ∙ ap (λ (k : Machine). watched g.W.Watcher.watches (g.W.Watcher.watches.seen c.args.watcher) k
           ended.0) first;
     }

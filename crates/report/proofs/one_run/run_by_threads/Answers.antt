@@ -37,9 +37,9 @@ returns g c =
     (subst (λ (ts : List (List Step)). AreServed step_acts (at_start m.config m.opening) m ts ran.programs.items)
     c.in_ok-programs.ensures is.served)) in (
       is.parts,
-      is_run lanes config m ran.programs.items c.requires.cores served
+      λ asks. is_run lanes config m ran.programs.items c.requires.cores served
           (c.closed_machines_are_consistent.ensures ran.run is.parts) opened
           (subst RisesByNumber c.records-rising.ensures.records (c.records-rising.ensures.rising is.parts))
           (let few = c.cores-few.ensures.few in let same = c.cores-few.ensures.cores in let cores = c.requires.cores in
-          omega (arith, few, same, cores)) (ByThreads c.args.fair) c.args.limit ran.end (config_is, opened, run),
+          omega (arith, few, same, cores)) asks (ByThreads c.args.fair) c.args.limit ran.end (config_is, opened, run),
     )

@@ -1,11 +1,20 @@
-use Rattle.std.proofs.Common.{Bool, None, Some, refl, sym, ap, subst, ◌∙◌}
+use Rattle.std.proofs.Common.{true, false, None, Some, refl, sym, subst, ◌∙◌}
 use Rattle.std.proofs.lemmas.Result.{IfOk-weaker}
 use Rattle.event_counts.specs.Counting.{Counter, counter_events}
 use Rattle.worker_driver.specs.declared.set_up.Driver.TheVariants.{ByPolicy}
-use Rattle.report.specs.Reports.{IsCounted}
 use Rattle.report.specs.Runs.{IsWatched}
 use Rattle.report.proofs.Told.{told_run}
 use Rattle.report.proofs.reports.told_by_policy.Goals as goal
+
+pub report_on-requires : goal.report_on-requires
+report_on-requires c =
+    let is = c.in_ok-ran.ensures.run in
+    record { shows = (c.in_ok-ran.ran.machine, refl, is.complete, is.legal_in_trace) }
+
+pub report_on-2-requires : goal.report_on-2-requires
+report_on-2-requires c =
+    let is = c.in_ok-ran-2.ensures.run in
+    record { shows = (c.in_ok-ran-2.ran.machine, refl, is.complete, is.legal_in_trace) }
 
 pub returns-then-is_counted : goal.returns-then-is_counted
 returns-then-is_counted c =
@@ -16,22 +25,17 @@ returns-then-is_counted c =
     let last : Counter = c.in_ok-ran.counter.seen in
     let watched = subst (λ (k : Counter). IsWatched counter_events k c.args.policy limit c.args.config lanes ran.end
     ran.machine last) c.in_ok-counter.ensures c.in_ok-ran.ensures.watched in
-    let counted = subst (λ (b : Bool). IsCounted b options.every (ByPolicy c.args.policy) limit c.args.config lanes
-    ran.end ran.machine (Some last)) (sym c.if-is_counted.true ∙ c.is_counted.ensures) (last, refl, watched) in
     IfOk-weaker c.report_on.result _ _ (λ report told.
-    told_run options lanes c.args.config (ByPolicy c.args.policy) limit ran.end ran.machine (Some last)
-    c.requires.good c.requires.config c.requires.policy c.limit_of-limit.ensures.limit c.in_ok-ran.ensures.run counted
-    report (told ran.machine refl)) c.report_on.ensures
+    told_run options lanes c.args.config (ByPolicy c.args.policy) limit ran.end ran.machine true (Some last)
+    c.requires.good c.requires.config c.requires.policy c.limit_of-limit.ensures.limit
+    (sym c.is_counted.ensures ∙ c.if-is_counted.true) c.in_ok-ran.ensures.run (last, refl, watched) report
+    (told ran.machine refl)) c.report_on.ensures
 
 pub returns : goal.returns
 returns c =
-    let options = c.args.options.now in
-    let lanes = c.args.trace.now in
     let ran = c.in_ok-ran-2.ran in
-    let limit = c.limit_of-limit.result in
-    let counted = subst (λ (b : Bool). IsCounted b options.every (ByPolicy c.args.policy) limit c.args.config lanes
-    ran.end ran.machine None) (sym c.if-is_counted.false ∙ c.is_counted.ensures) refl in
     IfOk-weaker c.report_on-2.result _ _ (λ report told.
-    told_run options lanes c.args.config (ByPolicy c.args.policy) limit ran.end ran.machine None c.requires.good
-    c.requires.config c.requires.policy c.limit_of-limit.ensures.limit c.in_ok-ran-2.ensures.run counted report
-    (told ran.machine refl)) c.report_on-2.ensures
+    told_run c.args.options.now c.args.trace.now c.args.config (ByPolicy c.args.policy) c.limit_of-limit.result ran.end
+    ran.machine false None c.requires.good c.requires.config c.requires.policy c.limit_of-limit.ensures.limit
+    (sym c.is_counted.ensures ∙ c.if-is_counted.false) c.in_ok-ran-2.ensures.run refl report (told ran.machine refl))
+    c.report_on-2.ensures

@@ -19,7 +19,8 @@ uncounted true fair every limit config lanes end m = refl
 pub report_on-requires : goal.report_on-requires
 report_on-requires g c =
     let is = c.in_ok-ran.ensures in
-    record { shows = (machine_of c.in_ok-ran.ran.machine is.0, (is.0, refl), is.1.complete, is.1.legal_in_trace) }
+    let run = is.1 false in
+    record { shows = (machine_of c.in_ok-ran.ran.machine is.0, (is.0, refl), run.complete, run.legal_in_trace) }
 
 pub returns : goal.returns
 returns g c =
@@ -30,7 +31,7 @@ returns g c =
     let m = machine_of ran.machine parts in
     let limit = c.limit_of-limit.result in
     IfOk-weaker c.report_on.result _ _ (λ report told.
-    told_run options lanes c.args.config (ByThreads c.args.fair) limit ran.end m None c.requires.good
-    c.requires.config c.requires.threads c.limit_of-limit.ensures.limit c.in_ok-ran.ensures.1
-    (uncounted (is_counted options) c.args.fair options.every limit c.args.config lanes ran.end m) report
+    told_run options lanes c.args.config (ByThreads c.args.fair) limit ran.end m (is_counted options) None
+    c.requires.good c.requires.config c.requires.threads c.limit_of-limit.ensures.limit refl
+    (c.in_ok-ran.ensures.1 (is_counted options)) (uncounted (is_counted options) c.args.fair options.every limit c.args.config lanes ran.end m) report
     (told m (parts, refl))) c.report_on.ensures

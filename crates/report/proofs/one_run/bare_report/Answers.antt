@@ -3,7 +3,7 @@ use Rattle.std.specs.FinMap.{empty}
 use Rattle.physiological_order.specs.declared.operation.Record.{Record}
 use Rattle.physiological_order.specs.Order.{flat, Legal}
 use Rattle.trace_reader.specs.Steps.{trace_ops}
-use Rattle.report.proofs.one_run.report_text.Goals as goal
+use Rattle.report.proofs.one_run.bare_report.Goals as goal
 
 pub legal_trace_text-requires : goal.legal_trace_text-requires
 legal_trace_text-requires g c =

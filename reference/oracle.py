@@ -150,6 +150,12 @@ def refuse_json(options):
         raise Refused(3, f"error: '--json' cannot be used with '--records'{MORE}")
 
 
+def refuse(options):
+    """What can't be had together is refused before any file is read."""
+    for one in (refuse_fair, refuse_counts, refuse_every, refuse_json):
+        one(options)
+
+
 def refuse_threads(options):
     """Runs by several threads differ from one time to the next, and those by threads have no list of events."""
     if options.workers > 1:
@@ -180,8 +186,7 @@ def check_report(options):
 
 def run(options):
     """What is printed, and the status."""
-    for refuse in (refuse_fair, refuse_counts, refuse_every, refuse_json):
-        refuse(options)
+    refuse(options)
     if options.command == "check":
         text, is_good = check_report(options)
         return text, int(not is_good)

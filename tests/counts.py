@@ -1,12 +1,15 @@
 #!/usr/bin/env python3
-"""Tries tools/counts.py: tests/counts.py PLAYER, the built crate play_events.
+"""Tries tools/counts.py: tests/counts.py PLAYER [PROGRAM], the built crates play_events and tardis. Without PROGRAM the
+second program is tried in its place.
 
 Eighteen runs were counted by hand from docs/COUNTS.md, PROTOCOL.md and SCHEDULES.md. Then the player and the second
-program's, which counts by the same pages, count random traces on random machines, and litmus tests by seeds. The last
-line is `N tried, M wrong`.
+program's, which counts by the same pages, count random traces on random machines, and litmus tests by seeds. By
+--program the same runs have the same numbers, and rows, what is left out and columns are as by hand. The last line is
+`N tried, M wrong`.
 """
 import os
 import random
+import re
 import sys
 import tempfile
 from pathlib import Path
@@ -95,6 +98,41 @@ BY_HAND = {
 }
 
 
+# By hand, by --program: rows that a player hasn't.
+BY_PROGRAM = {
+    "an upgrade": "held 2; cold 1 1; shared 1 1; held-requests 2 2",
+    "a renewal": "held 2; cold 1 1; ended 1 1; held-requests 2 2",
+    "a recall": "held 9; cold 2 1 1; held-recalls 1 1 0; held-requests 8 8",
+    "a recall that is dropped": "held 5; dropped 1; cold 3 2 1; returns 1 1 0; held-requests 5 5",
+    "an entry that makes place": "held 10; cold 2 2; held-requests 10 10",
+    "a network of one message": "",
+    "a run that is cut": "held 2; held-requests 2 2",
+}
+# A load of a line takes 14 events, a hit two and an upgrade six; the load's request is held twice.
+THREE = "0 R 0x0\n0 R 0x0\n0 W 0x0 1\n"
+PARTS = {"cores": "loads stores swaps hits misses cold evicted recalled ended shared evicted-copies returns reloads "
+                  "held-recalls last-time", "banks": "dram-loads dram-stores recalls evicted-entries held-requests"}
+# By hand: the words, and the lines, where blanks are one, and rows of zeros are left out.
+POINTS = [
+    ("--every 2 --skip 1", [
+        "end all-done", "row 2", "events 2", "held 0", "dropped 0", "cores all core 0", "loads 1 1", "hits 1 1",
+        "banks all bank 0", "messages all core 0 bank 0", "events 8", "held 0", "dropped 0", "cores all core 0",
+        "loads 1 1", "stores 1 1", "hits 1 1", "misses 1 1", "shared 1 1", "last-time 11 11", "banks all bank 0",
+        "messages all core 0 bank 0", "ExReq-sent 1 1 1", "UpgradeRep-sent 1 1 1"]),
+    ("--skip 2 --cores 0", [
+        "end all-done", "events 6", "held 0", "dropped 0", "cores all core 0", "stores 1 1", "misses 1 1", "shared 1 1",
+        "last-time 11 11", "banks all bank 0", "messages all core 0 bank 0", "ExReq-sent 1 1 1",
+        "UpgradeRep-sent 1 1 1"]),
+    ("--every 1 --columns hits,misses,events,held,last-time", [
+        "completed hits misses events held last-time", "1 0 1 14 2 0", "2 1 1 16 2 0", "3 1 2 22 2 11"]),
+    ("--every 1 --skip 1 --columns hits,misses,events", ["completed hits misses events", "2 1 0 2", "3 1 1 8"]),
+    ("--every 2 --columns cold", ["completed cold", "2 1", "3 1"]),
+    ("--every 7 --columns cold", ["completed cold", "3 1"]),
+    ("--columns cold", ["completed cold", "3 1"]),
+    ("--limit 6 --every 1 --columns hits,events", ["completed hits events", "1 0 14"]),
+]
+
+
 def wanted_of(ended, told_rows):
     """The expected rows, by their names, but for those that are 0."""
     found = dict(zip(("end", "turns", "events"), ([word] for word in ended.split(" "))))
@@ -109,9 +147,9 @@ def wanted_of(ended, told_rows):
 class Counter(Tester):
     """Counts by the script."""
 
-    def __init__(self, player, folder):
+    def __init__(self, player, counting, folder):
         super().__init__(str(TOP / "tools/counts.py"))
-        self.player, self.folder = player, folder
+        self.player, self.counting, self.folder = player, counting, folder
 
     def count(self, file, options, player=None):
         return self.run("--player", player or self.player, *options, str(file))
@@ -142,6 +180,46 @@ def by_hand(tester):
             wanted = wanted_of(ended, told_rows)
             good = (status, error) == (int(wanted["end"] != ["all-done"]), "") and got == wanted
             tester.expect(good, f"{name}, {player}: {status} {error} {got}, wanted {wanted}")
+
+
+def by_program(tester):
+    """The runs by hand, counted by the program: what the player counts, too, and what it doesn't."""
+    untold = [row for row in counts.OF_MESSAGES if row.endswith("-delivered")] + ["turns", "stale-hits"]
+    for name, (what, options, ended, told_rows) in BY_HAND.items():
+        if "\n" not in what or len(what) >= LONG:
+            continue
+        status, out, error = tester.run("--program", tester.counting, *options.split(), str(tester.file(what)))
+        got = {line.split()[0]: line.split()[1:] for line in out.splitlines() if line}
+        heads = {title: got.pop(title, [""])[0] for title in ("cores", "banks", "messages")}
+        tester.expect(set(heads.values()) == {"all"}, f"{name}: {heads}")
+        got = {row: numbers for row, numbers in got.items() if set(numbers) != {"0"}}
+        wanted = wanted_of(ended, told_rows)
+        tester.expect((status, error) == (int(wanted["end"] != ["all-done"]), ""), f"{name}: {status} {error}")
+        both = {row: numbers for row, numbers in wanted.items() if row not in untold}
+        if name in BY_PROGRAM:
+            both |= {row: numbers for row, *numbers in (row.split(" ") for row in BY_PROGRAM[name].split("; ") if row)}
+        else:
+            got = {row: got.get(row) for row in both}
+        tester.expect(got == both, f"{name}, by the program: {got}, wanted {both}")
+
+
+def points(tester):
+    """Rows, what is left out, and columns."""
+    path = tester.file(THREE)
+    for told_words, wanted in POINTS:
+        status, out, error = tester.run("--program", tester.counting, *told_words.split(), str(path))
+        lines = [" ".join(line.split()) for line in out.splitlines()]
+        got = lines if "--columns" in told_words else \
+            [line for line in lines if line and not re.fullmatch("[a-z-]+( 0){2,}", line)]
+        tester.expect((status, got, error) == (int("--limit" in told_words), wanted, ""),
+                      f"{told_words}: {status} {got} {error}")
+    _, out, _ = tester.run("--program", tester.counting, str(path))
+    for title, rows_of in PARTS.items():
+        named = [line.split()[0] for line in out.split(f"\n{title}", 1)[1].split("\n\n")[0].splitlines()[1:]]
+        tester.expect(named == rows_of.split(" "), f"the rows of {title}: {named}")
+    _, out, error = tester.run("--player", tester.player, "--columns", "turns,hits", str(path))
+    tester.expect(([line.split() for line in out.splitlines()], error) ==
+                  ([["completed", "turns", "hits"], ["3", "10", "1"]], ""), f"columns by a player: {out} {error}")
 
 
 def random_trace(generator):
@@ -217,6 +295,21 @@ def refusals(tester):
     tester.refused("the player failed, with status 1", "--player", "false", str(trace))
     tester.refused("invalid choice: 'threads'", *played, "--schedule", "threads", str(trace))
     tester.refused("one run is counted", *played, "--runs", "5", str(trace))
+    counting = ["--program", tester.counting]
+    tester.refused("--every and --skip need --program", *played, "--every", "1", str(trace))
+    tester.refused("--every and --skip need --program", "--skip", "1", str(trace))
+    tester.refused("--program and --player: one of them counts", *played, *counting, str(trace))
+    tester.refused("SB.litmus is a litmus test: a player counts it", *counting, "examples/litmus/SB.litmus")
+    tester.refused("line 2: 4 BadCore", *counting, str(bad))
+    tester.refused("none.trace: No such file or directory", *counting, "none.trace")
+    tester.refused("bad configuration: --line-words 3: 1 or 8", *counting, "--line-words", "3", str(trace))
+    tester.refused("has the cores 0 to 0", *counting, "--cores", "1", str(trace))
+    tester.refused("no-program: No such file or directory", "--program", "no-program", str(trace))
+    tester.refused("false ended with status 1, without counts", "--program", "false", str(trace))
+    tester.refused("1 operations completed: --skip 1 leaves none", *counting, "--skip", "1", str(trace))
+    tester.refused("0 isn't a number from 1 to 18446744073709551615", *counting, "--every", "0", str(trace))
+    tester.refused("--columns turns: there are events, held, dropped, loads,", *counting, "--columns", "hits,turns",
+                   str(trace))
     _, out, _ = tester.run(*played, "--cores", "1", str(tester.file("0 R 0x0\n1 R 0x8\n")))
     heads = [line.split()[1:] for line in out.splitlines() if line.split()[:1] in (["cores"], ["banks"], ["messages"])]
     wanted = [["all", "core", "1"], ["all", "bank", "0"], ["all", "core", "1", "bank", "0"]]
@@ -227,16 +320,16 @@ def refusals(tester):
     tester.expect(named == ["core", "0", "core", "2", "core", "3"], f"--cores 0,2-3: {out}")
 
 
-def main(player):
-    player = os.path.abspath(player)
+def main(player, program=str(TOP / "reference/oracle.py")):
+    player, program = map(os.path.abspath, (player, program))
     os.chdir(TOP)
     with tempfile.TemporaryDirectory() as folder:
-        tester = Counter(player, folder)
-        for part in (by_hand, at_random, quick_reading, refusals):
+        tester = Counter(player, program, folder)
+        for part in (by_hand, by_program, points, at_random, quick_reading, refusals):
             part(tester)
     print(f"{tester.tried} tried, {tester.wrong} wrong")
     return int(tester.wrong > 0)
 
 
 if __name__ == "__main__":
-    sys.exit(main(sys.argv[1]) if len(sys.argv) == 2 else __doc__)
+    sys.exit(main(*sys.argv[1:]) if len(sys.argv) in (2, 3) else __doc__)

@@ -93,6 +93,7 @@ RUNS = [
         "  core 2 waits for line 0x0 of bank 0 since turn 1 (R 0x0): its request is m2",
         "Set 0 of bank 0 has places for 1 lines:", "  0x0 left it 33 times in the last 100 turns", "Remedy: --fair;"]),
     (LIVELOCK.format("--fair "), 0, ["nothing is wrong, all is done"]),
+    (LIVELOCK.format("--fair --json --counts --every 1 "), 0, ["nothing is wrong, all is done"]),
     ("litmus --seed 4 examples/litmus/SB+yes.litmus", 0, ["nothing is wrong", "--seed means nothing by rounds"]),
     (LIVELOCK.format("--fair --limit 11 "), 1, [
         "end limit: 2 operations of 3 issued are completed after turn 11", "Cause: too few turns.",
@@ -123,6 +124,11 @@ NO_RUNS = [("check none b", "none: No such file or directory"), ("trace none", "
            ("litmus tests", "tests: Is a directory"),
            ("trace --schedule threads examples/traces/PAST.trace", "runs by threads can't be made again"),
            ("trace --fair --schedule seed none", "'--fair' needs '--schedule round' or '--schedule threads'"),
+           ("trace --counts --schedule threads none", "'--counts' needs '--schedule round' or '--schedule seed', and "
+            "no '--records'"),
+           ("trace --every 2 none", "'--every' needs '--counts'"),
+           ("trace --records --json none", "'--json' cannot be used with '--records'"),
+           ("trace --counts --every 0 none", "'--every <every>': 0 is not in 1..18446744073709551615"),
            ("trace --limit 0 examples/traces/PAST.trace", "'--limit <limit>': 0 is not in 1..=4294967295")]
 # Options out of range, each with its range; and texts of another kind.
 REFUSED = [("trace --lease 0 examples/traces/PAST.trace", ["bad configuration: --lease 0: 1 to 4294967296"]),
@@ -132,6 +138,8 @@ REFUSED = [("trace --lease 0 examples/traces/PAST.trace", ["bad configuration: -
            ("litmus examples/traces/PAST.trace", ["4 BadHeader", "It is a trace, and no litmus test"]),
            ("ends --states 3 examples/traces/PAST.trace", ["4 BadHeader", "It is a trace, and no litmus test"]),
            ("trace examples/litmus/SB.litmus", ["4 BadCore", "It is a litmus test: `tardis litmus FILE`"]),
+           ("ends --json examples/traces/PAST.trace", ["4 BadHeader", "It is a trace, and no litmus test"]),
+           ("check --json examples/traces/PAST.trace examples/traces/SWAP-LOCK.records", ["out of program order"]),
            ("check examples/traces/PAST.trace examples/traces/SWAP-LOCK.records", ["out of program order"])]
 # Texts that are refused: the end of the file's name, the text, and what must be told.
 PLAIN = "RISCV T\n"

@@ -328,7 +328,89 @@ def by_the_second(tester):
         tester.expect(row | {"program": "reference/oracle.py"} == other, f"{row}, by the second program {other}")
 
 
+def by_lines(tester):
+    """By --program the program counts. By hand: the load takes 14 events, the second one two, or with lease 2 nine."""
+    words = ["--counts", "--program", os.environ["TARDIS"], "--csv", "lines.csv"]
+    rows = tester.sweep(*words, "--lease", "2,3", "--line-words", "1,2", "renewed.trace", status=1, made=4, rows=4,
+                        failed=2, table="lines.csv")
+    looked = ("lease", "end", "loads", "renewals", "stale-hits", "events", "held", "hits", "misses", "cold", "ended",
+              "held-requests", "last-time", "dram-loads", "RenewRep-sent", "failed")
+    got = [" ".join(row[name] for name in looked).strip() for row in rows[::2]]
+    tester.expect(got == ["2 all-done 2 1 0 23 2 0 2 1 1 2 3 1 1", "3 all-done 2 0 0 19 2 1 1 1 0 2 3 1 0"], f"{got}")
+    tester.expect([row["failed"] for row in rows[1::2]] == [FAILED] * 2 and "turns" not in rows[0], f"{rows[1]}")
+    again = tester.sweep(*words, "--lease", "3", "renewed.trace", rows=1, table="lines.csv")
+    tester.expect(again[2] == rows[2] and len(again) == 4, "a table by lines goes on")
+    plain = tester.sweep("--csv", "named.csv", "--program", os.environ["TARDIS"], "alone.trace", made=1, rows=1,
+                         table="named.csv")
+    tester.expect("hits" not in plain[0] and plain[0]["program"] == sweep.made_by(), f"--program alone: {plain}")
+
+
+def points(tester):
+    """Rows of a run, and what a run does without its first operations. The loads are at 0x0: one miss, three hits."""
+    words = ["--counts", "--program", os.environ["TARDIS"], "--short", "short.csv", "--columns",
+             "at,completed,loads,hits,cold,events,end"]
+    tester.sweep(*words, "--csv", "every.csv", "--every", "3", "--plot", "at:hits", "loads.trace", made=1, rows=2,
+                 table="every.csv")
+    wanted = "at,completed,loads,hits,cold,events,end\n3,3,3,2,1,18,\nend,4,4,3,1,20,all-done\n"
+    tester.expect(Path("short.csv").read_text() == wanted, f"--every: {Path('short.csv').read_text()}")
+    points_of = [line.get("points") for line in xml.parse("every.svg").getroot().iter(f"{SVG}polyline")]
+    tester.expect(points_of == ["640.0,30.0"], f"the row is drawn, and the end has no number: {points_of}")
+    tester.sweep(*words, "--csv", "skip.csv", "--every", "1", "--skip", "2", "loads.trace", made=1, rows=3,
+                 table="skip.csv")
+    wanted = "at,completed,loads,hits,cold,events,end\n3,3,1,1,0,2,\n4,4,2,2,0,4,\nend,4,2,2,0,4,all-done\n"
+    tester.expect(Path("short.csv").read_text() == wanted, f"--skip: {Path('short.csv').read_text()}")
+    table = Path("skip.csv")
+    whole = table.read_text()
+    table.write_text("".join(whole.splitlines(True)[:3]))  # stopped behind the second row of the run
+    tester.sweep(*words, "--csv", "skip.csv", "--every", "1", "--skip", "2", "loads.trace", made=1, rows=3,
+                 table="skip.csv")
+    tester.expect(table.read_text() == whole, f"a run that was half written: {table.read_text()}")
+    # A hit takes a round. By round 8 three loads are done; the store alone is one operation.
+    rows = tester.sweep("--csv", "cut-3.csv", *words[:3], "--skip", "2", "--limit", "8,9", "loads.trace", "alone.trace",
+                        status=1, made=4, rows=4, failed=2, cut=1, table="cut-3.csv")
+    said = [(row["failed"], row["end"], row["loads"], row["hits"]) for row in rows]
+    none = ("1 operations completed: --skip 2 leaves none", "", "", "")
+    tester.expect(said == [("", "limit", "1", "1"), ("", "all-done", "2", "2"), none, none], f"--skip: {said}")
+
+
+def points_in_parts(tester):
+    """Parts of a sweep with rows of runs."""
+    words = ["--counts", "--program", os.environ["TARDIS"], "--every", "2", "--csv", "pp.csv", "--lease", "1..3"]
+    whole = tester.sweep(*words[:-4], "--csv", "pw.csv", "--lease", "1..3", "loads.trace", made=3, rows=9,
+                         table="pw.csv")
+    for part, count in ((0, 2), (1, 1)):
+        tester.sweep(*words, "--part", str(part), "--parts", "2", "loads.trace", made=count, rows=3 * count,
+                     table=f"pp.{part:06}.csv")
+    joined = tester.sweep(*words, "--parts", "2", "loads.trace", rows=9, table="pp.csv")
+    tester.expect(sorted(joined, key=lambda row: row["lease"]) == whole, f"joined: {joined}")
+    cut = Path("pp.000001.csv").read_text().splitlines(True)[:-1]
+    Path("pp.000001.csv").write_text("".join(cut))
+    Path("pp.csv").unlink()
+    tester.refused("pp.000001.csv lacks 1 rows: make them by --part 1", *words, "--parts", "2", "loads.trace")
+
+
+def told_apart(tester):
+    """A program whose counts aren't those of its report, or that prints none, makes the row fail."""
+    program = Path("other")
+    for number, (change, said) in enumerate((("s/ loads 4/ loads 5/", "the program's counts differ from its report"),
+                                             ("s/^renewals 0/renewals 1/", "the program's counts differ from its "
+                                              "report"), ("/^events/,$d", "./other ended with status 0, without "
+                                                          "counts"))):
+        program.write_text(f"#!/bin/sh\n'{os.environ['TARDIS']}' \"$@\" | sed '{change}'\n")
+        program.chmod(0o755)
+        rows = tester.sweep("--counts", "--program", "./other", "--csv", f"other{number}.csv", "loads.trace", status=1,
+                            made=1, rows=1, failed=1, table=f"other{number}.csv")
+        tester.expect(rows[0]["failed"] == said, f"{change}: {rows}")
+
+
 def refusals(tester):
+    for words in (["--every", "1"], ["--skip", "1"], ["--every", "1", "--counts"], ["--skip", "1", "--program", "x"]):
+        tester.refused("--every and --skip need --counts and --program", *words, "alone.trace")
+    tester.refused("--program and --player: one of them counts", "--program", "x", "--player", "y", "alone.trace")
+    tester.refused("--columns needs --short", "--columns", "lease", "alone.trace")
+    tester.refused("--columns no: there is no such column", "--columns", "lease,no", "--short", "s.csv", "alone.trace")
+    tester.refused("there is no column cold (--counts --program PATH has it)", "--plot", "lease:cold", "alone.trace")
+    tester.refused("0 isn't a number from 1 to", "--skip", "0", "alone.trace")
     tester.refused("there is no column misses (--counts has it)", "--plot", "lease:misses", "alone.trace")
     tester.refused("there is no column without a name", "--plot", "lease", "alone.trace")
     for wrong in ("", "1..", "5..4", "x", "-1", f"{2 ** 64}", "0..1000000"):
@@ -372,7 +454,8 @@ def main(program, player):
         for name, text in (("renewed", RENEWED), ("alone", ALONE), ("loads", LOADS), ("bad", "x\n")):
             Path(f"{name}.trace").write_text(text)
         for part in (by_hand, advances, names, goes_on, plot, logarithmic, shown, parts, interrupted, cut_short, fair,
-                     passed_on, compared, traces_apart, by_the_second, refusals, large, appended):
+                     passed_on, compared, traces_apart, by_the_second, by_lines, points, points_in_parts, told_apart,
+                     refusals, large, appended):
             part(tester)
         os.chdir(TOP)
     print(f"{tester.tried} tried, {tester.wrong} wrong")

@@ -254,6 +254,7 @@ def files(given):
     about.error = lambda message: fail(f"{message} (--help tells all)")
     about.add_argument("--complete", action="store_true")
     about.add_argument("--opening")
+    about.add_argument("--json", action="store_true")  # of a command line: what is explained is the same
     about.add_argument("FILES", nargs="*")
     options = about.parse_intermixed_args(given)
     if len(options.FILES) not in ((2,) if options.opening or options.complete else (1, 2)):

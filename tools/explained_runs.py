@@ -197,7 +197,7 @@ def explained_run(words):
     """The lines that explain the first run of a command line that isn't all done, and whether there is one."""
     try:
         options = oracle.words().parse_args(words)
-        oracle.refuse_fair(options)
+        oracle.refuse(options)
         if getattr(options, "schedule", None) == "threads":
             fail("runs by threads can't be made again: docs/SCHEDULES.md (Threads) says what to try at their limit")
         if options.command == "check":

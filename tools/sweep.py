@@ -17,10 +17,14 @@ shows column Y over column X: a line for each name, or for each combination of t
 that its numbers are of a part of the trace, is a cross next to the lines (docs/ENDING.md says why runs don't end).
 --log x, y or xy has logarithmic axes, without numbers below 1, and --panel COLUMN a plot for each of its values.
 --short SHORT writes the rows once more, without the columns that are equal in all of them, and without KIND-delivered
-where it equals KIND-sent. --where COLUMN=LIST leaves only rows with these values in SHORT and PICTURE.
+where it equals KIND-sent; with --columns NAME,.. it has these columns. --where COLUMN=LIST leaves only rows with these
+values in SHORT and PICTURE.
 
-The program is what TARDIS names, else the one that ./tardis built, else reference/oracle.py. With --counts a player
-counts (tools/counts.py). The script makes N runs at a time, by default as many as there are processors.
+The program is what --program or TARDIS names, else the one that ./tardis built, else reference/oracle.py. With --counts
+a player counts (tools/counts.py). With --counts --program PATH that program does, by its `trace --counts`, also misses
+by cause. Then --every N adds a row behind each N completed operations; its column `at` has how many had completed, or
+`end`. --skip N leaves out what the first N operations counted, in all columns but completed, stale-hits and last-time.
+The script makes N runs at a time, by default as many as there are processors.
 The status is 0 if each row has a run that is all done, 1 if not, and 2 if nothing was swept.
 """
 import csv
@@ -40,7 +44,7 @@ from pathlib import Path
 sys.path.insert(0, str(Path(__file__).resolve().parent.parent))
 from reference.given import NUMBERS, Bad, Words, bad_configuration, contents, tool  # noqa: E402
 from reference.machine import COUNTED  # noqa: E402
-from tools import counts, program  # noqa: E402
+from tools import count_tables, counts, program  # noqa: E402
 from tools.advance import new_trace  # noqa: E402
 from tools.plots import picture  # noqa: E402
 from tools.program import Refused, number  # noqa: E402
@@ -57,6 +61,11 @@ SAME = {"loads": "loads", "stores": "stores", "swaps": "swaps", "stale-hits": "s
         **{f"{kind}-sent": name for kind, name in COUNTED.items()}}
 COUNTS = ["turns", "events", *(name for name in [*counts.OF_CORES, *counts.OF_BANKS, *counts.OF_MESSAGES]
                                if name not in REPORT)]
+# The rows that the program's own counts have, and what must be the same in its report.
+OF_PROGRAM = [name for name in [*count_tables.OF_RUN, *count_tables.OF_CORES, *count_tables.OF_BANKS,
+                                *count_tables.OF_MESSAGES] if name not in REPORT]
+SAME_LINES = {row: name for row, name in SAME.items() if row != "stale-hits"}
+AT_END = "end"
 MOST_ROWS = 1_000_000
 
 
@@ -93,6 +102,12 @@ def parser():
     words.add_argument("--panel", metavar="COLUMN", help="a plot for each of its values")
     words.add_argument("--where", action="append", default=[], metavar="COLUMN=LIST", help="the rows that are shown")
     words.add_argument("--short", metavar="SHORT", help="a table without columns that are equal in every row")
+    words.add_argument("--columns", metavar="NAME,..", help="the columns of SHORT")
+    words.add_argument("--program", metavar="PATH", help="the program, which with --counts also counts")
+    words.add_argument("--every", type=number(1, 2 ** 64 - 1), metavar="N",
+                       help="with --counts --program, also a row behind each N operations")
+    words.add_argument("--skip", type=number(1, 2 ** 64 - 1), metavar="N",
+                       help="with --counts --program, leaves out the first N operations")
     words.add_argument("--part", type=program.number(0, MOST_ROWS), metavar="K", help="the part that is made, from 0")
     words.add_argument("--parts", type=program.number(1, MOST_ROWS), metavar="N", help="how many parts there are")
     words.add_argument("--jobs", type=number(1, 4096), default=os.cpu_count(), metavar="N",
@@ -181,22 +196,45 @@ class Sweep:
 
     def __init__(self, options):
         self.traces, self.counts = traces_of(options), options.counts
-        self.columns = ["trace", *["name"] * bool(options.named), *OPTIONS, *REPORT, *(COUNTS if self.counts else []),
-                        "program", "failed"]
-        self.player, self.counted_by = player_of(options) if self.counts else (None, None)
+        self.by_program = options.counts and options.program
+        self.points = {name: getattr(options, name) for name in ("every", "skip") if getattr(options, name)}
+        self.columns = ["trace", *["name"] * bool(options.named), *OPTIONS, *self.points,
+                        *["at"] * bool(options.every), *REPORT,
+                        *((OF_PROGRAM if self.by_program else COUNTS) if self.counts else []), "program", "failed"]
+        self.player, self.counted_by = player_of(options) if self.counts and not self.by_program else (None, None)
         self.given = {}  # by trace and advances what the player is given
 
-    def row(self, trace, chosen):
-        row = dict.fromkeys(self.columns, "") | {"trace": trace, "program": made_by()} | chosen
+    def rows(self, trace, chosen):
+        """The rows of a run: one for each point of it that is asked for, and last that of its end."""
+        row = dict.fromkeys(self.columns, "") | {"trace": trace, "program": made_by()} | chosen | self.given_points()
         try:
             with file_of(trace, chosen) as file:
+                if self.by_program:
+                    return self.lines(file, chosen, row)
                 row |= self.report(file, chosen)
                 row |= self.counted((trace, chosen["advance"]), file, row) if self.counts else {}
         except (Bad, Refused) as cause:
             said = str(cause).replace("\n", " ")
             row["failed"] = bad_configuration(self.numbers(row)) if said == "bad configuration" else said or \
                 "the program prints nothing"
-        return row
+        return [row]
+
+    def given_points(self):
+        """The columns that say which point of a run a row is of: at first, its end."""
+        return {name: str(number) for name, number in self.points.items()} | \
+            ({"at": AT_END} if "every" in self.points else {})
+
+    def lines(self, file, chosen, row):
+        """The rows by the program's own counts."""
+        found, points, last = count_tables.points_of(
+            lambda every: count_tables.printed(program.program(), options_of(chosen), file, every),
+            self.points.get("every"), self.points.get("skip"))
+        whole = found.end.totals()
+        if any(str(whole[name]) != found.report[column] for name, column in SAME_LINES.items()):
+            raise Bad("the program's counts differ from its report")
+        front = row | {"cores": found.report["cores"]}
+        return [front | counted_columns(point) | {"at": str(at), "completed": str(at)} for at, point in points.items()
+                ] + [row | {name: found.report[name] for name in REPORT} | counted_columns(last)]
 
     def numbers(self, row):
         """The options of a row that are numbers."""
@@ -220,11 +258,19 @@ class Sweep:
         return {name: str(totals[name]) for name in COUNTS}
 
 
+def counted_columns(point):
+    """The columns of a row that a point of a run counts."""
+    totals = point.totals()
+    same = {column: name for name, column in SAME_LINES.items()}
+    return {name: str(totals[same.get(name, name)]) for name in (*same, *OF_PROGRAM)}
+
+
 class Table:
-    """The rows of a file, by trace and options. New rows are appended as they are made."""
+    """The rows of a file, by trace and options: those of one run, each by the point of the run that it is of. New rows
+    are appended as they are made."""
 
     def __init__(self, path, columns):
-        self.path, self.columns, self.rows = Path(path), columns, {}
+        self.path, self.columns, self.runs = Path(path), columns, {}
         text = self.text() if self.path.exists() else ""
         whole = text[:text.rfind("\n") + 1]  # what was being written when a sweep was stopped is left out
         head, *rows = csv.reader((whole or text).splitlines()) if text else [columns]
@@ -242,10 +288,19 @@ class Table:
             raise Bad(f"{self.path}: {getattr(error, 'strerror', 'no text')}") from None
 
     def take(self, row):
-        self.rows[self.key(row)] = row
+        self.runs.setdefault(self.key(row), {})[row.get("at", AT_END)] = row
 
     def key(self, row):
-        return tuple(row.get(name) for name in ("trace", "name", *OPTIONS))
+        return tuple(row.get(name) for name in ("trace", "name", *OPTIONS, "every", "skip"))
+
+    def has(self, key):
+        """Whether all rows of a run are there: that of its end is the last."""
+        return AT_END in self.runs.get(key, {})
+
+    def rows(self, key):
+        """The rows of a run, in its order."""
+        found = self.runs[key]
+        return [found[at] for at in sorted(found, key=lambda at: (at == AT_END, int(at) if at != AT_END else 0))]
 
     def write(self, text, how):
         try:
@@ -255,8 +310,10 @@ class Table:
             raise Bad(f"{self.path}: {error.strerror}") from None
 
     def add(self, row):
-        self.take(row)
-        self.write(line_of(row.values()), "a")
+        """Takes a row that isn't there yet."""
+        if row.get("at", AT_END) not in self.runs.get(self.key(row), {}):
+            self.take(row)
+            self.write(line_of(row.values()), "a")
 
 
 def line_of(values):
@@ -275,33 +332,42 @@ def join(options, table, keys):
     """Takes the rows of the parts' tables that the table doesn't have."""
     for part in range(options.parts):
         path = table_of(options, part)
-        rows = Table(path, table.columns).rows if Path(path).exists() else {}
-        found = [(key, rows.get(key, table.rows.get(key))) for key in keys[part::options.parts]]
-        missing = sum(row is None for _, row in found)
+        made = Table(path, table.columns) if Path(path).exists() else None
+        found = [(key, made if made and made.has(key) else table) for key in keys[part::options.parts]]
+        missing = sum(not of.has(key) for key, of in found)
         if missing:
             raise Bad(f"{path} lacks {missing} rows: make them by --part {part}")
-        for key, row in found:
-            if key not in table.rows:
-                table.add(row)
+        for key, of in found:
+            if not table.has(key):
+                add_all(table, of.rows(key))
+
+
+def add_all(table, rows):
+    for row in rows:
+        table.add(row)
 
 
 def sweep(options, made):
     """The rows that the words ask for, as they are in the table once they are all made."""
     asked, table = combinations(options), Table(table_of(options, options.part), made.columns)
     keys = [(trace, chosen) for trace in made.traces for chosen in asked]
+
+    def key_of(trace, chosen):
+        return table.key({"trace": trace} | chosen | made.given_points())
+
     if options.part is not None:
         keys = keys[options.part::options.parts]
     elif options.parts:
-        join(options, table, [table.key({"trace": trace} | chosen) for trace, chosen in keys])
-    left = [(trace, chosen) for trace, chosen in keys if table.key({"trace": trace} | chosen) not in table.rows]
+        join(options, table, [key_of(*key) for key in keys])
+    left = [key for key in keys if not table.has(key_of(*key))]
     with ThreadPoolExecutor(options.jobs) as pool:
         try:
-            for number, row in enumerate(pool.map(lambda key: made.row(*key), left), 1):
-                table.add(row)
+            for number, rows in enumerate(pool.map(lambda key: made.rows(*key), left), 1):
+                add_all(table, rows)
                 tell(number, f"{number} of {len(left)} rows", number == len(left))
         finally:
             pool.shutdown(cancel_futures=True)
-    return [table.rows[table.key({"trace": trace} | chosen)] for trace, chosen in keys]
+    return [row for key in keys for row in table.rows(key_of(*key))]
 
 
 def tell(number, what, is_last):
@@ -324,18 +390,21 @@ def wanted(row, options):
     return True
 
 
-def short_table(rows, columns):
-    """The rows without the columns that are equal in each, and those of messages delivered that equal those sent."""
+def short_table(rows, columns, asked=None):
+    """The rows with the columns that are asked for. By default those are left out that are equal in each, and those of
+    messages delivered that equal those sent."""
     def says_more(name):
         sent = name.replace("-delivered", "-sent")
         return len({row[name] for row in rows}) > 1 and (sent == name or any(row[name] != row[sent] for row in rows))
 
-    left = list(filter(says_more, columns))
+    left = asked.split(",") if asked else list(filter(says_more, columns))
     return "".join(map(line_of, [left, *([row[name] for name in left] for row in rows)]))
 
 
 def panels(rows, options, x, y):
-    """By the panels' labels the lines of each."""
+    """By the panels' labels the lines of each. A run has one point, its end, where no column says which it is."""
+    if "at" not in (x, y, options.panel):
+        rows = list(filter(is_end, rows))
     if not options.panel:
         return {"": series(rows, x, y)}
     found = {}
@@ -344,9 +413,14 @@ def panels(rows, options, x, y):
     return {label: series(of, x, y) for label, of in found.items()}
 
 
+def is_end(row):
+    """Whether a row is of the end of its run."""
+    return row.get("at", AT_END) == AT_END
+
+
 def is_cut(row):
-    """Whether the row's run ended before all was done."""
-    return not row["failed"] and row["end"] != "all-done"
+    """Whether the row's run ended before all was done, and the row is of its end."""
+    return is_end(row) and not row["failed"] and row["end"] != "all-done"
 
 
 def series(rows, x, y):
@@ -370,7 +444,8 @@ def axes(options, columns):
     x, _, y = options.plot.partition(":")
     for name in (x, y):
         if name not in columns:
-            more = " (--counts has it)" if name in COUNTS else ""
+            more = " (--counts has it)" if name in COUNTS else " (--counts --program PATH has it)" \
+                if name in OF_PROGRAM else ""
             raise Bad(f"there is no column {name or 'without a name'}{more}: --plot takes two, as lease:renewals")
     return x, y
 
@@ -390,11 +465,26 @@ def refuse(options, columns):
         raise Bad("--part K is one of --parts N, from 0")
     if options.panel and options.panel not in columns:
         raise Bad(f"--panel {options.panel}: there is no such column")
+    if (options.every or options.skip) and not (options.counts and options.program):
+        raise Bad("--every and --skip need --counts and --program")
+    if options.program and options.player:
+        raise Bad("--program and --player: one of them counts")
+    refuse_columns(options, columns)
     wanted(dict.fromkeys(columns, ""), options)
+
+
+def refuse_columns(options, columns):
+    if options.columns and not options.short:
+        raise Bad("--columns needs --short")
+    for name in options.columns.split(",") if options.columns else ():
+        if name not in columns:
+            raise Bad(f"--columns {name}: there is no such column")
 
 
 def main(given):
     options = parser().parse_args(given)
+    if options.program:
+        os.environ["TARDIS"] = options.program
     made = Sweep(options)
     refuse(options, made.columns)
     x, y = axes(options, made.columns) if options.plot else (None, None)
@@ -406,7 +496,7 @@ def main(given):
         save(options.svg or str(Path(path).with_suffix(".svg")),
              "\n".join(picture(panels(shown, options, x, y), x, y, options.log)) + "\n")
     if options.short:
-        save(options.short, short_table(shown, made.columns))
+        save(options.short, short_table(shown, made.columns, options.columns))
     failed, cut = sum(bool(row["failed"]) for row in rows), sum(map(is_cut, rows))
     print(f"{path}: {len(rows)} rows, {failed} failed, {cut} cut short")
     say_second("sweep.py", made.counted_by, options)

@@ -126,9 +126,14 @@ NO_RUNS = [("check none b", "none: No such file or directory"), ("trace none", "
            ("trace --fair --schedule seed none", "'--fair' needs '--schedule round' or '--schedule threads'"),
            ("trace --counts --schedule threads none", "'--counts' needs '--schedule round' or '--schedule seed', and "
             "no '--records'"),
+           ("trace --counts --records none",
+            "'--counts' needs '--schedule round' or '--schedule seed', and no '--records'"),
            ("trace --every 2 none", "'--every' needs '--counts'"),
            ("trace --records --json none", "'--json' cannot be used with '--records'"),
            ("trace --counts --every 0 none", "'--every <every>': 0 is not in 1..18446744073709551615"),
+           ("trace --runs 3 none", "--runs is an option of litmus, and not of trace"),
+           ("ends --lease=3 none", "--lease is an option of litmus and trace, and not of ends"),
+           ("litmus --leese 3 none", "no command has the option --leese"),
            ("trace --limit 0 examples/traces/PAST.trace", "'--limit <limit>': 0 is not in 1..=4294967295")]
 # Options out of range, each with its range; and texts of another kind.
 REFUSED = [("trace --lease 0 examples/traces/PAST.trace", ["bad configuration: --lease 0: 1 to 4294967296"]),

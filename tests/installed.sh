@@ -44,8 +44,21 @@ said=$(cd "$top/python" && python3 -c 'import tardis; print("tardis", tardis.__v
 "$top/tests/python_package.py" --library && "$top/tests/histories.py" "$embed/history.py" || exit 1
 ! has jupyter-nbconvert "the notebook" || "$top/tests/notebook.py" || exit 1
 
+# The shared library's name has the version; it exports the calls of the header and nothing else, and can't be run.
+minor=${version#tardis }
+minor=${minor%.*}
+shared=$prefix/lib/libtardis.so.$minor
+objdump -p "$shared" | grep -q "SONAME  *libtardis\.so\.$minor\$" || fail "the name within $shared"
+[ "$(readlink "$prefix/lib/libtardis.so") $(stat -c %a "$shared")" = "libtardis.so.$minor 644" ] || fail "$shared"
+nm -D --defined-only "$shared" | awk '{ print $3 }' | sort -u >"$work/exports"
+grep -o '\btardis_c_[a-z_]*(' "$prefix/include/tardis.h" | tr -d '(' | sort -u | diff "$work/exports" - ||
+    fail "what $shared exports"
+
 for page in tardis tardis-play-events; do
     zgrep -qs '^\.SH SYNOPSIS\|^\.SH tardis' "$prefix/share/man/man1/$page.1"* || fail "no page for man of $page"
+done
+for words in '\.SH tardis litmus' '\.SH tardis ends' '\.SH tardis trace' '\.SH tardis check' ' .*\\-\\-line\\-words'; do
+    zgrep -q "^$words" "$prefix"/share/man/man1/tardis.1* || fail "the page for man of tardis lacks $words"
 done
 # What each shell offers: the commands that begin with "li", and an option of one command that another doesn't have.
 offers() {
@@ -79,7 +92,9 @@ if has cmake "its file"; then
     printf '%s\n' 'cmake_minimum_required(VERSION 3.13)' 'project(tried C CXX)' 'find_package(tardis 0.1 REQUIRED)' \
         "add_executable(by_cmake $embed/check.c)" 'target_link_libraries(by_cmake tardis::tardis)' \
         "find_package(tardis ${version#tardis } EXACT REQUIRED)" 'set(CMAKE_CXX_STANDARD 17)' \
-        "add_executable(in_cpp $embed/tardis.cpp)" 'target_link_libraries(in_cpp tardis::tardis)' >"$work/CMakeLists.txt"
+        "add_executable(in_cpp $embed/tardis.cpp)" 'target_link_libraries(in_cpp tardis::tardis)' \
+        'find_package(tardis 9.9 QUIET)' 'if(tardis_FOUND)' 'message(FATAL_ERROR "version 9.9 is found")' 'endif()' \
+        >"$work/CMakeLists.txt"
     { cmake -S "$work" -B "$work/cmake" -DCMAKE_PREFIX_PATH="$prefix" && cmake --build "$work/cmake"; } \
         >"$work/said" 2>&1 || fail "$(cat "$work/said")"
     legal cmake "$work/cmake/by_cmake"

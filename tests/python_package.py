@@ -397,6 +397,8 @@ def histories(is_proved):
     must(grown, "out of program order 0", 0)
     if grown.issue(70, "R", 0x8) != 0 or grown.issue(70, "S", 0x10, 2) != 1 or grown.issue(71, "W", 0x8, 4) != 0:
         fail("places in program order")
+    if [grown.issue(5, "R", 0x8) for _ in range(300)] != list(range(300)):
+        fail("300 places in program order")
     must(grown, "wrong value 0", 0, 5, None)
     grown.add(tardis.Record(71, 0, "W", 0x8, 4, None, 0, 1))  # which comes before the load
     must(grown, "legal")

@@ -41,6 +41,27 @@ REGION = ("#include <pthread.h>\n#include <tardis_record.h>\nstatic volatile lon
 # pow stands in the library of -lm.
 POWER = ("#include <math.h>\n#include <stdio.h>\nvolatile double two = 2, ten = 10;\n"
          "int main(void) { printf(\"%g\\n\", pow(two, ten)); }\n")
+# Each kind of atomic operation on one word; stores of 16 and of 24 bytes; and a store whose memory is used anew, by
+# functions that aren't recorded, before the thread's next access.
+ATOMIC = ("#include <stdatomic.h>\n#include <stdio.h>\nstatic _Atomic long word;\nstatic volatile long behind;\n"
+          "int main(void) { long wanted = 9, other = 1; atomic_store(&word, 5); atomic_fetch_add(&word, 2);\n"
+          "atomic_exchange(&word, 9); int done = atomic_compare_exchange_strong(&word, &wanted, 11);\n"
+          "done += atomic_compare_exchange_strong(&word, &other, 12); behind = atomic_load(&word);\n"
+          "printf(\"%d %ld\\n\", done, other); }\n")
+WIDE = ("struct three { long a, b, c; };\nstruct one { int a, b; };\nstatic volatile __int128 wide;\n"
+        "static struct three from = {7, 8, 9}, to;\nstatic struct one small_from = {10, 0}, small_to;\n"
+        "static volatile struct three *volatile source = &from, *volatile target = &to;\n"
+        "static volatile struct one *volatile small_source = &small_from, *volatile small_target = &small_to;\n"
+        "static volatile long last, other = 13, never;\n"
+        "int main(void) { wide = (__int128)6 << 64 | 5; *target = *source; *small_target = *small_source;\n"
+        "last = 11; if (other == 13) last = 12; never = other; }\n")
+STACK = ("#include <stdio.h>\nstatic volatile long behind;\n"
+         "__attribute__((noipa)) void keep(volatile long *at) { *at = 3; }\n"
+         "__attribute__((noinline)) static void leaf(long at) { volatile long own[64]; keep(own); own[at] = 41; }\n"
+         "int main(void) { leaf(63); for (int at = 0; at < 9; at++) printf(\"%f\\n\", 1.5); behind = 4; }\n")
+MIXED |= {"atomic.c": ATOMIC, "wide.c": WIDE, "stack.c": STACK, "seven.c": "int main(void) { return 7; }\n",
+          "named.cxx": "#include <cstdio>\nint main() { std::puts(\"in C++\"); }\n",
+          "crowd.c": SEVENTEEN.replace("17", "THREADS") + "}\n"}
 MIXED |= {"region.c": REGION, "power.c": POWER, "many.c": SEVENTEEN + "words[0] = 7; }\n",
           "full.c": SEVENTEEN + "for (long at = 0; at < 16777216; at++) words[0] = at; }\n"}
 
@@ -98,6 +119,41 @@ def tries(tester, program, folder):
     tester.expect(found == [[4, 5], [7]], f"a region of interest: {error} {found}")
     error, _ = recorded(tester, folder, f"{folder}/power.c", "-lm")
     tester.expect(error == "1024\n", f"-lm: {error}")
+    kinds(tester, folder)
+    statuses(tester, folder)
+
+
+def kinds(tester, folder):
+    """What is recorded of each kind of access, and where its page stands."""
+    error, trace = recorded(tester, folder, f"{folder}/atomic.c")
+    words = {word for word, _ in stored(trace, 5)} if trace else set()
+    found = [(kind, value) for kind, word, value in trace.steps[0] if word in words] if trace else []
+    tester.expect((error, found) == ("1 11\n", [("store", 5), ("swap", 7), ("swap", 9), ("swap", 11), ("load", None),
+                                                ("load", None)]), f"atomic operations: {error} {found}")
+    _, trace = recorded(tester, folder, f"{folder}/wide.c")
+    steps = trace.steps[0] if trace else []
+    found = [(step[0], step[1] - steps[0][1]) + step[2:] for step in steps[:2]]
+    tester.expect(found == [("store", 0, 5), ("store", 1, 6)], f"a store of 16 bytes: {found}")
+    found = [step[2] for step in steps[2:] if step[0] == "store"]
+    tester.expect(found == [7, 8, 9, 10, 11, 12, 13], f"copies of 24 and 8 bytes, and stores behind them: {found}")
+    tester.expect(steps[:1] and steps[0][1] < 512, f"the first page is {steps[:1]}'s")
+    _, trace = recorded(tester, folder, f"{folder}/stack.c")
+    found = [value for kind, _, value in trace.steps[0] if kind == "store"] if trace else []
+    tester.expect(found == [3, 41, 4], f"stores on the stack: {found}")
+
+
+def statuses(tester, folder):
+    """Statuses by hand: the program's own; a trace that can't be written; and more threads than a trace has cores."""
+    status, out, error = tester.run(f"{folder}/new.trace", f"{folder}/seven.c")
+    tester.expect((status, out, error) == (7, "", ""), f"a program that ends with 7: {status} {error}")
+    error, _ = recorded(tester, folder, f"{folder}/named.cxx")
+    tester.expect(error == "in C++\n", f"named.cxx: {error}")
+    status, _, error = tester.run(f"{folder}/none/new.trace", f"{folder}/seven.c")
+    tester.expect((status, error) == (1, "recorder: No such file or directory\n"), f"no folder: {status} {error}")
+    _, trace = recorded(tester, folder, f"{folder}/crowd.c", "-DTHREADS=64")
+    tester.expect(trace is not None and trace.cores == 64, "64 threads")
+    status, _, error = tester.run(f"{folder}/new.trace", f"{folder}/crowd.c", "-DTHREADS=65")
+    tester.expect((status, error) == (1, "recorder: more threads than a trace has cores\n"), f"65: {status} {error}")
 
 
 def main(program):

@@ -193,9 +193,21 @@ def told(run, end, options):
         yield from too_few_turns(run, options.limit)
 
 
+def refuse_others(words):
+    """An option that the command hasn't is named, with the commands that have it."""
+    (commands,) = (action.choices for action in oracle.words()._actions if isinstance(action.choices, dict))
+    options = {name: set(command._option_string_actions) for name, command in commands.items()}
+    for option in (word.partition("=")[0] for word in words[1:] if word.startswith("--")):
+        if words[0] in options and option not in options[words[0]]:
+            having = " and ".join(name for name in options if option in options[name])
+            fail(f"{option} is an option of {having}, and not of {words[0]}" if having
+                 else f"no command has the option {option}")
+
+
 def explained_run(words):
     """The lines that explain the first run of a command line that isn't all done, and whether there is one."""
     try:
+        refuse_others(words)
         options = oracle.words().parse_args(words)
         oracle.refuse(options)
         if getattr(options, "schedule", None) == "threads":

@@ -6,7 +6,9 @@
 //
 // Threads take turns at each access, so that the lines stand in one order that keeps each thread's own. An atomic
 // operation is made within its turn. Another access is made behind it: so the value of a store is looked up when its
-// thread comes back, at its next access or at the end of the function.
+// thread comes back, at its next access or at the end of the function. GCC announces a copy of a structure as a store
+// and then a load, before it makes either, and so they stand in the trace. Behind a load of as many bytes the store is
+// looked up once more, and that value counts if the two places hold the same by then.
 #include <errno.h>
 #include <sched.h>
 #include <search.h>
@@ -50,8 +52,11 @@ static unsigned turn;
 
 // This thread's core, and how often all had been dropped when it got that number.
 static _Thread_local int this_core = -1, numbered = 0;
-// The stores of this thread whose values are not known: a range of operations.
+// The stores of this thread whose values are not known: a range of operations, the bytes stored to, and how many. If a
+// load of as many bytes followed, the stores have values, and may be a copy of these bytes that is still to be made.
 static _Thread_local size_t open_from, open_to;
+static _Thread_local const volatile void *open_at, *loaded_from;
+static _Thread_local size_t open_size;
 
 static void stop(const char *why) {
     fprintf(stderr, "recorder: %s\n", why);
@@ -75,19 +80,27 @@ static uint64_t word_at(uintptr_t address) {
 }
 
 static void look_up_open_stores(void) {
-    for (size_t at = open_from; at < open_to && numbered == dropped; at++) {
+    bool is_new = loaded_from == NULL || memcmp((const void *)open_at, (const void *)loaded_from, open_size) == 0;
+    for (size_t at = open_from; at < open_to && numbered == dropped && is_new; at++) {
         operations[at].value = word_at(operations[at].address);
         operations[at].known = true;
     }
-    open_from = open_to = 0;
 }
 
-static void take_turn(void) {
+static void wait_for_turn(void) {
     unsigned ticket = __atomic_fetch_add(&next_ticket, 1, __ATOMIC_SEQ_CST);
     while (__atomic_load_n(&turn, __ATOMIC_SEQ_CST) != ticket) {
         sched_yield();
     }
-    look_up_open_stores();
+    if (open_from < open_to) {
+        look_up_open_stores();
+    }
+}
+
+static void take_turn(void) {
+    wait_for_turn();
+    open_from = open_to = 0;
+    loaded_from = NULL;
 }
 
 static void end_turn(void) {
@@ -137,7 +150,12 @@ void tardis_record_end(void) {
 }
 
 static void loaded(const volatile void *start, size_t size) {
-    take_turn();
+    if (open_from < open_to && loaded_from == NULL && size == open_size) {
+        wait_for_turn();
+        loaded_from = start;
+    } else {
+        take_turn();
+    }
     add('R', start, size, true);
     end_turn();
 }
@@ -147,6 +165,8 @@ static void stored(const volatile void *start, size_t size) {
     open_from = recorded;
     add('W', start, size, false);
     open_to = recorded;
+    open_at = start;
+    open_size = size;
     end_turn();
 }
 

@@ -18,6 +18,7 @@ the seed and their texts alone.
 """
 import argparse
 import contextlib
+import functools
 import json
 import os
 import random
@@ -68,6 +69,7 @@ class Tree:
         rtlib.Crate.cuts_libraries, rtlib.Crate.allowed = True, self.kit["handles_of"](str(TOP))
         rtlib.guarded()
         self.rattle, self.seen = rtlib.RATTLE, {}
+        self.tokens = functools.cache(lambda path: own_bodies.tokens(self.rattle, path.read_bytes()))
 
     def crate(self, name):
         return self.kit["Crate"](f"{TOP}/crates/{name}", str(TOP), self.seen)
@@ -91,7 +93,7 @@ class Proved:
         types = own_bodies.Types()
         for each in [*self.crate.below(), self.crate]:
             for path in sorted(Path(each.folder).glob("src/**/*.rt")):
-                own_bodies.read(own_bodies.tokens(tree.rattle, path.read_bytes()), (), types, [])
+                own_bodies.read(tree.tokens(path), (), types, [])
         self.mutants = []
         for file, text in self.texts.items():
             module = module_of(Path(file).relative_to("src"))

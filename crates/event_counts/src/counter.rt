@@ -12,7 +12,7 @@ use physiological_order::Record;
 use std::alloc::{AllocError, Global};
 use std::marker::Model;
 
-/// Counts what a run does, and keeps the counts as they were each time that so many more operations had completed.
+/// Counts what a run does, and keeps the counts as they were behind each Nth operation that completed.
 /// Contracts see what it has, and its room.
 #[derive(Drop)]
 pub struct Counter {

@@ -35,7 +35,7 @@ pub fn every_record_is_counted()
         (slice_get (watched counter_events (no_counter cores banks every) m events).counts.cores core) }
 {}
 
-/// With a row each so many operations, a row is what is counted after the first of a run's events: those by which that
+/// With a row each N operations, a row is what is counted after the first of a run's events: those by which that
 /// many operations were completed for the first row, twice as many for the second, and so on. There are as many rows as
 /// that number goes into the operations that the run completed.
 pub fn every_row_is_counted()

@@ -1,5 +1,5 @@
-//! The options of a run (its machine, its schedule, how often a test is run), of a list of ends (how many states it
-//! may keep), and of a check of records.
+//! The options of a run (its machine, its schedule, how often a test is run), of a list of ends, and of a check of
+//! records.
 #![tactic(auto)]
 
 pub mod laws;

@@ -108,10 +108,13 @@ banks_text layout banks =
 unfoldable pub counted_text : Layout → EventCounts → List ℕ
 counted_text layout n = totals_text layout n ++ cores_text layout n.cores ++ banks_text layout n.banks
 
+-- what a row begins with
+unfoldable pub row_opening : Layout → List ℕ
+row_opening layout = either layout (codes "row ") (codes "{\"completed\":")
+
 -- before the counts of a row: how many operations had completed
 unfoldable pub completed_text : Layout → ℕ → List ℕ
-completed_text layout completed =
-    either layout (codes "row ") (codes "{\"completed\":") ++ decimal completed ++ either layout newline (codes ",")
+completed_text layout completed = row_opening layout ++ decimal completed ++ either layout newline (codes ",")
 
 -- a row, by its number: how many operations had completed, and what was counted by then
 unfoldable pub row_text : Layout → (every row : ℕ) → EventCounts → List ℕ
@@ -124,10 +127,13 @@ rows_text layout None rows = []
 rows_text layout (Some every) rows =
     either layout [] (codes ",\"rows\":[") ++ parted layout (row_text layout every) 0 rows ++ list_closing layout
 
--- the counts at the end: in an object a member
+-- what the counts at the end begin with: in an object they are a member
+unfoldable pub end_opening : Layout → List ℕ
+end_opening layout = either layout [] (codes ",\"counts\":{")
+
+-- the counts at the end
 unfoldable pub end_counts_text : Layout → EventCounts → List ℕ
-end_counts_text layout n =
-    either layout [] (codes ",\"counts\":{") ++ counted_text layout n ++ either layout [] (codes "}")
+end_counts_text layout n = end_opening layout ++ counted_text layout n ++ either layout [] (codes "}")
 
 -- the rows, and the counts at the end: in an object members behind the others
 unfoldable pub event_counts_text : Layout → (every : Option ℕ) → List EventCounts → EventCounts → List ℕ

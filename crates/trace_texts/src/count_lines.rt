@@ -6,7 +6,8 @@ ghost use Rattle.trace_texts.specs.CountLines.{asked_text, bank_text, banks_text
 ghost use Rattle.trace_texts.specs.CountLines.{cores_text, counted_text, done_text, dram_text};
 ghost use Rattle.trace_texts.specs.CountLines.{event_counts_text, found_text, kind_text, named, next_named};
 ghost use Rattle.trace_texts.specs.CountLines.{part_text, recalled_text, row_text, rows_text, sent_text};
-ghost use Rattle.trace_texts.specs.CountLines.{completed_text, end_counts_text, totals_text};
+ghost use Rattle.trace_texts.specs.CountLines.{completed_text, end_counts_text, end_opening, row_opening};
+ghost use Rattle.trace_texts.specs.CountLines.{totals_text};
 
 use event_counts::{BankCounts, CoreCounts, EventCounts, KindCounts};
 use itoa::Buffer;
@@ -225,13 +226,21 @@ fn completed_at(every: u64, row: usize) -> u128
     u128::from(every) * (row as u128 + 1)
 }
 
+// What a row begins with.
+#[tactic(auto, unfolding(crate::specs::CountLines::row_opening))]
+fn put_row_opening(out: &mut Vec<u8>, layout: Layout) -> Result<(), AllocError>
+    ensures { OnOk result (out.new.items ≡ out.old.items ++ row_opening layout) }
+{
+    put_either(out, layout, b"row ", b"{\"completed\":")
+}
+
 // Before the counts of a row: how many operations had completed.
 #[tactic(auto, unfolding(crate::specs::CountLines::completed_text))]
 fn put_completed(out: &mut Vec<u8>, layout: Layout, completed: u128) -> Result<(), AllocError>
     ensures { OnOk result (out.new.items ≡ out.old.items ++ completed_text layout completed) }
 {
     let mut digits = Buffer::new();
-    put_either(out, layout, b"row ", b"{\"completed\":")?;
+    put_row_opening(out, layout)?;
     out.extend_from_slice(digits.format(completed).as_bytes())?;
     put_either(out, layout, b"\n", b",")
 }
@@ -289,12 +298,20 @@ fn put_rows(
     }
 }
 
+// What the counts at the end begin with.
+#[tactic(auto, unfolding(crate::specs::CountLines::end_opening))]
+fn put_end_opening(out: &mut Vec<u8>, layout: Layout) -> Result<(), AllocError>
+    ensures { OnOk result (out.new.items ≡ out.old.items ++ end_opening layout) }
+{
+    put_either(out, layout, b"", b",\"counts\":{")
+}
+
 // The counts at the end.
 #[tactic(auto, unfolding(crate::specs::CountLines::end_counts_text))]
 fn put_end_counts(out: &mut Vec<u8>, layout: Layout, counts: &EventCounts) -> Result<(), AllocError>
     ensures { OnOk result (out.new.items ≡ out.old.items ++ end_counts_text layout counts.now) }
 {
-    put_either(out, layout, b"", b",\"counts\":{")?;
+    put_end_opening(out, layout)?;
     put_counted(out, layout, counts)?;
     put_either(out, layout, b"", b"}")
 }

@@ -1,4 +1,4 @@
-use Rattle.std.proofs.Common.{ℕ, Option, option_map, rules, ap, sym, ◌∙◌}
+use Rattle.std.proofs.Common.{ℕ, List, Option, option_map, rules, ap, sym, ◌∙◌}
 use Rattle.std.specs.Borrow.{Bor}
 use Rattle.std.proofs.lemmas.Option.{slice_get-map}
 use Rattle.litmus_reader.specs.TestViews.{test_of}

@@ -8,7 +8,7 @@ any event: the room for the next row and the next lost copy is found ahead.
 """
 from itertools import product
 
-from reference import oracle
+from reference import objects, oracle
 from reference.machine import Machine
 from reference.reports import Batch, machine_of, seed_of, trace_text
 from reference.schedules import Run, by_rounds, by_seed
@@ -71,7 +71,7 @@ def cuts_of(options):
     def tell(run, end):
         batch = Batch(test)
         batch.add(run, end)
-        return batch.text()
+        return objects.litmus(batch) if options.json else batch.text()
 
     wholes, cuts = [], []
     for number in range(options.runs):

@@ -154,8 +154,12 @@ def runs():
         words = ["trace", *options_of(text), text]
         yield name, words, text.with_suffix(".report").read_text()
         yield f"{name} --records", [*words, "--records"], text.with_suffix(".records").read_text()
-    words = ["trace", "--counts", *options_of(TRACES / "BANK-EVICTIONS.trace"), TRACES / "BANK-EVICTIONS.trace"]
-    yield "BANK-EVICTIONS --counts", words, oracle.run(oracle.words().parse_args([*map(str, words)]))[0]
+    text = TRACES / "BANK-EVICTIONS.trace"
+    for flags in ("--counts", "--counts --every 2", "--json --counts --every 2", "--json"):
+        words = ["trace", *flags.split(" "), *options_of(text), text]
+        yield f"{text.name} {flags}", words, oracle.run(oracle.words().parse_args([*map(str, words)]))[0]
+    words = ["litmus", "--json", LITMUS / "SB.litmus"]
+    yield "SB --json", words, oracle.run(oracle.words().parse_args([*map(str, words)]))[0]
 
 
 def growths(tester):

@@ -16,7 +16,7 @@ sys.path.insert(0, str(Path(__file__).resolve().parent.parent))
 from reference.given import Words, tool  # noqa: E402
 from reference.machine import FROM_DRAM, TO_DRAM  # noqa: E402
 from reference.schedules import WITHOUT_PROGRESS, Run  # noqa: E402
-from tools import measured, sweep  # noqa: E402
+from tools import count_tables, measured, sweep  # noqa: E402
 from tools.program import number  # noqa: E402
 
 
@@ -122,7 +122,7 @@ def main(given):
     head, *rows = told(options)
     costs = ", ".join(f"{what} takes {getattr(options, name)}" for name, (what, _) in COSTS.items())
     print(f"The machine has no time. Assumed, in cycles: {costs}. Nothing waits for a link or a part.")
-    print("\n".join(measured.table([head, *rows])))
+    print("\n".join(count_tables.table([head, *rows])))
     return int(any(row[head.index("end")] != "all-done" for row in rows))
 
 

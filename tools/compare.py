@@ -18,7 +18,7 @@ sys.path.insert(0, str(Path(__file__).resolve().parent.parent))
 from reference.counted import KINDS  # noqa: E402
 from reference.given import Words, tool  # noqa: E402
 from reference.schedules import Run, by_rounds, by_seed  # noqa: E402
-from tools import measured, sweep  # noqa: E402
+from tools import count_tables, measured, sweep  # noqa: E402
 from tools.plots import picture  # noqa: E402
 from tools.program import number  # noqa: E402
 
@@ -74,8 +74,8 @@ def told(path, chosen, names, rows):
     """The lines of a table: a kind of messages that no machine sent has no row."""
     yield " ".join([f"{path}:", *(f"{name} {chosen[name]}" for name in names)]).removesuffix(":")
     shown = [kind for kind in ROWS if any(kind in row for row in rows)]
-    yield from measured.table([["", *(row["name"] for row in rows)],
-                               *([kind, *(row.get(kind, "0") for row in rows)] for kind in shown)])
+    yield from count_tables.table([["", *(row["name"] for row in rows)],
+                                  *([kind, *(row.get(kind, "0") for row in rows)] for kind in shown)])
 
 
 def save(path, text):

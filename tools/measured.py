@@ -9,7 +9,6 @@ from reference.machine import Machine
 from reference.traces import Fault, Trace
 from tools import sweep
 from tools.advance import new_trace
-from tools.count_tables import table  # noqa: F401 (compare.py and clock.py have it from here)
 from tools.program import text_of
 
 

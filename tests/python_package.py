@@ -556,10 +556,14 @@ def ranges():
             told = str(refuses(tardis.BadConfiguration, lambda: tardis.litmus("", **{name: value}), f"{name} {value}"))
             if told != f"{name} is {value}: it goes from {least} to {most}":
                 fail(f"{name} {value}: {told}")
-    for words in (0, 2, 4, 16):
-        refuses(tardis.BadConfiguration, lambda: tardis.trace("", line_words=words), f"lines of {words} words")
-    refuses(tardis.BadConfiguration, lambda: tardis.trace("", schedule="threads"), "a schedule that isn't here")
-    refuses(tardis.BadConfiguration, lambda: tardis.ends("", states=2 ** 32), "states of 33 bits")
+    for make, wanted in (*((lambda words=words: tardis.trace("", line_words=words),
+                            f"line_words is {words}: it is 1 or 8") for words in (0, 2, 4, 16)),
+                         (lambda: tardis.trace("", schedule="threads"), "schedule is 'threads': it is round or seed"),
+                         (lambda: tardis.ends("", states=4_294_967_296),
+                          "states is 4294967296: it goes from 1 to 4294967295")):
+        told = str(refuses(tardis.BadConfiguration, make, wanted))
+        if told != wanted:
+            fail(f"{told}, and not {wanted}")
 
 
 def found_there():

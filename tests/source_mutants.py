@@ -7,8 +7,9 @@ return, a loop with a turn less. Contracts and definitions stay as they are. Wha
 law's call left out: a law does nothing.
 
 The prover is asked for the function, over the libraries that lie below (maintain/kit.py link TREE); if that is still
-proved, for the whole crate, and so for all callers there. With --scripts the gate's scripts that read sources are asked
-for what survives. No script of a built program is asked: a survivor would have to be built with all above.
+proved, for its callers in the crate. Further functions take nothing but its contract, which stays. With --scripts the
+gate's scripts that read sources are asked for what survives. No script of a built program is asked: a survivor would
+have to be built with all above.
 
 What was tried is kept in a file, by the contents of the crate and of all below it, so a run that was interrupted goes
 on. The survivors are printed, each with its place, and at the end how many were refused: with a goal left open, with a
@@ -17,13 +18,11 @@ proof file that names what the change took away, or at a limit of the prover. A 
 the seed and their texts alone.
 """
 import argparse
-import contextlib
 import functools
 import json
 import os
 import random
 import re
-import shutil
 import subprocess
 import sys
 import tempfile
@@ -40,7 +39,6 @@ from tests import bodies as own_bodies  # noqa: E402
 from tests.refused import CALLS, Said  # noqa: E402
 
 TABLE = TOP / "tests/source_mutants.table"
-KEPT_WORK = (), ("def linked(", "def work_for(")
 LEFT_OUT = re.compile(r"test_|bench|guide_uses")
 ERROR = re.compile(r"^(?:\./)?(src/\S+\.rt):(\d+):\d+: error", re.M)
 NAMES = re.compile(r"has no field|is not in scope|has no `|was not admitted")
@@ -63,7 +61,7 @@ class Tree:
     """The crates, as the kit sees them."""
 
     def __init__(self):
-        self.kit = own_kit.loaded(CALLS, KEPT_WORK) or sys.exit("mutants.py: this kit lacks calls that are taken")
+        self.kit = own_kit.loaded(CALLS) or sys.exit("mutants.py: this kit lacks calls that are taken")
         rtlib = self.kit["rtlib"]
         rtlib.Crate = self.kit["Crate"]
         rtlib.Crate.cuts_libraries, rtlib.Crate.allowed = True, self.kit["handles_of"](str(TOP))
@@ -94,12 +92,13 @@ class Proved:
         for each in [*self.crate.below(), self.crate]:
             for path in sorted(Path(each.folder).glob("src/**/*.rt")):
                 own_bodies.read(tree.tokens(path), (), types, [])
-        self.mutants = []
+        self.mutants, self.words = [], {}
         for file, text in self.texts.items():
             module = module_of(Path(file).relative_to("src"))
             for body, places in own_bodies.places(tree.rattle, text, module, types):
                 symbol = "::".join([name, *body.module, *filter(None, [body.owner + body.trait]), body.name])
                 self.mutants += [Mutant(name, file, symbol, place) for place in places]
+                self.words[symbol] = set(own_bodies.words_of(body.tokens))
 
     def changed(self, mutants):
         """The texts of the files with these changes."""
@@ -114,38 +113,42 @@ class Proved:
         return ran.stdout, ran.returncode
 
     def begin(self):
-        """Proves the crate as it is, so that checks of changes begin with that."""
+        """Takes the names that the prover knows functions by from the crate's library, which is proved as it is; or
+        proves the crate, where none lies there. What is proved from then on is kept for the next checks."""
         with self.lock:
             if self.symbols is not None:
                 return
             lacking = [low.name for low in self.crate.below() if not low.is_built()]
             if lacking:
-                sys.exit(f"mutants.py: {self.name} stands on {lacking[0]}, which isn't built (maintain/kit.py link)")
-            kept = self.tree.kit["work_for"](self.crate)
-            with contextlib.suppress(OSError):
-                if kept:
-                    self.tree.kit["linked"](kept, str(self.room))
+                sys.exit(f"mutants.py: {self.name} depends on {lacking[0]}, which isn't built (maintain/kit.py link)")
             self.room.mkdir(parents=True, exist_ok=True)
+            code = Path(self.crate.rlib, "toolchain/mir.json")
+            if self.crate.is_built() and code.exists():
+                self.symbols = set(re.findall(rf'"({self.name}::[^"]+)"', code.read_text(encoding="utf-8")))
+                return
             said, status = self.asked([], [], str(self.room))
             if status:
                 sys.exit(f"mutants.py: {self.name} isn't proved as it is:\n{said[-2000:]}")
-            self.symbols = {symbol for symbol in Said(said).functions}
-
-    @contextlib.contextmanager
-    def copy_of_work(self):
-        with tempfile.TemporaryDirectory() as folder:
-            self.tree.kit["linked"](str(self.room), f"{folder}/work")
-            yield f"{folder}/work"
+            self.symbols = set(Said(said).functions)
 
     def symbol_of(self, mutant):
         """What the prover calls the function; None if that isn't plain. An impl of a trait has longer names."""
-        if mutant.symbol in self.symbols:
-            return mutant.symbol
-        *above, owner, name = mutant.symbol.split("::")
+        return self.known(mutant.symbol)
+
+    def known(self, symbol):
+        if symbol in self.symbols:
+            return symbol
+        *above, owner, name = symbol.split("::")
         start = "::".join(above)
-        found = [symbol for symbol in self.symbols if symbol.startswith(f"{start}::{owner[:3]}")
-                 and symbol.endswith(f"::{name}") and symbol.count("::") == mutant.symbol.count("::")]
+        found = [other for other in self.symbols if other.startswith(f"{start}::{owner[:3]}")
+                 and other.endswith(f"::{name}") and other.count("::") == symbol.count("::")]
         return found[0] if len(found) == 1 else None
+
+    def callers(self, mutants):
+        """The functions whose bodies name one of the mutants' functions."""
+        names = {mutant.symbol.rpartition("::")[2] for mutant in mutants}
+        found = {self.known(symbol) for symbol, words in self.words.items() if words & names}
+        return sorted(found - {None})
 
     def lines(self, mutant):
         """The range of lines of the mutant's body."""
@@ -174,8 +177,7 @@ class Proved:
         """What the prover says of each of some mutants in different functions: why it refuses it, `proved`, or None if
         it says only that a function that it calls isn't proved."""
         flags = [word for mutant in mutants for word in ("--only", self.symbol_of(mutant))]
-        with self.copy_of_work() as work:
-            said, _ = self.asked(mutants, flags, work)
+        said, _ = self.asked(mutants, flags, str(self.room))
         if not re.search(r"^(only=|rattle: no verdict)", said, re.M):
             return {} if len(mutants) > 1 else {mutants[0]: "limit: the check broke off"}
         told, names = Said(said), [self.symbol_of(mutant) for mutant in mutants]
@@ -194,13 +196,14 @@ class Proved:
             return f"names: {errors[0][:160]}"
         return f"goal: {own or ''.join(errors[:1])}"[:200]
 
-    def whole(self, mutants):
-        """Those of the mutants, in different functions, with which the whole crate is proved."""
-        with self.copy_of_work() as work:
-            _, status = self.asked(mutants, [], work)
-        if status == 0:
+    def accepted(self, mutants):
+        """Those of the mutants, in different functions, with which their callers are proved."""
+        callers = self.callers(mutants)
+        flags = [word for caller in callers for word in ("--only", caller)]
+        said, _ = self.asked(mutants, flags, str(self.room)) if callers else ("", 0)
+        if all(Said(said).is_proved(caller) for caller in callers):
             return mutants
-        return [] if len(mutants) == 1 else [each for mutant in mutants for each in self.whole([mutant])]
+        return [] if len(mutants) == 1 else [each for mutant in mutants for each in self.accepted([mutant])]
 
     def shown(self, mutant):
         """The mutant's line, its function, and what stood there and stands there."""
@@ -270,9 +273,9 @@ def tried(proved, kept, mutants):
     if accepted:
         proved.begin()
     for group in apart(accepted, len(accepted) or 1):
-        whole = proved.whole(group)
+        survive = proved.accepted(group)
         for mutant in group:
-            kept.tell(proved, mutant, "survives" if mutant in whole else "whole: the crate isn't proved")
+            kept.tell(proved, mutant, "survives" if mutant in survive else "callers: one isn't proved")
 
 
 def sampled(crates, kept, options):
@@ -363,7 +366,7 @@ def main(words):
     scripts = f"{told['scripts']} refused by scripts that read sources, " if options.scripts else ""
     print(f"{len(sample)} mutants of {len(names)} crates, seed {options.seed}: {refused} refused by the prover "
           f"({told['goal']} with a goal open, {told['names']} with a proof that names what was taken away, "
-          f"{told['limit']} at a limit, {told['whole']} by the whole crate alone), {scripts}"
+          f"{told['limit']} at a limit, {told['callers']} by a caller's clauses alone), {scripts}"
           f"{told['excused']} in tests/source_mutants.table, {told['left']} survive; "
           f"{counts['no source']} more don't compile, of {counts['no name']} the prover's name isn't known")
     return int(told["left"] > 0)

@@ -18,8 +18,9 @@ from tools.orders.forced import TimeUp
 from tools.orders.history import FENCE
 
 
-FIRST_BRANCHES = 10  # of the first try and the second, for each operation; twice as many of the next two, and so on
+FIRST_BRANCHES = 4  # of the first try and the second, for each operation; twice as many of the next two, and so on
 AHEAD = 40           # operations of a chain that `halts` looks at
+LEAST_RANK = 0.01    # undrawn ranks stay below
 FREE, ASLEEP, WATCHED = range(3)  # of a chain: how the write that it stands before is to be tried
 
 
@@ -175,6 +176,8 @@ class Search:
         """Of the writes that can be performed now, those that must be tried. Each other write that could be next on
         their word must come behind one of them."""
         allowed = [node for node in writes if self.may_go(node)]
+        if len(writes) < 2:
+            return allowed
         best, before, chain, place = allowed, self.forced.before, self.problem.chain, self.problem.place
         for word in {self.word[node] for node in writes}:
             first = self.first_writes(word)
@@ -183,7 +186,21 @@ class Search:
             if ready and len(tried) < len(best) and all(
                     node in ready or any(before[node][chain[one]] > place[one] for one in ready) for node in first):
                 best = tried
-        return sorted(best, key=self.rank.__getitem__)
+        return sorted(best, key=self.cost) if len(best) > 1 else best
+
+    def cost(self, node):
+        """Of a write, its rank, and what it takes from chains that use its word's value next there, the sooner the
+        more; less what it gives to those that wait for its own value."""
+        word, written, own, at = self.word[node], self.written[node], self.problem.chain[node], self.at
+        cost, value, place = self.rank[node], self.memory[word], self.problem.place
+        for chain, other in enumerate(self.next_on[word * self.count:(word + 1) * self.count]):
+            if other >= 0 and chain != own:
+                received, ahead = self.received[other], place[other] - at[chain]
+                if received == value:
+                    cost += 1 / (1 + ahead)
+                elif received == written and not ahead:
+                    cost -= 1
+        return cost
 
     def halts(self):
         """Whether all chains come to a halt soon, though no write takes a value away: where a read needs another value
@@ -227,15 +244,16 @@ class Search:
             self.most = max(self.most, len(self.order))
             if len(self.order) == count:
                 return self.order
+            if len(choices) == 1:
+                self.perform(choices[0])
+                continue
             if self.states >= self.last_branch:
                 self.begin_anew()
                 continue
             state = self.state()
             if choices and state not in self.dead and not self.halts():
-                self.states += len(choices) > 1
+                self.states += 1
                 frames.append((len(self.order), choices[::-1], state, self.marks, self.owed))
-            else:
-                self.dead.add(state)
             while frames and not frames[-1][1]:
                 self.dead.add(frames.pop()[2])
             if not frames:
@@ -267,14 +285,15 @@ class Search:
 
 
 def ranks(problem, forced):
-    """Which writes to try first: by lines, if nine of ten edges go down the text, else by the longest way to each."""
+    """Which writes to try first, as small numbers: by lines, if nine of ten edges go down the text, else by the longest
+    way to each."""
     down = [problem.operations[one].line < problem.operations[other].line
             for one in problem.nodes for other in forced.edges[one]]
-    if sum(down) * 10 >= len(down) * 9:
-        return {node: problem.operations[node].line for node in problem.nodes}
-    level = {}
-    for node in forced.order:
-        place, nodes = problem.place[node], problem.chains[problem.chain[node]]
-        earlier = [*forced.into[node], *nodes[max(0, place - 1):place]]
-        level[node] = 1 + max((level[one] for one in earlier), default=0)
-    return {node: (level[node], problem.operations[node].line) for node in problem.nodes}
+    level = dict.fromkeys(problem.nodes, 0)
+    if sum(down) * 10 < len(down) * 9:
+        for node in forced.order:
+            place, nodes = problem.place[node], problem.chains[problem.chain[node]]
+            earlier = [*forced.into[node], *nodes[max(0, place - 1):place]]
+            level[node] = 1 + max((level[one] for one in earlier), default=0)
+    ranked = sorted(problem.nodes, key=lambda node: (level[node], problem.operations[node].line))
+    return {node: LEAST_RANK * at / len(ranked) for at, node in enumerate(ranked)}

@@ -18,7 +18,7 @@ from tools.orders.forced import TimeUp
 from tools.orders.history import FENCE
 
 
-FIRST_BRANCHES = 4  # of the first try and the second, for each operation; twice as many of the next two, and so on
+FIRST_BRANCHES = 10  # of the first try and the second, for each operation; twice as many of the next two, and so on
 AHEAD = 40           # operations of a chain that `halts` looks at
 LEAST_RANK = 0.01    # undrawn ranks stay below
 FREE, ASLEEP, WATCHED = range(3)  # of a chain: how the write that it stands before is to be tried
@@ -85,8 +85,9 @@ class Search:
         own core's store."""
         value, written, place = self.received[node], self.written[node], self.problem.place
         left = self.received[previous] if self.written[previous] is None else self.written[previous]
+        key, own_key = (None if one is None else one * self.count + chain for one in (value, written))
         return (self.needs[node], value if self.problem.own[node] is None else None, self.word[node],
-                place[previous] if previous >= 0 else -1, value != left, (value, chain), written, (written, chain))
+                place[previous] if previous >= 0 else -1, value != left, key, written, own_key)
 
     def is_ready(self, needs, at):
         """All that these name has been performed, where the chains are."""
@@ -96,17 +97,15 @@ class Search:
         return True
 
     def fits(self, node):
-        """What it received is what it would receive now."""
-        received = self.received[node]
-        if received is None:
-            return True
-        own = self.problem.own[node]
-        if own is not None and self.at[self.problem.chain[own]] <= self.problem.place[own]:
+        """What a load received, whose core stored to its word before, is what it would receive now."""
+        own, received = self.problem.own[node], self.received[node]
+        if self.at[self.problem.chain[own]] <= self.problem.place[own]:
             return self.written[own] == received
         return self.memory[self.word[node]] == received
 
     def perform(self, node):
-        self.mark(node)
+        if self.owed or any(self.marks):
+            self.mark(node)
         self.order.append(node)
         self.at[self.problem.chain[node]] += 1
         self.next_on[self.slot[node]] = self.behind[node]
@@ -131,8 +130,10 @@ class Search:
         mark, word, written = self.marks[self.problem.chain[node]], self.word[node], self.written[node]
         if mark == ASLEEP or self.owed >> word & 1 and self.received[node] is None:
             return False
+        if mark == FREE:
+            return True
         following = [self.behind[node], *self.next_on[word * self.count:(word + 1) * self.count]]
-        return mark == FREE or any(self.received[other] == written for other in following if other != node)
+        return any(self.received[other] == written for other in following if other != node)
 
     def take_back(self, length):
         """Undoes what was performed beyond the first `length` operations."""
@@ -144,22 +145,29 @@ class Search:
                 self.memory[self.word[node]] = self.undo.pop()
 
     def perform_loads(self):
-        """Performs loads and fences while there are some; the ready writes that stand next are returned."""
-        at, written, needs, is_ready, fits, is_more = self.at, self.written, self.needs, self.is_ready, self.fits, True
-        while is_more:
-            is_more, writes = False, []
+        """Performs loads and fences while there are some; the ready writes that stand next are returned. A load takes
+        no value away, so another round only serves operations that others hold back."""
+        at, written, received, memory, word, own = (self.at, self.written, self.received, self.memory, self.word,
+                                                    self.problem.own)
+        while True:
+            is_more, is_held, writes = False, False, []
             for chain, nodes in enumerate(self.problem.chains):
-                place = at[chain]
-                while place < len(nodes):
+                for place in range(at[chain], len(nodes)):
                     node = nodes[place]
-                    if not fits(node) or not is_ready(needs[node], at):
+                    value = received[node]
+                    if value is not None and (memory[word[node]] != value if own[node] is None else
+                                              not self.fits(node)):
+                        break
+                    if self.needs[node] and not self.is_ready(self.needs[node], at):
+                        is_held = True
                         break
                     if written[node] is not None:
                         writes.append(node)
                         break
                     self.perform(node)
-                    is_more, place = True, place + 1
-        return writes
+                    is_more = True
+            if not (is_more and is_held):
+                return writes
 
     def first_writes(self, word):
         """The writes of a word of which one must be next there; none if a load may receive before what the word has.
@@ -229,11 +237,8 @@ class Search:
 
     def state(self):
         """What all that follows depends on: a value that no chain is to receive next is as good as any other."""
-        state, count = array("i", self.at), self.count
-        for word, value in enumerate(self.memory):
-            is_sought = value in [self.received[node] for node in self.next_on[word * count:(word + 1) * count]]
-            state.append(value if is_sought else -1)
-        return state.tobytes()
+        sought = {self.received[node] for node in self.next_on}
+        return array("i", [*self.at, *(value if value in sought else -1 for value in self.memory)]).tobytes()
 
     def run(self):
         """After `TimeUp` it can be called again, with a later deadline, and goes on."""
@@ -250,10 +255,13 @@ class Search:
             if self.states >= self.last_branch:
                 self.begin_anew()
                 continue
-            state = self.state()
-            if choices and state not in self.dead and not self.halts():
-                self.states += 1
-                frames.append((len(self.order), choices[::-1], state, self.marks, self.owed))
+            if choices:
+                state = self.state()
+                if state not in self.dead and self.halts():
+                    self.dead.add(state)
+                if state not in self.dead:
+                    self.states += 1
+                    frames.append((len(self.order), choices[::-1], state, self.marks, self.owed))
             while frames and not frames[-1][1]:
                 self.dead.add(frames.pop()[2])
             if not frames:

@@ -66,7 +66,7 @@ def measure(seed, wrong):
     """The seconds of one history, and what it was found to be."""
     words, values, operations = drawn(seed, wrong)
     found, by_facts, taken = answered(operations)
-    what = "undecided" if isinstance(found, str) else "none by facts" if by_facts else "none" if found is None else "order"
+    what = "undecided" if isinstance(found, str) else "order" if found else "none by facts" if by_facts else "none"
     if what == "order" and not is_legal(operations, found) or what.startswith("none") and not wrong:
         sys.exit(f"seed {seed}, {wrong} wrong: the answer is wrong: {what}")
     if taken > PROMISED:

@@ -2,8 +2,9 @@
 
 A load that can be performed is performed at once: that takes nothing from what follows. So is a write that every
 order performs first of those of its word that are left. Otherwise the writes of one word are tried in turn, if one of
-these must come next there and all can; else all that can. States from which no way led to the end aren't tried again,
-and none is tried from which the chains come to a halt even if no write takes a value away.
+these must come next there and all can; else all that can. First comes the one that takes least from other chains.
+States from which no way led to the end aren't tried again, and none is tried from which the chains come to a halt even
+if no write takes a value away.
 A write that was tried in vain sleeps until another operation uses its word. If that one is a store, the write is then
 tried only where it is received from before another one comes: else it could stand where it was tried in vain.
 If that takes many branches, the search begins anew and tries writes in a drawn order, then in the first one again, and
@@ -30,8 +31,9 @@ class Search:
     `next_on`: of each word and chain, the next operation there, or -1; `slot`: where it has an operation; `behind`:
     what then stands there; `steps`: of each chain, what `halts` asks."""
 
-    def __init__(self, problem, forced, deadline=float("inf")):
-        self.problem, self.forced, self.deadline = problem, forced, deadline
+    def __init__(self, problem, forced, deadline=float("inf"), until=float("inf")):
+        """It ends at the deadline of the clock, or once this process has had processor time until then."""
+        self.problem, self.forced, self.deadline, self.until = problem, forced, deadline, until
         self.at, self.count = [0] * len(problem.chains), len(problem.chains)
         # The last place of these, -1, is of no operation.
         self.word, self.written, self.received = ([None] * (len(problem.operations) + 1) for _ in range(3))
@@ -241,7 +243,8 @@ class Search:
         return array("i", [*self.at, *(value if value in sought else -1 for value in self.memory)]).tobytes()
 
     def run(self):
-        """After `TimeUp` it can be called again, with a later deadline, and goes on."""
+        """After `TimeUp` it can be called again, with a later deadline, and goes on. Where there is one choice it isn't
+        asked whether the state is known, or halts: the next one with more tells as much."""
         count, frames = len(self.problem.nodes), self.frames
         while True:
             self.look_at_clock()
@@ -287,7 +290,7 @@ class Search:
         self.rank = {node: draw.random() for node in self.ranks} if self.tries % 2 else self.ranks
 
     def look_at_clock(self):
-        if time.monotonic() > self.deadline:
+        if time.monotonic() > self.deadline or time.process_time() > self.until:
             raise TimeUp(f"{self.most} of {len(self.problem.nodes)} operations could be put in an order, after "
                          f"{self.states} branches")
 

@@ -37,6 +37,7 @@ EXAMPLES = TOP / "examples/histories"
 SECONDS = 20
 ORDERS = 600  # drawn histories that have an order
 BRANCHES = 4000  # of the search on 600 operations
+HARD = [(4, 2, 149), (2, 3, 427), (2, 2, 525), (2, 2, 546)]
 
 
 def programs_of(operations):
@@ -583,8 +584,9 @@ def drawn_orders(tester):
 
 
 def branches(tester):
-    """Of three cores' 600 operations an order is found in few branches, though few values are repeated."""
-    for words, values, seed in [(6, 2, seed) for seed in range(1, 5)] + [(2, 4, seed) for seed in range(1, 5)]:
+    """Of three cores' 600 operations an order is found in few branches, though few values are repeated. The last four
+    are some on which a search that tries first what stands first takes 6,700 to 12,700 branches."""
+    for words, values, seed in [(6, 2, seed) for seed in range(1, 5)] + [(2, 4, seed) for seed in range(1, 5)] + HARD:
         problem = Problem(read_history(drawn_text(600, 3, words, values, seed)))
         looked = search.Search(problem, Forced(problem), time.monotonic() + SECONDS)
         try:

@@ -19,12 +19,10 @@ class Answer:
 
 def answer(operations, seconds, model="sc", real_time=False, opening=None):
     """The answer that is found within these seconds."""
-    start = time.monotonic()
     settings = {"model": model, "real_time": real_time, "opening": opening}
     problem = Problem(operations, **settings)
     try:
-        forced = Forced(problem, start + seconds)
-        order = find(problem, forced, start + seconds)
+        order = decide(problem, seconds)
     except NoOrder as none:
         return Answer(lines=lines_of(problem, none))
     except TimeUp as up:
@@ -32,6 +30,12 @@ def answer(operations, seconds, model="sc", real_time=False, opening=None):
     if order is None:
         return Answer(lines=least(operations, settings, time.monotonic() + LEAST_SECONDS))
     return Answer(order=order)
+
+
+def decide(problem, seconds):
+    """An order; None if there is none, and only the search knows it; `NoOrder` if facts say so; or `TimeUp`."""
+    deadline = time.monotonic() + seconds
+    return find(problem, Forced(problem, deadline), deadline)
 
 
 def lines_of(problem, none):

@@ -5,14 +5,14 @@ from tools.orders import solver
 from tools.orders.forced import TimeUp
 from tools.orders.search import Search
 
-FIRST_SHARE = 4  # the search has a quarter of the time before z3 is asked, and at most
-FIRST_SECONDS = 5
+FIRST_SHARE = 4    # the search has a quarter of the time before z3 is asked, and at most
+FIRST_SECONDS = 5  # of processor time: on a busy machine it takes longer
 
 
 def find(problem, forced, deadline):
     """An order or None. The search comes first, then z3, then the search again."""
     now = time.monotonic()
-    search = Search(problem, forced, now + min(FIRST_SECONDS, (deadline - now) / FIRST_SHARE))
+    search = Search(problem, forced, now + (deadline - now) / FIRST_SHARE, time.process_time() + FIRST_SECONDS)
     try:
         return search.run()
     except TimeUp:
@@ -20,5 +20,5 @@ def find(problem, forced, deadline):
             found = solver.ask(problem, forced, (deadline - time.monotonic()) * 2 / 3)
             if found is not None:
                 return found or None
-        search.deadline = deadline
+        search.deadline, search.until = deadline, float("inf")
         return search.run()

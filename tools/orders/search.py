@@ -2,8 +2,9 @@
 
 A load that can be performed is performed at once: that takes nothing from what follows. So is a write that every
 order performs first of those of its word that are left. Otherwise the writes of one word are tried in turn, if one of
-these must come next there and all can; else all that can. States from which no way led to the end aren't tried again,
-and none is tried from which the chains come to a halt even if no write takes a value away.
+these must come next there and all can; else all that can. First comes the one that takes least from other chains.
+States from which no way led to the end aren't tried again, and none is tried from which the chains come to a halt even
+if no write takes a value away.
 A write that was tried in vain sleeps until another operation uses its word. If that one is a store, the write is then
 tried only where it is received from before another one comes: else it could stand where it was tried in vain.
 If that takes many branches, the search begins anew and tries writes in a drawn order, then in the first one again, and
@@ -20,6 +21,7 @@ from tools.orders.history import FENCE
 
 FIRST_BRANCHES = 10  # of the first try and the second, for each operation; twice as many of the next two, and so on
 AHEAD = 40           # operations of a chain that `halts` looks at
+LEAST_RANK = 0.01    # undrawn ranks stay below
 FREE, ASLEEP, WATCHED = range(3)  # of a chain: how the write that it stands before is to be tried
 
 
@@ -29,8 +31,9 @@ class Search:
     `next_on`: of each word and chain, the next operation there, or -1; `slot`: where it has an operation; `behind`:
     what then stands there; `steps`: of each chain, what `halts` asks."""
 
-    def __init__(self, problem, forced, deadline=float("inf")):
-        self.problem, self.forced, self.deadline = problem, forced, deadline
+    def __init__(self, problem, forced, deadline=float("inf"), until=float("inf")):
+        """It ends at the deadline of the clock, or once this process has had processor time until then."""
+        self.problem, self.forced, self.deadline, self.until = problem, forced, deadline, until
         self.at, self.count = [0] * len(problem.chains), len(problem.chains)
         # The last place of these, -1, is of no operation.
         self.word, self.written, self.received = ([None] * (len(problem.operations) + 1) for _ in range(3))
@@ -84,8 +87,9 @@ class Search:
         own core's store."""
         value, written, place = self.received[node], self.written[node], self.problem.place
         left = self.received[previous] if self.written[previous] is None else self.written[previous]
+        key, own_key = (None if one is None else one * self.count + chain for one in (value, written))
         return (self.needs[node], value if self.problem.own[node] is None else None, self.word[node],
-                place[previous] if previous >= 0 else -1, value != left, (value, chain), written, (written, chain))
+                place[previous] if previous >= 0 else -1, value != left, key, written, own_key)
 
     def is_ready(self, needs, at):
         """All that these name has been performed, where the chains are."""
@@ -95,17 +99,15 @@ class Search:
         return True
 
     def fits(self, node):
-        """What it received is what it would receive now."""
-        received = self.received[node]
-        if received is None:
-            return True
-        own = self.problem.own[node]
-        if own is not None and self.at[self.problem.chain[own]] <= self.problem.place[own]:
+        """What a load received, whose core stored to its word before, is what it would receive now."""
+        own, received = self.problem.own[node], self.received[node]
+        if self.at[self.problem.chain[own]] <= self.problem.place[own]:
             return self.written[own] == received
         return self.memory[self.word[node]] == received
 
     def perform(self, node):
-        self.mark(node)
+        if self.owed or any(self.marks):
+            self.mark(node)
         self.order.append(node)
         self.at[self.problem.chain[node]] += 1
         self.next_on[self.slot[node]] = self.behind[node]
@@ -130,8 +132,10 @@ class Search:
         mark, word, written = self.marks[self.problem.chain[node]], self.word[node], self.written[node]
         if mark == ASLEEP or self.owed >> word & 1 and self.received[node] is None:
             return False
+        if mark == FREE:
+            return True
         following = [self.behind[node], *self.next_on[word * self.count:(word + 1) * self.count]]
-        return mark == FREE or any(self.received[other] == written for other in following if other != node)
+        return any(self.received[other] == written for other in following if other != node)
 
     def take_back(self, length):
         """Undoes what was performed beyond the first `length` operations."""
@@ -143,22 +147,29 @@ class Search:
                 self.memory[self.word[node]] = self.undo.pop()
 
     def perform_loads(self):
-        """Performs loads and fences while there are some; the ready writes that stand next are returned."""
-        at, written, needs, is_ready, fits, is_more = self.at, self.written, self.needs, self.is_ready, self.fits, True
-        while is_more:
-            is_more, writes = False, []
+        """Performs loads and fences while there are some; the ready writes that stand next are returned. A load takes
+        no value away, so another round only serves operations that others hold back."""
+        at, written, received, memory, word, own = (self.at, self.written, self.received, self.memory, self.word,
+                                                    self.problem.own)
+        while True:
+            is_more, is_held, writes = False, False, []
             for chain, nodes in enumerate(self.problem.chains):
-                place = at[chain]
-                while place < len(nodes):
+                for place in range(at[chain], len(nodes)):
                     node = nodes[place]
-                    if not fits(node) or not is_ready(needs[node], at):
+                    value = received[node]
+                    if value is not None and (memory[word[node]] != value if own[node] is None else
+                                              not self.fits(node)):
+                        break
+                    if self.needs[node] and not self.is_ready(self.needs[node], at):
+                        is_held = True
                         break
                     if written[node] is not None:
                         writes.append(node)
                         break
                     self.perform(node)
-                    is_more, place = True, place + 1
-        return writes
+                    is_more = True
+            if not (is_more and is_held):
+                return writes
 
     def first_writes(self, word):
         """The writes of a word of which one must be next there; none if a load may receive before what the word has.
@@ -175,6 +186,8 @@ class Search:
         """Of the writes that can be performed now, those that must be tried. Each other write that could be next on
         their word must come behind one of them."""
         allowed = [node for node in writes if self.may_go(node)]
+        if len(writes) < 2:
+            return allowed
         best, before, chain, place = allowed, self.forced.before, self.problem.chain, self.problem.place
         for word in {self.word[node] for node in writes}:
             first = self.first_writes(word)
@@ -183,7 +196,21 @@ class Search:
             if ready and len(tried) < len(best) and all(
                     node in ready or any(before[node][chain[one]] > place[one] for one in ready) for node in first):
                 best = tried
-        return sorted(best, key=self.rank.__getitem__)
+        return sorted(best, key=self.cost) if len(best) > 1 else best
+
+    def cost(self, node):
+        """Of a write, its rank, and what it takes from chains that use its word's value next there, the sooner the
+        more; less what it gives to those that wait for its own value."""
+        word, written, own, at = self.word[node], self.written[node], self.problem.chain[node], self.at
+        cost, value, place = self.rank[node], self.memory[word], self.problem.place
+        for chain, other in enumerate(self.next_on[word * self.count:(word + 1) * self.count]):
+            if other >= 0 and chain != own:
+                received, ahead = self.received[other], place[other] - at[chain]
+                if received == value:
+                    cost += 1 / (1 + ahead)
+                elif received == written and not ahead:
+                    cost -= 1
+        return cost
 
     def halts(self):
         """Whether all chains come to a halt soon, though no write takes a value away: where a read needs another value
@@ -212,14 +239,12 @@ class Search:
 
     def state(self):
         """What all that follows depends on: a value that no chain is to receive next is as good as any other."""
-        state, count = array("i", self.at), self.count
-        for word, value in enumerate(self.memory):
-            is_sought = value in [self.received[node] for node in self.next_on[word * count:(word + 1) * count]]
-            state.append(value if is_sought else -1)
-        return state.tobytes()
+        sought = {self.received[node] for node in self.next_on}
+        return array("i", [*self.at, *(value if value in sought else -1 for value in self.memory)]).tobytes()
 
     def run(self):
-        """After `TimeUp` it can be called again, with a later deadline, and goes on."""
+        """After `TimeUp` it can be called again, with a later deadline, and goes on. Where there is one choice it isn't
+        asked whether the state is known, or halts: the next one with more tells as much."""
         count, frames = len(self.problem.nodes), self.frames
         while True:
             self.look_at_clock()
@@ -227,15 +252,19 @@ class Search:
             self.most = max(self.most, len(self.order))
             if len(self.order) == count:
                 return self.order
+            if len(choices) == 1:
+                self.perform(choices[0])
+                continue
             if self.states >= self.last_branch:
                 self.begin_anew()
                 continue
-            state = self.state()
-            if choices and state not in self.dead and not self.halts():
-                self.states += len(choices) > 1
-                frames.append((len(self.order), choices[::-1], state, self.marks, self.owed))
-            else:
-                self.dead.add(state)
+            if choices:
+                state = self.state()
+                if state not in self.dead and self.halts():
+                    self.dead.add(state)
+                if state not in self.dead:
+                    self.states += 1
+                    frames.append((len(self.order), choices[::-1], state, self.marks, self.owed))
             while frames and not frames[-1][1]:
                 self.dead.add(frames.pop()[2])
             if not frames:
@@ -261,20 +290,21 @@ class Search:
         self.rank = {node: draw.random() for node in self.ranks} if self.tries % 2 else self.ranks
 
     def look_at_clock(self):
-        if time.monotonic() > self.deadline:
+        if time.monotonic() > self.deadline or time.process_time() > self.until:
             raise TimeUp(f"{self.most} of {len(self.problem.nodes)} operations could be put in an order, after "
                          f"{self.states} branches")
 
 
 def ranks(problem, forced):
-    """Which writes to try first: by lines, if nine of ten edges go down the text, else by the longest way to each."""
+    """Which writes to try first, as small numbers: by lines, if nine of ten edges go down the text, else by the longest
+    way to each."""
     down = [problem.operations[one].line < problem.operations[other].line
             for one in problem.nodes for other in forced.edges[one]]
-    if sum(down) * 10 >= len(down) * 9:
-        return {node: problem.operations[node].line for node in problem.nodes}
-    level = {}
-    for node in forced.order:
-        place, nodes = problem.place[node], problem.chains[problem.chain[node]]
-        earlier = [*forced.into[node], *nodes[max(0, place - 1):place]]
-        level[node] = 1 + max((level[one] for one in earlier), default=0)
-    return {node: (level[node], problem.operations[node].line) for node in problem.nodes}
+    level = dict.fromkeys(problem.nodes, 0)
+    if sum(down) * 10 < len(down) * 9:
+        for node in forced.order:
+            place, nodes = problem.place[node], problem.chains[problem.chain[node]]
+            earlier = [*forced.into[node], *nodes[max(0, place - 1):place]]
+            level[node] = 1 + max((level[one] for one in earlier), default=0)
+    ranked = sorted(problem.nodes, key=lambda node: (level[node], problem.operations[node].line))
+    return {node: LEAST_RANK * at / len(ranked) for at, node in enumerate(ranked)}

@@ -132,7 +132,8 @@ fn put_counter(
     layout: Layout,
     counter: Option<&Counter>,
 ) -> Result<(), AllocError>
-    ensures { OnOk result (out.new.items ≡ out.old.items ++ counter_text layout (seen_by counter)) }
+    ensures { OnOk result (out.new.items ≡
+        out.old.items ++ counter_text layout (seen_by counter.entry)) }
 {
     match counter {
         Some(counter) => put_event_counts(
@@ -174,7 +175,7 @@ fn whole_report<M: Finished + Drop>(
     requires shows { (m : Machine) × M.shows ran.now.machine m
         × Legal (flat empty) (trace_ops trace.now) m.records }
     ensures { IfOk result (λ text. (m : Machine) → M.shows ran.now.machine m →
-        text.items ≡ whole_report layout trace.now ran.now.end m (seen_by counter)) }
+        text.items ≡ whole_report layout trace.now ran.now.end m (seen_by counter.entry)) }
 {
     let mut text = bare_report(alloc, layout, trace, ran)?;
     put_counter(&mut text, layout, counter)?;
@@ -194,7 +195,7 @@ pub(crate) fn text_of<M: Finished + Drop>(
     requires shows { (m : Machine) × M.shows ran.now.machine m × AreComplete m.records
         × Legal (flat empty) (trace_ops trace.now) m.records }
     ensures text { IfOk result (λ text. (m : Machine) → M.shows ran.now.machine m →
-        text.items ≡ run_text records layout trace.now ran.now.end m (seen_by counter)) }
+        text.items ≡ run_text records layout trace.now ran.now.end m (seen_by counter.entry)) }
     ensures stands { IfOk result (λ text. (m : Machine) → M.shows ran.now.machine m →
         records ≡ true → TellsRecords text.items m.records) }
 {

@@ -171,7 +171,7 @@ fn report_on<M: Finished + Drop>(
     requires shows { (m : Machine) × M.shows ran.now.machine m × AreComplete m.records
         × Legal (flat empty) (trace_ops trace.now) m.records }
     ensures { IfOk result (λ report. (m : Machine) → M.shows ran.now.machine m →
-        TellsOf options.now.records (layout_of options.now.json) trace.now ran.now.end m (seen_by counter)
+        TellsOf options.now.records (layout_of options.now.json) trace.now ran.now.end m (seen_by counter.entry)
         report.all_done report.text.items) }
 {
     let layout = layout_of(options.json);

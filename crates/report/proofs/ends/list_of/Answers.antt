@@ -1,6 +1,8 @@
-use Rattle.std.proofs.Common.{refl}
+use Rattle.std.proofs.Common.{◌≡◌, refl, subst}
 use Rattle.litmus_reader.proofs.Lemmas.{some_of_test}
 use Rattle.litmus_reader.specs.TestViews.{test_of}
+use Rattle.report_lines.specs.declared.layout.Layout.{Layout}
+use Rattle.report.specs.EveryText.{every_text}
 use Rattle.report.proofs.Refused.{no_list}
 use Rattle.report.proofs.ends.list_of.Goals as goal
 
@@ -27,7 +29,9 @@ returns-in-Ok-every_text-clause-list c =
         few = listed.few;
         orders = listed.orders;
       };
-      text_is = c.in-Ok-every_text.ensures;
+      text_is = subst (λ (layout : Layout). c.in-Ok-every_text.text.items
+          ≡ every_text layout (test_of c.in-Ok.test) c.in-Ok-list_ends.every c.args.options.now.orders)
+          c.layout_of-layout.ensures c.in-Ok-every_text.ensures;
       done = refl;
     }
 

@@ -9,4 +9,4 @@ pub legal_trace_text-requires : goal.legal_trace_text-requires
 legal_trace_text-requires g c =
     let shows = c.requires.shows in
     subst (λ (rs : List Record). Legal (flat empty) (trace_ops c.args.trace.now) rs)
-    (sym (c.records.ensures.records shows.0 shows.1)) shows.3
+    (sym (c.records.ensures.records shows.0 shows.1)) shows.2

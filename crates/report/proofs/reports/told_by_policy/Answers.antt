@@ -11,8 +11,8 @@ report_on-requires c =
     let is = c.in_ok-ran.ensures.run in
     record { shows = (c.in_ok-ran.ran.machine, refl, is.complete, is.legal_in_trace) }
 
-pub report_on-2-requires : goal.report_on-2-requires
-report_on-2-requires c =
+pub report_on-requires-2 : goal.report_on-requires-2
+report_on-requires-2 c =
     let is = c.in_ok-ran-2.ensures.run in
     record { shows = (c.in_ok-ran-2.ran.machine, refl, is.complete, is.legal_in_trace) }
 

@@ -70,7 +70,7 @@ fn send(outbox: &mut Outbox, came_in: &mut Inbox<Message>, message: Message)
         inbox came_in.old.hand (came_in.old.held ++ sent_list (told false message)) }
 {
     let _body: Body = message.body;
-    if let Some(told) = post(false, outbox, message) {
+    if let Some(told) = post(false, outbox, &message) {
         came_in.hold(told);
     }
 }

@@ -58,25 +58,25 @@ pub(crate) fn finds_places(
 }
 
 /// Sends a message: one that leaves goes to the outbox, and the answer has any other.
-pub(crate) fn post(is_core: bool, outbox: &mut Outbox, message: Message) -> Option<Message>
+pub(crate) fn post(is_core: bool, outbox: &mut Outbox, message: &Message) -> Option<Message>
     requires { (places : ℕ) × (stays : Bool) ×
-        IsTrue (finds_places is_core outbox.old places (Some (message.to, stays))) }
-    ensures told { result ≡ told is_core message }
-    ensures posted { outbox.new ≡ posted is_core outbox.old message }
+        IsTrue (finds_places is_core outbox.old places (Some (message.now.to, stays))) }
+    ensures told { result ≡ told is_core message.now }
+    ensures posted { outbox.new ≡ posted is_core outbox.old message.now }
 {
     if leaves(is_core, &message.to) {
-        outbox.send(message);
+        outbox.send(*message);
         return None;
     }
-    outbox.note(&message);
-    Some(message)
+    outbox.note(message);
+    Some(*message)
 }
 
 // Sends what a part sends, if anything, and answers what it did.
-fn answered(is_core: bool, outbox: &mut Outbox, reaction: Reaction) -> Answer<Message>
-    requires { (places : ℕ) × IsTrue (finds_places is_core outbox.old places (sent_in reaction)) }
-    ensures answer { result ≡ (reaction_answer is_core outbox.old reaction).0 }
-    ensures sent { outbox.new ≡ (reaction_answer is_core outbox.old reaction).1 }
+fn answered(is_core: bool, outbox: &mut Outbox, reaction: &Reaction) -> Answer<Message>
+    requires { (places : ℕ) × IsTrue (finds_places is_core outbox.old places (sent_in reaction.now)) }
+    ensures answer { result ≡ (reaction_answer is_core outbox.old reaction.now).0 }
+    ensures sent { outbox.new ≡ (reaction_answer is_core outbox.old reaction.now).1 }
 {
     match reaction {
         Reaction::Done(None) => Answer::Delivered(None),
@@ -130,7 +130,7 @@ pub(crate) fn react<P: Part>(
         return Answer::Refused(Refusal::Full);
     }
     match part.deliver(message) {
-        Ok(reaction) => answered(is_core, outbox, reaction),
+        Ok(reaction) => answered(is_core, outbox, &reaction),
         Err(PartError::Exhausted) => Answer::Refused(Refusal::Exhausted),
         Err(PartError::NoMemory) => Answer::Refused(Refusal::NoMemory),
     }

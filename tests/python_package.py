@@ -25,7 +25,7 @@ from reference.texts import examples_of, is_answer  # noqa: E402
 from tardis.options import Options  # noqa: E402
 
 OF_MACHINES = "lease, time, banks, sets, ways, bank_sets, bank_ways, line_words, messages, private_write"
-OF_TRACES = f"records, {OF_MACHINES}, schedule, fair, seed, limit"
+OF_RUNS = f"json, {OF_MACHINES}, schedule, fair, seed, limit"
 STORE_BUFFERING = TOP / "examples/litmus/SB.litmus"
 
 
@@ -534,8 +534,8 @@ def faults(is_proved):
         except kind as error:
             if line is not None and (error.line != line or f" {line}: {error.kind}" not in str(error)):
                 fail(f"{error}: line {error.line}, not {line}, and {error.kind}")
-    for name, make, more in (("trace", lambda: tardis.trace("", runs=2), OF_TRACES),
-                             ("litmus", lambda: tardis.litmus("", records=True), f"{OF_TRACES[9:]}, runs")):
+    for name, make, more in (("trace", lambda: tardis.trace("", runs=2), f"records, counts, every, {OF_RUNS}"),
+                             ("litmus", lambda: tardis.litmus("", records=True), f"{OF_RUNS}, runs")):
         told = str(refuses(TypeError, make, f"an option that {name} hasn't"))
         if told != f"{name} has no option {'runs' if name == 'trace' else 'records'!r}: it takes {more}":
             fail(f"an option that {name} hasn't: {told}")

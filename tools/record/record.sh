@@ -36,6 +36,12 @@ for file in $files; do
         ;;
     esac
     $compile -O1 "-I$here" $compiled -fsanitize=thread -c "$file" -o "$work/$number.o" || exit
+    # For a copy or a fill of memory clang calls the C library, which records nothing.
+    case $($compile --version) in *clang*)
+        objcopy --redefine-sym memcpy=__tsan_memcpy --redefine-sym memmove=__tsan_memmove \
+            --redefine-sym memset=__tsan_memset "$work/$number.o" || exit
+        ;;
+    esac
 done
 "$cc" -std=gnu11 -O2 -Wall -Wextra -c "$here/recorder.c" -o "$work/recorder.o" &&
     # shellcheck disable=SC2086

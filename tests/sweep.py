@@ -391,14 +391,14 @@ def points_in_parts(tester):
 
 def told_apart(tester):
     """A program whose counts aren't those of its report, or that prints none, makes the row fail."""
-    program = Path("other")
+    program = Path("changed")
     for number, (change, said) in enumerate((("s/ loads 4/ loads 5/", "the program's counts differ from its report"),
                                              ("s/^renewals 0/renewals 1/", "the program's counts differ from its "
-                                              "report"), ("/^events/,$d", "./other ended with status 0, without "
+                                              "report"), ("/^events/,$d", "./changed ended with status 0, without "
                                                           "counts"))):
         program.write_text(f"#!/bin/sh\n'{os.environ['TARDIS']}' \"$@\" | sed '{change}'\n")
         program.chmod(0o755)
-        rows = tester.sweep("--counts", "--program", "./other", "--csv", f"other{number}.csv", "loads.trace", status=1,
+        rows = tester.sweep("--counts", "--program", "./changed", "--csv", f"other{number}.csv", "loads.trace", status=1,
                             made=1, rows=1, failed=1, table=f"other{number}.csv")
         tester.expect(rows[0]["failed"] == said, f"{change}: {rows}")
 

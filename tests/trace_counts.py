@@ -55,7 +55,10 @@ SEEN = {
     "a copy that is recalled": ["cold 1 recalled 1 held 1", "cold 1", "held 8"],
     "a renewal with new words": ["cold 2", "cold 1 ended 1 reloads 1", "held 6"],
     "copies that are evicted": ["cold 2 evicted 1 returns 1", "held 4"],
+    "a line that another core lost": ["cold 2", "cold 2", "held 8"],
 }
+# A recall finds that its owner has given the line back.
+DROPPED = {"a recall that is dropped": 1}
 # More runs by hand, as those of tests/counts.py.
 OWN = {
     # Core 1's request waits for the first store, which is then recalled; core 0 loads the line again in round 7.
@@ -73,6 +76,11 @@ OWN = {
         "0 W 0x0 1\n0 R 0x8\n0 R 0x0\n", "--sets 1 --ways 1", "all-done 15 39",
         "loads 2 2; stores 1 1; misses 3 3; evicted-copies 2 2; last-time 1 1; ShReq 2 2 2; ExReq 1 1 1; ShRep 2 2 2; "
         "ExRep 1 1 1; FlushRep 1 1 1; DramLd 2 0 2; DramLdRep 2 0 2"),
+    # Core 1 gives up line 0. Then core 0 loads line 2 ^ 32, which it never had.
+    "a line that another core lost": (
+        "1 R 0x0\n1 R 0x8\n" + "0 R 0x10\n" * 12 + "0 R 0x800000000\n", "--sets 1 --ways 1", "all-done 23 82",
+        "loads 15 13 2; hits 11 11 0; misses 4 2 2; evicted-copies 2 1 1; ShReq 4 2 2 4; ShRep 4 2 2 4; "
+        "DramLd 4 0 0 4; DramLdRep 4 0 0 4"),
 }
 ZEROS = "evictions 0 returns 0 reloads 0 held"
 # By hand, each with `--every`: what stands behind the report, row by row. The lines at the end are those of the last
@@ -194,6 +202,7 @@ def by_hand(tester, folder):
         good = (status, error) == (int(end != ["all-done"]), "") and found.is_whole and found.adds_up()
         tester.expect(good and f"\nend {end[0]}\n" in out, f"{name}: {status} {error}{out}")
         tester.expect(found.run["events"] == int(wanted.pop("events")[0]), f"{name}: {found.run}, wanted {ended}")
+        tester.expect(found.run["dropped"] == DROPPED.get(name, 0), f"{name}: {found.run}")
         kept = {row: wanted[row] for row in wanted if row not in UNTOLD and not row.endswith("-delivered")}
         tester.expect(found.rows() == kept, f"{name}: {found.rows()}, wanted {kept}")
         tester.expect(found.seen() == [numbers_of(told.split()) for told in seen],

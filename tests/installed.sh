@@ -89,11 +89,12 @@ if has pkg-config "its file"; then
 fi
 if has cmake "its file"; then
     # As two parts of one project find it.
-    printf '%s\n' 'cmake_minimum_required(VERSION 3.13)' 'project(tried C CXX)' 'find_package(tardis 0.1 REQUIRED)' \
+    printf '%s\n' 'cmake_minimum_required(VERSION 3.13)' 'project(tried C CXX)' 'find_package(tardis 0.2 REQUIRED)' \
         "add_executable(by_cmake $embed/check.c)" 'target_link_libraries(by_cmake tardis::tardis)' \
         "find_package(tardis ${version#tardis } EXACT REQUIRED)" 'set(CMAKE_CXX_STANDARD 17)' \
         "add_executable(in_cpp $embed/tardis.cpp)" 'target_link_libraries(in_cpp tardis::tardis)' \
         'find_package(tardis 9.9 QUIET)' 'if(tardis_FOUND)' 'message(FATAL_ERROR "version 9.9 is found")' 'endif()' \
+        'find_package(tardis 0.1 QUIET)' 'if(tardis_FOUND)' 'message(FATAL_ERROR "version 0.1 is found")' 'endif()' \
         >"$work/CMakeLists.txt"
     { cmake -S "$work" -B "$work/cmake" -DCMAKE_PREFIX_PATH="$prefix" && cmake --build "$work/cmake"; } \
         >"$work/said" 2>&1 || fail "$(cat "$work/said")"

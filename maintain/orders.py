@@ -27,7 +27,7 @@ from tools.orders.problem import Problem  # noqa: E402
 OPERATIONS, CORES = 600, 3
 WORDS, VALUES = range(2, 9), range(2, 5)
 PROMISED = 1.0  # seconds
-SECONDS = 60    # after which a history isn't decided
+SECONDS = 600   # after which a history isn't decided: a busy machine may give it little of them
 
 
 def drawn(seed, wrong):

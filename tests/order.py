@@ -26,10 +26,11 @@ from tests.texts import TOP, Tester  # noqa: E402
 from tools.mesi import Machine  # noqa: E402
 from tools.number import numbered  # noqa: E402
 from tools.order import confirmed  # noqa: E402
-from tools.orders import search, solver, witness  # noqa: E402
+from tools.orders import layers, reasons, search, solver, witness  # noqa: E402
 from tools.orders.answer import answer  # noqa: E402
 from tools.orders.forced import Forced, NoOrder, TimeUp  # noqa: E402
 from tools.orders.history import Operation, read_history, words_of  # noqa: E402
+from tools.orders.least import Stuck  # noqa: E402
 from tools.orders.problem import Problem  # noqa: E402
 
 TOOL = TOP / "tools/order.py"
@@ -37,6 +38,7 @@ EXAMPLES = TOP / "examples/histories"
 SECONDS = 20
 ORDERS = 600  # drawn histories that have an order
 BRANCHES = 4000  # of the search on 600 operations
+SLOW = [(3, 2, 253), (2, 3, 91)]
 HARD = [(4, 2, 149), (2, 3, 427), (2, 2, 525), (2, 2, 546)]
 
 
@@ -47,8 +49,9 @@ def programs_of(operations):
     return list(cores.values())
 
 
-def has_listed_order(operations, real_time=False):
-    """By all interleavings of the cores on one memory, up to the first value that doesn't fit."""
+def has_listed_order(operations, real_time=False, ends=()):
+    """By all interleavings of the cores on one memory, up to the first value that doesn't fit. It is enough to come to
+    the end of one of the cores in `ends`."""
     cores = programs_of(operations)
 
     def ends_before(place, done):
@@ -57,7 +60,8 @@ def has_listed_order(operations, real_time=False):
             other.end is not None and other.end < start and at not in done for at, other in enumerate(operations))
 
     def goes_on(at, memory, done):
-        if len(done) == len(operations):
+        if len(done) == len(operations) or any(
+                places[-1] in done for places in cores if operations[places[0]].core in ends):
             return True
         for number, places in enumerate(cores):
             if at[number] == len(places) or ends_before(places[at[number]], done):
@@ -300,13 +304,20 @@ def read_holds(operations, first, facts):
 
 
 def set_holds(operations, lines):
+    """What is left out is no source of what is kept, unless it is behind the last one of a core that is named."""
+    ends = set(map(int, re.findall(r"\d+", lines[0].partition("the last one of core ")[2])))
     kept = {int(re.match(r"  line (\d+)", line)[1]) for line in lines[1:]}
     part = [operation for operation in operations if operation.line in kept]
-    received = {(operation.address, operation.received) for operation in part}
-    may_go = [one for one in part if one.written is None or not any(
-        other is not one and (other.address, other.received) == (one.address, one.written) for other in part)]
-    return "none can be left out" in lines[0] and not has_listed_order(part) and len(received) > 0 and all(
-        has_listed_order([other for other in part if other is not one]) for one in may_go)
+
+    def may_go(one, rest):
+        last = max((other.line for other in rest if other.core == one.core), default=0)
+        return one.core in ends and one.line > last or one.written is None or not any(
+            (other.address, other.received) == (one.address, one.written) for other in rest)
+    rests = [(one, [other for other in part if other is not one]) for one in part]
+    return "none can be left out" in lines[0] and not has_listed_order(part, ends=ends) and \
+        all(one in part or may_go(one, part) for one in operations) and all(
+            has_listed_order(rest, ends=ends) for one, rest in rests
+            if may_go(one, rest) and ends <= {other.core for other in rest})
 
 
 def draws(tester, count):
@@ -321,9 +332,25 @@ def draws(tester, count):
             if left[has_order]:
                 left[has_order] -= 1
                 tester.agrees(operations, has_order, model=model, real_time=real_time)
+                looks_at_all(tester, operations, has_order, model, real_time)
                 if solver.is_installed() and count <= 1000:
                     asks(tester, operations, has_order, model, real_time)
     search.FIRST_BRANCHES = usual
+
+
+def looks_at_all(tester, operations, has_order, model="sc", real_time=False):
+    """Layers, where they fit, know the same, and what they can't perform has no order."""
+    problem = Problem(operations, model, real_time)
+    if layers.fits(problem):
+        found = layers.Layers(problem).run()
+        tester.expect((found is not None) == has_order, f"layers: {found} of {text_of(operations)}")
+        if found:
+            tester.confirms(operations, found)
+        else:
+            stuck = Stuck(operations, {}, float("inf"))
+            kept = Problem([operations[node] for node in stuck.nodes])
+            lines = list(reasons.lines_of_set(kept, stuck.is_least, stuck.cores))
+            tester.expect(set_holds(operations, lines), f"{lines} of {text_of(operations)}")
 
 
 def asks(tester, operations, has_order, model, real_time):
@@ -481,6 +508,10 @@ TOLD = [
     ("0 W 0x0 1\n0 R 0x0 0\n", ["--model", "tso"], [
         f"  1: line 2 sees line 1, its own core's store before it {tso.NOT_PROVED}",
         f"  2: line 2 didn't receive the opening value: line 1 had overwritten it, by 1 {tso.NOT_PROVED}"]),
+    # Each of three cores received what the others write behind that: no ring, since two of them may be meant.
+    ("0 R 0x0 1\n0 W 0x0 1\n1 R 0x0 1\n1 W 0x0 1\n2 R 0x0 1\n2 W 0x0 1\n", [], [
+        "not consistent: no order of these 3 operations gets to the last one of core 0, 1 or 2, and none can be left "
+        "out:", *(f"  line {2 * core + 1} (core {core}'s load of 0x0, which received 1)" for core in range(3))]),
     ("0 W 0x0 1\n0 R 0x8 6\n1 W 0x8 1\n1 R 0x0 5\n", ["--model", "tso", "--opening", "OPENING"], [
         f"consistent: checked by reference/tso.py {tso.NOT_PROVED}"]),
     ("0 W 0x0 1\n0 R 0x8 0\n", ["--model", "tso", "--opening", "OPENING"], [
@@ -585,7 +616,8 @@ def drawn_orders(tester):
 
 def branches(tester):
     """Of three cores' 600 operations an order is found in few branches, though few values are repeated. The last four
-    are some on which a search that tries first what stands first takes 6,700 to 12,700 branches."""
+    are some on which a search that tries first what stands first takes 6,700 to 12,700 branches. Those in SLOW take
+    more branches than layers take time for."""
     for words, values, seed in [(6, 2, seed) for seed in range(1, 5)] + [(2, 4, seed) for seed in range(1, 5)] + HARD:
         problem = Problem(read_history(drawn_text(600, 3, words, values, seed)))
         looked = search.Search(problem, Forced(problem), time.monotonic() + SECONDS)
@@ -595,6 +627,12 @@ def branches(tester):
             is_found = False
         tester.expect(is_found and looked.states <= BRANCHES,
                       f"600 on {words} words, {values} values, drawn by the seed {seed}: {looked.states} branches")
+    for words, values, seed in SLOW:
+        operations = read_history(drawn_text(600, 3, words, values, seed))
+        looks_at_all(tester, operations, True)
+        start = time.process_time()
+        tester.agrees(operations, True)
+        tester.expect(time.process_time() - start < 5, f"600 on {words} words, drawn by the seed {seed}: too slow")
 
 
 def sizes(tester, is_large):

@@ -4,10 +4,11 @@ import time
 from tools.orders import reasons
 from tools.orders.find import find
 from tools.orders.forced import Forced, NoOrder, TimeUp
-from tools.orders.least import Least
+from tools.orders.layers import fits
+from tools.orders.least import Least, Stuck
 from tools.orders.problem import Problem
 
-LEAST_SECONDS = 5  # for leaving out operations
+LEAST_SECONDS = 5  # for leaving out operations; with layers, of processor time
 
 
 class Answer:
@@ -28,7 +29,7 @@ def answer(operations, seconds, model="sc", real_time=False, opening=None):
     except TimeUp as up:
         return Answer(lines=[f"not decided after {seconds:g} s: {up.reached}"], is_known=False)
     if order is None:
-        return Answer(lines=least(operations, settings, time.monotonic() + LEAST_SECONDS))
+        return Answer(lines=least(operations, settings))
     return Answer(order=order)
 
 
@@ -44,12 +45,15 @@ def lines_of(problem, none):
     return reasons.lines_of_ring(problem, none.forced, none.ring)
 
 
-def least(operations, settings, deadline):
-    """What to say of a history of which only a search knows that it has no order."""
-    found = Least(operations, settings, deadline)
-    problem = Problem([operations[node] for node in found.nodes], **settings)
+def least(operations, settings):
+    """What to say of a history of which only a search knows that it has no order. Facts of a part come first."""
+    stuck = Stuck(operations, settings, time.process_time() + LEAST_SECONDS) if fits(Problem(operations, **settings)) \
+        else None
+    found = stuck if stuck and stuck.cores else Least(operations, settings, time.monotonic() + LEAST_SECONDS)
+    part = Problem([operations[node] for node in (found.sources() if found is stuck else found.nodes)], **settings)
     try:
-        Forced(problem)
+        Forced(part)
     except NoOrder as none:
-        return lines_of(problem, none)
-    return reasons.lines_of_set(problem, problem.nodes, found.is_least)
+        return lines_of(part, none)
+    kept = Problem([operations[node] for node in found.nodes], **settings)
+    return reasons.lines_of_set(kept, found.is_least, stuck.cores if found is stuck else ())

@@ -22,11 +22,13 @@ class Edge:
 
 class Problem:
     """`chains`: lists of nodes; `chain`, `place`: where each node is; `edges[a][b]`: an `Edge` from a to b, beyond the
-    chains; `own[r]`: of a load under total store order, the last store of its word before it on its core."""
+    chains; `is_plain`: from the start there is none; `own[r]`: of a load under total store order, the last store of its
+    word before it on its core."""
 
     def __init__(self, operations, model="sc", real_time=False, opening=None):
         self.operations, self.model, self.opening = operations, model, opening or {}
-        if model == "sc" and not real_time:
+        self.is_plain = model == "sc" and not real_time
+        if self.is_plain:
             self.nodes = [node for node, operation in enumerate(operations) if operation.kind != FENCE]
         else:
             self.nodes = list(range(len(operations)))

@@ -180,11 +180,14 @@ def lines_of_read(problem, forced, read):
     yield from (f"  {fact}" for fact in proof.facts)
 
 
-def lines_of_set(problem, nodes, is_least):
-    """Operations that no order joins, though no ring shows it."""
-    yield (f"not consistent: no order of these {len(nodes)} operations explains what they received"
+def lines_of_set(problem, is_least, cores):
+    """Operations that no order joins, though no ring shows it; with layers, up to the last one of any of some cores."""
+    numbers = list(map(str, sorted(cores)))
+    named = " or ".join(filter(None, (", ".join(numbers[:-1]), *numbers[-1:])))
+    said = f"gets to the last one of core {named}" if cores else "explains what they received"
+    yield (f"not consistent: no order of these {len(problem.nodes)} operations {said}"
            + (", and none can be left out:" if is_least else "; perhaps fewer would do:"))
-    by_core = sorted(nodes, key=lambda node: (problem.operations[node].core, problem.operations[node].line))
+    by_core = sorted(problem.nodes, key=lambda node: (problem.operations[node].core, problem.operations[node].line))
     yield from (f"  {problem.operations[node].told()}" for node in by_core[:MOST_TOLD])
-    if len(nodes) > MOST_TOLD:
-        yield f"  and {len(nodes) - MOST_TOLD} more"
+    if len(by_core) > MOST_TOLD:
+        yield f"  and {len(by_core) - MOST_TOLD} more"

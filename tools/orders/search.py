@@ -19,8 +19,9 @@ from tools.orders.forced import TimeUp
 from tools.orders.history import FENCE
 
 
-FIRST_BRANCHES = 10  # of the first try and the second, for each operation; twice as many of the next two, and so on
+FIRST_BRANCHES = 4   # of the first try and the second, for each operation; twice as many of the next two, and so on
 AHEAD = 40           # operations of a chain that `halts` looks at
+CLOCK = 32           # of so many steps, one looks at the clock: that is a call of the system
 LEAST_RANK = 0.01    # undrawn ranks stay below
 FREE, ASLEEP, WATCHED = range(3)  # of a chain: how the write that it stands before is to be tried
 
@@ -47,7 +48,7 @@ class Search:
         self.tries, self.last_branch = 0, FIRST_BRANCHES * len(problem.nodes)
         # Of each state on the way: how much was performed, what is to be tried yet, and the state.
         self.order, self.undo, self.frames = [], [], []
-        self.dead, self.states, self.most = set(), 0, 0
+        self.dead, self.states, self.most, self.rounds, self.most_states = set(), 0, 0, 0, float("inf")
         # Each chain's mark, and the words, as bits, that a read must use next. A store's own core may see it early.
         self.marks, self.owed, self.can_sleep = [FREE] * self.count, 0, problem.model == "sc"
 
@@ -247,7 +248,9 @@ class Search:
         asked whether the state is known, or halts: the next one with more tells as much."""
         count, frames = len(self.problem.nodes), self.frames
         while True:
-            self.look_at_clock()
+            if self.rounds % CLOCK == 0:
+                self.look_at_clock()
+            self.rounds += 1
             choices = self.choices(self.perform_loads())
             self.most = max(self.most, len(self.order))
             if len(self.order) == count:
@@ -290,7 +293,7 @@ class Search:
         self.rank = {node: draw.random() for node in self.ranks} if self.tries % 2 else self.ranks
 
     def look_at_clock(self):
-        if time.monotonic() > self.deadline or time.process_time() > self.until:
+        if self.states > self.most_states or time.monotonic() > self.deadline or time.process_time() > self.until:
             raise TimeUp(f"{self.most} of {len(self.problem.nodes)} operations could be put in an order, after "
                          f"{self.states} branches")
 

@@ -2,6 +2,7 @@
 """Changes one place of the Python that users run, and asks the gate: tests/mutants.py [options] PROGRAM EVENTS SEATS.
 tests/mutants.py --self-test tries the script itself, without programs.
 tests/mutants.py --source [options] changes the proved code, and asks the prover: --source --help says more.
+tests/mutants.py --binary [options] changes the compiled code, and asks the gate's scripts: --binary --help says more.
 
 A mutant is a file of tools/, reference/ or python/ with one change: a comparison turned round or off by one, another
 operator, `and` for `or`, no `not`, a number one more, a test always true or always false, a statement or the bound of a
@@ -18,17 +19,13 @@ Which mutants are tried depends on the seed and on what is committed.
 import argparse
 import ast
 import copy
-import json
 import os
 import queue
 import random
 import re
 import shlex
-import shutil
-import subprocess
 import sys
 import tempfile
-import threading
 import time
 from collections import Counter
 from concurrent.futures import ThreadPoolExecutor
@@ -37,10 +34,11 @@ from pathlib import Path
 
 TOP = Path(__file__).resolve().parent.parent
 sys.path.insert(0, str(TOP))
-from tests import source_mutants  # noqa: E402
+from tests import binary_mutants, source_mutants  # noqa: E402
+from tests.rooms import Kept, Room  # noqa: E402
 
 TABLE = TOP / "tests/mutants.table"
-CRATES = {"program": "tardis", "events": "play_events", "seats": "play_seats"}
+PROGRAMS = ("PROGRAM", "EVENTS", "SEATS")
 FOLDERS = ("tools", "reference", "python")
 # Scripts that try no Python that users run, or need a library.
 LEFT_OUT = re.compile(r"costs|refusals|slurm|embed|recursion|sentences|documents|literals|memory|grammar|header|reached"
@@ -119,28 +117,18 @@ def mutant(text, index):
     return (None if ast.dump(ast.parse(changed)) == ast.dump(tree) else changed), place.lineno, told
 
 
-def committed(*words):
-    return subprocess.run(["git", *words], cwd=TOP, stdout=subprocess.PIPE, check=True).stdout
-
-
 def excused(table):
     """What may survive, as (file, change), by the text of the table."""
     rows = [line.split(" | ", 1) for line in table.splitlines() if not line.startswith("#")]
     return {(file, rest.rpartition(" | ")[0]) for file, rest in rows}
 
 
-class Room:
-    """A copy of what is committed, in which scripts are run."""
+class Tools(Room):
+    """A room in which files of Python are changed."""
 
     def __init__(self, folder, options):
-        self.folder, self.written = Path(folder), 0
-        subprocess.run(["tar", "-x", "-C", folder], input=committed("archive", "HEAD"), check=True)
-        self.environment = os.environ.copy()
-        for name, crate in CRATES.items():
-            built = self.folder / f"crates/{crate}/out/{crate}"
-            built.parent.mkdir(parents=True)
-            shutil.copy(getattr(options, name.upper()), built)
-            self.environment["tardis" if name == "program" else name] = str(built)
+        super().__init__(folder, {"tardis": options.PROGRAM, "events": options.EVENTS, "seats": options.SEATS})
+        self.written = 0
 
     def sites(self):
         """What each mutant is kept by: its file, a sum of that file, and the index of its change."""
@@ -149,26 +137,12 @@ class Room:
             key = "mutant", file, sha256(text.encode()).hexdigest()
             yield from ((*key, index) for index, _ in enumerate(changes(ast.parse(text))))
 
-    def scripts(self):
+    def asked(self):
         """The gate's commands that are asked."""
-        text = (self.folder / ".ci/run").read_text(encoding="utf-8")
-        return [line for line in re.search(r"<<'END'.*?\n(.*?)\nEND\n", text, re.S)[1].splitlines()
-                if not LEFT_OUT.search(line)]
+        return self.scripts(LEFT_OUT)
 
     def names(self, script, file):
         return Path(file).stem in (self.folder / shlex.split(script)[0]).read_text(encoding="utf-8")
-
-    def fails(self, script, seconds):
-        """Why the script doesn't pass; None if it does."""
-        running = subprocess.Popen(["sh", "-c", script], cwd=self.folder, env=self.environment, start_new_session=True,
-                                   stdin=subprocess.DEVNULL, stdout=subprocess.DEVNULL, stderr=subprocess.DEVNULL)
-        try:
-            status = running.wait(seconds)
-        except subprocess.TimeoutExpired:
-            os.killpg(running.pid, 9)
-            running.wait()
-            return f"{seconds:.0f} seconds"
-        return f"status {status}" if status else None
 
     def refused_by(self, file, text, times):
         """The first script that doesn't pass with this text of the file, and why; None if all do."""
@@ -188,22 +162,6 @@ class Room:
             os.utime(place, (was, was))
 
 
-class Kept:
-    """What was tried, in a file of a line each: how long the scripts take, and what became of each mutant. A line has
-    the commit's tree, what was tried, and None where a script failed without a change or a mutant survived."""
-
-    def __init__(self, path, named=False):
-        self.path, self.lock = path, threading.Lock()
-        self.tree = committed("rev-parse", "HEAD^{tree}").decode().strip() + " named" * named
-        lines = map(json.loads, path.read_text(encoding="utf-8").splitlines() if path.exists() else ())
-        self.told = {tuple(key): said for tree, key, said in lines if tree == self.tree or said is not None}
-
-    def tell(self, key, said):
-        with self.lock, self.path.open("a", encoding="utf-8") as file:
-            self.told[key] = said
-            file.write(json.dumps([self.tree, key, said]) + "\n")
-
-
 def timed(room, scripts, kept):
     """Those of the scripts that pass without a change, with the seconds that each takes."""
     for script in scripts:
@@ -221,8 +179,8 @@ def tried(room, file, index, kept, named):
     text, _, _ = mutant((room.folder / file).read_text(encoding="utf-8"), index)
     if text is None:
         return "the same"
-    first = [script for script in room.scripts() if room.names(script, file)]
-    others = [] if named else [script for script in room.scripts() if script not in first]
+    first = [script for script in room.asked() if room.names(script, file)]
+    others = [] if named else [script for script in room.asked() if script not in first]
     return next(filter(None, (room.refused_by(file, text, timed(room, of, kept)) for of in (first, others))), None)
 
 
@@ -280,10 +238,11 @@ def self_test():
         yield from self_test_of_rooms(folder)
         yield from self_test_of_files(Path(folder, "kept"))
     yield from source_mutants.self_test()
+    yield from binary_mutants.self_test()
 
 
 def self_test_of_rooms(folder):
-    room = Room(folder, argparse.Namespace(PROGRAM=__file__, EVENTS=__file__, SEATS=__file__))
+    room = Tools(folder, argparse.Namespace(PROGRAM=__file__, EVENTS=__file__, SEATS=__file__))
     own, script = "reference/given.py", "tools/merge.py --self-test"
     before = (room.folder / own).read_text(encoding="utf-8")
     other = before.replace("def tool(main)", "def tool(niam)")  # as long
@@ -307,8 +266,8 @@ def self_test_of_files(path):
 
 def parsed():
     parser = argparse.ArgumentParser(description=__doc__, formatter_class=argparse.RawDescriptionHelpFormatter)
-    for name in CRATES:
-        parser.add_argument(name.upper())
+    for name in PROGRAMS:
+        parser.add_argument(name)
     parser.add_argument("--sample", type=int, default=1000, metavar="N", help="how many mutants (1000)")
     parser.add_argument("--seed", type=int, default=1, metavar="N", help="what draws them (1)")
     parser.add_argument("--only", default="", metavar="FILE", help="only of files whose path has these letters")
@@ -321,6 +280,8 @@ def parsed():
 def main():
     if sys.argv[1:2] == ["--source"]:
         return source_mutants.main(sys.argv[2:])
+    if sys.argv[1:2] == ["--binary"]:
+        return binary_mutants.main(sys.argv[2:])
     if sys.argv[1:] == ["--self-test"]:
         wrong = list(self_test())
         print("\n".join([*wrong, f"{len(wrong)} wrong"]))
@@ -330,8 +291,7 @@ def main():
     with tempfile.TemporaryDirectory() as folder:
         rooms = []
         for number in range(options.jobs):
-            Path(folder, str(number)).mkdir()
-            rooms.append(Room(f"{folder}/{number}", options))
+            rooms.append(Tools(f"{folder}/{number}", options))
         places = [key for key in rooms[0].sites() if options.only in key[1]]
         drawn = random.Random(options.seed).sample(places, min(options.sample, len(places)))
         for key in drawn:

@@ -15,6 +15,8 @@ name=tardis-proved by="${DEBFULLNAME:-Tardis proved} <${DEBEMAIL:-packager@examp
 version=$(sed -n 's/^Version: //p' usr/lib/pkgconfig/tardis.pc)
 architecture=$(dpkg --print-architecture)
 
+# The system finds the library itself, and a package's programs are to have no path of their own.
+sed -i 's/ -Wl,-rpath,[^ ]*//' usr/lib/pkgconfig/tardis.pc || exit 1
 strip --strip-unneeded usr/bin/* usr/lib/libtardis.so && strip --strip-debug usr/lib/libtardis.a || exit 1
 gzip -9n usr/share/man/man1/*.1 || exit 1
 about=usr/share/doc/$name

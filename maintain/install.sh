@@ -4,7 +4,8 @@
 # Python package loads, too), its headers, files for pkg-config and CMake, two pages for man, and completions for bash,
 # zsh and fish.
 # `./tardis`, `./play` and `tests/embed.sh --build` build what is needed; this builds nothing, and needs rt, gcc and ar.
-# No file names PREFIX, so the folder can be moved. maintain/deb.sh makes a Debian package of it.
+# No file names PREFIX, so the folder can be moved; a program that was linked before looks for the shared library where
+# it was. maintain/deb.sh makes a Debian package of it.
 case ${1-} in '' | -*) exec sed -n '2,/^[^#]/s/^# \{0,1\}//p' "$0" ;; esac
 top=$(CDPATH='' cd -- "$(dirname -- "$0")/.." && pwd) || exit 1
 tardis=${tardis:-$top/crates/tardis/out/tardis} events=${events:-$top/crates/play_events/out/play_events}
@@ -36,7 +37,7 @@ Name: tardis
 Description: The proved simulator of the Tardis coherence protocol and its checker of histories
 Version: $version
 Cflags: -I\${prefix}/include
-Libs: -L\${prefix}/lib -ltardis
+Libs: -L\${prefix}/lib -Wl,-rpath,\${prefix}/lib -ltardis
 END
 cat >lib/cmake/tardis/tardis-config.cmake <<'END'
 get_filename_component(tardis_prefix "${CMAKE_CURRENT_LIST_DIR}/../../.." ABSOLUTE)

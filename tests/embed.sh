@@ -48,6 +48,7 @@ strict="-O1 -Wall -Wextra -Werror -I$crate"
     gcc -std=c11 -pedantic $strict -o "$work/history_c" "$embed/history.c" $library &&
     g++ -std=c++17 -pedantic $strict -o "$work/history_cpp" "$embed/history.cpp" $library &&
     g++ -std=c++17 -pedantic $strict -o "$work/tardis" "$embed/tardis.cpp" $library &&
+    g++ -std=c++17 -pedantic $strict -o "$work/views" "$embed/views.cpp" $library &&
     g++ -std=c++17 -pedantic $strict -Wl,--wrap=tardis_c_trace -o "$work/reports" "$top/tests/reports.cpp" $library
 } || exit 1
 
@@ -86,6 +87,31 @@ silent directory 0
 silent directory 0 completion
 silent tardis litmus "$top/examples/litmus/SB.litmus"
 silent tardis trace --records "$top/examples/traces/MIGRATORY.trace"
+
+# Reports without copies, and what is thrown, next to those of the second program.
+viewed() {
+    silent views "$@"
+    diff "$work/wanted" "$work/said" || { echo "embed.sh: views $*"; exit 1; }
+}
+for name in SB IRIW; do
+    "$top/reference/oracle.py" litmus --schedule seed --runs 300 "$top/examples/litmus/$name.litmus" | awk '
+        /^[0-9]/ { for (at = 2; at <= NF; at++) met[$at] += $1 }
+        END { for (value in met) print value ": " met[value] }' | LC_ALL=C sort >"$work/wanted"
+    viewed litmus "$top/examples/litmus/$name.litmus"
+done
+for name in MIGRATORY SWAP-LOCK FALSE-SHARING; do
+    "$top/reference/oracle.py" trace --records "$top/examples/traces/$name.trace" | awk '
+        { all[$1]++; wrote[$1] += $3 != "R"; time[$1] = $(NF - 1) }
+        END {
+            for (core in all)
+                print "core " core ": " all[core] " completed, " wrote[core] " wrote, time " time[core]
+        }
+        ' | sort -k 2n >"$work/wanted"
+    viewed trace "$top/examples/traces/$name.trace"
+done
+"$top/reference/oracle.py" litmus "$top/README.md" 2>"$work/wanted"
+viewed litmus "$top/README.md"
+[ "$status" = 2 ] || { echo "embed.sh: views of no litmus test: status $status"; exit 1; }
 
 # The program in C++ that docs/USES.md shows, by the lines that it shows, prints what it shows.
 ln -s "$top/crates" "$work/crates"

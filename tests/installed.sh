@@ -19,6 +19,7 @@ prefix=$work/package/usr
 if has dpkg-deb "the Debian package"; then
     "$top/maintain/deb.sh" "$work" 2>"$work/said" || fail "$(cat "$work/said")"
     dpkg-deb --extract "$work"/tardis-proved_*.deb "$work/package" || exit 1
+    ! grep rpath "$prefix/lib/pkgconfig/tardis.pc" || fail "programs over the package have a path of their own"
     if has lintian "the package's form"; then
         lintian --allow-root --fail-on error "$work"/*.deb >"$work/said" 2>&1 || fail "$(cat "$work/said")"
     fi
@@ -86,10 +87,16 @@ if has pkg-config "its file"; then
     legal pkg-config "$work/by_pkg_config"
     said=$(pkg-config --modversion tardis)
     [ "$version" = "tardis $said" ] || fail "$version, and by pkg-config $said"
+    # In a folder of one's own it takes no variable of the environment, neither to build nor to run.
+    "$top/maintain/install.sh" "$work/own" || exit 1
+    # shellcheck disable=SC2046
+    env -u PKG_CONFIG_PATH pkg-config --cflags --libs "$work/own/lib/pkgconfig/tardis.pc" >"$work/words" &&
+        gcc -o "$work/by_path" "$embed/check.c" $(cat "$work/words") || exit 1
+    legal "pkg-config without variables" env -u LD_LIBRARY_PATH "$work/by_path"
 fi
 if has cmake "its file"; then
     # As two parts of one project find it.
-    printf '%s\n' 'cmake_minimum_required(VERSION 3.13)' 'project(tried C CXX)' 'find_package(tardis 0.2 REQUIRED)' \
+    printf '%s\n' 'cmake_minimum_required(VERSION 3.13)' 'project(tried C CXX)' 'find_package(tardis 0.3 REQUIRED)' \
         "add_executable(by_cmake $embed/check.c)" 'target_link_libraries(by_cmake tardis::tardis)' \
         "find_package(tardis ${version#tardis } EXACT REQUIRED)" 'set(CMAKE_CXX_STANDARD 17)' \
         "add_executable(in_cpp $embed/tardis.cpp)" 'target_link_libraries(in_cpp tardis::tardis)' \
@@ -103,7 +110,7 @@ if has cmake "its file"; then
 fi
 
 strict="-std=c++17 -pedantic -O1 -Wall -Wextra -Werror -I$prefix/include"
-for each in "$embed/latency.cpp" "$top/tests/machines.cpp"; do
+for each in "$embed/latency.cpp" "$top/tests/machines.cpp" "$top/tests/throws.cpp"; do
     # shellcheck disable=SC2086
     g++ $strict -o "$work/$(basename "$each" .cpp)" "$each" -L"$prefix/lib" -ltardis || exit 1
 done
@@ -134,4 +141,4 @@ done
 # Machines in C++ whose players live side by side, are interrupted or gone.
 printf '#!/bin/sh\nfor answer in opened "refused NoMemory"; do read -r _; echo "$answer"; done\n' >"$work/full"
 chmod +x "$work/full"
-"$work/machines" "$TARDIS_PLAYER" "$work/full"
+"$work/machines" "$TARDIS_PLAYER" "$work/full" && "$work/throws" "$TARDIS_PLAYER" "$work/full"

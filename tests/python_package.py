@@ -122,6 +122,7 @@ def machine():
         opened.attempt(1)
         if [message.number for message in opened] != [4, 5]:
             fail("the messages of a store and a load")
+        several(opened)
     refuses(tardis.TardisError, opened.in_flight, "a machine that its with closed")
     opened_with()
     for make, kind in ((lambda: tardis.Machine(cores=65), tardis.BadConfiguration),
@@ -132,6 +133,20 @@ def machine():
         except kind:
             pass
     return opened.is_proved
+
+
+def several(opened):
+    """Several events in one call: each answer in its parts. Core 1's load (m5) and core 0's store (m4) are out."""
+    came = opened.run("deliver m5", "deliver m9", "attempt 1")
+    if came != [tardis.Answer("started"), tardis.Answer("refused", "NoSuch"), tardis.Answer("waiting")]:
+        fail(f"three events in one call: {came}")
+    came = opened.run("deliver m6", "deliver m7", "deliver m5", "deliver m8", "attempt 1")
+    loaded = tardis.Record(1, 1, "R", 24, None, 0, 0, 1)
+    if [answer.record for answer in came] != [None] * 4 + [loaded] or opened.records(1) != [loaded]:
+        fail(f"the record of an event among others: {came}")
+    if tardis.answers_of("idle; completed 1 1 R 0x18 0 0 1") != [tardis.Answer("idle"), came[4]]:
+        fail("two answers in one line")
+    refuses(ValueError, opened.run, "no event")
 
 
 class Heard(tardis.Machine):
@@ -273,6 +288,8 @@ def runs(is_proved):
     if tardis.trace("0 W 0x8 7\n1 W 0x10 9\n").words != {8: 7, 16: 9}:
         fail("the words that a trace leaves")
     numbers(seeded)
+    if tardis.trace(trace.read_text(), seed=9) != tardis.trace(trace.read_text()):
+        fail("a seed by rounds, which is of no effect")
     for name in OPTIONS:
         trace = TOP / f"examples/traces/{name}.trace"
         if tardis.trace(trace.read_bytes(), **options_of(trace)).text != trace.with_suffix(".report").read_text():
@@ -280,6 +297,7 @@ def runs(is_proved):
     records = tardis.trace("0 W 0x8 7\n", records=True)
     if records != [tardis.Record(0, 0, "W", 8, 7, None, 1, 0)]:
         fail(f"records: {records}")
+    round_trips()
     cut_off()
     with warnings.catch_warnings(record=True) as told:
         warnings.simplefilter("always")
@@ -299,6 +317,26 @@ def runs(is_proved):
     faults(is_proved)
     ends(is_proved)
     histories(is_proved)
+
+
+def round_trips():
+    """Records as a text, by hand, and as the checker takes it; the text that a trace's records came from."""
+    records = tardis.Records([tardis.Record(1, 0, "R", 8, None, 2 ** 64 - 1, 4, 0),
+                              tardis.Record(0, 0, "W", 8, 0, None, 5, 2), tardis.Record(0, 1, "S", 0xab0, 0, 0, 5, 1)])
+    if records.text != f"1 0 R 0x8 {2 ** 64 - 1} 4 0\n0 0 W 0x8 0 5 2\n0 1 S 0xab0 0 0 5 1\n":
+        fail(f"records as a text: {records.text}")
+    if tardis.Records().text != "" or tardis.reports.records_of(records.text, "limit") != records:
+        fail("records from their text")
+    for name in ("SWAP-LOCK", "PAST"):
+        trace = (TOP / f"examples/traces/{name}.trace").read_text()
+        made = tardis.trace(trace, records=True)
+        kept = subprocess.run([sys.executable, TOP / "reference/oracle.py", "trace", "--records",
+                               TOP / f"examples/traces/{name}.trace"], capture_output=True, text=True, check=True)
+        if made.text != kept.stdout or tardis.check(trace, made.text, complete=True) != "legal":
+            fail(f"the records of {name} as a text")
+        moved = tardis.Records([made[0]._replace(number=len(made)), *made[1:]])
+        if tardis.check(trace, moved.text) != "bad number 0":
+            fail(f"records of {name} that lack a number")
 
 
 def numbers(seeded):
@@ -341,6 +379,12 @@ def counted():
     report, plain = tardis.trace("0 R 0x0\n", counts=True, every=1), tardis.trace("0 R 0x0\n")
     if (report.counts, report.rows) != (wanted, {1: wanted}) or (plain.counts, plain.rows) != (None, {}):
         fail(f"counts: {report.counts}, {report.rows}")
+    if not isinstance(report, tardis.CountedReport) or isinstance(plain, tardis.CountedReport):
+        fail("the kind of a report with counts")
+    columns = tardis.Counts(0, 0, 0, [{"loads": 1, "ShReq": 1}, {"loads": 0}], [{"held": 2}]).columns
+    wanted = {"core": [0, 1], "loads": [1, 0], "ShReq": [1, 0]}
+    if (columns(), columns("banks")) != (wanted, {"bank": [0], "held": [2]}):
+        fail(f"counts by columns: {columns()}, {columns('banks')}")
     report = tardis.trace("0 R 0x0\n0 R 0x0\n0 R 0x8\n", counts=True, every=2)
     if list(report.rows) != [2] or report.rows[2].cores[0]["loads"] != 2 or report.counts.cores[0]["loads"] != 3:
         fail(f"rows: {report.rows}, {report.counts}")
@@ -493,7 +537,11 @@ report: tardis.TraceReport = tardis.trace("0 R 0x0", lease=5)
 records: tardis.Records = tardis.trace("0 R 0x0", records=True)
 listed: list[tardis.End] = tardis.ends("").ends
 wrote: int | None = tardis.History({8: 5}).verdict().writer
-counted: tardis.Counts | None = tardis.trace("0 R 0x0", counts=True, every=2).counts
+counted: tardis.Counts = tardis.trace("0 R 0x0", counts=True, every=2).counts
+plain: tardis.Counts | None = tardis.trace("0 R 0x0").counts
+told: str = records.text
+columns: dict[str, list[int]] = counted.columns("banks")
+answered: tardis.Record | None = tardis.Machine().run("attempt 0")[0].record
 rows: dict[str, object] = tardis.trace("0 R 0x0", counts=True, json=True)["rows"]
 with tardis.Machine(cores=2) as machine:
     sent: tardis.Message | None = machine.message(0)
@@ -506,7 +554,8 @@ def typed():
         return print("python_package.py: no mypy, so type hints aren't tried", file=sys.stderr)
     with tempfile.TemporaryDirectory() as folder:
         caller = Path(folder, "caller.py")
-        for text, wanted in ((CALLER, 0), (CALLER.replace(": tardis.Records", ": tardis.TraceReport"), 1)):
+        for text, wanted in ((CALLER, 0), (CALLER.replace(": tardis.Records", ": tardis.TraceReport"), 1),
+                             (CALLER.replace("counts=True, every=2", "every=2"), 1)):
             caller.write_text(text)
             told = subprocess.run(["mypy", "--strict", f"--cache-dir={folder}/kept", caller], text=True,
                                   env=os.environ | {"MYPYPATH": str(TOP / "python")}, capture_output=True)

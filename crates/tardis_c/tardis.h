@@ -23,8 +23,8 @@
 extern "C" {
 #endif
 
-/* The version: 10000 for each major version, 100 for each minor one, 1 for each patch. So 200 is 0.2.0. */
-#define TARDIS_VERSION 200
+/* The version: 10000 for each major version, 100 for each minor one, 1 for each patch. So 300 is 0.3.0. */
+#define TARDIS_VERSION 300
 
 enum tardis_number {
     TARDIS_DONE = 0,         /* every run ended all done; the records are legal */

@@ -56,7 +56,7 @@ class Network {
             if (programs[core].empty()) return;
             const std::string step = programs[core].front();
             programs[core].pop();
-            const std::string said = machine.call(step[0] == 'A' ? "advance " + name : "issue " + name + ' ' + step);
+            const std::string said = step[0] == 'A' ? machine.advance(core) : machine.call("issue " + name + ' ' + step);
             is_refused |= said != "issued" && said != "advanced";
         }
         std::string answer = machine.attempt(core);
@@ -76,8 +76,7 @@ class Network {
         if (!message) return;  // the player is gone
         const std::string answer = machine.deliver(number);
         if (answer == "held" || answer == "started") {
-            const std::string room = machine.call("room m" + std::to_string(number));
-            if (room != "none") machine.call("evict " + room);
+            if (const auto room = machine.room(number)) machine.evict_entry(room->first, room->second);
             due.push({now + HOP, true, number});
         } else if (message->receiver.rfind("core ", 0) == 0) {
             due.push({now, false, std::stoull(message->receiver.substr(5))});

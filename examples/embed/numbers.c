@@ -109,7 +109,7 @@ static int trace(const char *text, const struct tardis_options *options, size_t 
 
 /* What a caller in another language, which has no header, writes for the header's names. */
 static void names(void) {
-    MUST(TARDIS_VERSION == 200 && tardis_version() == 200);
+    MUST(TARDIS_VERSION == 300 && tardis_version() == 300);
     MUST(TARDIS_DONE == 0 && TARDIS_NO_MEMORY == 3 && TARDIS_BAD_TEST == 4 && TARDIS_BAD_LINE == 5);
     MUST(TARDIS_BAD_MACHINE == 6 && TARDIS_NOT_DONE == 7 && TARDIS_SHORT_BUFFER == 8 && TARDIS_NULL == 9);
     MUST(TARDIS_BAD_OPERATION == 10 && TARDIS_BAD_RECORD == 11 && TARDIS_BAD_OPENING == 12);
@@ -656,12 +656,77 @@ static void refused_histories(void) {
     refused_items();
 }
 
+/* Of TEST likewise. */
+#define STORED "test ONE\nthreads 1\nruns 1\nall-done 1\nstalled 0\nlimit 0\nexhausted 0\nmemory 0\nstates 1\n1 x=1\n" \
+               "condition exists\nheld 1\nverdict yes\ncompleted 1\nrenewals 0\nupgrades 0\nflushes 0\n" \
+               "write-backs 0\nstale-hits 0\n"
+#define STORED_OBJECT "{\"version\":1,\"command\":\"litmus\",\"test\":\"ONE\",\"threads\":1,\"runs\":1," \
+                      "\"all-done\":1,\"stalled\":0,\"limit\":0,\"exhausted\":0,\"memory\":0," \
+                      "\"states\":[{\"count\":1,\"values\":{\"x\":1}}],\"condition\":\"exists\",\"held\":1," \
+                      "\"verdict\":\"yes\",\"completed\":1,\"renewals\":0,\"upgrades\":0,\"flushes\":0," \
+                      "\"write-backs\":0,\"stale-hits\":0}\n"
+
+/* How a run is reported: its options, the whole text by the second program, and words of the text if the run ended for
+   want of memory, which is before its operation completed. */
+struct way {
+    int is_litmus;
+    uint64_t records, counts, every, json;
+    const char *whole, *cut;
+};
+
+static int ran(const struct way *way) {
+    struct tardis_options options;
+    tardis_defaults(&options);
+    options.records = way->records;
+    options.counts = way->counts;
+    options.every = way->every;
+    options.json = way->json;
+    return way->is_litmus ? litmus(TEST, &options, sizeof buffer) : trace("0 R 0x0\n", &options, sizeof buffer);
+}
+
+/* Whether the text that came out has these words, or none where they are empty. */
+static int tells(const char *words) {
+    size_t at, size = strlen(words), count = length;
+    int is = size == 0 && count == 0;
+    for (at = 0; size && !is && at + size <= count; at++) is = !memcmp(buffer + at, words, size);
+    memset(buffer, '~', sizeof buffer);
+    return is;
+}
+
+/* Runs, however they are reported, are refused each growth of memory in turn. */
+static void refused_runs(void) {
+    static const char cut[] = "completed 0\nend memory\nloads 0\n";
+    static const char cut_object[] = "\"completed\":0,\"end\":\"memory\",\"loads\":0,";
+    static const struct way ways[] = {
+        {0, 0, 0, 0, 0, LOADED, cut},
+        {0, 0, 1, 0, 0, LOADED COUNTED, cut},
+        {0, 0, 1, 1, 0, LOADED "row 1\n" COUNTED COUNTED, cut},
+        {0, 0, 0, 0, 1, OBJECT "}\n", cut_object},
+        {0, 0, 1, 0, 1, OBJECT ",\"counts\":{" NUMBERS "}}\n", cut_object},
+        {0, 0, 1, 1, 1, OBJECT ",\"rows\":[{\"completed\":1," NUMBERS "}],\"counts\":{" NUMBERS "}}\n", cut_object},
+        {0, 1, 0, 0, 0, "0 0 R 0x0 0 0 0\n", ""},
+        {1, 0, 0, 0, 0, STORED, "memory 1\nstates 0\n"},
+        {1, 0, 0, 0, 1, STORED_OBJECT, "\"memory\":1,\"states\":[],"}};
+    size_t at;
+    for (at = 0; at < sizeof ways / sizeof *ways; at++) {
+        int number, were_cut = 0, had_none = 0;
+        for (refused_at = 1;; refused_at++) {
+            growths = 0;
+            number = ran(&ways[at]);
+            if (growths < refused_at) break;
+            if (number == TARDIS_DONE) MUST(has(ways[at].whole)); /* it can do without what was refused */
+            else if (number == TARDIS_NOT_DONE) MUST(++were_cut && tells(ways[at].cut));
+            else MUST(++had_none && number == TARDIS_NO_MEMORY && has("tardis: no memory\n"));
+        }
+        MUST(number == TARDIS_DONE && has(ways[at].whole) && were_cut && had_none);
+    }
+    refused_at = 0;
+}
+
 /* Each growth of memory is refused in turn, until a call asks for no more. */
 static void refusals(void) {
     struct tardis_lack lack = {7, 7};
-    struct tardis_options options;
     int number;
-    tardis_defaults(&options);
     for (refused_at = 1;; refused_at++) {
         growths = 0;
         number = opened("0x0 5\n0x8 6\n", TRACE, RECORDS, 1, 1000);
@@ -692,12 +757,7 @@ static void refusals(void) {
     }
     MUST(refused_at > 2 && number == TARDIS_DONE);
     refused_histories();
-    refused_at = 1;
-    growths = 0;
-    MUST(trace(TRACE, &options, 1000) == TARDIS_NO_MEMORY && has("tardis: no memory\n"));
-    growths = 0;
-    MUST(litmus(TEST, &options, 1000) == TARDIS_NO_MEMORY && has("tardis: no memory\n"));
-    refused_at = 0;
+    refused_runs();
 }
 
 int main(void) {

@@ -6,11 +6,11 @@ warning: it isn't proved.
 """
 from tardis.errors import BadConfiguration, BadText, NoMemory, TardisError, TooManyStates
 from tardis.history import History, Verdict
-from tardis.machine import Answer, Machine, Message
-from tardis.reports import Counts, End, EndsReport, LitmusReport, Record, Records, State, TraceReport
+from tardis.machine import Answer, Machine, Message, answers_of
+from tardis.reports import CountedReport, Counts, End, EndsReport, LitmusReport, Record, Records, State, TraceReport
 from tardis.runs import check, ends, litmus, trace
 from tardis.version import VERSION as __version__
 
-__all__ = ["Answer", "BadConfiguration", "BadText", "Counts", "End", "EndsReport", "History", "LitmusReport",
-           "Machine", "Message", "NoMemory", "Record", "Records", "State", "TardisError", "TooManyStates",
-           "TraceReport", "Verdict", "__version__", "check", "ends", "litmus", "trace"]
+__all__ = ["Answer", "BadConfiguration", "BadText", "CountedReport", "Counts", "End", "EndsReport", "History",
+           "LitmusReport", "Machine", "Message", "NoMemory", "Record", "Records", "State", "TardisError",
+           "TooManyStates", "TraceReport", "Verdict", "__version__", "answers_of", "check", "ends", "litmus", "trace"]

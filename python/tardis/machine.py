@@ -21,6 +21,17 @@ class Answer:
     record: Record | None = None
 
 
+def answer_of(text: str) -> Answer:
+    """One answer to an event, from its text."""
+    name, _, rest = text.partition(" ")
+    return Answer(name, rest if name == "refused" else None, record_of(rest) if name == "completed" else None)
+
+
+def answers_of(text: str) -> list[Answer]:
+    """The answers to the events of a line `run EVENT; EVENT; ..`, each in its parts; or the answer to one event."""
+    return [answer_of(each) for each in text.split("; ")]
+
+
 @dataclass(frozen=True)
 class Message:
     """A message in flight: its kind (ShReq, ExReq, ..), its ends (`core 1`, `bank 0`, `dram 0`), the byte address of
@@ -90,10 +101,13 @@ class Machine:
         return answer.rstrip("\n")
 
     def _event(self, line: str) -> Answer:
-        name, _, rest = self.call(line).partition(" ")
-        return Answer(name, rest if name == "refused" else None, record_of(rest) if name == "completed" else None)
+        return answer_of(self.call(line))
 
     # Events.
+    def run(self, *events: str) -> list[Answer]:
+        """Makes events in one call, as `run("issue 1 R 0x8", "attempt 1")` (docs/EVENTS.md): the answer to each."""
+        return answers_of(self.call("run " + "; ".join(events)))
+
     def load(self, core: int, address: int) -> Answer:
         """Issues a load: it is attempted later."""
         return self._event(f"issue {core} R {address:#x}")

@@ -1,7 +1,7 @@
 """What reports say (docs/TEXTS.md), as objects."""
 from collections.abc import Iterable
 from dataclasses import dataclass, field
-from typing import Any, NamedTuple
+from typing import Any, Literal, NamedTuple
 
 
 @dataclass(frozen=True)
@@ -59,10 +59,18 @@ class Counts:
     cores: list[dict[str, int]]
     banks: list[dict[str, int]]
 
+    def columns(self, part: Literal["cores", "banks"] = "cores") -> dict[str, list[int]]:
+        """What was counted of the cores or the banks by columns, as `pandas.DataFrame` takes them: `core` or `bank` has
+        their numbers, and a kind of message that one never had is 0 there."""
+        counted = self.cores if part == "cores" else self.banks
+        names = dict.fromkeys(name for each in counted for name in each)
+        return {part[:-1]: list(range(len(counted))),
+                **{name: [each.get(name, 0) for each in counted] for name in names}}
+
 
 @dataclass(frozen=True)
 class TraceReport:
-    """The report on a run of a trace."""
+    """The report on a run of a trace. It is a CountedReport if counts were asked for."""
 
     text: str = field(repr=False)
     is_proved: bool
@@ -71,6 +79,13 @@ class TraceReport:
     words: dict[int, int]    # by byte address, the value that the run leaves
     counts: Counts | None = field(default=None, repr=False)               # at the end, if asked for
     rows: dict[int, Counts] = field(default_factory=dict, repr=False)     # by how many operations were completed
+
+
+@dataclass(frozen=True)
+class CountedReport(TraceReport):
+    """A report with counts."""
+
+    counts: Counts = field(repr=False)
 
 
 class Record(NamedTuple):
@@ -97,6 +112,17 @@ class Records(list[Record]):
     def columns(self) -> dict[str, list[Any]]:
         """The records by columns, as `pandas.DataFrame` takes them."""
         return {name: [record[at] for record in self] for at, name in enumerate(Record._fields)}
+
+    @property
+    def text(self) -> str:
+        """The records as `tardis.check` and the program's `check` take them: a line each (docs/TEXTS.md)."""
+        return "".join(map(line_of, self))
+
+
+def line_of(record: Record) -> str:
+    """The line of a record."""
+    core, place, kind, address, *rest = record
+    return " ".join(map(str, (core, place, kind, hex(address), *(each for each in rest if each is not None)))) + "\n"
 
 
 def record_of(line: str) -> Record:
@@ -161,7 +187,9 @@ def trace_report(text: str, is_proved: bool) -> TraceReport:
     named = {each[0]: each[1] for each in lines[:behind] if len(each) == 2}
     numbers = {name: int(value) for name, value in named.items() if value.isdigit()}
     rows, counts = counted(lines[behind:])
-    return TraceReport(text, is_proved, named["end"], numbers, words, counts, rows)
+    if counts is None:
+        return TraceReport(text, is_proved, named["end"], numbers, words)
+    return CountedReport(text, is_proved, named["end"], numbers, words, counts, rows)
 
 
 def records_of(text: str, end: str) -> Records:

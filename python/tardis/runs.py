@@ -9,7 +9,7 @@ from typing import Any, Literal, overload
 from tardis import found, library
 from tardis.errors import BadConfiguration, BadText, NoMemory, TardisError, TooManyStates
 from tardis.options import OF_RUNS, OF_TRACE, Asked, Options, given_options, within
-from tardis.reports import EndsReport, LitmusReport, Records, TraceReport
+from tardis.reports import CountedReport, EndsReport, LitmusReport, Records, TraceReport
 from tardis.reports import ends_report, litmus_report, records_of, trace_report
 
 
@@ -104,6 +104,11 @@ def ends(text: str | bytes, *, states: int = 4_194_304, orders: bool = False,
     words = ["ends", "--states", str(states), *["--orders"] * orders, *["--json"] * json]
     listed = printed(command, words, in_bytes(text))[1]
     return object_of(listed) if json else ends_report(listed, program is not None)
+
+
+@overload
+def trace(text: str | bytes, *, records: Literal[False] = False, counts: Literal[True], every: int | None = None,
+          json: Literal[False] = False, **options: Any) -> CountedReport: ...
 
 
 @overload

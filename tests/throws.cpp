@@ -1,0 +1,98 @@
+// Errors of tardis.hpp as exceptions, by hand: throws PLAYER FULL, as machines.cpp. What isn't an error is answered.
+#define TARDIS_EXCEPTIONS
+#include "tardis.hpp"
+
+#include <csignal>
+#include <cstdlib>
+#include <iostream>
+
+namespace {
+
+void expect(bool good, const std::string &what) {
+    if (good) return;
+    std::cerr << "throws: " << what << '\n';
+    std::exit(1);
+}
+
+// The call throws an error of this number, with these words.
+template <class Call> void throws(int number, const std::string &words, Call call) {
+    try {
+        call();
+    } catch (const tardis::Error &error) {
+        return expect(error.number == number && error.what() == words,
+                      words + ": number " + std::to_string(error.number) + ": " + error.what());
+    }
+    expect(false, words + ": nothing is thrown");
+}
+
+void reports() {
+    tardis_options options = tardis::defaults();
+    throws(TARDIS_BAD_TEST, "tardis: line 1: 4 BadHeader", [] { tardis::litmus("X\n"); });
+    throws(TARDIS_BAD_LINE, "tardis: line 2: 5 BadOperation", [] { tardis::trace("0 R 0x0\n0 X\n"); });
+    throws(TARDIS_BAD_OPENING, "tardis: opening: line 1: 6 BadAddress", [] { tardis::check("", "", "8 1"); });
+    options.lease = 0;
+    throws(TARDIS_BAD_MACHINE, "tardis: bad configuration", [&] { tardis::trace("0 R 0x0\n", options); });
+    options = tardis::defaults();
+    options.limit = 1;
+    expect(tardis::trace("0 R 0x0\n", options).number == TARDIS_NOT_DONE, "a run that is cut off is no error");
+    expect(tardis::check("0 R 0x0\n", "0 0 R 0x0 1 0 0\n").text == "wrong value 0\n", "a verdict is no error");
+    throws(TARDIS_NO_MEMORY, "tardis: no memory", [] {
+        tardis::told(30, [](char *buffer, size_t, size_t *length) {
+            *length = std::string_view("tardis: no memory\n").copy(buffer, 30);
+            return static_cast<int>(TARDIS_NO_MEMORY);
+        });
+    });
+    throws(TARDIS_NULL, "tardis: a pointer is null", [] { tardis::trace(std::string_view(nullptr, 3)); });
+}
+
+void histories() {
+    tardis::History history;
+    const tardis_record loaded{{0, TARDIS_LOAD, 8, 0}, 0, 5, 0, 0};
+    throws(TARDIS_BAD_OPENING, "tardis: word: bad address", [&] { history.open(4, 1); });
+    throws(TARDIS_BAD_OPERATION, "tardis: operation: bad core", [&] { history.issue({TARDIS_MOST_CORES, 0, 8, 0}); });
+    throws(TARDIS_BAD_OPERATION, "tardis: operation: bad kind", [&] { history.issue({0, 3, 8, 0}); });
+    throws(TARDIS_BAD_RECORD, "tardis: record: bad place", [&] {
+        tardis_record record = loaded;
+        record.place = 4294967296;
+        history.complete(record);
+    });
+    expect(history.opened().empty() && history.issued().empty() && history.completed().empty(), "what is refused");
+    expect(history.issue(loaded.operation) == TARDIS_DONE && history.complete(loaded) == TARDIS_DONE, "what isn't");
+    expect(history.verdict().number == TARDIS_NOT_DONE && history.verdict().found.expected == 0, "a wrong value");
+    const tardis_operation operations[] = {loaded.operation, {0, 3, 8, 0}};
+    throws(TARDIS_BAD_OPERATION, "tardis: operation 1: bad kind",
+           [&] { tardis::check_history(operations, history.completed()); });
+    throws(TARDIS_NULL, "tardis: a pointer is null",
+           [] { tardis::check_history(tardis::View<tardis_operation>(nullptr, 1), {}); });
+}
+
+void machines(const std::string &player, const std::string &full) {
+    std::string why;
+    throws(TARDIS_MACHINE_GONE, "no player of events answers", [&] { tardis::Machine::open("/none", "cores 2"); });
+    throws(TARDIS_BAD_MACHINE, "refused BadConfig", [&] { tardis::Machine::open(player, "cores 65", &why); });
+    expect(why == "refused BadConfig", "why a machine isn't opened");
+    throws(TARDIS_MACHINE_LINE, "unread: an option is wanted", [&] { tardis::Machine::open(player, "core 2"); });
+    throws(TARDIS_MACHINE_LINE, "that isn't one line: machine cores 2\n",
+           [&] { tardis::Machine::open(player, "cores 2\n"); });
+    auto machine = tardis::Machine::open(player, "cores 2");
+    throws(TARDIS_MACHINE_LINE, "unread: there is no such call", [&] { machine->call("fly"); });
+    throws(TARDIS_MACHINE_LINE, "that isn't one line:  ", [&] { machine->call(" "); });
+    expect(machine->deliver(7) == "refused NoSuch" && machine->call("issue 0 R 0x8") == "issued", "a refusal");
+    expect(!machine->message(7) && !machine->record(0), "what there isn't");
+    expect(machine->in_flight().is_told && machine->attempt(0) == "requested", "the calls behind them");
+    tardis::Machine moved = std::move(*machine);
+    throws(TARDIS_MACHINE_GONE, "no player of events answers", [&] { machine->in_flight(); });
+    expect(moved.in_flight().numbers.size() == 1, "a machine that was moved");
+    auto list = tardis::Machine::open(full, "");
+    throws(TARDIS_NO_MEMORY, "refused NoMemory", [&] { list->in_flight(); });
+    throws(TARDIS_MACHINE_GONE, "no player of events answers", [&] { list->message(0); });
+}
+
+} // namespace
+
+int main(int, char **words) {
+    alarm(60);
+    reports();
+    histories();
+    machines(words[1], words[2]);
+}

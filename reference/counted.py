@@ -11,8 +11,9 @@ PLAYED = {"core": {**{name: name for name in ("loads", "stores", "swaps", "hits"
 CAUSES = ("cold", "evicted", "recalled", "ended", "shared")
 # What the program counts of the run, of a core and of a bank.
 OF_RUN = ("events", "held", "dropped")
-OF_PROGRAM = {"core": ("loads", "stores", "swaps", "hits", *CAUSES, "evictions", "returns", "reloads", "held", "time"),
-              "bank": ("evictions", "held")}
+OF_PROGRAM = {"core": ("loads", "stores", "swaps", "hits", *CAUSES, "evictions", "returns", "reloads", "held",
+                       "dropped", "time"),
+              "bank": ("evictions", "held", "dropped")}
 PARTS = {"c": "core", "b": "bank"}
 
 
@@ -61,9 +62,9 @@ class Counts:
         if answer in ("Delivered", "Dropped"):
             for part in self.parts_of(message):
                 part.delivered[message.kind] += 1
-        if answer == "Held":
+        if answer in ("Held", "Dropped"):
             letter, number = machine.nodes(message)[1]
-            self.parts[PARTS[letter], number].number["held"] += 1
+            self.parts[PARTS[letter], number].number[answer.lower()] += 1
         for number in range(sent, machine.sent):
             self.see_sent(machine.flight[number], name)
         if answer == "Requested":

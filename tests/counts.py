@@ -103,7 +103,8 @@ BY_PROGRAM = {
     "an upgrade": "held 2; cold 1 1; shared 1 1; held-requests 2 2",
     "a renewal": "held 2; cold 1 1; ended 1 1; held-requests 2 2",
     "a recall": "held 9; cold 2 1 1; held-recalls 1 1 0; held-requests 8 8",
-    "a recall that is dropped": "held 5; dropped 1; cold 3 2 1; returns 1 1 0; held-requests 5 5",
+    "a recall that is dropped":
+        "held 5; dropped 1; cold 3 2 1; returns 1 1 0; dropped-recalls 1 1 0; held-requests 5 5",
     "an entry that makes place": "held 10; cold 2 2; held-requests 10 10",
     "a network of one message": "",
     "a run that is cut": "held 2; held-requests 2 2",
@@ -111,7 +112,8 @@ BY_PROGRAM = {
 # A load of a line takes 14 events, a hit two and an upgrade six; the load's request is held twice.
 THREE = "0 R 0x0\n0 R 0x0\n0 W 0x0 1\n"
 PARTS = {"cores": "loads stores swaps hits misses cold evicted recalled ended shared evicted-copies returns reloads "
-                  "held-recalls last-time", "banks": "dram-loads dram-stores recalls evicted-entries held-requests"}
+                  "held-recalls dropped-recalls last-time",
+         "banks": "dram-loads dram-stores recalls evicted-entries held-requests"}
 # By hand: the words, and the lines, where blanks are one, and rows of zeros are left out.
 POINTS = [
     ("--every 2 --skip 1", [

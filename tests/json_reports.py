@@ -24,8 +24,9 @@ from tests.texts import TOP, Tester, oracle  # noqa: E402
 LITMUS, TRACES = "examples/litmus", "examples/traces"
 FRONT = '{"version":1,"command":'
 COUNTED = '"events":14,"held":2,"dropped":0,"cores":[{"loads":0,"stores":1,"swaps":0,"hits":0,"cold":1,"evicted":0,' \
-    '"recalled":0,"ended":0,"shared":0,"evictions":0,"returns":0,"reloads":0,"held":0,"time":1,"ExReq":1,"ExRep":1}],' \
-    '"banks":[{"evictions":0,"held":2,"ExReq":1,"ExRep":1,"DramLd":1,"DramLdRep":1}]}'
+    '"recalled":0,"ended":0,"shared":0,"evictions":0,"returns":0,"reloads":0,"held":0,"dropped":0,"time":1,' \
+    '"ExReq":1,"ExRep":1}],' \
+    '"banks":[{"evictions":0,"held":2,"dropped":0,"ExReq":1,"ExRep":1,"DramLd":1,"DramLdRep":1}]}'
 STORE = FRONT + '"trace","cores":1,"issued":1,"completed":1,"end":"all-done","loads":0,"stores":1,"swaps":0,' \
     '"renewals":0,"upgrades":0,"flushes":0,"write-backs":0,"stale-hits":0,"order":"legal","words":{"0x0":1}'
 ENDS = FRONT + '"ends","test":"SB+yes","threads":2,"states":13,"ends":[{"holds":false,"values":{"0:x7":0,"1:x7":1}%s},' \

@@ -373,9 +373,9 @@ def counted():
     replies, as in docs/COUNTS.md; the request is held twice, while the DRAM is read."""
     messages = {"ShReq": 1, "ShRep": 1}
     none = dict.fromkeys(("stores", "swaps", "hits", "evicted", "recalled", "ended", "shared", "evictions", "returns",
-                          "reloads", "held", "time"), 0)
+                          "reloads", "held", "dropped", "time"), 0)
     wanted = tardis.Counts(14, 2, 0, [{"loads": 1, "cold": 1, **none, **messages}],
-                           [{"evictions": 0, "held": 2, **messages, "DramLd": 1, "DramLdRep": 1}])
+                           [{"evictions": 0, "held": 2, "dropped": 0, **messages, "DramLd": 1, "DramLdRep": 1}])
     report, plain = tardis.trace("0 R 0x0\n", counts=True, every=1), tardis.trace("0 R 0x0\n")
     if (report.counts, report.rows) != (wanted, {1: wanted}) or (plain.counts, plain.rows) != (None, {}):
         fail(f"counts: {report.counts}, {report.rows}")

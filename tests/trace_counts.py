@@ -22,12 +22,13 @@ from tools.counts import KINDS  # noqa: E402
 SECOND = str(TOP / "reference/oracle.py")
 TRACES = 300  # that are drawn
 CAUSES = ("cold", "evicted", "recalled", "ended", "shared")
-OF_CORE = ("loads", "stores", "swaps", "hits", *CAUSES, "evictions", "returns", "reloads", "held", "time")
-OF_BANK = ("evictions", "held")
+OF_CORE = ("loads", "stores", "swaps", "hits", *CAUSES, "evictions", "returns", "reloads", "held", "dropped",
+           "time")
+OF_BANK = ("evictions", "held", "dropped")
 # Rows of tools/counts.py that the lines don't have, or only as a kind of messages.
 UNTOLD = ("turns", "stale-hits", "dram-loads", "dram-stores", "recalls")
-# By hand, of each core and each bank: the misses by their causes, `returns`, `reloads` and `held`, where there are some.
-# A request waits for DRAM in two rounds: it is held twice.
+# By hand, of each core and each bank: the misses by their causes, `returns`, `reloads`, `held` and `dropped`, where
+# there are some. A request waits for DRAM in two rounds: it is held twice.
 SEEN = {
     "a load": ["cold 1", "held 2"],
     "a load that hits": ["cold 1", "held 2"],
@@ -40,8 +41,9 @@ SEEN = {
     # Core 1's request is held from round 1 to 3, before core 0's own is answered, and from 5 to 7. The recall comes in
     # round 5, before core 0's store completes.
     "a recall": ["cold 1 held 1", "cold 1", "held 8"],
-    # Two for each load from DRAM, and one for the request that waits for the line that core 0 gives back.
-    "a recall that is dropped": ["cold 2 returns 1", "cold 1", "held 5"],
+    # Two for each load from DRAM, and one for the request that waits for the line that core 0 gives back. The recall
+    # finds that core 0 has given it back.
+    "a recall that is dropped": ["cold 2 returns 1 dropped 1", "cold 1", "held 5"],
     "a copy that makes place": ["cold 2", "held 4"],
     # The load waits from round 7 to 12 for a place, and then for DRAM.
     "an entry that makes place": ["cold 2", "held 10"],
@@ -56,9 +58,8 @@ SEEN = {
     "a renewal with new words": ["cold 2", "cold 1 ended 1 reloads 1", "held 6"],
     "copies that are evicted": ["cold 2 evicted 1 returns 1", "held 4"],
     "a line that another core lost": ["cold 2", "cold 2", "held 8"],
+    "a load that asks twice": ["cold 1", "held 2"],
 }
-# A recall finds that its owner has given the line back.
-DROPPED = {"a recall that is dropped": 1}
 # More runs by hand, as those of tests/counts.py.
 OWN = {
     # Core 1's request waits for the first store, which is then recalled; core 0 loads the line again in round 7.
@@ -81,45 +82,52 @@ OWN = {
         "1 R 0x0\n1 R 0x8\n" + "0 R 0x10\n" * 12 + "0 R 0x800000000\n", "--sets 1 --ways 1", "all-done 23 82",
         "loads 15 13 2; hits 11 11 0; misses 4 2 2; evicted-copies 2 1 1; ShReq 4 2 2 4; ShRep 4 2 2 4; "
         "DramLd 4 0 0 4; DramLdRep 4 0 0 4"),
+    # The seed has core 0 advance to 3 before its copy comes, whose lease ends at 1. So the load needs a renewal, too.
+    "a load that asks twice": (
+        "0 R 0x0\n", "--schedule seed --seed 5 --lease 1", "all-done 16 16",
+        "loads 1 1; misses 1 1; last-time 3 3; ShReq 2 2 2; ShRep 1 1 1; RenewRep 1 1 1; "
+        "DramLd 1 0 1; DramLdRep 1 0 1"),
 }
-ZEROS = "evictions 0 returns 0 reloads 0 held"
+ZEROS, NONE = "evictions 0 returns 0 reloads 0 held", "dropped 0 time"
 # By hand, each with `--every`: what stands behind the report, row by row. The lines at the end are those of the last
 # row, where it has all that was done. A load of a line takes 14 events, a hit two and an upgrade six.
 IN_ROWS = [
     ("0 R 0x0\n0 R 0x0\n0 W 0x0 1\n", "1", [
         "row 1", "events 14", "held 2", "dropped 0",
-        f"core 0 loads 1 stores 0 swaps 0 hits 0 cold 1 evicted 0 recalled 0 ended 0 shared 0 {ZEROS} 0 time 0 "
-        "ShReq 1 ShRep 1",
-        "bank 0 evictions 0 held 2 ShReq 1 ShRep 1 DramLd 1 DramLdRep 1",
+        "core 0 loads 1 stores 0 swaps 0 hits 0 cold 1 evicted 0 recalled 0 ended 0 shared 0 "
+        f"{ZEROS} 0 {NONE} 0 ShReq 1 ShRep 1",
+        "bank 0 evictions 0 held 2 dropped 0 ShReq 1 ShRep 1 DramLd 1 DramLdRep 1",
         "row 2", "events 16", "held 2", "dropped 0",
-        f"core 0 loads 2 stores 0 swaps 0 hits 1 cold 1 evicted 0 recalled 0 ended 0 shared 0 {ZEROS} 0 time 0 "
-        "ShReq 1 ShRep 1",
-        "bank 0 evictions 0 held 2 ShReq 1 ShRep 1 DramLd 1 DramLdRep 1",
+        "core 0 loads 2 stores 0 swaps 0 hits 1 cold 1 evicted 0 recalled 0 ended 0 shared 0 "
+        f"{ZEROS} 0 {NONE} 0 ShReq 1 ShRep 1",
+        "bank 0 evictions 0 held 2 dropped 0 ShReq 1 ShRep 1 DramLd 1 DramLdRep 1",
         "row 3", *2 * [
             "events 22", "held 2", "dropped 0",
-            f"core 0 loads 2 stores 1 swaps 0 hits 1 cold 1 evicted 0 recalled 0 ended 0 shared 1 {ZEROS} 0 time 11 "
-            "ShReq 1 ExReq 1 ShRep 1 UpgradeRep 1",
-            "bank 0 evictions 0 held 2 ShReq 1 ExReq 1 ShRep 1 UpgradeRep 1 DramLd 1 DramLdRep 1"]]),
+            "core 0 loads 2 stores 1 swaps 0 hits 1 cold 1 evicted 0 recalled 0 ended 0 shared 1 "
+            f"{ZEROS} 0 {NONE} 11 ShReq 1 ExReq 1 ShRep 1 UpgradeRep 1",
+            "bank 0 evictions 0 held 2 dropped 0 ShReq 1 ExReq 1 ShRep 1 UpgradeRep 1 DramLd 1 DramLdRep 1"]]),
     ("0 R 0x0\n0 R 0x0\n0 W 0x0 1\n", "4", [
         "events 22", "held 2", "dropped 0",
-        f"core 0 loads 2 stores 1 swaps 0 hits 1 cold 1 evicted 0 recalled 0 ended 0 shared 1 {ZEROS} 0 time 11 "
-        "ShReq 1 ExReq 1 ShRep 1 UpgradeRep 1",
-        "bank 0 evictions 0 held 2 ShReq 1 ExReq 1 ShRep 1 UpgradeRep 1 DramLd 1 DramLdRep 1"]),
+        "core 0 loads 2 stores 1 swaps 0 hits 1 cold 1 evicted 0 recalled 0 ended 0 shared 1 "
+        f"{ZEROS} 0 {NONE} 11 ShReq 1 ExReq 1 ShRep 1 UpgradeRep 1",
+        "bank 0 evictions 0 held 2 dropped 0 ShReq 1 ExReq 1 ShRep 1 UpgradeRep 1 DramLd 1 DramLdRep 1"]),
     # The copy that is recalled. Core 0's store completes by the first event of round 6, and its load by that of round
     # 9, after which core 1's ExRep is delivered.
     (OWN["a copy that is recalled"][0], "2", [
         "row 2", "events 40", "held 9", "dropped 0",
-        f"core 0 loads 1 stores 1 swaps 0 hits 0 cold 1 evicted 0 recalled 1 ended 0 shared 0 {ZEROS} 1 time 1 "
-        "ShReq 1 ExReq 1 ShRep 1 ExRep 1 FlushReq 1 FlushRep 1",
-        f"core 1 loads 0 stores 0 swaps 0 hits 0 cold 0 evicted 0 recalled 0 ended 0 shared 0 {ZEROS} 0 time 0 "
-        "ExReq 1 ExRep 1",
-        "bank 0 evictions 0 held 8 ShReq 1 ExReq 2 ShRep 1 ExRep 2 FlushReq 1 FlushRep 1 DramLd 1 DramLdRep 1",
+        "core 0 loads 1 stores 1 swaps 0 hits 0 cold 1 evicted 0 recalled 1 ended 0 shared 0 "
+        f"{ZEROS} 1 {NONE} 1 ShReq 1 ExReq 1 ShRep 1 ExRep 1 FlushReq 1 FlushRep 1",
+        "core 1 loads 0 stores 0 swaps 0 hits 0 cold 0 evicted 0 recalled 0 ended 0 shared 0 "
+        f"{ZEROS} 0 {NONE} 0 ExReq 1 ExRep 1",
+        "bank 0 evictions 0 held 8 dropped 0 ShReq 1 ExReq 2 ShRep 1 ExRep 2 FlushReq 1 FlushRep 1 "
+        "DramLd 1 DramLdRep 1",
         "events 43", "held 9", "dropped 0",
-        f"core 0 loads 1 stores 1 swaps 0 hits 0 cold 1 evicted 0 recalled 1 ended 0 shared 0 {ZEROS} 1 time 1 "
-        "ShReq 1 ExReq 1 ShRep 1 ExRep 1 FlushReq 1 FlushRep 1",
-        f"core 1 loads 0 stores 1 swaps 0 hits 0 cold 1 evicted 0 recalled 0 ended 0 shared 0 {ZEROS} 0 time 12 "
-        "ExReq 1 ExRep 1",
-        "bank 0 evictions 0 held 8 ShReq 1 ExReq 2 ShRep 1 ExRep 2 FlushReq 1 FlushRep 1 DramLd 1 DramLdRep 1"]),
+        "core 0 loads 1 stores 1 swaps 0 hits 0 cold 1 evicted 0 recalled 1 ended 0 shared 0 "
+        f"{ZEROS} 1 {NONE} 1 ShReq 1 ExReq 1 ShRep 1 ExRep 1 FlushReq 1 FlushRep 1",
+        "core 1 loads 0 stores 1 swaps 0 hits 0 cold 1 evicted 0 recalled 0 ended 0 shared 0 "
+        f"{ZEROS} 0 {NONE} 12 ExReq 1 ExRep 1",
+        "bank 0 evictions 0 held 8 dropped 0 ShReq 1 ExReq 2 ShRep 1 ExRep 2 FlushReq 1 FlushRep 1 "
+        "DramLd 1 DramLdRep 1"]),
 ]
 
 
@@ -145,9 +153,10 @@ class Counted:
 
     def adds_up(self):
         """Whether the numbers say the same, as docs/COUNTS.md has it."""
-        held = sum(part["held"] for part in [*self.cores, *self.banks])
-        return held == self.run["held"] and all(core["returns"] <= min(core["evictions"], core.get("FlushRep", 0))
-                                                and core["reloads"] <= core.get("ShRep", 0) for core in self.cores)
+        sums = {name: sum(part[name] for part in [*self.cores, *self.banks]) for name in ("held", "dropped")}
+        return sums == {name: self.run[name] for name in sums} and all(
+            core["returns"] <= min(core["evictions"], core.get("FlushRep", 0))
+            and core["reloads"] <= core.get("ShRep", 0) for core in self.cores)
 
     def numbers(self):
         """All numbers by where they stand; a count never falls."""
@@ -172,7 +181,7 @@ class Counted:
 
     def seen(self):
         """Of each core and each bank what SEEN has, where it isn't 0."""
-        names = [*CAUSES, "returns", "reloads", "held"]
+        names = [*CAUSES, "returns", "reloads", "held", "dropped"]
         return [{name: part[name] for name in names if part.get(name)} for part in [*self.cores, *self.banks]]
 
 
@@ -202,7 +211,6 @@ def by_hand(tester, folder):
         good = (status, error) == (int(end != ["all-done"]), "") and found.is_whole and found.adds_up()
         tester.expect(good and f"\nend {end[0]}\n" in out, f"{name}: {status} {error}{out}")
         tester.expect(found.run["events"] == int(wanted.pop("events")[0]), f"{name}: {found.run}, wanted {ended}")
-        tester.expect(found.run["dropped"] == DROPPED.get(name, 0), f"{name}: {found.run}")
         kept = {row: wanted[row] for row in wanted if row not in UNTOLD and not row.endswith("-delivered")}
         tester.expect(found.rows() == kept, f"{name}: {found.rows()}, wanted {kept}")
         tester.expect(found.seen() == [numbers_of(told.split()) for told in seen],

@@ -10,7 +10,7 @@ CAUSES = ("cold", "evicted", "recalled", "ended", "shared")
 # The tables of the program's lines: the rows of each, with the numbers of a line that a row is the sum of.
 OF_CORES = {**{row: [row] for row in ("loads", "stores", "swaps", "hits")}, "misses": CAUSES,
             **{row: [row] for row in CAUSES}, "evicted-copies": ["evictions"], "returns": ["returns"],
-            "reloads": ["reloads"], "held-recalls": ["held"], "last-time": ["time"]}
+            "reloads": ["reloads"], "held-recalls": ["held"], "dropped-recalls": ["dropped"], "last-time": ["time"]}
 OF_BANKS = {"dram-loads": ["DramLd"], "dram-stores": ["DramSt"], "recalls": ["FlushReq", "WbReq"],
             "evicted-entries": ["evictions"], "held-requests": ["held"]}
 OF_MESSAGES = {f"{kind}-sent": [kind] for kind in KINDS}

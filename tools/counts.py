@@ -22,7 +22,7 @@ sys.path.insert(0, str(Path(__file__).resolve().parent.parent))
 from reference import told  # noqa: E402
 from reference.given import Bad, Subject, bad_configuration, Words, contents, tool  # noqa: E402
 from tools.count_tables import KINDS, Tables, points_of, printed, table, words_of  # noqa: E402
-from tools.program import TOP, number  # noqa: E402
+from tools.program import number  # noqa: E402
 from tools.shown.played import drive_call, machine_call, player_of, say_second, steps_of  # noqa: E402
 
 

@@ -89,7 +89,7 @@ struct State {
     uint64_t times = 0;
     std::string_view values;
 
-    // The value of a name, as 0:x7; none if the condition hasn't that name.
+    // The value of a name, as 0:x7; none if the condition doesn't have that name.
     std::optional<uint64_t> value(std::string_view name) const {
         for (size_t at = 0, end; at < values.size(); at = end + 1) {
             end = std::min(values.find(' ', at), values.size());
@@ -120,8 +120,17 @@ inline std::optional<State> state_of(std::string_view line) {
     return state;
 }
 
+// A text, with memory that all copies of it share: so a copy may outlive what it came from. A plain string_view of it
+// may not, nor what is read from it. A text without memory is somebody else's.
+struct Text : std::string_view {
+    Text() = default;
+    Text(std::string_view text, std::shared_ptr<const char[]> memory = nullptr)
+        : std::string_view(text), memory(std::move(memory)) {}
+    std::shared_ptr<const char[]> memory;
+};
+
 // What the lines of a text have, as records or states: each is read when a loop comes to it, and lines without one are
-// passed over. The text stays while this lives.
+// passed over. The text's memory stays while this or an iterator lives.
 template <class Part, std::optional<Part> (*part_of)(std::string_view)> class Parts {
   public:
     class Iterator {
@@ -132,7 +141,7 @@ template <class Part, std::optional<Part> (*part_of)(std::string_view)> class Pa
         using pointer = const Part *;
         using reference = const Part &;
 
-        explicit Iterator(std::string_view rest) : rest(rest) { go_on(); }
+        explicit Iterator(const Text &rest) : rest(rest) { go_on(); }
         const Part &operator*() const { return *part; }
         const Part *operator->() const { return &*part; }
         Iterator &operator++() {
@@ -157,49 +166,50 @@ template <class Part, std::optional<Part> (*part_of)(std::string_view)> class Pa
                 rest.remove_prefix(std::min(size + 1, rest.size()));
             }
         }
-        std::string_view rest;
+        Text rest;
         std::optional<Part> part;
     };
 
-    explicit Parts(std::string_view text, std::shared_ptr<const char[]> memory = nullptr)
-        : text(text), memory(std::move(memory)) {}
+    explicit Parts(Text text) : text(std::move(text)) {}
+    explicit Parts(std::string_view text) : text(text) {}
     Iterator begin() const { return Iterator(text); }
     Iterator end() const { return Iterator({}); }
 
   private:
-    std::string_view text;
-    std::shared_ptr<const char[]> memory;
+    Text text;
 };
 
 using Records = Parts<tardis_record, record_of>;
 using States = Parts<State, state_of>;
 
-// A number of tardis.h, and the report or the error's line, in memory that all copies of this share.
+// A number of tardis.h, and the report or the error's line.
 struct Report {
     int number = TARDIS_NULL;
-    std::string_view text;
-    std::shared_ptr<const char[]> memory;
+    Text text;
 
     bool is_report() const { return number == TARDIS_DONE || number == TARDIS_NOT_DONE; }
     // The records of a trace, if these were asked for.
-    Records records() const { return Records(is_report() ? text : std::string_view(), memory); }
-    // The end states of a litmus test.
-    States states() const { return States(is_report() ? text : std::string_view(), memory); }
+    Records records() const { return Records(is_report() ? text : Text()); }
+    // The end states of a litmus test, if the report is in lines.
+    States states() const { return States(is_report() ? text : Text()); }
 };
 
-// Calls once where the text fits into so many bytes, and once more with the length that this reports where it doesn't.
+// Calls once where the text fits into so many bytes, and again with the length that this reports where it doesn't.
 // A page of the buffer that nothing is written to takes no memory.
 inline Report told(size_t size, const std::function<int(char *buffer, size_t size, size_t *length)> &call) {
     std::shared_ptr<char[]> buffer(new char[size]);
     size_t length = 0;
     int number = call(buffer.get(), size, &length);
-    if (length > size) {
-        buffer.reset(new char[length]);
-        number = call(buffer.get(), length, &length);
+    while (length > size) {
+        size = length;
+        buffer.reset(new char[size]);
+        number = call(buffer.get(), size, &length);
     }
-    const Report report{number, {buffer.get(), length}, buffer};
-    const std::string line(report.text.substr(0, report.text.find('\n')));
-    if (!report.is_report()) fail(number, line.empty() ? "tardis: a pointer is null" : line);
+    const Report report{number, {{buffer.get(), length}, buffer}};
+    if (!report.is_report()) {
+        const std::string line(report.text.substr(0, report.text.find('\n')));
+        fail(number, line.empty() ? "tardis: a pointer is null" : line);
+    }
     return report;
 }
 

@@ -33,7 +33,7 @@ enum tardis_machine_number {
     TARDIS_MACHINE_DONE = TARDIS_DONE,
     TARDIS_MACHINE_NULL = TARDIS_NULL, /* a pointer is null, or a buffer has no byte: nothing was done */
     TARDIS_MACHINE_LONG = 13,          /* the answer doesn't fit: the buffer has its front */
-    TARDIS_MACHINE_LINE = 14,          /* that isn't one line, or is unread: nothing was called; or it has no record */
+    TARDIS_MACHINE_LINE = 14,          /* that isn't one line: nothing was called; or it has no record */
     TARDIS_MACHINE_GONE = 15           /* there is no player: it is gone, or was closed, or never started */
 };
 

@@ -230,15 +230,15 @@ static void runs(void) {
 #define LOADED "cores 1\nissued 1\ncompleted 1\nend all-done\nloads 1\nstores 0\nswaps 0\nrenewals 0\nupgrades 0\n" \
                "flushes 0\nwrite-backs 0\nstale-hits 0\norder legal\nword 0x0 0\n"
 #define COUNTED "events 14\nheld 2\ndropped 0\ncore 0 loads 1 stores 0 swaps 0 hits 0 cold 1 evicted 0 recalled 0 " \
-                "ended 0 shared 0 evictions 0 returns 0 reloads 0 held 0 time 0 ShReq 1 ShRep 1\n" \
-                "bank 0 evictions 0 held 2 ShReq 1 ShRep 1 DramLd 1 DramLdRep 1\n"
+                "ended 0 shared 0 evictions 0 returns 0 reloads 0 held 0 dropped 0 time 0 ShReq 1 ShRep 1\n" \
+                "bank 0 evictions 0 held 2 dropped 0 ShReq 1 ShRep 1 DramLd 1 DramLdRep 1\n"
 #define OBJECT "{\"version\":1,\"command\":\"trace\",\"cores\":1,\"issued\":1,\"completed\":1,\"end\":\"all-done\"," \
                "\"loads\":1,\"stores\":0,\"swaps\":0,\"renewals\":0,\"upgrades\":0,\"flushes\":0,\"write-backs\":0," \
                "\"stale-hits\":0,\"order\":\"legal\",\"words\":{\"0x0\":0}"
 #define NUMBERS "\"events\":14,\"held\":2,\"dropped\":0,\"cores\":[{\"loads\":1,\"stores\":0,\"swaps\":0,\"hits\":0," \
                 "\"cold\":1,\"evicted\":0,\"recalled\":0,\"ended\":0,\"shared\":0,\"evictions\":0,\"returns\":0," \
-                "\"reloads\":0,\"held\":0,\"time\":0,\"ShReq\":1,\"ShRep\":1}],\"banks\":[{\"evictions\":0," \
-                "\"held\":2,\"ShReq\":1,\"ShRep\":1,\"DramLd\":1,\"DramLdRep\":1}]"
+                "\"reloads\":0,\"held\":0,\"dropped\":0,\"time\":0,\"ShReq\":1,\"ShRep\":1}]," \
+                "\"banks\":[{\"evictions\":0,\"held\":2,\"dropped\":0,\"ShReq\":1,\"ShRep\":1,\"DramLd\":1,\"DramLdRep\":1}]"
 
 static void counts(void) {
     static const char load[] = "0 R 0x0\n";

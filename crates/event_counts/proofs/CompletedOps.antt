@@ -12,6 +12,7 @@ use Rattle.physiological_order.specs.declared.operation.Op.TheVariants.{Load, St
 use Rattle.physiological_order.specs.declared.operation.Record.{Record}
 use Rattle.physiological_order.specs.Order.{of_core}
 use Rattle.network.specs.declared.message.Message.{Message}
+use Rattle.network.specs.declared.message.Node.{Node}
 use Rattle.network.specs.NumberedMessages.{at_number}
 use Rattle.machine_table.specs.declared.config.Config.{Config}
 use Rattle.machine_table.specs.declared.event.Event.{Event}
@@ -30,14 +31,15 @@ use Rattle.machine_theorem.proofs.Lemmas.{get-set_other, get-set_same}
 use Rattle.event_counts.specs.declared.cause.Cause.{Cause}
 use Rattle.event_counts.specs.declared.cause.Cause.TheVariants.{Cold, Evicted, Recalled, Ended, Shared}
 use Rattle.event_counts.specs.declared.part_counts.CoreCounts.{CoreCounts}
-use Rattle.event_counts.specs.Counts.{EventCounts, HasCompleted, at_core, changed_at, completed, hits_and_misses}
-use Rattle.event_counts.specs.Counts.{more, no_core_counts, operations, sent, with_end, with_one, with_op}
-use Rattle.event_counts.specs.Losses.{Lost}
+use Rattle.event_counts.specs.Counts.{EventCounts, HasCompleted, at_core, changed_at, completed, dropped, held}
+use Rattle.event_counts.specs.Counts.{hits_and_misses, more, no_core_counts, operations, sent, with_end, with_one}
+use Rattle.event_counts.specs.Counts.{with_op}
+use Rattle.event_counts.specs.Losses.{Lost, at_risk}
 use Rattle.schedules.specs.Watches.{watched}
-use Rattle.event_counts.specs.Counting.{Counter, answered, counted, counter_events, counter_seen, evicted, held, is_row}
-use Rattle.event_counts.specs.Counting.{no_counter, requested, with_message}
-use Rattle.event_counts.proofs.KeptCounts.{IsKept, Leaves, evicted_keeps, followed, held_keeps, requested_keeps}
-use Rattle.event_counts.proofs.KeptCounts.{row_counts, sent_keeps}
+use Rattle.event_counts.specs.Counting.{Counter, answered, counted, counter_events, counter_seen, evicted, goes_to}
+use Rattle.event_counts.specs.Counting.{is_row, no_counter, requested, with_message}
+use Rattle.event_counts.proofs.KeptCounts.{IsKept, Leaves, dropped_keeps, evicted_keeps, followed, held_keeps}
+use Rattle.event_counts.proofs.KeptCounts.{requested_keeps, row_counts, sent_keeps}
 
 -- one core
 more_is : (n : ℕ) → n < 2 ^ 64 - 1 → more n ≡ n + 1
@@ -144,8 +146,8 @@ refused_same m _ after is = ap (λ (n : Machine). n.records) is
 abbrev Counts : ℕ → Machine → Machine → EventCounts → Type 0
 Counts c m after n = Done c (records_of c after) n × (records_of c after ≤ records_of c m + 1)
 
-module _ (c : ℕ) (m after : Machine) (lost : Lost) (e : Event) (n : EventCounts) (few : records_of c m < 2 ^ 64 - 1)
-    (has : Done c (records_of c m) n) where
+module _ (c : ℕ) (m after : Machine) (lost : Lost) (to : Option Node) (e : Event) (n : EventCounts)
+    (few : records_of c m < 2 ^ 64 - 1) (has : Done c (records_of c m) n) where
   same : after.records ≡ m.records → (k : EventCounts) → Done c (records_of c m) k → Counts c m after k
   same is k so =
       let many : records_of c after ≡ records_of c m = ap (λ rs. length (of_core c rs)) is in
@@ -177,21 +179,20 @@ module _ (c : ℕ) (m after : Machine) (lost : Lost) (e : Event) (n : EventCount
             omega (arith, many),
           )
 
-  answer_counts : (a : Answer) → Answered m a after → Counts c m after (answered n lost after e a)
+  answer_counts : (a : Answer) → Answered m a after → Counts c m after (answered n lost to e a after)
   answer_counts (answer.Refused why) is = same (refused_same m why after is) n has
   answer_counts (answer.Completed r) is = completes r is.records
   answer_counts answer.Waiting is = same (ap (λ (k : Machine). k.records) is) n has
   answer_counts answer.Idle is = same (ap (λ (k : Machine). k.records) is) n has
-  answer_counts answer.Held is =
-      let told = record n { held = more n.held } in
-      same (ap (λ (k : Machine). k.records) is) (held told after e)
-      (held_keeps (Done c (records_of c m)) (done_kept c (records_of c m)) told after e has)
+  answer_counts answer.Held is = same (ap (λ (k : Machine). k.records) is) (held n to)
+      (held_keeps (Done c (records_of c m)) (done_kept c (records_of c m)) n to has)
   answer_counts answer.Issued is = same is.records n has
   answer_counts answer.Requested is =
       same is.records (requested n lost after e)
       (requested_keeps (Done c (records_of c m)) (done_kept c (records_of c m)) n lost after e has)
   answer_counts answer.Delivered is = same is.records n has
-  answer_counts answer.Dropped is = same is.records (record n { dropped = more n.dropped }) has
+  answer_counts answer.Dropped is =
+      same is.records (dropped n to) (dropped_keeps (Done c (records_of c m)) (done_kept c (records_of c m)) n to has)
   answer_counts answer.Started is = same is.records n has
   answer_counts answer.Evicted is =
       same is.records (evicted n e) (evicted_keeps (Done c (records_of c m)) (done_kept c (records_of c m)) n e has)
@@ -200,12 +201,12 @@ module _ (c : ℕ) (m after : Machine) (lost : Lost) (e : Event) (n : EventCount
 
 event_counts : (c : ℕ) (m : Machine) (e : Event) (k : Counter) → records_of c m < 2 ^ 64 - 1 →
     Done c (records_of c m) k.counts → let next = transition m e in
-    Counts c m next.1 (counter_seen k next.1 e next.0).counts
+    Counts c m next.1 (counter_seen k m e next.0 next.1).counts
 event_counts c m e k few has =
     let next = transition m e in let o = at_number k.counts.next next.1.mail.messages in
-    let told = answer_counts c m next.1 k.lost e (record k.counts { events = more k.counts.events }) few has next.0
-    (every_answer m e) in (
-      subst (Done c (records_of c next.1)) (sym (row_counts (counted k next.1 e next.0 o)
+    let told = answer_counts c m next.1 k.lost (goes_to m e) e (record k.counts { events = more k.counts.events }) few
+    has next.0 (every_answer m e) in (
+      subst (Done c (records_of c next.1)) (sym (row_counts (counted k (goes_to m e) (at_risk m e) e next.0 next.1)
           (is_row k.every (length next.1.records) next.0)))
           (message_leaves c (records_of c next.1) _ next.1 e o told.0),
       told.1,
@@ -217,7 +218,7 @@ all_done : (c : ℕ) (m : Machine) (events : List Event) (k : Counter) →
 all_done c m [] k few has = has
 all_done c m (e ∷ events) k few has =
     let next = transition m e in let one = event_counts c m e k (omega (arith, few)) has in
-    all_done c next.1 events (counter_seen k next.1 e next.0) (omega (arith, few, one.1)) one.0
+    all_done c next.1 events (counter_seen k m e next.0 next.1) (omega (arith, few, one.1)) one.0
 
 -- nothing is counted yet
 at_zeros : (cores c : ℕ) → c < cores → slice_get (replicate cores no_core_counts) c ≡ Some no_core_counts

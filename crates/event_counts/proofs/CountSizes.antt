@@ -3,6 +3,7 @@ use Rattle.std.proofs.Common.{◌≡◌, ℕ, List, length, Option, Some, None, 
 use Rattle.std.specs.List.{slice_get}
 use Rattle.std.proofs.lemmas.List.{length-set}
 use Rattle.network.specs.declared.message.Message.{Message}
+use Rattle.network.specs.declared.message.Node.{Node}
 use Rattle.machine_table.specs.declared.event.Event.{Event}
 use Rattle.machine_table.specs.declared.event.Answer.{Answer}
 use Rattle.machine_table.specs.Machine.{Machine}
@@ -33,20 +34,20 @@ module _ (spare : EventCounts) where
     at_banks = λ n bank change has. (has.0, has.1 ∙ sym (same_length n.banks bank change));
   }
 
-  message_fits : (n : EventCounts) (lost : Lost) (m : Machine) (e : Event) (a : Answer) (o : Option Message) →
-      Fits n → Fits (seen n lost m e a o)
-  message_fits n lost m e a o has = by o
+  message_fits : (n : EventCounts) (lost : Lost) (to : Option Node) (e : Event) (a : Answer) (after : Machine)
+      (o : Option Message) → Fits n → Fits (seen n lost to e a after o)
+  message_fits n lost to e a after o has = by o
     where
-      told : Fits (answered (record n { events = more n.events }) lost m e a)
+      told : Fits (answered (record n { events = more n.events }) lost to e a after)
       told = answered_keeps Fits fits_kept (λ k r fits. core_fits k r.core (completed r) fits)
-          (record n { events = more n.events }) lost m e a has
+          (record n { events = more n.events }) lost to e a after has
 
-      by : (o : Option Message) → Fits (seen n lost m e a o)
+      by : (o : Option Message) → Fits (seen n lost to e a after o)
       by None = told
-      by (Some x) = followed Fits fits_kept _ m e x (sent_keeps Fits fits_kept (λ k next fits. fits) _ x told)
+      by (Some x) = followed Fits fits_kept _ after e x (sent_keeps Fits fits_kept (λ k next fits. fits) _ x told)
 
 -- counts that fit still do after an event
-pub seen_fits : (spare : Option EventCounts) (n : EventCounts) (lost : Lost) (m : Machine) (e : Event) (a : Answer)
-    (o : Option Message) → FitsIn n spare → FitsIn (seen n lost m e a o) spare
-seen_fits None n lost m e a o has = has
-seen_fits (Some spare) n lost m e a o has = message_fits spare n lost m e a o has
+pub seen_fits : (spare : Option EventCounts) (n : EventCounts) (lost : Lost) (to : Option Node) (e : Event) (a : Answer)
+    (after : Machine) (o : Option Message) → FitsIn n spare → FitsIn (seen n lost to e a after o) spare
+seen_fits None n lost to e a after o has = has
+seen_fits (Some spare) n lost to e a after o has = message_fits spare n lost to e a after o has

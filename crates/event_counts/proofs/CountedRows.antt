@@ -21,10 +21,10 @@ use Rattle.machine_table.specs.Runs.{after_all}
 use Rattle.machine_table.specs.Transition.{transition}
 use Rattle.machine_table.proofs.Lemmas.{every_answer}
 use Rattle.protocol.proofs.Lemmas.{Some_injective}
-use Rattle.network.specs.NumberedMessages.{at_number}
 use Rattle.schedules.specs.Watches.{watched}
-use Rattle.event_counts.specs.Counting.{Counter, EventCounts, counted, counter_events, counter_seen, is_row, no_counter}
-use Rattle.event_counts.specs.Counting.{with_row}
+use Rattle.event_counts.specs.Counting.{Counter, EventCounts, counted, counter_events, counter_seen, goes_to, is_row}
+use Rattle.event_counts.specs.Counting.{no_counter, with_row}
+use Rattle.event_counts.specs.Losses.{at_risk}
 use Rattle.event_counts.specs.RowLaw.{IsRow}
 
 -- one event more, behind others
@@ -35,10 +35,11 @@ after_more m (x ∷ events) e = after_more (transition m x).1 events e
 
 watched_more : (k : Counter) (m : Machine) (events : List Event) (e : Event) →
     watched counter_events k m (events ++ e ∷ []) ≡
-    (let next = transition (after_all m events) e in counter_seen (watched counter_events k m events) next.1 e next.0)
+    (let now = after_all m events in let next = transition now e in
+    counter_seen (watched counter_events k m events) now e next.0 next.1)
 watched_more k m [] e = refl
 watched_more k m (x ∷ events) e =
-    watched_more (counter_seen k (transition m x).1 x (transition m x).0) (transition m x).1 events e
+    watched_more (counter_seen k m x (transition m x).0 (transition m x).1) (transition m x).1 events e
 
 -- a row at an index, where one is added behind
 at_end : {X : Type 0} (xs : List X) (x : X) (P : ℕ → X → Type 0) → ((at : ℕ) (y : X) → slice_get xs at ≡ Some y → P at y) →
@@ -133,7 +134,7 @@ module _ (first : Counter) (m : Machine) (every : ℕ) (some : 0 < every) where
     longer_by = events ++ e ∷ []
 
     abbrev behind : Machine → Answer → Counter
-    behind after a = counted k after e a (at_number k.counts.next after.mail.messages)
+    behind after a = counted k (goes_to now e) (at_risk now e) e a after
 
     -- no row is due
     none_due : (after : Machine) (a : Answer) → length now.records ≤ length after.records →
@@ -191,13 +192,13 @@ module _ (first : Counter) (m : Machine) (every : ℕ) (some : 0 < every) where
         by false due is =
             none_due after (answer.Completed r) (omega (arith, adds))
             (not_yet every (length k.rows) (length now.records) (length after.records) some adds has.high due) is leads
-    by_answer _ after adds is leads = none_due after _ (omega (arith, adds)) (omega (arith, adds, has.high)) is leads
+    by_answer a after adds is leads = none_due after a (omega (arith, adds)) (omega (arith, adds, has.high)) is leads
 
-    more : let next = transition now e in Rows longer_by (counter_seen k next.1 e next.0) next.1
+    more : let next = transition now e in Rows longer_by (counter_seen k now e next.0 next.1) next.1
     more =
         let next = transition now e in
-        let seen : (counter_seen k next.1 e next.0 ≡ watched counter_events first m longer_by)
-        = ap₂ (λ (c : Counter) (n : Machine). let made = transition n e in counter_seen c made.1 e made.0)
+        let seen : (counter_seen k now e next.0 next.1 ≡ watched counter_events first m longer_by)
+        = ap₂ (λ (c : Counter) (n : Machine). let made = transition n e in counter_seen c n e made.0 made.1)
         has.counter has.leads ∙ sym (watched_more first m events e) in
         let leads = ap (λ n. (transition n e).1) has.leads ∙ sym (after_more m events e) in
         subst (λ o. Rows longer_by (with_row (behind next.1 next.0) (is_row o (length next.1.records) next.0)) next.1)
@@ -214,7 +215,7 @@ module _ (first : Counter) (m : Machine) (every : ℕ) (some : 0 < every) where
       let next = transition now e in
       subst (λ events. Rows events (watched counter_events k now (e ∷ after)) (after_all now (e ∷ after)))
       (append_assoc before (e ∷ []) after)
-      (all_rows (before ++ e ∷ []) after (counter_seen k next.1 e next.0) next.1 (more before k now has e))
+      (all_rows (before ++ e ∷ []) after (counter_seen k now e next.0 next.1) next.1 (more before k now has e))
 
 if_some : {X : Type 0} (P : X → Type 0) (o : Option X) → ((x : X) → o ≡ Some x → P x) → IfSome o P
 if_some P None all = tt

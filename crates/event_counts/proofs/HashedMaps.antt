@@ -7,7 +7,7 @@ use Rattle.std.specs.Map.{lookup}
 use Rattle.std.specs.FinMap.{from_entries, get, insert, find, get-from_entries, get-insert, same_map}
 use Rattle.std.specs.FinMap.{nat_cmp-IsAntisymmetric}
 
-same_test : (a b : ℕ) → eq_by_cmp nat_cmp a b ≡ nat_eq a b
+pub same_test : (a b : ℕ) → eq_by_cmp nat_cmp a b ≡ nat_eq a b
 same_test a b = grind (arith, nat_tests)
 
 module _ {X : Type 0} where

@@ -3,4 +3,6 @@ mod CountSizes
 mod CountedRows
 mod HashedMaps
 mod KeptCounts
+mod LossNotes
 mod SentMessages
+mod TakenCopies

@@ -5,6 +5,7 @@ use Rattle.std.proofs.lemmas.Bool.{cond_both}
 use Rattle.std.proofs.lemmas.Bool.Decides.{nat_tests}
 use Rattle.std.proofs.lemmas.Grind.{common_steps}
 use Rattle.network.specs.declared.message.Message.{Message}
+use Rattle.network.specs.declared.message.Node.{Node}
 use Rattle.network.specs.Mail.{Mail, sent as sent_by}
 use Rattle.network.specs.NumberedMessages.{at_number, without_number}
 use Rattle.machine_table.specs.declared.event.Event.{Event}
@@ -17,9 +18,10 @@ use Rattle.machine_table.specs.Step.{Step, Makes, Drops}
 use Rattle.machine_table.specs.Transition.{changed, refused, transition}
 use Rattle.machine_table.proofs.Lemmas.{Outcome, core_steps, bank_steps, dram_steps, transition_outcome}
 use Rattle.event_counts.specs.Counts.{EventCounts, more}
-use Rattle.event_counts.specs.Losses.{Lost}
+use Rattle.event_counts.specs.Losses.{Lost, at_risk}
 use Rattle.schedules.specs.Watches.{watched}
-use Rattle.event_counts.specs.Counting.{Counter, answered, counted, counter_events, counter_seen, is_row, seen}
+use Rattle.event_counts.specs.Counting.{Counter, answered, counted, counter_events, counter_seen, goes_to, is_row}
+use Rattle.event_counts.specs.Counting.{seen}
 use Rattle.event_counts.proofs.KeptCounts.{IsKept, answered_keeps, followed, row_counts}
 
 module _ {X : Type 0} where
@@ -115,17 +117,17 @@ next_is next = record {
   at_banks = λ n bank change has. has;
 }
 
-seen_next : (n : EventCounts) (lost : Lost) (m : Machine) (e : Event) (a : Answer) (o : Option Message) →
-    (seen n lost m e a o).next ≡ next_after n.next o
-seen_next n lost m e a o = by o
+seen_next : (n : EventCounts) (lost : Lost) (to : Option Node) (e : Event) (a : Answer) (after : Machine)
+    (o : Option Message) → (seen n lost to e a after o).next ≡ next_after n.next o
+seen_next n lost to e a after o = by o
   where
-    told : (answered (record n { events = more n.events }) lost m e a).next ≡ n.next
+    told : (answered (record n { events = more n.events }) lost to e a after).next ≡ n.next
     told = answered_keeps (λ k. k.next ≡ n.next) (next_is n.next) (λ k r has. has)
-        (record n { events = more n.events }) lost m e a refl
+        (record n { events = more n.events }) lost to e a after refl
 
-    by : (o : Option Message) → (seen n lost m e a o).next ≡ next_after n.next o
+    by : (o : Option Message) → (seen n lost to e a after o).next ≡ next_after n.next o
     by None = told
-    by (Some x) = followed (λ k. k.next ≡ more n.next) (next_is (more n.next)) _ m e x (ap more told)
+    by (Some x) = followed (λ k. k.next ≡ more n.next) (next_is (more n.next)) _ after e x (ap more told)
 
 -- counts that have all messages sent so far have all that a list of events sends
 pub all_counted : (m : Machine) (events : List Event) (k : Counter) → IsOpen m.mail → k.counts.next ≡ m.mail.next →
@@ -134,10 +136,10 @@ all_counted m [] k opened has = has
 all_counted m (e ∷ events) k opened has =
     let next = transition m e in let sends = event_sends m opened e in
     let o = at_number k.counts.next next.1.mail.messages in
-    all_counted next.1 events (counter_seen k next.1 e next.0) sends.opened
-    (ap (λ (n : EventCounts). n.next) (row_counts (counted k next.1 e next.0 o)
+    all_counted next.1 events (counter_seen k m e next.0 next.1) sends.opened
+    (ap (λ (n : EventCounts). n.next) (row_counts (counted k (goes_to m e) (at_risk m e) e next.0 next.1)
     (is_row k.every (length next.1.records) next.0))
-    ∙ seen_next k.counts k.lost next.1 e next.0 o
+    ∙ seen_next k.counts k.lost (goes_to m e) e next.0 next.1 o
     ∙ ap (λ n. next_after n (at_number n next.1.mail.messages)) has ∙ sends.counted)
 
 -- one event sends one message at most, whatever is in flight

@@ -1,6 +1,6 @@
 -- What each answered event of a run adds to the counts, by the machine after it.
 use Rattle.std.specs.Prelude.{◌≡◌, ℕ, ◌<◌, ◌%◌, ◌==◌, nat_lt, Bool, true, false, ◌&&◌, if◌then◌else◌, List, [], ◌∷◌}
-use Rattle.std.specs.Prelude.{◌++◌, Option, Some, None, is_some, length, slice_get}
+use Rattle.std.specs.Prelude.{◌++◌, Option, Some, None, length, slice_get}
 use Rattle.std.specs.FinMap.{empty}
 use Rattle.physiological_order.specs.declared.operation.Op.{Op}
 use Rattle.physiological_order.specs.declared.operation.Op.TheVariants.{Load, Store, Swap}
@@ -21,10 +21,11 @@ use Rattle.machine_table.specs.Machine.{Machine}
 use Rattle.schedules.specs.Watches.{Watches}
 use Rattle.event_counts.specs.declared.cause.Cause.{Cause}
 use Rattle.event_counts.specs.declared.cause.Cause.TheVariants as cause
-use Rattle.event_counts.specs.Losses.{Lost, loss, lost_after}
+use Rattle.event_counts.specs.declared.part_counts.Happening.TheVariants as happening
 pub use Rattle.event_counts.specs.Counts.{EventCounts, no_counts}
-use Rattle.event_counts.specs.Counts.{at_bank, at_core, asked, completed, evicted_copy, evicted_entry, held_at, more}
-use Rattle.event_counts.specs.Counts.{reloaded_line, returned_line, sent}
+use Rattle.event_counts.specs.Counts.{at_core, at_node, asked, completed, dropped, held, more, reloaded_line}
+use Rattle.event_counts.specs.Counts.{returned_line, sent, with_happening}
+use Rattle.event_counts.specs.Losses.{Lost, at_risk, has_copy, loss, lost_after}
 
 -- why an operation needs a request on a line without a copy, by how the core lost its last one
 abbrev pub cause_without : Option Cause → Cause
@@ -55,27 +56,27 @@ requested n lost m _ = n
 
 -- a copy or an entry is evicted
 abbrev pub evicted : EventCounts → Event → EventCounts
-evicted n (EvictCache core line) = at_core n core evicted_copy
-evicted n (EvictBank bank line) = at_bank n bank evicted_entry
+evicted n (EvictCache core line) = at_node n (node.Core core) (with_happening happening.Evicted)
+evicted n (EvictBank bank line) = at_node n (node.Bank bank) (with_happening happening.Evicted)
 evicted n _ = n
 
--- a delivery is held: its message is still in flight
-abbrev pub held_message : EventCounts → Option Message → EventCounts
-held_message n None = n
-held_message n (Some message) = held_at n message.to
+-- the node that a delivery's message goes to
+abbrev pub end_of : Option Message → Option Node
+end_of None = None
+end_of (Some message) = Some message.to
 
-abbrev pub held : EventCounts → Machine → Event → EventCounts
-held n m (Deliver number) = held_message n (at_number number m.mail.messages)
-held n m _ = n
+abbrev pub goes_to : Machine → Event → Option Node
+goes_to m (Deliver number) = end_of (at_number number m.mail.messages)
+goes_to m _ = None
 
--- what an answer adds, besides the messages
-abbrev pub answered : EventCounts → Lost → Machine → Event → Answer → EventCounts
-answered n lost m event (Completed done) = at_core n done.core (completed done)
-answered n lost m event Requested = requested n lost m event
-answered n lost m event Evicted = evicted n event
-answered n lost m event Held = held (record n { held = more n.held }) m event
-answered n lost m event Dropped = record n { dropped = more n.dropped }
-answered n lost m event _ = n
+-- what an answer adds, besides the messages, where a delivery's message went to this node
+abbrev pub answered : EventCounts → Lost → Option Node → Event → Answer → Machine → EventCounts
+answered n lost to event (Completed done) after = at_core n done.core (completed done)
+answered n lost to event Requested after = requested n lost after event
+answered n lost to event Evicted after = evicted n event
+answered n lost to event Held after = held n to
+answered n lost to event Dropped after = dropped n to
+answered n lost to event _ after = n
 
 -- a core sends a line back: it does so because it evicts its copy, or in answer to a recall
 abbrev pub returned_by : EventCounts → ℕ → Body → EventCounts
@@ -88,10 +89,6 @@ returned n (EvictCache core line) body = returned_by n core body
 returned n _ body = n
 
 -- words are sent to a core that may have a copy of the line
-abbrev pub has_copy : Option CoreState → ℕ → Bool
-has_copy None line = false
-has_copy (Some core) line = is_some (copy_of core.cache line)
-
 abbrev pub reloaded_at : EventCounts → Machine → ℕ → ℕ → EventCounts
 reloaded_at n m core line = if has_copy (slice_get m.cores core) line then at_core n core reloaded_line else n
 
@@ -105,10 +102,11 @@ with_message n m event None = n
 with_message n m event (Some message) =
     returned (reloaded (sent n message) m message.to message.line message.body) event message.body
 
--- what an event adds, with its answer, the machine after it and the message that it sent
-abbrev pub seen : EventCounts → Lost → Machine → Event → Answer → Option Message → EventCounts
-seen n lost m event answer message =
-    with_message (answered (record n { events = more n.events }) lost m event answer) m event message
+-- what an event adds, where a delivery's message went to this node, with its answer, the machine after it and the
+-- message that it sent
+abbrev pub seen : EventCounts → Lost → Option Node → Event → Answer → Machine → Option Message → EventCounts
+seen n lost to event answer after message =
+    with_message (answered (record n { events = more n.events }) lost to event answer after) after event message
 
 -- what a counter has: the counts, the copies that are lost, and the counts as they were each time that so many more
 -- operations had completed
@@ -131,16 +129,22 @@ is_row (Some every) done _ = false
 abbrev pub with_row : Counter → Bool → Counter
 with_row k due = if due then record k { rows = k.rows ++ k.counts ∷ [] } else k
 
--- what an event makes of it, with its answer, the machine after it and the message that it sent
-abbrev pub counted : Counter → Machine → Event → Answer → Option Message → Counter
-counted k m event answer message =
-    record k { counts = seen k.counts k.lost m event answer message; lost = lost_after k.lost event answer message }
+-- what an event makes of it, by where a delivery's message went and the copy that the event may take, with its answer
+-- and the machine after it. The message with the next number, if it is in flight then, was sent by the event
+abbrev pub counted : Counter → Option Node → Option (ℕ × ℕ) → Event → Answer → Machine → Counter
+counted k to copy event answer after = record k {
+  counts = seen k.counts k.lost to event answer after (at_number k.counts.next after.mail.messages);
+  lost = lost_after k.lost copy event after;
+}
 
--- the message with the next number, if it is in flight after an event, was sent by that event
-abbrev pub counter_seen : Counter → Machine → Event → Answer → Counter
-counter_seen k m event answer =
-    with_row (counted k m event answer (at_number k.counts.next m.mail.messages))
-    (is_row k.every (length m.records) answer)
+-- with a row, where one is due
+abbrev pub counted_on : Counter → Option Node → Option (ℕ × ℕ) → Event → Answer → Machine → Counter
+counted_on k to copy event answer after =
+    with_row (counted k to copy event answer after) (is_row k.every (length after.records) answer)
+
+-- by the machine before an event, the event, its answer and the machine after it
+abbrev pub counter_seen : Counter → Machine → Event → Answer → Machine → Counter
+counter_seen k m event answer after = counted_on k (goes_to m event) (at_risk m event) event answer after
 
 -- rows, for how many more there is room, and counts that the next one can be copied to
 pub record Rows : Type 0 where
@@ -156,16 +160,25 @@ FitsIn n (Some spare) = (length spare.cores ≡ length n.cores) × (length spare
 abbrev pub HasRow : EventCounts → Rows → Type 0
 HasRow n rows = (0 < rows.room) × FitsIn n rows.spare
 
--- a counter in memory: what it has, and its room
+-- a counter in memory: what it has, its room, where the message of the event to come goes, and the copy that this event
+-- may take
 pub record CounterState : Type 0 where
   pub seen : Counter
   pub lost_room : ℕ
   pub row_room : ℕ
   pub spare : Option EventCounts
+  pub to : Option Node
+  pub copy : Option (ℕ × ℕ)
 
 -- there is room for what one more event adds
 abbrev pub HasRoom : CounterState → Type 0
 HasRoom w = (0 < w.lost_room) × (0 < w.row_room) × FitsIn w.seen.counts w.spare
+
+-- the counter is ready for an event of a machine
+pub record IsReady (w : CounterState) (m : Machine) (event : Event) : Type 0 where
+  pub room : HasRoom w
+  pub to : w.to ≡ goes_to m event
+  pub copy : w.copy ≡ at_risk m event
 
 -- the counter watches a run
 abbrev pub counter_events : Watches CounterState
@@ -173,6 +186,6 @@ counter_events = record {
   Seen = Counter;
   seen = λ w. w.seen;
   sees = counter_seen;
-  HasRoom = HasRoom;
+  IsReady = IsReady;
   asks = true;
 }

@@ -15,7 +15,9 @@ use Rattle.event_counts.specs.declared.cause.Cause.{Cause}
 use Rattle.event_counts.specs.declared.cause.Cause.TheVariants.{Cold, Evicted, Recalled, Ended, Shared}
 use Rattle.event_counts.specs.declared.kind_counts.KindCounts.{KindCounts}
 use Rattle.event_counts.specs.declared.part_counts.CoreCounts.{CoreCounts}
-use Rattle.event_counts.specs.declared.part_counts.BankCounts.{BankCounts}
+use Rattle.event_counts.specs.declared.part_counts.PartCounts.{PartCounts}
+use Rattle.event_counts.specs.declared.part_counts.Happening.{Happening}
+use Rattle.event_counts.specs.declared.part_counts.Happening.TheVariants as happening
 
 -- one more; at its greatest value, 2 ^ 64 - 1, a count stays
 abbrev pub more : ℕ → ℕ
@@ -57,7 +59,10 @@ with_kind n (DramLdRep words) = record n { dram_ld_rep = more n.dram_ld_rep }
 with_kind n (DramSt words) = record n { dram_st = more n.dram_st }
 with_kind n DramStRep = record n { dram_st_rep = more n.dram_st_rep }
 
--- nothing is counted of a core, or of a bank
+-- nothing is counted of a part, or of a core
+abbrev pub no_part_counts : PartCounts
+no_part_counts = record { evictions = 0; held = 0; dropped = 0; sent = no_kinds }
+
 abbrev pub no_core_counts : CoreCounts
 no_core_counts = record {
   loads = 0;
@@ -70,16 +75,26 @@ no_core_counts = record {
   ended = 0;
   shared = 0;
   asked = None;
-  evictions = 0;
   returns = 0;
   reloads = 0;
-  held = 0;
   last_time = 0;
-  sent = no_kinds;
+  part = no_part_counts;
 }
 
-abbrev pub no_bank_counts : BankCounts
-no_bank_counts = record { evictions = 0; held = 0; sent = no_kinds }
+-- a message is sent by a part or to it
+abbrev pub with_body : Body → PartCounts → PartCounts
+with_body body n = record n { sent = with_kind n.sent body }
+
+-- this happens at a part
+abbrev pub with_happening : Happening → PartCounts → PartCounts
+with_happening happening.Evicted n = record n { evictions = more n.evictions }
+with_happening happening.Held n = record n { held = more n.held }
+with_happening happening.Dropped n = record n { dropped = more n.dropped }
+with_happening (happening.Sent body) n = with_body body.now n
+
+-- the part that a core is
+abbrev pub in_part : (PartCounts → PartCounts) → CoreCounts → CoreCounts
+in_part change n = record n { part = change n.part }
 
 -- an operation counts by its kind
 abbrev pub with_op : CoreCounts → Op → CoreCounts
@@ -109,13 +124,6 @@ first_cause (Some first) cause = first
 abbrev pub asked : Cause → CoreCounts → CoreCounts
 asked cause n = record n { asked = Some (first_cause n.asked cause) }
 
--- a copy, or an entry, is evicted
-abbrev pub evicted_copy : CoreCounts → CoreCounts
-evicted_copy n = record n { evictions = more n.evictions }
-
-abbrev pub evicted_entry : BankCounts → BankCounts
-evicted_entry n = record n { evictions = more n.evictions }
-
 -- a line goes back because its copy is evicted
 abbrev pub returned_line : CoreCounts → CoreCounts
 returned_line n = record n { returns = more n.returns }
@@ -124,24 +132,10 @@ returned_line n = record n { returns = more n.returns }
 abbrev pub reloaded_line : CoreCounts → CoreCounts
 reloaded_line n = record n { reloads = more n.reloads }
 
--- a delivery to a core, or to a bank, is held
-abbrev pub core_held : CoreCounts → CoreCounts
-core_held n = record n { held = more n.held }
-
-abbrev pub bank_held : BankCounts → BankCounts
-bank_held n = record n { held = more n.held }
-
--- a message was sent by a core or to it, or by a bank or to it
-abbrev pub core_sent : Body → CoreCounts → CoreCounts
-core_sent body n = record n { sent = with_kind n.sent body }
-
-abbrev pub bank_sent : Body → BankCounts → BankCounts
-bank_sent body n = record n { sent = with_kind n.sent body }
-
 -- the counts of a run
 pub record EventCounts : Type 0 where
   pub cores : List CoreCounts
-  pub banks : List BankCounts
+  pub banks : List PartCounts
   -- the events; the deliveries that were held, and those that were dropped
   pub events : ℕ
   pub held : ℕ
@@ -153,7 +147,7 @@ pub record EventCounts : Type 0 where
 abbrev pub no_counts : ℕ → ℕ → EventCounts
 no_counts cores banks = record {
   cores = replicate cores no_core_counts;
-  banks = replicate banks no_bank_counts;
+  banks = replicate banks no_part_counts;
   events = 0;
   held = 0;
   dropped = 0;
@@ -171,28 +165,33 @@ changed_at xs at change = with_one xs at change (slice_get xs at)
 abbrev pub at_core : EventCounts → ℕ → (CoreCounts → CoreCounts) → EventCounts
 at_core n core change = record n { cores = changed_at n.cores core change }
 
-abbrev pub at_bank : EventCounts → ℕ → (BankCounts → BankCounts) → EventCounts
+abbrev pub at_bank : EventCounts → ℕ → (PartCounts → PartCounts) → EventCounts
 at_bank n bank change = record n { banks = changed_at n.banks bank change }
 
--- a message counts at a node, if that is a core or a bank
-abbrev pub at_node : EventCounts → Node → Body → EventCounts
-at_node n (node.Core core) body = at_core n core (core_sent body)
-at_node n (node.Bank bank) body = at_bank n bank (bank_sent body)
-at_node n (node.Dram bank) body = n
+-- a part changes at a node, if that is a core or a bank
+abbrev pub at_node : EventCounts → Node → (PartCounts → PartCounts) → EventCounts
+at_node n (node.Core core) change = at_core n core (in_part change)
+at_node n (node.Bank bank) change = at_bank n bank change
+at_node n (node.Dram bank) change = n
 
 -- a message counts at its core, if it has one, and at its bank
 abbrev pub at_ends : EventCounts → Message → EventCounts
-at_ends n message = at_node (at_node n message.from message.body) message.to message.body
+at_ends n message = at_node (at_node n message.from (with_body message.body)) message.to (with_body message.body)
 
 -- a message was sent: it had the next number
 abbrev pub sent : EventCounts → Message → EventCounts
 sent n message = record (at_ends n message) { next = more n.next }
 
--- a delivery is held at a node, if that is a core or a bank
-abbrev pub held_at : EventCounts → Node → EventCounts
-held_at n (node.Core core) = at_core n core core_held
-held_at n (node.Bank bank) = at_bank n bank bank_held
-held_at n (node.Dram bank) = n
+-- a delivery to a node is held, or its message is dropped
+abbrev pub at_some : EventCounts → Option Node → (PartCounts → PartCounts) → EventCounts
+at_some n None change = n
+at_some n (Some node) change = at_node n node change
+
+abbrev pub held : EventCounts → Option Node → EventCounts
+held n to = at_some (record n { held = more n.held }) to (with_happening happening.Held)
+
+abbrev pub dropped : EventCounts → Option Node → EventCounts
+dropped n to = at_some (record n { dropped = more n.dropped }) to (with_happening happening.Dropped)
 
 -- the operations of a core that completed, by their kinds; and the hits with the misses
 abbrev pub operations : CoreCounts → ℕ

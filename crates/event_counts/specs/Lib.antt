@@ -1,4 +1,5 @@
 pub mod Counting
 pub mod Counts
+pub mod LossLaw
 pub mod Losses
 pub mod RowLaw

@@ -6,7 +6,7 @@ ghost use Rattle.event_counts.specs.Losses.{loss};
 
 use crate::lost_copies::LostCopies;
 use core_pts::Core;
-use interleaving_core::System;
+use interleaving_core::{History, System};
 use physiological_order::Op;
 
 /// Why a core needs a request for its open operation: what copy of the line it has, or how it lost its last one.
@@ -60,7 +60,7 @@ fn cause_open(lost: &LostCopies, number: u32, core: &Core) -> Cause
 }
 
 // The cause of a core that was answered Requested: its copy is as it was.
-pub(crate) fn cause_of(lost: &LostCopies, system: &System, core: u32) -> Cause
+pub(crate) fn cause_of<K: History>(lost: &LostCopies, system: &System<K>, core: u32) -> Cause
     ensures { result ≡ cause_of lost.now.lost core (slice_get system.now.cores core) }
 {
     match system.core(core) {

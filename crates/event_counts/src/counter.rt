@@ -1,25 +1,29 @@
 //! The counts of a run as it goes, with rows of them.
-ghost use Rattle.std.specs.Prelude.{◌≡◌, ◌%◌, ◌==◌, ◌&&◌, nat_lt, IfOk, OnOk, length};
+ghost use Rattle.std.specs.Prelude.{◌≡◌, ◌%◌, ◌==◌, ◌&&◌, nat_lt, IfOk, OnOk, length, option_copied};
+ghost use Rattle.machine_table.specs.Machine.{Machine};
 ghost use Rattle.interleaving_core.specs.PartChanges.{answer_in};
-ghost use Rattle.event_counts.specs.Counting.{HasRoom, counter_seen, is_row, no_counter};
+ghost use Rattle.event_counts.specs.Counting.{HasRoom, IsReady, counted_on, counter_seen, end_of, goes_to};
+ghost use Rattle.event_counts.specs.Counting.{is_row, no_counter};
 
 use crate::event_counts::EventCounts;
-use crate::lost_copies::LostCopies;
+use crate::lost_copies::{LostCopies, at_risk};
 use crate::row_list::RowList;
-use interleaving_core::{Event, PlainAnswer, System};
-use network::MsgNo;
-use physiological_order::Record;
+use interleaving_core::{Event, History, PlainAnswer, System};
+use network::{LineNo, Message, MsgNo, Node};
 use std::alloc::{AllocError, Global};
 use std::marker::Model;
 
 /// Counts what a run does, and keeps the counts as they were behind each Nth operation that completed.
-/// Contracts see what it has, and its room.
+/// Contracts see what it has, its room, and what it is ready for.
 #[derive(Drop)]
 pub struct Counter {
     counts: EventCounts,
     lost: LostCopies,
     rows: RowList,
     every: Option<u64>,
+    // Of the event that is to come: the node that its message goes to, and the copy that it may take.
+    to: Option<Node>,
+    copy: Option<(u32, LineNo)>,
 }
 
 impl Model for Counter {
@@ -38,6 +42,8 @@ impl Model for Counter {
       lost_room = a.lost.room;
       row_room = a.rows.room;
       spare = a.rows.spare;
+      to = a.to;
+      copy = a.copy;
     } };
 }
 
@@ -58,6 +64,8 @@ impl Counter {
             lost: LostCopies::new(alloc),
             rows: RowList::new(alloc),
             every,
+            to: None,
+            copy: None,
         })
     }
 
@@ -82,40 +90,87 @@ impl Counter {
         self.every
     }
 
-    /// Makes room for what one more event may add: a row, and a copy that is lost.
-    pub fn reserve(&mut self) -> Result<(), AllocError>
+    /// Makes ready for an event that is to come on this machine. There is room for what it may add, a row and a copy
+    /// that is lost. Noted are the node that its message goes to, and the copy that it may take.
+    pub fn prepare<K: History>(
+        &mut self,
+        system: &System<K>,
+        event: &Event,
+    ) -> Result<(), AllocError>
         ensures same { self.new.seen ≡ self.old.seen }
-        ensures room { OnOk result (HasRoom self.new) }
+        ensures ready { OnOk result (IsReady self.new system.now event.now) }
     {
         self.lost.reserve()?;
-        self.rows.reserve(&self.counts)
+        self.rows.reserve(&self.counts)?;
+        self.to = goes_to(system, event);
+        self.copy = at_risk(system, event);
+        Ok(())
     }
 
-    /// Counts an event of a machine, which answered it so (as `System::step_plain` answers) and is now as it left it.
-    /// The call allocates nothing.
+    /// Counts the event that it is ready for, of a machine that answered it so (as `System::step_plain` answers) and is
+    /// now as it left it. The call allocates nothing.
     #[inline(always)]
-    pub fn see(&mut self, system: &System, event: &Event, plain: &Option<PlainAnswer>)
+    pub fn see<K: History>(
+        &mut self,
+        system: &System<K>,
+        event: &Event,
+        plain: &Option<PlainAnswer>,
+    )
+        requires { (before : Machine) × IsReady self.old before event.now }
+        ensures { (before : Machine) → IsReady self.old before event.now →
+            self.new.seen ≡ counter_seen self.old.seen before event.now
+            (answer_in system.now.records plain.now) system.now }
+    {
+        self.count(system, event, plain);
+    }
+
+    // Counts an event by what is noted of it.
+    #[inline(always)]
+    fn count<K: History>(&mut self, system: &System<K>, event: &Event, plain: &Option<PlainAnswer>)
         requires room { HasRoom self.old }
-        ensures { self.new.seen ≡ counter_seen self.old.seen system.now event.now
-            (answer_in system.now.records plain.now) }
+        ensures { self.new.seen ≡ counted_on self.old.seen self.old.to self.old.copy event.now
+            (answer_in system.now.records plain.now) system.now }
     {
         let sent = system.look(MsgNo(self.counts.messages()));
-        self.counts.see(&self.lost, system, event, plain, sent);
-        self.lost.see(system.records(), event, plain, sent);
-        if is_row(self.every, system.records(), plain) {
+        self.counts
+            .see(&self.lost, self.to, system, event, plain, sent);
+        self.lost.see(self.copy, event, system);
+        if is_row(self.every, system, plain) {
             self.rows.push(&self.counts);
         }
     }
 }
 
-// Whether an answer completes an operation, the last of these, and there is to be a row after it.
-fn is_row(every: Option<u64>, records: &[Record], plain: &Option<PlainAnswer>) -> bool
-    ensures { result ≡ is_row every (length records.now) (answer_in records.now plain.now) }
+// The node that a message goes to.
+fn end_of(message: Option<&Message>) -> Option<Node>
+    ensures { result ≡ end_of (option_copied message.entry) }
+{
+    match message {
+        None => None,
+        Some(message) => Some(message.to),
+    }
+}
+
+// The node that a delivery's message goes to.
+fn goes_to<K: History>(system: &System<K>, event: &Event) -> Option<Node>
+    ensures { result ≡ goes_to system.now event.now }
+{
+    match event {
+        Event::Deliver(number) => end_of(system.look(*number)),
+        _ => None,
+    }
+}
+
+// Whether an answer of a machine completes an operation, and there is to be a row after it.
+fn is_row<K: History>(every: Option<u64>, system: &System<K>, plain: &Option<PlainAnswer>) -> bool
+    ensures { result ≡ is_row every (length system.now.records)
+        (answer_in system.now.records plain.now) }
 {
     let Some(every) = every else {
         return false;
     };
-    plain.is_none() && !records.is_empty() && is_multiple(records.len() as u64, every)
+    let completed = system.completed() as u64;
+    plain.is_none() && completed > 0 && is_multiple(completed, every)
 }
 
 // Whether this number is a multiple of another, which isn't 0.

@@ -1,21 +1,20 @@
 //! The counts of a run.
-ghost use Rattle.std.specs.Prelude.{◌≡◌, IfOk, IsTrue, None, Some, option_copied, slice_get};
-ghost use Rattle.network.specs.NumberedMessages.{at_number};
+ghost use Rattle.std.specs.Prelude.{◌≡◌, IfOk, IsTrue, None, Option, Some, option_copied};
+ghost use Rattle.network.specs.declared.message.Node.{Node};
 ghost use Rattle.machine_table.specs.declared.event.Event.{Event};
 ghost use Rattle.machine_table.specs.Machine.{Machine};
 ghost use Rattle.interleaving_core.specs.PartChanges.{answer_in};
-ghost use Rattle.event_counts.specs.Counts.{asked, at_bank, at_core, at_node, bank_held, bank_sent, completed};
-ghost use Rattle.event_counts.specs.Counts.{core_held, core_sent, evicted_copy, evicted_entry, held_at, more, no_counts};
-ghost use Rattle.event_counts.specs.Counts.{reloaded_line, returned_line, sent};
+ghost use Rattle.event_counts.specs.Counts.{asked, at_bank, at_core, at_node, completed, dropped, held, in_part};
+ghost use Rattle.event_counts.specs.Counts.{no_counts, reloaded_line, returned_line, sent, with_happening};
 ghost use Rattle.event_counts.specs.Losses.{Lost};
-ghost use Rattle.event_counts.specs.Counting.{FitsIn, answered, evicted, has_copy, held, held_message, reloaded};
+ghost use Rattle.event_counts.specs.Counting.{FitsIn, answered, evicted, reloaded};
 ghost use Rattle.event_counts.specs.Counting.{reloaded_at, requested, returned_by, seen, with_message};
 
 use crate::cause::{Cause, cause_of};
 use crate::kind_counts::more;
-use crate::lost_copies::LostCopies;
-use crate::part_counts::{BankCounts, CoreCounts};
-use interleaving_core::{Event, PlainAnswer, System};
+use crate::lost_copies::{LostCopies, has_copy};
+use crate::part_counts::{CoreCounts, Happening, PartCounts};
+use interleaving_core::{Event, History, PlainAnswer, System};
 use network::{Body, LineNo, Message, MsgNo, Node};
 use physiological_order::Record;
 use std::alloc::{AllocError, Global};
@@ -26,7 +25,7 @@ use std::marker::Model;
 #[derive(Drop)]
 pub struct EventCounts {
     cores: Vec<CoreCounts>,
-    banks: Vec<BankCounts>,
+    banks: Vec<PartCounts>,
     events: u64,
     held: u64,
     dropped: u64,
@@ -55,7 +54,7 @@ impl EventCounts {
         ensures { IfOk result (λ counts. counts ≡ no_counts cores banks) }
     {
         let cores = vec![in alloc; CoreCounts::NONE; cores]?;
-        let banks = vec![in alloc; BankCounts::NONE; banks]?;
+        let banks = vec![in alloc; PartCounts::NONE; banks]?;
         Ok(EventCounts {
             cores,
             banks,
@@ -94,53 +93,55 @@ impl EventCounts {
     }
 
     // Counts an event of a machine, which answered it so (as `System::step_plain` answers), is now as it left it, and
-    // sent this message for it.
+    // sent this message for it. A delivery's message went to this node.
     #[inline(always)]
-    pub(crate) fn see(
+    pub(crate) fn see<K: History>(
         &mut self,
         lost: &LostCopies,
-        system: &System,
+        to: Option<Node>,
+        system: &System<K>,
         event: &Event,
         plain: &Option<PlainAnswer>,
         message: Option<&Message>,
     )
-        ensures { self.new ≡ seen self.old lost.now.lost system.now event.now
-            (answer_in system.now.records plain.now) (option_copied message.entry) }
+        ensures { self.new ≡ seen self.old lost.now.lost to event.now
+            (answer_in system.now.records plain.now) system.now (option_copied message.entry) }
     {
         self.events = more(self.events);
-        self.see_answer(lost, system, event, plain);
+        self.see_answer(lost, to, system, event, plain);
         self.see_sent_by(system, event, message);
     }
 
     // Counts what an answer says.
     #[inline(always)]
-    fn see_answer(
+    fn see_answer<K: History>(
         &mut self,
         lost: &LostCopies,
-        system: &System,
+        to: Option<Node>,
+        system: &System<K>,
         event: &Event,
         plain: &Option<PlainAnswer>,
     )
-        ensures { self.new ≡ answered self.old lost.now.lost system.now event.now
-            (answer_in system.now.records plain.now) }
+        ensures { self.new ≡ answered self.old lost.now.lost to event.now
+            (answer_in system.now.records plain.now) system.now }
     {
         match plain {
-            None => self.see_completed(system.records()),
+            None => self.see_completed(system),
             Some(PlainAnswer::Requested) => self.see_requested(lost, system, event),
             Some(PlainAnswer::Evicted) => self.see_evicted(event),
-            Some(PlainAnswer::Held) => self.see_held(system, event),
-            Some(PlainAnswer::Dropped) => self.dropped = more(self.dropped),
+            Some(PlainAnswer::Held) => self.see_held(to),
+            Some(PlainAnswer::Dropped) => self.see_dropped(to),
             _ => (),
         }
     }
 
     // Counts the completion of the operation that the last record is of.
     #[inline(always)]
-    fn see_completed(&mut self, records: &[Record])
-        ensures { (lost : Lost) (m : Machine) (event : Event) →
-            self.new ≡ answered self.old lost m event (answer_in records.now None) }
+    fn see_completed<K: History>(&mut self, system: &System<K>)
+        ensures { (lost : Lost) (to : Option Node) (event : Event) (after : Machine) →
+            self.new ≡ answered self.old lost to event (answer_in system.now.records None) after }
     {
-        if let Some(done) = records.last() {
+        if let Some(done) = system.last_record() {
             self.complete(done);
         }
     }
@@ -156,7 +157,7 @@ impl EventCounts {
     }
 
     // Counts an attempt that sent a request.
-    fn see_requested(&mut self, lost: &LostCopies, system: &System, event: &Event)
+    fn see_requested<K: History>(&mut self, lost: &LostCopies, system: &System<K>, event: &Event)
         ensures { self.new ≡ requested self.old lost.now.lost system.now event.now }
     {
         if let Event::Attempt(core) = event {
@@ -179,84 +180,70 @@ impl EventCounts {
         ensures { self.new ≡ evicted self.old event.now }
     {
         match event {
-            Event::EvictCache(core, _) => self.evict_copy(*core),
-            Event::EvictBank(bank, _) => self.evict_entry(*bank),
+            Event::EvictCache(core, _) => self.add_at(Node::Core(*core), &Happening::Evicted),
+            Event::EvictBank(bank, _) => self.add_at(Node::Bank(*bank), &Happening::Evicted),
             _ => (),
         }
     }
 
-    // A core's copy is evicted.
-    fn evict_copy(&mut self, core: u32)
-        ensures { self.new ≡ at_core self.old core evicted_copy }
-    {
-        let at = core as usize;
-        if at < self.cores.len() {
-            self.cores[at].evict();
-        }
-    }
-
-    // A bank's entry is evicted.
-    fn evict_entry(&mut self, bank: u32)
-        ensures { self.new ≡ at_bank self.old bank evicted_entry }
-    {
-        let at = bank as usize;
-        if at < self.banks.len() {
-            self.banks[at].evict();
-        }
-    }
-
-    // Counts a delivery that is held.
-    fn see_held(&mut self, system: &System, event: &Event)
-        ensures { self.new ≡ held (record self.old { held = more self.old.held }) system.now event.now }
+    // Counts a delivery to a node that is held.
+    fn see_held(&mut self, to: Option<Node>)
+        ensures { self.new ≡ held self.old to }
     {
         self.held = more(self.held);
-        if let Event::Deliver(number) = event {
-            self.hold_message(system, *number);
+        if let Some(to) = to {
+            self.add_at(to, &Happening::Held);
         }
     }
 
-    // A delivery of the message with this number is held.
-    fn hold_message(&mut self, system: &System, number: MsgNo)
-        ensures { self.new ≡ held_message self.old (at_number number system.now.mail.messages) }
+    // Counts a delivery to a node whose message is dropped.
+    fn see_dropped(&mut self, to: Option<Node>)
+        ensures { self.new ≡ dropped self.old to }
     {
-        if let Some(message) = system.look(number) {
-            self.hold_at(message.to);
+        self.dropped = more(self.dropped);
+        if let Some(to) = to {
+            self.add_at(to, &Happening::Dropped);
         }
     }
 
-    // A delivery to a node is held.
-    fn hold_at(&mut self, node: Node)
-        ensures { self.new ≡ held_at self.old node }
+    // Something happens at a node.
+    fn add_at(&mut self, node: Node, what: &Happening)
+        ensures { self.new ≡ at_node self.old node (with_happening what.now) }
     {
         match node {
-            Node::Core(core) => self.hold_at_core(core),
-            Node::Bank(bank) => self.hold_at_bank(bank),
+            Node::Core(core) => self.add_at_core(core, what),
+            Node::Bank(bank) => self.add_at_bank(bank, what),
             Node::Dram(_) => (),
         }
     }
 
-    // A delivery to a core is held.
-    fn hold_at_core(&mut self, core: u32)
-        ensures { self.new ≡ at_core self.old core core_held }
+    // Something happens at a core.
+    fn add_at_core(&mut self, core: u32, what: &Happening)
+        ensures { self.new ≡ at_core self.old core (in_part (with_happening what.now)) }
     {
         let at = core as usize;
         if at < self.cores.len() {
-            self.cores[at].hold();
+            self.cores[at].part.add(what);
         }
     }
 
-    // A delivery to a bank is held.
-    fn hold_at_bank(&mut self, bank: u32)
-        ensures { self.new ≡ at_bank self.old bank bank_held }
+    // Something happens at a bank.
+    fn add_at_bank(&mut self, bank: u32, what: &Happening)
+        ensures { self.new ≡ at_bank self.old bank (with_happening what.now) }
     {
         let at = bank as usize;
         if at < self.banks.len() {
-            self.banks[at].hold();
+            self.banks[at].add(what);
         }
     }
 
     // Counts the message that an event sent, if any.
-    fn see_sent_by(&mut self, system: &System, event: &Event, message: Option<&Message>)
+    fn see_sent_by<K: History>(
+        &mut self,
+        system: &System<K>,
+        event: &Event,
+        message: Option<&Message>,
+    )
         ensures { self.new ≡ with_message self.old system.now event.now
             (option_copied message.entry) }
     {
@@ -266,7 +253,7 @@ impl EventCounts {
     }
 
     // Counts the message that an event sent.
-    fn see_message(&mut self, system: &System, event: &Event, message: &Message)
+    fn see_message<K: History>(&mut self, system: &System<K>, event: &Event, message: &Message)
         ensures { self.new ≡ with_message self.old system.now event.now (Some message.now) }
     {
         self.see_sent(message);
@@ -298,7 +285,7 @@ impl EventCounts {
     }
 
     // Counts words that are sent to a core that has a copy of their line.
-    fn see_words(&mut self, system: &System, message: &Message)
+    fn see_words<K: History>(&mut self, system: &System<K>, message: &Message)
         ensures { self.new ≡ reloaded self.old system.now message.now.to message.now.line
             message.now.body }
     {
@@ -310,7 +297,7 @@ impl EventCounts {
     }
 
     // Words of a line are sent to a core.
-    fn reload(&mut self, system: &System, core: u32, line: LineNo)
+    fn reload<K: History>(&mut self, system: &System<K>, core: u32, line: LineNo)
         ensures { self.new ≡ reloaded_at self.old system.now core line }
     {
         let at = core as usize;
@@ -324,39 +311,8 @@ impl EventCounts {
         ensures { self.new ≡ sent self.old message.now }
     {
         self.next = more(self.next);
-        self.add_at(message.from, &message.body);
-        self.add_at(message.to, &message.body);
-    }
-
-    // A message counts at a node.
-    fn add_at(&mut self, node: Node, body: &Body)
-        ensures { self.new ≡ at_node self.old node body.now }
-    {
-        match node {
-            Node::Core(core) => self.add_at_core(core, body),
-            Node::Bank(bank) => self.add_at_bank(bank, body),
-            Node::Dram(_) => (),
-        }
-    }
-
-    // A message counts at a core.
-    fn add_at_core(&mut self, core: u32, body: &Body)
-        ensures { self.new ≡ at_core self.old core (core_sent body.now) }
-    {
-        let at = core as usize;
-        if at < self.cores.len() {
-            self.cores[at].add(body);
-        }
-    }
-
-    // A message counts at a bank.
-    fn add_at_bank(&mut self, bank: u32, body: &Body)
-        ensures { self.new ≡ at_bank self.old bank (bank_sent body.now) }
-    {
-        let at = bank as usize;
-        if at < self.banks.len() {
-            self.banks[at].add(body);
-        }
+        self.add_at(message.from, &Happening::Sent(&message.body));
+        self.add_at(message.to, &Happening::Sent(&message.body));
     }
 
     /// The counts of the cores, by number.
@@ -367,7 +323,7 @@ impl EventCounts {
     }
 
     /// The counts of the banks, by number.
-    pub fn banks(&self) -> &[BankCounts]
+    pub fn banks(&self) -> &[PartCounts]
         ensures { result.now ≡ self.now.banks }
     {
         &self.banks
@@ -399,15 +355,5 @@ impl EventCounts {
         ensures { result ≡ self.now.next }
     {
         self.next
-    }
-}
-
-// Whether a core has a copy of a line.
-fn has_copy(system: &System, core: u32, line: LineNo) -> bool
-    ensures { result ≡ has_copy (slice_get system.now.cores core) line }
-{
-    match system.core(core) {
-        None => false,
-        Some(core) => core.copy(line).is_some(),
     }
 }

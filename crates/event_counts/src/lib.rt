@@ -15,4 +15,4 @@ pub use cause::Cause;
 pub use counter::Counter;
 pub use event_counts::EventCounts;
 pub use kind_counts::KindCounts;
-pub use part_counts::{BankCounts, CoreCounts};
+pub use part_counts::{CoreCounts, PartCounts};

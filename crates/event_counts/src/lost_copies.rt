@@ -1,15 +1,12 @@
 //! How each core lost its last copy of each line.
-ghost use Rattle.std.specs.Prelude.{◌≡◌, ◌<◌, List, OnOk, option_copied};
+ghost use Rattle.std.specs.Prelude.{◌≡◌, ◌<◌, OnOk, option_copied, slice_get};
 ghost use Rattle.std.specs.FinMap.{empty};
-ghost use Rattle.interleaving_core.specs.PartChanges.{answer_in};
-ghost use Rattle.event_counts.specs.Losses.{evicted_by, key_of, loss, lost_after, recalled_by};
-ghost use Rattle.event_counts.specs.Losses.{recalled_from, with_loss};
-ghost use Rattle.physiological_order.specs.declared.operation.Record.{Record};
+ghost use Rattle.event_counts.specs.Losses.{at_risk, copy_at, copy_for, copy_under, has_copy, key_of, loss};
+ghost use Rattle.event_counts.specs.Losses.{lost_after, taken_by, with_loss};
 
 use crate::cause::Cause;
-use interleaving_core::{Event, PlainAnswer};
-use network::{Body, LineNo, Message, Node};
-use physiological_order::Record;
+use interleaving_core::{Event, History, System};
+use network::{LineNo, Message, Node};
 use std::alloc::{AllocError, Global};
 use std::collections::HashMap;
 use std::marker::Model;
@@ -40,7 +37,7 @@ impl Model for LostCopies {
 fn key_of(core: u32, line: LineNo) -> u128
     ensures { result ≡ key_of core line }
 {
-    core as u128 * 0x1_0000_0000_0000_0000 + line.0 as u128
+    line.0 as u128 * 0x1_0000_0000 + core as u128
 }
 
 impl LostCopies {
@@ -77,57 +74,84 @@ impl LostCopies {
         let _before = stored.unwrap();
     }
 
-    /// Notes the copy that an event lost, if it did, by its answer and the message that it sent.
+    /// Notes the copy that an event may take, if it isn't there on the machine after it.
     #[inline(always)]
-    pub(crate) fn see(
+    pub(crate) fn see<K: History>(
         &mut self,
-        records: &[Record],
+        copy: Option<(u32, LineNo)>,
         event: &Event,
-        plain: &Option<PlainAnswer>,
-        sent: Option<&Message>,
+        system: &System<K>,
     )
         requires { 0 < self.old.room }
-        ensures { self.new.lost ≡ lost_after self.old.lost event.now
-            (answer_in records.now plain.now) (option_copied sent.entry) }
+        ensures { self.new.lost ≡ lost_after self.old.lost copy event.now system.now }
     {
-        match event {
-            Event::EvictCache(core, line) => self.see_evicted(*core, *line, plain),
-            Event::Deliver(_) => self.see_sent(sent),
-            _ => (),
+        let Some((core, line)) = copy else {
+            return;
+        };
+        if !has_copy(system, core, line) {
+            self.lose(core, line, taken_by(event));
         }
     }
+}
 
-    // A core was told to evict its copy of a line.
-    fn see_evicted(&mut self, core: u32, line: LineNo, plain: &Option<PlainAnswer>)
-        requires { 0 < self.old.room }
-        ensures { (records : List Record) → self.new.lost ≡ evicted_by self.old.lost core line
-            (answer_in records plain.now) }
-    {
-        if let Some(PlainAnswer::Evicted) = plain {
-            self.lose(core, line, Cause::Evicted);
-        }
+// How an event takes a copy.
+fn taken_by(event: &Event) -> Cause
+    ensures { result ≡ taken_by event.now }
+{
+    match event {
+        Event::EvictCache(_, _) => Cause::Evicted,
+        _ => Cause::Recalled,
     }
+}
 
-    // A delivery sent a message, or none.
-    fn see_sent(&mut self, sent: Option<&Message>)
-        requires { 0 < self.old.room }
-        ensures { self.new.lost ≡ recalled_by self.old.lost (option_copied sent.entry) }
-    {
-        if let Some(message) = sent {
-            self.see_message(message);
-        }
+/// Whether a core has a copy of a line.
+pub(crate) fn has_copy<K: History>(system: &System<K>, core: u32, line: LineNo) -> bool
+    ensures { result ≡ has_copy (slice_get system.now.cores core) line }
+{
+    match system.core(core) {
+        None => false,
+        Some(core) => core.copy(line).is_some(),
     }
+}
 
-    // A delivery sent this message.
-    fn see_message(&mut self, message: &Message)
-        requires { 0 < self.old.room }
-        ensures { self.new.lost ≡ recalled_from self.old.lost message.now.from message.now.line
-            message.now.body }
-    {
-        if let Node::Core(core) = message.from {
-            if let Body::FlushRep(_) = message.body {
-                self.lose(core, message.line, Cause::Recalled);
-            }
-        }
+// A core and a line, if the core has a copy of it.
+fn copy_at<K: History>(system: &System<K>, core: u32, line: LineNo) -> Option<(u32, LineNo)>
+    ensures { result ≡ copy_at system.now core line }
+{
+    if has_copy(system, core, line) {
+        Some((core, line))
+    } else {
+        None
+    }
+}
+
+// The copy of a line at a node, if that is a core that has one.
+fn copy_for<K: History>(system: &System<K>, line: LineNo, to: Node) -> Option<(u32, LineNo)>
+    ensures { result ≡ copy_for system.now line to }
+{
+    match to {
+        Node::Core(core) => copy_at(system, core, line),
+        _ => None,
+    }
+}
+
+// The copy of a message's line at its core.
+fn copy_under<K: History>(system: &System<K>, message: Option<&Message>) -> Option<(u32, LineNo)>
+    ensures { result ≡ copy_under system.now (option_copied message.entry) }
+{
+    match message {
+        None => None,
+        Some(message) => copy_for(system, message.line, message.to),
+    }
+}
+
+/// The copy that an event may take, if it is there before it: its core and its line.
+pub(crate) fn at_risk<K: History>(system: &System<K>, event: &Event) -> Option<(u32, LineNo)>
+    ensures { result ≡ at_risk system.now event.now }
+{
+    match event {
+        Event::EvictCache(core, line) => copy_at(system, *core, *line),
+        Event::Deliver(number) => copy_under(system, system.look(*number)),
+        _ => None,
     }
 }

@@ -1,13 +1,60 @@
-//! What is counted of one core, and of one bank.
+//! What is counted of one part, and more of one core.
 ghost use Rattle.std.specs.Prelude.{◌≡◌};
-ghost use Rattle.event_counts.specs.Counts.{asked, bank_held, bank_sent, completed, core_held, core_sent};
-ghost use Rattle.event_counts.specs.Counts.{evicted_copy, evicted_entry, reloaded_line, returned_line};
-ghost use Rattle.event_counts.specs.Counts.{with_end, with_op};
+ghost use Rattle.event_counts.specs.Counts.{asked, completed, reloaded_line, returned_line};
+ghost use Rattle.event_counts.specs.Counts.{with_end, with_happening, with_op};
 
 use crate::cause::Cause;
 use crate::kind_counts::{KindCounts, more};
 use network::Body;
 use physiological_order::{Op, Record};
+
+/// What happens at a core and at a bank alike.
+#[derive(Drop)]
+pub(crate) enum Happening<'a> {
+    /// A copy or an entry is evicted.
+    Evicted,
+    /// A delivery to it is held.
+    Held,
+    /// A message is delivered to it, and dropped.
+    Dropped,
+    /// It sends a message with this body, or one is sent to it.
+    Sent(&'a Body),
+}
+
+/// What is counted of a core and of a bank alike.
+#[derive(Clone, Copy, Debug, PartialEq, Eq)]
+pub struct PartCounts {
+    /// The copies or entries that were evicted.
+    pub evictions: u64,
+    /// The deliveries to the part that were held.
+    pub held: u64,
+    /// The deliveries to the part whose message was dropped.
+    pub dropped: u64,
+    /// The messages that were sent by the part or to it; of a bank, those between it and its DRAM included.
+    pub sent: KindCounts,
+}
+
+impl PartCounts {
+    /// Nothing is counted.
+    pub const NONE: PartCounts = PartCounts {
+        evictions: 0,
+        held: 0,
+        dropped: 0,
+        sent: KindCounts::NONE,
+    };
+
+    // This happens at the part.
+    pub(crate) fn add(&mut self, what: &Happening)
+        ensures { self.new ≡ with_happening what.now self.old }
+    {
+        match what {
+            Happening::Evicted => self.evictions = more(self.evictions),
+            Happening::Held => self.held = more(self.held),
+            Happening::Dropped => self.dropped = more(self.dropped),
+            Happening::Sent(body) => self.sent.add(body),
+        }
+    }
+}
 
 /// What is counted of one core. The operations that completed are `loads`, `stores` and `swaps`; each of them is a hit
 /// or has a cause, and the misses are the sum over the causes.
@@ -26,18 +73,14 @@ pub struct CoreCounts {
     pub shared: u64,
     /// The cause of the open operation's first request, if one was sent.
     pub asked: Option<Cause>,
-    /// The copies that were evicted.
-    pub evictions: u64,
     /// The lines that went back because their copies were evicted: the other FlushReps and WbReps answered a recall.
     pub returns: u64,
     /// The ShReps that were sent to the core while it had a copy of the line: renewals with words.
     pub reloads: u64,
-    /// The deliveries to the core that were held.
-    pub held: u64,
     /// The greatest time of an operation that completed; 0 if none did.
     pub last_time: u64,
-    /// The messages that were sent by the core or to it.
-    pub sent: KindCounts,
+    /// What is counted of a bank, too.
+    pub part: PartCounts,
 }
 
 impl CoreCounts {
@@ -53,12 +96,10 @@ impl CoreCounts {
         ended: 0,
         shared: 0,
         asked: None,
-        evictions: 0,
         returns: 0,
         reloads: 0,
-        held: 0,
         last_time: 0,
-        sent: KindCounts::NONE,
+        part: PartCounts::NONE,
     };
 
     // One more operation of its kind.
@@ -105,13 +146,6 @@ impl CoreCounts {
         }
     }
 
-    // A copy is evicted.
-    pub(crate) fn evict(&mut self)
-        ensures { self.new ≡ evicted_copy self.old }
-    {
-        self.evictions = more(self.evictions);
-    }
-
     // An eviction returns its line.
     pub(crate) fn return_line(&mut self)
         ensures { self.new ≡ returned_line self.old }
@@ -124,60 +158,5 @@ impl CoreCounts {
         ensures { self.new ≡ reloaded_line self.old }
     {
         self.reloads = more(self.reloads);
-    }
-
-    // A delivery is held.
-    pub(crate) fn hold(&mut self)
-        ensures { self.new ≡ core_held self.old }
-    {
-        self.held = more(self.held);
-    }
-
-    // A message was sent.
-    pub(crate) fn add(&mut self, body: &Body)
-        ensures { self.new ≡ core_sent body.now self.old }
-    {
-        self.sent.add(body);
-    }
-}
-
-/// What is counted of one bank.
-#[derive(Clone, Copy, Debug, PartialEq, Eq)]
-pub struct BankCounts {
-    /// The entries that were evicted.
-    pub evictions: u64,
-    /// The deliveries to the bank that were held.
-    pub held: u64,
-    /// The messages that were sent by the bank or to it, those between it and its DRAM included.
-    pub sent: KindCounts,
-}
-
-impl BankCounts {
-    /// Nothing is counted.
-    pub const NONE: BankCounts = BankCounts {
-        evictions: 0,
-        held: 0,
-        sent: KindCounts::NONE,
-    };
-
-    // A message was sent.
-    pub(crate) fn add(&mut self, body: &Body)
-        ensures { self.new ≡ bank_sent body.now self.old }
-    {
-        self.sent.add(body);
-    }
-
-    // An entry is evicted.
-    pub(crate) fn evict(&mut self)
-        ensures { self.new ≡ evicted_entry self.old }
-    {
-        self.evictions = more(self.evictions);
-    }
-
-    // A delivery is held.
-    pub(crate) fn hold(&mut self)
-        ensures { self.new ≡ bank_held self.old }
-    {
-        self.held = more(self.held);
     }
 }

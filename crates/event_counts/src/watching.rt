@@ -2,7 +2,7 @@
 ghost use Rattle.event_counts.specs.Counting.{counter_events};
 
 use crate::counter::Counter;
-use interleaving_core::{Event, PlainAnswer, System};
+use interleaving_core::{Event, History, PlainAnswer, System};
 use schedules::Watcher;
 use std::alloc::AllocError;
 
@@ -11,12 +11,12 @@ impl Watcher for Counter {
     ghost watches = { counter_events };
 
     #[inline(always)]
-    fn reserve(&mut self) -> Result<(), AllocError> {
-        Counter::reserve(self)
+    fn prepare<K: History>(&mut self, system: &System<K>, event: &Event) -> Result<(), AllocError> {
+        Counter::prepare(self, system, event)
     }
 
     #[inline(always)]
-    fn see(&mut self, system: &System, event: &Event, plain: &Option<PlainAnswer>) {
+    fn see<K: History>(&mut self, system: &System<K>, event: &Event, plain: &Option<PlainAnswer>) {
         Counter::see(self, system, event, plain);
     }
 }

@@ -8,7 +8,6 @@ use Rattle.physiological_order.specs.declared.operation.Op.{Op}
 use Rattle.physiological_order.specs.declared.operation.Record.{Record}
 use Rattle.network.specs.declared.message.Message.{Message}
 use Rattle.network.specs.Mail.{Mail, has_capacity}
-use Rattle.private_cache.specs.declared.cache.CacheError.TheVariants as not_left
 use Rattle.timestamp_manager.specs.Lease.{fits}
 use Rattle.core_pts.specs.declared.attempt.Attempt.{Attempt}
 use Rattle.core_pts.specs.declared.attempt.Attempt.TheVariants as attempted

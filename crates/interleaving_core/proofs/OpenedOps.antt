@@ -1,5 +1,5 @@
 -- An operation that is opened.
-use Rattle.std.proofs.Common.{◌≡◌, ℕ, ◌+◌, ◌-◌, ◌<◌, ◌^◌, nat_lt, get_or, Bool, true, false, List, [], ◌∷◌, ◌++◌}
+use Rattle.std.proofs.Common.{◌≡◌, ℕ, ◌+◌, ◌-◌, ◌<◌, ◌^◌, nat_lt, get_or, Bool, true, false, List}
 use Rattle.std.proofs.Common.{set, length, is_some, option_map, Option, Some, None, Result, Ok, Err, OnErr}
 use Rattle.std.proofs.Common.{inl, refl, sym, ap, ◌∙◌}
 use Rattle.std.specs.List.{slice_get}
@@ -16,6 +16,7 @@ use Rattle.machine_table.specs.Machine.{Machine, with_core}
 use Rattle.machine_table.specs.declared.event.Event.TheVariants.{Issue}
 use Rattle.machine_table.specs.Transition.{issued, on_event}
 use Rattle.machine_table.proofs.Lemmas.{finds}
+use Rattle.interleaving_core.specs.HistoryNews.{with_issued}
 use Rattle.interleaving_core.specs.StepAnswers.{TakesMemory}
 use Rattle.interleaving_core.proofs.OpenCounts.{no_open}
 
@@ -33,43 +34,41 @@ tested_free before core same opens test is tested none =
     ∙ no_open before.open_op before.is_out (ap is_some (sym is) ∙ sym tested ∙ none)
 
 issue_changes : (m : Machine) (c : ℕ) (core : CoreState) → slice_get m.cores c ≡ Some core →
-    (op : Op) (after : CoreState) (result : Result (Unit {0}) IssueError) (ops : List Op) →
+    (op : Op) (after : CoreState) (result : Result (Unit {0}) IssueError) →
     core.open_op ≡ None → nat_lt core.issued (2 ^ 32 - 1) ≡ true → (result, after) ≡ core_table.issue core op →
-    ops ≡ get_or m.issued c [] ++ op ∷ [] →
-    (answer.Issued, record (with_core m c after) { issued = set m.issued c ops }) ≡
-    on_event m (Issue c op)
-issue_changes m c core here op after result ops free few is longer =
+    (answer.Issued, record (with_core m c after) { issued = with_issued m.issued c op }) ≡ on_event m (Issue c op)
+issue_changes m c core here op after result free few is =
     let opened : CoreState = record core { open_op = Some op; issued = core.issued + 1 } in
     let done : core_table.issue core op ≡ (Ok tt, opened) =
     ap (core_table.issue_to core op) free ∙ cond-true (nat_lt core.issued (2 ^ 32 - 1)) _ _ few in
     let changed_to : after ≡ opened = ap (λ (x : Result (Unit {0}) IssueError × CoreState). x.1) (is ∙ done) in
-    ap (λ (x : CoreState). (answer.Issued, record (with_core m c x) { issued = set m.issued c ops })) changed_to
-    ∙ ap (λ (os : List Op). (answer.Issued, record (with_core m c opened) { issued = set m.issued c os })) longer
+    ap (λ (x : CoreState). (answer.Issued, record (with_core m c x) { issued = with_issued m.issued c op })) changed_to
     ∙ sym (ap (issued m c op) done)
     ∙ sym (finds m (λ x. issued m c op (core_table.issue x op)) here)
 
 -- the machine is seen as a model
 pub issue_done : (m seen : Machine) → m ≡ seen → (c : ℕ) (core : CoreState) → slice_get m.cores c ≡ Some core →
-    (op : Op) (after : CoreState) (result : Result (Unit {0}) IssueError) (ops : List Op) (records : List Record) →
-    core.open_op ≡ None → nat_lt core.issued (2 ^ 32 - 1) ≡ true → (result, after) ≡ core_table.issue core op →
-    ops ≡ get_or m.issued c [] ++ op ∷ [] → records ≡ m.records → (
+    (op : Op) (after : CoreState) (result : Result (Unit {0}) IssueError) (lists : List (List Op))
+    (records : List Record) → core.open_op ≡ None → nat_lt core.issued (2 ^ 32 - 1) ≡ true →
+    (result, after) ≡ core_table.issue core op → lists ≡ with_issued m.issued c op → records ≡ m.records → (
       answer.Issued,
       record m {
         cores = set m.cores c after;
-        issued = set m.issued c ops;
+        issued = lists;
         records = records;
       },
     ) ≡ on_event seen (Issue c op)
-issue_done m seen is_view c core here op after result ops records free few is longer same =
+issue_done m seen is_view c core here op after result lists records free few is longer same =
     ap (λ (rs : List Record). (
       answer.Issued,
       record m {
         cores = set m.cores c after;
-        issued = set m.issued c ops;
+        issued = lists;
         records = rs;
       },
     )) same
-    ∙ issue_changes m c core here op after result ops free few is longer
+    ∙ ap (λ (ls : List (List Op)). (answer.Issued, record (with_core m c after) { issued = ls })) longer
+    ∙ issue_changes m c core here op after result free few is
     ∙ ap (λ (n : Machine). on_event n (Issue c op)) is_view
 
 -- memory is wanted where the table opens the operation
@@ -79,5 +78,5 @@ pub issue_wanted : (m seen : Machine) → m ≡ seen → (c : ℕ) (core : CoreS
 issue_wanted m seen is_view c core here op free few (Ok x) = tt
 issue_wanted m seen is_view c core here op free few (Err e) =
     inl (sym (ap (λ (x : Answer × Machine). x.0) (issue_done m seen is_view c core here op
-    (core_table.issue core op).1 (core_table.issue core op).0 (get_or m.issued c [] ++ op ∷ []) m.records
+    (core_table.issue core op).1 (core_table.issue core op).0 (with_issued m.issued c op) m.records
     free few refl refl refl)))

@@ -4,6 +4,7 @@ pub mod Endpoints
 pub mod OpeningWords
 pub mod RecordOrder
 pub mod IssuedOps
+pub mod HistoryNews
 pub mod LookUps
 pub mod Midway
 pub mod Reservation

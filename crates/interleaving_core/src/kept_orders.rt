@@ -1,6 +1,7 @@
 //! Whether the parts of a machine keep their lines in rising order. No contract sees it.
 ghost use Rattle.std.specs.Prelude.{◌≡◌};
 
+use crate::histories::History;
 use crate::machine_state::MachineState;
 use core_pts::Core;
 use llc_bank::Bank;
@@ -44,7 +45,7 @@ fn forget_in_banks(banks: &mut [Bank])
     }
 }
 
-impl MachineState {
+impl<H: History> MachineState<H> {
     // All parts keep their lines in rising order. Where the memory is refused, those that were asked before do.
     pub(crate) fn keep_order(&mut self) -> Result<(), AllocError>
         ensures { self.new ≡ self.old }

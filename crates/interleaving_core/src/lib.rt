@@ -3,6 +3,7 @@
 #![tactic(auto)]
 
 mod core_masks;
+pub mod histories;
 mod kept_orders;
 pub mod laws;
 mod line_words;
@@ -17,10 +18,14 @@ mod records;
 mod reopening;
 mod steps;
 pub mod system;
+pub mod told_history;
+mod unkept;
 
 pub use core_masks::with_bit;
+pub use histories::{History, KeptHistory};
 pub use machine_table::{Answer, Config, Counts, Event, OpenError, Refusal};
 pub use network::{Body, LineNo, Message, MsgNo, Node, TimedLine, Words};
 pub use op_list::OpList;
 pub use plain_answer::PlainAnswer;
 pub use system::System;
+pub use told_history::ToldHistory;

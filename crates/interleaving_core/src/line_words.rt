@@ -9,6 +9,7 @@ ghost use Rattle.machine_theorem.specs.Coherence.{owned_words, owner_words, owne
 ghost use Rattle.machine_theorem.specs.Coherence.{stored_words, words_with};
 ghost use Rattle.machine_theorem.specs.Kept.{Invariant};
 
+use crate::histories::History;
 use crate::machine_state::MachineState;
 use core_pts::Core;
 use llc_bank::Entry;
@@ -16,7 +17,7 @@ use network::{Body, LineNo, Message, Node, Words};
 use physiological_order::WordAddr;
 use private_cache::CopyState;
 
-impl MachineState {
+impl<H: History> MachineState<H> {
     // How many own a line: the Exclusive copies of it, and the grants and returns of it in flight.
     pub(crate) fn owners(&self, line: LineNo) -> usize
         requires { owners self.now line ≤ 1 }

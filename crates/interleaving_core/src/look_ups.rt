@@ -9,26 +9,20 @@ ghost use Rattle.interleaving_core.specs.LookUps.{room_at, victim, victim_for_co
 ghost use Rattle.machine_theorem.specs.Kept.{Invariant};
 ghost use Rattle.interleaving_core.specs.CoreMasks.{IsMask, is_idle, is_trying};
 
+use crate::histories::History;
 use crate::machine_state::MachineState;
 use core_pts::Core;
 use dram_mts::Dram;
 use llc_bank::Bank;
 use machine_table::{Answer, Event};
 use network::{Body, LineNo, Message, MsgNo, Node};
-use physiological_order::{Op, Record};
+use physiological_order::Op;
 use std::alloc::{AllocError, Global};
 
-impl MachineState {
+impl<H: History> MachineState<H> {
     // The allocator that the machine was made with.
     pub(crate) fn allocator(&self) -> Global {
-        *self.records.allocator()
-    }
-
-    // The records by number.
-    pub(crate) fn records(&self) -> &[Record]
-        ensures { result.now ≡ self.now.records }
-    {
-        &self.records
+        *self.cores.allocator()
     }
 
     // The core of a number.

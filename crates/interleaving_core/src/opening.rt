@@ -7,8 +7,8 @@ ghost use Rattle.machine_table.specs.Opening.{geometry};
 ghost use Rattle.interleaving_core.specs.OpeningWords.{word_set};
 
 use crate::core_masks::all_idle;
+use crate::histories::History;
 use crate::machine_state::MachineState;
-use crate::op_list::OpList;
 use core_pts::{Core, CoreConfig};
 use dram_mts::Dram;
 use llc_bank::{Bank, BankConfig};
@@ -18,21 +18,21 @@ use physiological_order::{Memory, WordAddr};
 use private_cache::Geometry;
 use std::alloc::{AllocError, Global};
 
-impl MachineState {
+impl<H: History> MachineState<H> {
     /// A machine with this set-up and this memory. All the memory of its parts and messages is allocated here, but not
     /// that of records and operations.
     pub(crate) fn open(
         alloc: Global,
         config: Config,
         memory: Memory,
-    ) -> Result<MachineState, AllocError>
+    ) -> Result<MachineState<H>, AllocError>
         requires { is_good config ≡ true }
         ensures { IfOk result (λ machine. machine ≡ at_start config memory) }
     {
         let cores = open_cores(alloc, config)?;
         let banks = open_banks(alloc, config)?;
         let drams = open_drams(alloc, config, &memory)?;
-        let issued = no_operations(alloc, config.cores)?;
+        let history = H::open(alloc, config.cores)?;
         let flight = InFlight::new(alloc, config.cores, config.banks, config.messages)?;
         Ok(MachineState {
             config,
@@ -41,8 +41,7 @@ impl MachineState {
             banks,
             drams,
             flight,
-            issued,
-            records: Vec::new(alloc),
+            history,
             is_stopped: false,
             masks: all_idle(config.cores),
         })
@@ -169,15 +168,4 @@ fn set_word(
     let index = (addr.word() % words) as usize;
     let bank = (line % config.banks as u64) as usize;
     drams[bank].set_word(LineNo(line), index, value)
-}
-
-// No operations, of so many cores.
-fn no_operations(alloc: Global, cores: u32) -> Result<Vec<OpList>, AllocError>
-    ensures { IfOk result (λ issued. issued.items ≡ replicate cores []) }
-{
-    let mut issued = Vec::new(alloc);
-    for _ in 0..cores {
-        issued.push(OpList::new(alloc))?;
-    }
-    Ok(issued)
 }

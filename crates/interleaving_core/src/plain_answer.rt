@@ -2,9 +2,10 @@
 ghost use Rattle.std.specs.Prelude.{◌≡◌, ◌||◌};
 ghost use Rattle.interleaving_core.specs.PartChanges.{answer_in, answer_of, plain_of, stops};
 
+use crate::histories::History;
+use crate::machine_state::MachineState;
 use crate::records::stop;
 use machine_table::{Answer, Refusal};
-use physiological_order::Record;
 
 /// The answers that have no record. It takes two bytes, where an `Answer`, which may have a record, takes 72. The order
 /// is that of `Answer`, with a refusal in place of a completion, so that `answer_of` needs no jump.
@@ -80,17 +81,19 @@ pub(crate) fn plain_of(answer: &Answer) -> Option<PlainAnswer>
     }
 }
 
-/// The answer of a machine with these records: without a plain one the last of them was completed.
-#[inline(always)]
-pub(crate) fn answer_in(records: &[Record], plain: Option<PlainAnswer>) -> Answer
-    ensures { result ≡ answer_in records.now plain }
-{
-    match plain {
-        Some(plain) => answer_of(plain),
-        None => match records.last() {
-            Some(done) => Answer::Completed(*done),
-            None => Answer::Idle,
-        },
+impl<H: History> MachineState<H> {
+    /// The answer of the machine as it is now: without a plain one its last record was completed.
+    #[inline(always)]
+    pub(crate) fn answer_in(&self, plain: Option<PlainAnswer>) -> Answer
+        ensures { result ≡ answer_in self.now.records plain }
+    {
+        match plain {
+            Some(plain) => answer_of(plain),
+            None => match self.history.last() {
+                Some(done) => Answer::Completed(*done),
+                None => Answer::Idle,
+            },
+        }
     }
 }
 

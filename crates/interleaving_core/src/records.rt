@@ -1,44 +1,21 @@
 //! What an answer leaves in the machine: the record of a completion, and the stop of exhausted times.
-ghost use Rattle.std.specs.Prelude.{◌≡◌, ◌+◌, ◌≤◌, ◌||◌, [], length, OnOk, vec_capacity};
+ghost use Rattle.std.specs.Prelude.{◌≡◌, ◌≤◌, ◌||◌, length};
 ghost use Rattle.interleaving_core.specs.PartChanges.{stops, with_record};
 
+use crate::histories::History;
 use machine_table::{Answer, Refusal};
-use physiological_order::{Op, Record};
-use std::alloc::AllocError;
 
-/// Reserves capacity for this many more records.
-pub(crate) fn reserve(records: &mut Vec<Record>, more: usize) -> Result<(), AllocError>
-    ensures items { records.new.items ≡ records.old.items }
-    ensures ok { OnOk result (length records.new.items + more ≤ vec_capacity records.new) }
-    ensures capacity { vec_capacity records.old ≤ vec_capacity records.new }
-{
-    records.reserve(more)
-}
-
-/// Adds the record of a completion, for which there is capacity.
+/// Adds the record of a completion, for which there is room.
 #[inline(always)]
-pub(crate) fn keep(records: &mut Vec<Record>, answer: &Answer)
-    requires { length (with_record records.old.items answer.now) ≤ vec_capacity records.old }
-    ensures records { records.new.items ≡ with_record records.old.items answer.now }
-    ensures capacity { vec_capacity records.new ≡ vec_capacity records.old }
+pub(crate) fn keep<H: History>(history: &mut H, answer: &Answer)
+    requires { length (with_record (H.records history.old) answer.now) ≤ H.room history.old }
+    ensures issued { H.issued history.new ≡ H.issued history.old }
+    ensures records { H.records history.new ≡ with_record (H.records history.old) answer.now }
+    ensures room { H.room history.old ≤ H.room history.new }
 {
     if let Answer::Completed(done) = answer {
-        records.push_reserved(Record {
-            core: done.core,
-            place: done.place,
-            op: done.op,
-            received: done.received,
-            ts: done.ts,
-            number: done.number,
-        });
+        history.complete(done);
     }
-}
-
-/// Drops all records, and keeps their memory.
-pub(crate) fn clear(records: &mut Vec<Record>)
-    ensures { records.new.items ≡ [] }
-{
-    records.clear();
 }
 
 /// Stops the machine if times are exhausted.

@@ -5,10 +5,9 @@ ghost use Rattle.machine_table.specs.SetUp.{is_good};
 ghost use Rattle.machine_table.specs.Opening.{at_start, dram_of, open_bank, open_core, row};
 
 use crate::core_masks::all_idle;
+use crate::histories::History;
 use crate::machine_state::MachineState;
-use crate::op_list::OpList;
 use crate::opening::{bank_config, core_config, fill_drams, geometry};
-use crate::records::clear;
 use core_pts::Core;
 use dram_mts::Dram;
 use llc_bank::Bank;
@@ -16,9 +15,9 @@ use machine_table::Config;
 use physiological_order::Memory;
 use std::alloc::AllocError;
 
-impl MachineState {
+impl<H: History> MachineState<H> {
     /// The machine as it opens with this memory, set up as it is. Its parts keep their memory.
-    pub(crate) fn reopen(self, memory: Memory) -> Result<MachineState, AllocError>
+    pub(crate) fn reopen(self, memory: Memory) -> Result<MachineState<H>, AllocError>
         requires good { is_good self.config ≡ true }
         requires cores { length self.cores ≡ self.config.cores }
         requires banks { length self.banks ≡ self.config.banks }
@@ -33,10 +32,8 @@ impl MachineState {
         reopen_parts(&mut cores, &mut banks, &mut drams, config, &memory)?;
         let mut flight = self.flight;
         flight.clear();
-        let mut issued = self.issued;
-        clear_operations(&mut issued);
-        let mut records = self.records;
-        clear(&mut records);
+        let mut history = self.history;
+        history.clear(config.cores);
         Ok(MachineState {
             config,
             opening: memory,
@@ -44,8 +41,7 @@ impl MachineState {
             banks,
             drams,
             flight,
-            issued,
-            records,
+            history,
             is_stopped: false,
             masks: all_idle(config.cores),
         })
@@ -105,14 +101,5 @@ fn clear_drams(drams: &mut Vec<Dram>)
 {
     for at in 0..drams.len() {
         drams[at].clear();
-    }
-}
-
-// No operations of any core.
-fn clear_operations(issued: &mut Vec<OpList>)
-    ensures { issued.new.items ≡ replicate (length issued.old.items) [] }
-{
-    for at in 0..issued.len() {
-        issued[at].clear();
     }
 }

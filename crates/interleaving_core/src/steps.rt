@@ -6,18 +6,19 @@ ghost use Rattle.interleaving_core.specs.PartChanges.{answer_in, answer_of};
 ghost use Rattle.interleaving_core.specs.StepAnswers.{Stepped, TakesMemory, asks_memory};
 
 use crate::core_masks::{note, note_attempt, note_delivery};
+use crate::histories::History;
 use crate::machine_state::MachineState;
 use crate::operations;
 use crate::plain_answer::{PlainAnswer, plain_of, stop_after};
 use crate::reactions::deliver_to;
-use crate::records::{keep, reserve, stop};
+use crate::records::{keep, stop};
 use machine_table::{Answer, Event, Refusal};
 use network::{LineNo, MsgNo, Node};
 use physiological_order::Op;
 use std::alloc::AllocError;
 
-impl MachineState {
-    // An operation is opened at a core. Capacity for its record is reserved here.
+impl<H: History> MachineState<H> {
+    // An operation is opened at a core. Room for its record is reserved here.
     fn issue(&mut self, core: u32, op: Op) -> Result<PlainAnswer, AllocError>
         requires { Invariant self.old }
         ensures done { IfOk result (λ plain. (answer_of plain, self.new) ≡
@@ -36,8 +37,7 @@ impl MachineState {
         if self.cores[at].issued() >= u32::MAX {
             return Ok(PlainAnswer::Refused(Refusal::TooMany));
         }
-        reserve(&mut self.records, self.cores.len())?;
-        self.issued[at].push(&op)?;
+        self.history.issue(at, &op, self.cores.len())?;
         let _issued = self.cores[at].issue(op);
         note(&mut self.masks, core, &self.cores[at]);
         Ok(PlainAnswer::Issued)
@@ -55,10 +55,10 @@ impl MachineState {
         if at >= self.cores.len() {
             return Some(PlainAnswer::Refused(Refusal::NoSuch));
         }
-        let count = self.records.len();
+        let count = self.history.count();
         let answer = operations::attempt(&mut self.cores[at], &mut self.flight, core, count);
         note_attempt(&mut self.masks, core, &answer);
-        keep(&mut self.records, &answer);
+        keep(&mut self.history, &answer);
         stop(&mut self.is_stopped, &answer);
         plain_of(&answer)
     }

@@ -1,5 +1,5 @@
 //! The machine that users drive, and what is always true of it.
-ghost use Rattle.std.specs.Prelude.{◌≡◌, ◌≢◌, ◌≤◌, ◌<◌, ◌++◌, ◌∷◌, vec_capacity, [], false, true, IfOk, IsErrOf};
+ghost use Rattle.std.specs.Prelude.{◌≡◌, ◌≢◌, ◌≤◌, ◌<◌, ◌-◌, ◌++◌, ◌∷◌, vec_capacity, [], false, true, IfOk, IsErrOf};
 ghost use Rattle.std.specs.Prelude.{IfSome, IsSome, IsTrue, None, OnErr, OnOk, length, map};
 ghost use Rattle.std.specs.Prelude.{option_copied, slice_get, slice_index_or, List, Some, ℕ};
 ghost use Rattle.physiological_order.specs.Order.{flat, Legal, Arrangement, of_core, replay_end};
@@ -23,8 +23,10 @@ ghost use Rattle.interleaving_core.specs.Midway.{IsMidway};
 ghost use Rattle.interleaving_core.specs.PartChanges.{answer_in};
 ghost use Rattle.interleaving_core.specs.StepAnswers.{Stepped, Ran, asks_memory};
 
+use crate::histories::{History, KeptHistory};
 use crate::machine_state::MachineState;
-use crate::plain_answer::{PlainAnswer, answer_in};
+use crate::plain_answer::PlainAnswer;
+use crate::told_history::ToldHistory;
 use core_pts::Core;
 use dram_mts::Dram;
 use llc_bank::Bank;
@@ -36,15 +38,15 @@ use std::marker::Model;
 
 /// A machine: its cores, its banks, the DRAM behind each bank and the messages in flight. Contracts see it as data. It
 /// is always one that the protocol reaches from an opening, so the contracts of `records`, `owners` and `coherent`
-/// hold at every point.
+/// hold at every point. It keeps all of its history in memory, or only the last record (`without_history`).
 #[derive(Drop)]
-pub struct System {
-    state: MachineState,
+pub struct System<H: History = KeptHistory> {
+    state: MachineState<H>,
     // Whether its parts were told to keep their lines in rising order.
     has_order: bool,
 }
 
-impl Model for System {
+impl<H: History> Model for System<H> {
     ghost use Rattle.std.specs.Coded.{codes, coded_ℕ, coded_list};
     ghost use Rattle.std.specs.FinMap as finite;
     ghost use Rattle.std.specs.Ordering.{nat_cmp};
@@ -73,6 +75,59 @@ impl System {
         ensures bad { is_good config ≡ false → IsErrOf result OpenError.BadConfig }
         ensures not_bad { IsErrOf result OpenError.BadConfig → is_good config ≡ false }
     {
+        System::open(alloc, config, memory)
+    }
+
+    /// The records of the completed operations by number. They are a legal history of the opening memory and of what
+    /// the cores were issued. Each core was issued the operations of its records, in their order, and then its open
+    /// one.
+    pub fn records(&self) -> &[Record]
+        ensures records { result.now ≡ self.now.records }
+        ensures legal { Legal (flat self.now.opening) (λ core. slice_index_or self.now.issued
+            core []) result.now }
+        ensures rising { RisesByNumber result.now }
+        ensures issued { (core : ℕ) → IsIssued (slice_index_or self.now.issued core [])
+            (of_core core self.now.records) (operation_of (slice_get self.now.cores core)) }
+    {
+        self.records_are_legal();
+        &self.state.history.records
+    }
+
+    /// The operations that a core was issued, in order; empty for a core that isn't there.
+    pub fn issued(&self, core: u32) -> &[Op]
+        ensures { result.now ≡ slice_index_or self.now.issued core [] }
+    {
+        match self.state.history.issued.get(core as usize) {
+            Some(ops) => ops.as_slice(),
+            None => &[],
+        }
+    }
+}
+
+impl System<ToldHistory> {
+    /// The machine that `new` makes, but it keeps no history except the last record. So its memory grows with the lines
+    /// of DRAM that it stores, and not with the operations that are done. After each completion `last_record` is the
+    /// record of that; `records_are_legal` promises of all of them what `records` does.
+    pub fn without_history(
+        alloc: Global,
+        config: Config,
+        memory: Memory,
+    ) -> Result<System<ToldHistory>, OpenError>
+        ensures opened { IfOk result (λ system. system ≡ at_start config memory) }
+        ensures bad { is_good config ≡ false → IsErrOf result OpenError.BadConfig }
+        ensures not_bad { IsErrOf result OpenError.BadConfig → is_good config ≡ false }
+    {
+        System::open(alloc, config, memory)
+    }
+}
+
+impl<H: History> System<H> {
+    // What `new` and `without_history` do.
+    fn open(alloc: Global, config: Config, memory: Memory) -> Result<System<H>, OpenError>
+        ensures opened { IfOk result (λ system. system ≡ at_start config memory) }
+        ensures bad { is_good config ≡ false → IsErrOf result OpenError.BadConfig }
+        ensures not_bad { IsErrOf result OpenError.BadConfig → is_good config ≡ false }
+    {
         if !config.is_good() {
             return Err(OpenError::BadConfig);
         }
@@ -89,7 +144,7 @@ impl System {
     /// have: the call allocates only for lines of DRAM beyond those that it had, and for the list of words. Its time
     /// is in proportion to what was touched since the machine was last made or opened again. If an allocation fails,
     /// the machine is dropped.
-    pub fn reopen(self, memory: Memory) -> Result<System, AllocError>
+    pub fn reopen(self, memory: Memory) -> Result<System<H>, AllocError>
         ensures { IfOk result (λ system. system ≡ at_start self.config memory) }
     {
         let state = self.state.reopen(memory)?;
@@ -119,7 +174,7 @@ impl System {
             result ≢ Answer.Refused Refusal.NoSuch }
     {
         let plain = self.state.step(event);
-        answer_in(self.state.records(), plain)
+        self.state.answer_in(plain)
     }
 
     /// One event, as `step` makes it, with its answer in two bytes: `None` exactly if an operation is completed. The
@@ -178,28 +233,36 @@ impl System {
         self.state.config.line_words
     }
 
-    /// The records of the completed operations by number. They are a legal history of the opening memory and of what
-    /// the cores were issued. Each core was issued the operations of its records, in their order, and then its open
-    /// one.
-    pub fn records(&self) -> &[Record]
-        ensures records { result.now ≡ self.now.records }
+    /// The records of the completed operations by number, which the machine may keep or not, are a legal history of the
+    /// opening memory and of what the cores were issued. Each core was issued the operations of its records, in their
+    /// order, and then its open one. The call does nothing.
+    #[inline(always)]
+    pub fn records_are_legal(&self)
         ensures legal { Legal (flat self.now.opening) (λ core. slice_index_or self.now.issued
-            core []) result.now }
-        ensures rising { RisesByNumber result.now }
+            core []) self.now.records }
+        ensures rising { RisesByNumber self.now.records }
         ensures issued { (core : ℕ) → IsIssued (slice_index_or self.now.issued core [])
             (of_core core self.now.records) (operation_of (slice_get self.now.cores core)) }
     {
-        self.state.records()
+        // What is always true of a machine is known where a field of it is read.
+        let _read = self.has_order;
     }
 
-    /// The operations that a core was issued, in order; empty for a core that isn't there.
-    pub fn issued(&self, core: u32) -> &[Op]
-        ensures { result.now ≡ slice_index_or self.now.issued core [] }
+    /// How many operations have completed: as many as there are records.
+    #[inline(always)]
+    pub fn completed(&self) -> usize
+        ensures { result ≡ length self.now.records }
     {
-        match self.state.issued.get(core as usize) {
-            Some(ops) => ops.as_slice(),
-            None => &[],
-        }
+        self.state.history.count()
+    }
+
+    /// The record of the operation that was completed last; `None` before the first one.
+    #[inline(always)]
+    pub fn last_record(&self) -> Option<&Record>
+        ensures { option_copied result ≡ slice_get self.now.records
+            (length self.now.records - 1) }
+    {
+        self.state.history.last()
     }
 
     /// A word's value where its line now is: with the line's owner, or with its ownership in flight, or else in the

@@ -16,6 +16,7 @@ use Rattle.physiological_order.specs.Order.{address, flat, Legal, Arrangement, r
 use Rattle.physiological_order.specs.StaleHits.{RisesByNumber, stale_count}
 use Rattle.trace_texts.specs.Records.{AreComplete, records_text}
 use Rattle.schedules.specs.declared.policy.Policy.{Policy}
+pub use Rattle.schedules.specs.LongerLists.{step_acts}
 use Rattle.schedules.specs.Policies.{EndsBy}
 use Rattle.schedules.specs.Watches.{Watches, watched}
 use Rattle.worker_driver.specs.Orders.{LeadsTo}
@@ -29,13 +30,8 @@ use Rattle.report_lines.specs.declared.layout.Layout.{Layout}
 use Rattle.report_lines.specs.Layouts.{closing}
 use Rattle.trace_texts.specs.CountLines.{event_counts_text}
 use Rattle.trace_texts.specs.Reports.{trace_text}
-use Rattle.programs.specs.Acts.{Acts, first_step, behind_first}
 use Rattle.worker_driver.specs.declared.set_up.Driver.{Driver}
 use Rattle.worker_driver.specs.declared.set_up.Driver.TheVariants.{ByPolicy, ByThreads}
-
--- the steps of a core are its program
-abbrev pub step_acts : Acts (List Step)
-step_acts = record { next = first_step; done = behind_first }
 
 -- the programs of the cores below a number
 abbrev pub programs_below : List (List Step) → ℕ → List (List Step)

@@ -70,8 +70,9 @@ pub fn run_check<S: Source, R: Source, K: Sink>(
 
 /// Reads a trace, and records only if that was accepted, and writes what the checker says of the records, for the
 /// operations of the trace over a memory that opens as given: one line, or one JSON object. All is done exactly if the
-/// verdict is Legal and, where `complete` asks for that, each core has as many records as operations. Read and Trace for the trace take
-/// precedence over those for the records, and Write comes last; on any error but Write the sink is unchanged.
+/// verdict is Legal and, where `complete` asks for that, each core has as many records as operations. Read and Trace
+/// for the trace take precedence over those for the records, and Write comes last; on any error but Write the sink is
+/// unchanged.
 pub fn check_history<S: Source, R: Source, K: Sink>(
     alloc: Global,
     trace: &mut S,

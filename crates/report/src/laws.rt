@@ -1,7 +1,7 @@
 //! What a verdict and a list of ends show, where runs end, how many turns a run may have, that what is written is
 //! accepted, and what complete records are. The functions do nothing: their contracts are the laws.
 ghost use Rattle.std.specs.Prelude.{◌≡◌, ◌<◌, ◌≤◌, Bool, IfSome, List, [], Some, false, true, ℕ};
-ghost use Rattle.std.specs.Prelude.{codes, length, slice_get};
+ghost use Rattle.std.specs.Prelude.{codes, slice_get};
 ghost use Rattle.std.specs.FinMap.{empty};
 ghost use Rattle.std.specs.List.{AllByRecursion, Contains};
 ghost use Rattle.litmus_parser.specs.declared.syntax.Quantifier.TheVariants.{Exists};
@@ -112,7 +112,7 @@ pub fn written_records_are_legal()
 /// Of legal records that are complete, one is that of each operation, by its core, its place and what it does. So if
 /// the line on records that are to be complete says that all is done, each operation of the trace has its record. If
 /// the line names a core and a place instead, the core has an operation at that place, and its records are all of lower
-/// places. Examples of traces show this only of their own records.
+/// places, one of each operation there. Examples of traces show this only of their own records.
 pub fn complete_records_are_all()
     ensures all { (opening : Memory) (cores : ℕ) (issued : ℕ → List Op) (records : List Record) →
         IsLegal opening issued records → AreAll cores issued records →
@@ -126,5 +126,7 @@ pub fn complete_records_are_all()
         (core : ℕ) → IsLegal opening issued records → IsFirstLack cores issued records core →
         (op : Op) × (slice_get (issued core) (count_of_core core records) ≡ Some op)
         × ((r : Record) → Contains records r → r.core ≡ core →
-        r.place < count_of_core core records) }
+        r.place < count_of_core core records)
+        × ((place : ℕ) (before : Op) → place < count_of_core core records →
+        slice_get (issued core) place ≡ Some before → HasRecord records core place before) }
 {}

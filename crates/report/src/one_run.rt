@@ -5,7 +5,6 @@ ghost use Rattle.machine_table.specs.Machine.{Machine};
 ghost use Rattle.machine_table.specs.SetUp.{is_good};
 ghost use Rattle.closed_machine.specs.RunParts.{Parts};
 ghost use Rattle.physiological_order.specs.Order.{flat, Legal};
-ghost use Rattle.physiological_order.specs.StaleHits.{RisesByNumber};
 ghost use Rattle.trace_texts.specs.Records.{AreComplete, records_text};
 ghost use Rattle.thread_driver.specs.ThreadRuns.{machine_of};
 ghost use Rattle.worker_driver.specs.declared.set_up.Driver.TheVariants.{ByPolicy, ByThreads};

@@ -1,9 +1,9 @@
 //! What a report says of a run apart from its records: the words that its trace names, their values, and how many
 //! operations were issued.
-ghost use Rattle.std.specs.Prelude.{◌≡◌, ◌≤◌, max, map, length, IfOk, OnOk};
+ghost use Rattle.std.specs.Prelude.{◌≡◌, map, IfOk, OnOk};
 ghost use Rattle.std.specs.FinMap.{entries};
 ghost use Rattle.machine_table.specs.Machine.{Machine};
-ghost use Rattle.trace_reader.specs.Steps.{ops_of, trace_cores};
+ghost use Rattle.trace_reader.specs.Steps.{trace_cores};
 ghost use Rattle.report.specs.Runs.{issued_below, values_in, with_words, words_below};
 
 use physiological_order::{Memory, Op, WordAddr};

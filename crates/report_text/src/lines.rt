@@ -1,6 +1,6 @@
 //! The lines, or members, that only this text has: each is appended to the text so far.
 
-ghost use Rattle.std.specs.Prelude.{◌≡◌, ◌++◌, ◌∷◌, OnOk, map};
+ghost use Rattle.std.specs.Prelude.{◌≡◌, ◌++◌, OnOk};
 ghost use Rattle.litmus_reader.specs.TestViews.{test_of};
 ghost use Rattle.report_text.specs.Lines.{name_text, named_values, register_text, state_text, value_text};
 ghost use Rattle.report_text.specs.Lines.{quantifier_text, times_text};

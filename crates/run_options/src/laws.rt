@@ -12,7 +12,7 @@ ghost use Rattle.run_options.specs.declared.options.TheConstants.CheckOptions.{D
 /// A machine has a lease of 10, the time 0, one bank, private caches of 64 sets of 4 lines, a bank of 256 sets of 8
 /// lines, lines of one word, 4,096 messages in flight and no private writes. A run is by rounds, at most 100,000 of
 /// them, with one worker. A litmus test has one run. A list of ends keeps at most 4,194,304 states and has no
-/// orders. A trace has a report without counts. A check asks for no record of each operation. All write lines.
+/// orders. A trace has a report without counts. A check takes records that lack some operations. All write lines.
 pub fn defaults_are_these()
     ensures machine { machine_default ≡ record {
       lease = 10;

@@ -9,7 +9,8 @@ use Rattle.trace_lines.specs.Kinds as trace
 -- tardis: line L: K NAME, perhaps with the name of the text behind tardis
 abbrev pub fault_line : List ℕ → ℕ → ℕ → List ℕ → List ℕ
 fault_line text line number name =
-    codes "tardis: " ++ text ++ codes "line " ++ decimal line ++ codes ": " ++ decimal number ++ codes " " ++ name ++ codes "\n"
+    codes "tardis: " ++ text ++ codes "line " ++ decimal line ++ codes ": " ++ decimal number ++ codes " " ++ name
+    ++ codes "\n"
 
 -- tardis: more than N states; M are enough to go on
 abbrev pub states_line : ℕ → ℕ → List ℕ

@@ -70,14 +70,14 @@ module _ {P W : Type 0} (acts : Acts P) (watches : Watches W) (m : Machine) (pro
       (asks : (keeps : Bool) → IsTrue (keeps || asks_memory m event) → AsksMemory keeps m (action ∷ []))
       (untold : tells (Refused TimesEnd) ≡ programs) where
     shown : (answer : Answer) (after : Machine) (after_log : Log W) → (answer, after) ≡ transition m event →
-        IsNoted watches log event answer after after_log →
+        IsNoted watches m log event answer after after_log →
         AreSeen watches (watches.seen log.watcher) m (events_of_one acts here action ++ []) after after_log.watcher
     shown answer after after_log is noted =
         subst (λ (l : List Event). AreSeen watches (watches.seen log.watcher) m (l ++ []) after after_log.watcher)
         (sym makes) (record {
           leads = ap (λ (x : Answer × Machine). x.1) is;
           seen = noted.seen
-              ∙ ap (λ (x : Answer × Machine). watches.sees (watches.seen log.watcher) x.1 event x.0) is;
+              ∙ ap (λ (x : Answer × Machine). watches.sees (watches.seen log.watcher) m event x.0 x.1) is;
         })
 
     was_made : (answer : Answer) (after : Machine) (told : List P) (noted_log last : Log W) →

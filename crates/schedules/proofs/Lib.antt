@@ -15,3 +15,9 @@ mod Served
 mod StillRounds
 mod Stalls
 mod FewMessages
+mod JoinedLists
+mod LongerTurns
+mod LongerRuns
+mod RunsGoingOn
+mod FilledLists
+mod ShortLists

@@ -23,7 +23,7 @@ module _ {W : Type 0} (watches : Watches W) where
       watched watches (watched watches before start xs) (after_all start xs) ys
   seen_after before start [] ys = refl
   seen_after before start (x ∷ xs) ys =
-      seen_after (watches.sees before (transition start x).1 x (transition start x).0) (transition start x).1 xs ys
+      seen_after (watches.sees before start x (transition start x).0 (transition start x).1) (transition start x).1 xs ys
 
   pub seen_both : {before : watches.Seen} {start m n : Machine} {w v : W} (xs ys : List Event) →
       AreSeen watches before start xs m w → AreSeen watches (watches.seen w) m ys n v →

@@ -57,7 +57,7 @@ has_core cores c None op at is = absurd (cc)
 has_core cores c (Some core) op at is = slice_get_within cores c core at
 
 -- no open operation, with and without whether its request is out
-none_open : (m : Machine) (core : ℕ) → open_op m core ≡ None → op_at m core ≡ None
+pub none_open : (m : Machine) (core : ℕ) → open_op m core ≡ None → op_at m core ≡ None
 none_open m core none = by_core (slice_get m.cores core) none
   where
     by_op : (out : Bool) (o : Option Op) → option_map {U = Op × Bool} (λ op. (op, out)) o ≡ None → o ≡ None
@@ -102,7 +102,7 @@ module _ (m after : Machine) (s : Issues m) (t : Issues after) (added : List Rec
       (subst (Stand 0 (get_or after.issued core [])) parts (t core).in_order))
 
 -- a program is told of completions alone
-untold : {P : Type 0} (acts : Acts P) (programs : List P) (a : Answer) → is_completion a ≡ false →
+pub untold : {P : Type 0} (acts : Acts P) (programs : List P) (a : Answer) → is_completion a ≡ false →
     programs_told acts programs a ≡ programs
 untold acts programs (answer.Completed done) silent = absurd (true≢false silent)
 untold acts programs _ silent = refl

@@ -10,3 +10,4 @@ pub mod Notes
 pub mod Watches
 pub mod GivenSteps
 pub mod Stalls
+pub mod LongerLists

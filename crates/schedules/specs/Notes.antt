@@ -20,12 +20,12 @@ use Rattle.schedules.specs.Runs.{Plan, Position, AsksMemory, Ended}
 use Rattle.schedules.specs.Watches.{Watches, AreSeen}
 use Rattle.schedules.specs.declared.log.Log.{Log}
 
--- an answered event is noted, and the watcher was shown it with this machine
-pub record IsNoted {W : Type 0} (watches : Watches W) (log : Log W) (event : Event) (answer : Answer) (m : Machine)
-    (after : Log W) : Type 0 where
-  pub seen : watches.seen after.watcher ≡ watches.sees (watches.seen log.watcher) m event answer
-  pub has_progressed : after.has_progressed ≡ (log.has_progressed || is_progress answer)
-  pub unfinished : after.unfinished ≡ log.unfinished
+-- an answered event of a machine is noted, and the watcher was shown it with the machine after it
+pub record IsNoted {W : Type 0} (watches : Watches W) (m : Machine) (log : Log W) (event : Event) (answer : Answer)
+    (after : Machine) (after_log : Log W) : Type 0 where
+  pub seen : watches.seen after_log.watcher ≡ watches.sees (watches.seen log.watcher) m event answer after
+  pub has_progressed : after_log.has_progressed ≡ (log.has_progressed || is_progress answer)
+  pub unfinished : after_log.unfinished ≡ log.unfinished
 
 -- nothing is noted
 pub record IsSame {W : Type 0} (watches : Watches W) (log after : Log W) : Type 0 where
@@ -63,9 +63,9 @@ answered records (Err end) = Err end
 abbrev pub Noted : {W : Type 0} → Watches W → Machine → Log W → Event → Result Answer End → Machine → Log W → Type 0
 Noted watches m log event (Ok answer) after after_log =
     ((answer, after) ≡ transition m event) × (is_times_end answer ≡ false)
-    × IsNoted watches log event answer after after_log
+    × IsNoted watches m log event answer after after_log
 Noted watches m log event (Err Exhausted) after after_log =
-    ((Refused TimesEnd, after) ≡ transition m event) × IsNoted watches log event (Refused TimesEnd) after after_log
+    ((Refused TimesEnd, after) ≡ transition m event) × IsNoted watches m log event (Refused TimesEnd) after after_log
 Noted watches m log event (Err NoMemory) after after_log =
     (after ≡ m) × IsSame watches log after_log × IsTrue (watches.asks || asks_memory m event)
 Noted watches m log event (Err AllDone) after after_log = ⊥

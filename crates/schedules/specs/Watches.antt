@@ -7,19 +7,20 @@ use Rattle.machine_table.specs.Runs.{after_all}
 use Rattle.machine_table.specs.Transition.{transition}
 
 pub record Watches (W : Type 0) : Type 1 where
-  -- what a watcher has seen, and what it has once it is shown an event with its answer and the machine after it
+  -- what a watcher has seen, and what it has once it is shown one event more: the machine before it, the event, its
+  -- answer and the machine after it
   pub Seen : Type 0
   pub seen : W → Seen
-  pub sees : Seen → Machine → Event → Answer → Seen
-  -- that it has room for one more event, and whether to make room may ask for memory
-  pub HasRoom : W → Type 0
+  pub sees : Seen → Machine → Event → Answer → Machine → Seen
+  -- that it is ready for an event of a machine, and whether to make ready may ask for memory
+  pub IsReady : W → Machine → Event → Type 0
   pub asks : Bool
 
 -- what it has seen once it was shown each of these events in turn, from this machine on
 abbrev pub watched : {W : Type 0} (watches : Watches W) → watches.Seen → Machine → List Event → watches.Seen
 watched watches seen m [] = seen
 watched watches seen m (event ∷ events) =
-    let next = transition m event in watched watches (watches.sees seen next.1 event next.0) next.1 events
+    let next = transition m event in watched watches (watches.sees seen m event next.0 next.1) next.1 events
 
 -- the events lead from a machine to another, and a watcher that had seen so much before was shown them
 pub record AreSeen {W : Type 0} (watches : Watches W) (before : watches.Seen) (start : Machine) (events : List Event)
@@ -28,21 +29,21 @@ pub record AreSeen {W : Type 0} (watches : Watches W) (before : watches.Seen) (s
   pub seen : watches.seen watcher ≡ watched watches before start events
 
 -- a watcher that is itself what it has seen, and takes no memory
-abbrev pub sees_by : {W : Type 0} → (W → Machine → Event → Answer → W) → Watches W
+abbrev pub sees_by : {W : Type 0} → (W → Machine → Event → Answer → Machine → W) → Watches W
 sees_by {W} sees = record {
   Seen = W;
   seen = λ watcher. watcher;
   sees = sees;
-  HasRoom = λ watcher. Unit {0};
+  IsReady = λ watcher m event. Unit {0};
   asks = false;
 }
 
--- one that keeps the events in a list
+-- one that keeps the events in a list, and is ready where it has room
 abbrev pub keeps_events : {W : Type 0} → (W → List Event) → (W → Type 0) → Watches W
 keeps_events events has_room = record {
   Seen = List Event;
   seen = events;
-  sees = λ seen m event answer. seen ++ event ∷ [];
-  HasRoom = has_room;
+  sees = λ seen m event answer after. seen ++ event ∷ [];
+  IsReady = λ watcher m event. has_room watcher;
   asks = true;
 }

@@ -12,7 +12,7 @@ use crate::log::Log;
 use crate::run::run;
 use crate::schedule::Schedule;
 use crate::watcher::Watcher;
-use interleaving_core::{Event, System};
+use interleaving_core::{Event, History, System};
 use programs::End;
 use programs::program::Program;
 use std::alloc::Global;
@@ -25,9 +25,9 @@ pub struct Driven {
 }
 
 // Turns until a run ends, of a schedule that issues and advances cores as their programs say.
-pub(crate) fn finish<P: Program, W: Watcher, S: Schedule<P>>(
+pub(crate) fn finish<P: Program, W: Watcher, S: Schedule<P>, K: History>(
     schedule: &mut S,
-    system: &mut System,
+    system: &mut System<K>,
     programs: &mut [P],
     log: &mut Log<W>,
     limit: u32,
@@ -42,9 +42,9 @@ pub(crate) fn finish<P: Program, W: Watcher, S: Schedule<P>>(
     ensures served { AreServed P.acts system.old system.new programs.old programs.new }
 {
     let _cores = system.cores();
-    let _before = system.records();
+    system.records_are_legal();
     let end = run(schedule, system, programs, log, limit);
-    let _after = system.records();
+    system.records_are_legal();
     end
 }
 

@@ -1,11 +1,12 @@
-//! Which answers are progress, which events rounds make, that seeds differ, and that a run has no choice. A function
-//! does nothing: its contract is the law.
-ghost use Rattle.std.specs.Prelude.{◌≡◌, ◌≢◌, ◌+◌, ◌<◌, ◌^◌, Bool, false, true, ℕ, List, length};
+//! Which answers are progress, which events rounds make, that seeds differ, that a run has no choice, and how one goes
+//! on while its lists of steps are filled. A function does nothing: its contract is the law.
+ghost use Rattle.std.specs.Prelude.{◌≡◌, ◌≢◌, ◌↔◌, ◌+◌, ◌<◌, ◌^◌, Bool, false, true, ℕ, None};
+ghost use Rattle.std.specs.Prelude.{List, [], ◌∷◌, ◌++◌, length};
 ghost use Rattle.physiological_order.specs.declared.operation.Record.{Record};
 ghost use Rattle.std.specs.Ordering.{nat_cmp};
 ghost use Rattle.std.specs.FinMap.{FinMap};
 ghost use Rattle.machine_table.specs.declared.config.Config.{Config};
-ghost use Rattle.machine_table.specs.Machine.{Machine};
+ghost use Rattle.machine_table.specs.Machine.{Machine, open_op};
 ghost use Rattle.machine_table.specs.Opening.{at_start};
 ghost use Rattle.machine_table.specs.Runs.{after_all};
 ghost use Rattle.machine_table.specs.SetUp.{is_good};
@@ -16,10 +17,12 @@ ghost use Rattle.machine_table.specs.Transition.{transition};
 ghost use Rattle.machine_theorem.specs.Replies.{AdvancesBetween};
 ghost use Rattle.machine_theorem.specs.Rounds.{IsInRound};
 ghost use Rattle.programs.specs.declared.ends.End.{End};
+ghost use Rattle.programs.specs.declared.steps.Step.{Step};
 ghost use Rattle.schedules.specs.declared.policy.Policy.{Policy};
 ghost use Rattle.schedules.specs.declared.policy.Policy.TheVariants as policy;
 ghost use Rattle.schedules.specs.Batches.{policy_of_run};
 ghost use Rattle.schedules.specs.Policies.{EndedBy, EndsBy};
+ghost use Rattle.schedules.specs.LongerLists.{GoesOnBy, IsAhead, end_before, joined, step_acts};
 ghost use Rattle.schedules.specs.Parts.{Does, Standing, after_actions, is_progress};
 ghost use Rattle.schedules.specs.Runs.{Ended, initial_position, opened, plan_of};
 ghost use Rattle.schedules.specs.Stalls.{IsAmong, StallsSince, StallsFromOpening};
@@ -137,4 +140,71 @@ pub fn watching_changes_no_event<P: Program>()
         EndsBy also P.acts policy limit start opening more n others last →
         end ≢ End.NoMemory → last ≢ End.NoMemory →
         (events ≡ more) × (m ≡ n) × (programs ≡ others) × (end ≡ last) }
+{}
+
+/// Steps that stand behind the lists of a run change nothing before the run reaches them, by any policy. A turn takes
+/// at most one step of a core. So if each list with something behind it has a step for each turn that may be made, the
+/// longer lists make the same events. These lead to the same machine, and leave of the lists what they left, with the
+/// same behind it. The end is the same, but that all isn't done yet where something stands behind (`end_before`).
+pub fn steps_behind_change_no_event()
+    ensures { (keeps : Bool) (policy : Policy) (made limit : ℕ) (m after : Machine)
+        (lists behind left : List (List Step)) (events : List Event) (end : End) →
+        length lists ≡ m.config.cores → length behind ≡ m.config.cores → IsAhead limit lists behind →
+        GoesOnBy keeps step_acts policy made limit m lists events after left end →
+        GoesOnBy keeps step_acts policy made limit m (joined lists behind) events after (joined left behind)
+        (end_before behind end) }
+{}
+
+/// A run that used its turns and a run that goes on from there are one run of all these turns (`joins`). It makes the
+/// events of the first one and then those of the second, and ends as that does. Unless memory is refused, a run of all
+/// these turns is such a pair (`parts`). A run that goes on after no turn is one by the policy (`begins`).
+pub fn runs_go_on<P: Program>()
+    ensures begins { (keeps : Bool) (policy : Policy) (limit : ℕ) (m after : Machine) (programs left : List P)
+        (events : List Event) (end : End) → GoesOnBy keeps P.acts policy 0 limit m programs events after left end ↔
+        EndsBy keeps P.acts policy limit m programs events after left end }
+    ensures joins { (keeps : Bool) (policy : Policy) (made turns limit : ℕ) (m between after : Machine)
+        (programs met left : List P) (events more : List Event) (end : End) →
+        GoesOnBy keeps P.acts policy made turns m programs events between met End.TurnsUsed →
+        GoesOnBy keeps P.acts policy (made + turns) limit between met more after left end →
+        GoesOnBy keeps P.acts policy made (turns + limit) m programs (events ++ more) after left end }
+    ensures parts { (keeps : Bool) (policy : Policy) (made turns limit : ℕ) (m between after : Machine)
+        (programs met left : List P) (events all : List Event) (end : End) →
+        GoesOnBy keeps P.acts policy made turns m programs events between met End.TurnsUsed →
+        GoesOnBy keeps P.acts policy made (turns + limit) m programs all after left end → end ≢ End.NoMemory →
+        (more : List Event) × (all ≡ events ++ more)
+        × GoesOnBy keeps P.acts policy (made + turns) limit between met more after left end }
+{}
+
+/// So the lists of a run may be filled between turns. What is left to do is in the lists and behind them. It stays the
+/// same if steps move from behind the lists into them (`filled`). Take a run of the whole lists that used its turns. If
+/// it goes on with the lists alone, for no more turns than they are ahead, both are one run of the whole (`goes_on`).
+pub fn lists_are_filled_between_turns()
+    ensures filled { (lists moved behind : List (List Step)) →
+        joined (joined lists moved) behind ≡ joined lists (joined moved behind) }
+    ensures goes_on { (keeps : Bool) (policy : Policy) (turns limit : ℕ) (m between after : Machine)
+        (whole lists behind left : List (List Step)) (events more : List Event) (end : End) →
+        length lists ≡ between.config.cores → length behind ≡ between.config.cores → IsAhead limit lists behind →
+        EndsBy keeps step_acts policy turns m whole events between (joined lists behind) End.TurnsUsed →
+        GoesOnBy keeps step_acts policy turns limit between lists more after left end →
+        EndsBy keeps step_acts policy (turns + limit) m whole (events ++ more) after (joined left behind)
+        (end_before behind end) }
+{}
+
+/// What stands behind lists, by example; and lists that are one step too short change a run. Take one round on one core
+/// without an open operation. With an empty list it makes no event, and all is done (`short`). With a step behind that
+/// list it makes at least one event, unless memory is refused (`longer`).
+pub fn short_lists_change_runs()
+    ensures joins { (a b c : Step) →
+        joined ((a ∷ []) ∷ (b ∷ []) ∷ []) ((c ∷ []) ∷ [] ∷ []) ≡ (a ∷ c ∷ []) ∷ (b ∷ []) ∷ [] }
+    ensures ahead { (a b : Step) → IsAhead 1 ((a ∷ []) ∷ [] ∷ []) ((b ∷ []) ∷ [] ∷ []) }
+    ensures too_short { (a b : Step) → IsAhead 2 ((a ∷ []) ∷ [] ∷ []) ((b ∷ []) ∷ [] ∷ []) → ⊥ }
+    ensures not_done { (a : Step) → end_before ([] ∷ (a ∷ []) ∷ []) End.AllDone ≡ End.TurnsUsed }
+    ensures done { end_before ([] ∷ [] ∷ []) End.AllDone ≡ End.AllDone }
+    ensures stalled { (behind : List (List Step)) → end_before behind End.Stalled ≡ End.Stalled }
+    ensures short { (keeps : Bool) (m : Machine) → m.config.cores ≡ 1 → open_op m 0 ≡ None →
+        EndsBy keeps step_acts policy.Rounds 1 m ([] ∷ []) [] m ([] ∷ []) End.AllDone }
+    ensures longer { (keeps : Bool) (m after : Machine) (a : Step) (left : List (List Step))
+        (events : List Event) (end : End) → m.config.cores ≡ 1 → open_op m 0 ≡ None →
+        EndsBy keeps step_acts policy.Rounds 1 m (joined ([] ∷ []) ((a ∷ []) ∷ [])) events after left end →
+        end ≢ End.NoMemory → 0 < length events }
 {}

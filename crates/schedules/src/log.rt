@@ -1,12 +1,13 @@
 //! What a run notes: each event is shown when it is answered, and which programs have a next step.
 ghost use Rattle.std.specs.Prelude.{◌≡◌, ◌≢◌, ◌<◌, ℕ, false, List, if◌then◌else◌};
 ghost use Rattle.std.specs.Int.{bit_at};
+ghost use Rattle.machine_table.specs.Machine.{Machine};
 ghost use Rattle.interleaving_core.specs.PartChanges.{answer_in};
 ghost use Rattle.schedules.specs.Notes.{IsNoted, Noted, answered, is_no_memory, is_refused};
 ghost use Rattle.schedules.specs.Parts.{is_advanced, is_times_end, is_held, is_evicted, is_progress, is_no_room};
 
 use crate::watcher::Watcher;
-use interleaving_core::{Event, PlainAnswer, Refusal, System, with_bit};
+use interleaving_core::{Event, History, PlainAnswer, Refusal, System, with_bit};
 use machine_table::laws::every_answer_keeps_its_word;
 use physiological_order::Record;
 use programs::End;
@@ -143,11 +144,12 @@ impl<W> Log<W> {
 }
 
 impl<W: Watcher> Log<W> {
-    // An answered event is noted, for which there is room, and shown with the machine after it.
+    // An answered event is noted, for which the watcher is ready, and shown with the machine after it.
     #[inline(always)]
-    fn note(&mut self, system: &System, event: &Event, plain: &Option<PlainAnswer>)
-        requires { W.watches.HasRoom self.old.watcher }
-        ensures { IsNoted W.watches self.old event.now (answer_in system.now.records plain.now)
+    fn note<K: History>(&mut self, system: &System<K>, event: &Event, plain: &Option<PlainAnswer>)
+        requires { (before : Machine) × W.watches.IsReady self.old.watcher before event.now }
+        ensures { (before : Machine) → W.watches.IsReady self.old.watcher before event.now →
+            IsNoted W.watches before self.old event.now (answer_in system.now.records plain.now)
             system.now self.new }
     {
         self.watcher.see(system, event, plain);
@@ -160,16 +162,16 @@ impl<W: Watcher> Log<W> {
 // Gives the machine an event and notes it. An error ends the run: Exhausted, where the event is noted, or NoMemory,
 // where nothing changed and it isn't. That comes only if the event asks for memory, or the watcher does.
 #[inline(always)]
-pub(crate) fn step<W: Watcher>(
+pub(crate) fn step<W: Watcher, K: History>(
     log: &mut Log<W>,
-    system: &mut System,
+    system: &mut System<K>,
     event: &Event,
 ) -> Result<Option<PlainAnswer>, End>
     ensures { Noted W.watches system.old log.old event.now (answered system.new.records result)
         system.new log.new }
 {
     every_answer_keeps_its_word();
-    if log.watcher.reserve().is_err() {
+    if log.watcher.prepare(system, event).is_err() {
         return Err(End::NoMemory);
     }
     let plain = system.step_plain(*event);
@@ -189,9 +191,9 @@ pub(crate) fn step<W: Watcher>(
 
 // The same for an attempt of a core. Most find that it waits for its line: these take few instructions, and no call.
 #[inline(always)]
-pub(crate) fn try_core<W: Watcher>(
+pub(crate) fn try_core<W: Watcher, K: History>(
     log: &mut Log<W>,
-    system: &mut System,
+    system: &mut System<K>,
     core: u32,
 ) -> Result<Option<PlainAnswer>, End>
     ensures { Noted W.watches system.old log.old (Event.Attempt core)
@@ -201,7 +203,7 @@ pub(crate) fn try_core<W: Watcher>(
     if !system.is_waiting(core) {
         return step(log, system, &event);
     }
-    if log.watcher.reserve().is_err() {
+    if log.watcher.prepare(system, &event).is_err() {
         return Err(End::NoMemory);
     }
     let plain = Some(PlainAnswer::Waiting);

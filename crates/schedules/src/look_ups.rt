@@ -8,7 +8,7 @@ ghost use Rattle.schedules.specs.Parts.{programs_told, told_advance};
 ghost use Rattle.schedules.specs.Runs.{are_over, is_over};
 
 use crate::log::{Log, is_advanced};
-use interleaving_core::{PlainAnswer, System, with_bit};
+use interleaving_core::{History, PlainAnswer, System, with_bit};
 use physiological_order::Record;
 use programs::Step;
 use programs::program::Program;
@@ -59,8 +59,8 @@ fn tell_done<P: Program, W>(programs: &mut [P], log: &mut Log<W>, core: u32, rec
 }
 
 // Tells a core's program of a completion, which the machine's last record is of.
-pub(crate) fn tell<P: Program, W>(
-    system: &System,
+pub(crate) fn tell<P: Program, W, K: History>(
+    system: &System<K>,
     programs: &mut [P],
     log: &mut Log<W>,
     plain: &Option<PlainAnswer>,
@@ -72,7 +72,7 @@ pub(crate) fn tell<P: Program, W>(
     if plain.is_some() {
         return;
     }
-    let Some(record) = system.records().last() else {
+    let Some(record) = system.last_record() else {
         return;
     };
     tell_done(programs, log, record.core, record.received);
@@ -96,7 +96,7 @@ pub(crate) fn tell_advance<P: Program, W>(
 }
 
 // Whether a core has no open operation and its program no next step.
-fn is_over<P: Program>(system: &System, programs: &[P], core: u32) -> bool
+fn is_over<P: Program, K: History>(system: &System<K>, programs: &[P], core: u32) -> bool
     ensures { result ≡ is_over P.acts system.now programs.now core }
 {
     if system.open_op(core).is_some() {
@@ -107,7 +107,11 @@ fn is_over<P: Program>(system: &System, programs: &[P], core: u32) -> bool
 
 // Whether that is so of all cores. While a program has a next step, the cores aren't asked.
 #[inline(always)]
-pub(crate) fn are_over<P: Program, W>(system: &System, programs: &[P], log: &Log<W>) -> bool
+pub(crate) fn are_over<P: Program, W, K: History>(
+    system: &System<K>,
+    programs: &[P],
+    log: &Log<W>,
+) -> bool
     requires { IsAsked P.acts programs.now log.now.unfinished }
     ensures { result ≡ are_over P.acts system.now programs.now system.now.config.cores }
 {
@@ -119,7 +123,7 @@ pub(crate) fn are_over<P: Program, W>(system: &System, programs: &[P], log: &Log
 }
 
 // Whether that is so of all cores below a number.
-fn are_below_over<P: Program>(system: &System, programs: &[P], cores: u32) -> bool
+fn are_below_over<P: Program, K: History>(system: &System<K>, programs: &[P], cores: u32) -> bool
     ensures { result ≡ are_over P.acts system.now programs.now cores }
 {
     for core in 0..cores {

@@ -15,7 +15,7 @@ use crate::round::Rounds;
 use crate::seed::Seeds;
 use crate::seeds::order_as_before;
 use crate::watcher::Watcher;
-use interleaving_core::System;
+use interleaving_core::{History, System};
 use programs::End;
 use programs::program::Program;
 use std::alloc::Global;
@@ -24,9 +24,9 @@ use std::alloc::Global;
 /// list of events, and allocates nothing for one. So the end is NoMemory only before an event that allocates, an issue
 /// or the first store of a line in its DRAM, or where the schedule lists messages or orders lines. Afterwards the
 /// machine keeps its lines in rising order exactly if it did before.
-pub fn run_to_end<P: Program>(
+pub fn run_to_end<P: Program, K: History>(
     alloc: Global,
-    system: &mut System,
+    system: &mut System<K>,
     programs: &mut [P],
     policy: Policy,
     limit: u32,
@@ -45,9 +45,9 @@ pub fn run_to_end<P: Program>(
 /// Drives the machine as `run_to_end` does, and shows the watcher each answered event, with the machine after it. An
 /// event for which the watcher can't make room isn't made: the end is NoMemory then. The result is the end and the
 /// watcher.
-pub fn run_watched<P: Program, W: Watcher>(
+pub fn run_watched<P: Program, W: Watcher, K: History>(
     alloc: Global,
-    system: &mut System,
+    system: &mut System<K>,
     programs: &mut [P],
     watcher: W,
     policy: Policy,
@@ -70,9 +70,9 @@ pub fn run_watched<P: Program, W: Watcher>(
 }
 
 // Turns of the policy's schedule until a run ends.
-fn finish_by<P: Program, W: Watcher>(
+fn finish_by<P: Program, W: Watcher, K: History>(
     alloc: Global,
-    system: &mut System,
+    system: &mut System<K>,
     programs: &mut [P],
     log: &mut Log<W>,
     policy: Policy,

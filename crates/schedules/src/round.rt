@@ -10,7 +10,7 @@ use crate::look_ups::next_in;
 use crate::schedule::Schedule;
 use crate::turn::{attempt, deliver, do_step, make};
 use crate::watcher::Watcher;
-use interleaving_core::{Event, System};
+use interleaving_core::{Event, History, System};
 use network::MsgNo;
 use programs::End;
 use programs::program::Program;
@@ -50,8 +50,8 @@ impl Rounds {
 
 // A core without an open operation does its program's next step. The result says whether it has one afterwards.
 #[inline(always)]
-fn begin_core<P: Program, W: Watcher>(
-    system: &mut System,
+fn begin_core<P: Program, W: Watcher, K: History>(
+    system: &mut System<K>,
     programs: &mut [P],
     log: &mut Log<W>,
     core: u32,
@@ -72,8 +72,8 @@ fn begin_core<P: Program, W: Watcher>(
 
 // An open operation is attempted, and once more after a copy was to go.
 #[inline(always)]
-fn try_core<P: Program, W: Watcher>(
-    system: &mut System,
+fn try_core<P: Program, W: Watcher, K: History>(
+    system: &mut System<K>,
     programs: &mut [P],
     log: &mut Log<W>,
     core: u32,
@@ -89,8 +89,8 @@ fn try_core<P: Program, W: Watcher>(
 
 // A core's turn.
 #[inline(always)]
-fn core_turn<P: Program, W: Watcher>(
-    system: &mut System,
+fn core_turn<P: Program, W: Watcher, K: History>(
+    system: &mut System<K>,
     programs: &mut [P],
     log: &mut Log<W>,
     core: u32,
@@ -107,8 +107,8 @@ fn core_turn<P: Program, W: Watcher>(
 
 // The cores' turns.
 #[inline(always)]
-fn core_turns<P: Program, W: Watcher>(
-    system: &mut System,
+fn core_turns<P: Program, W: Watcher, K: History>(
+    system: &mut System<K>,
     programs: &mut [P],
     log: &mut Log<W>,
     cores: u32,
@@ -126,8 +126,8 @@ fn core_turns<P: Program, W: Watcher>(
 
 // The messages with these numbers are delivered.
 #[inline(always)]
-fn deliveries<P: Program, W: Watcher>(
-    system: &mut System,
+fn deliveries<P: Program, W: Watcher, K: History>(
+    system: &mut System<K>,
     log: &mut Log<W>,
     is_fair: bool,
     numbers: &[MsgNo],
@@ -137,7 +137,7 @@ fn deliveries<P: Program, W: Watcher>(
         (at system.new programs log.new) }
 {
     for number in numbers {
-        deliver::<P, W>(system, log, is_fair, *number)?;
+        deliver::<P, W, K>(system, log, is_fair, *number)?;
     }
     Ok(())
 }
@@ -147,9 +147,9 @@ impl<P: Program> Schedule<P> for Rounds {
 
     ghost rule = { rounds P.acts };
 
-    fn turn<W: Watcher>(
+    fn turn<W: Watcher, K: History>(
         &mut self,
-        system: &mut System,
+        system: &mut System<K>,
         programs: &mut [P],
         log: &mut Log<W>,
     ) -> Result<(), End> {
@@ -158,7 +158,7 @@ impl<P: Program> Schedule<P> for Rounds {
         if system.list_in_flight(&mut self.numbers).is_err() {
             return Err(End::NoMemory);
         }
-        deliveries::<P, W>(system, log, self.is_fair, self.numbers.as_slice())
+        deliveries::<P, W, K>(system, log, self.is_fair, self.numbers.as_slice())
     }
 
     fn stalls(&self) -> bool {

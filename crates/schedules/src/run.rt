@@ -7,7 +7,7 @@ use crate::log::Log;
 use crate::look_ups::{are_over, unfinished};
 use crate::schedule::Schedule;
 use crate::watcher::Watcher;
-use interleaving_core::System;
+use interleaving_core::{History, System};
 use programs::End;
 use programs::program::Program;
 
@@ -20,9 +20,9 @@ fn is_last<P: Program, W, S: Schedule<P>>(schedule: &S, log: &Log<W>) -> bool
 
 // At most so many turns: until all is done, a turn went by without progress if the schedule stalls then, times are
 // exhausted or memory was refused.
-pub(crate) fn run<P: Program, W: Watcher, S: Schedule<P>>(
+pub(crate) fn run<P: Program, W: Watcher, S: Schedule<P>, K: History>(
     schedule: &mut S,
-    system: &mut System,
+    system: &mut System<K>,
     programs: &mut [P],
     log: &mut Log<W>,
     limit: u32,

@@ -4,7 +4,7 @@ ghost use Rattle.schedules.specs.Notes.{Did, IsAsked, at};
 
 use crate::log::Log;
 use crate::watcher::Watcher;
-use interleaving_core::System;
+use interleaving_core::{History, System};
 use programs::End;
 use programs::program::Program;
 
@@ -16,9 +16,9 @@ pub(crate) trait Schedule<P: Program> {
     ghost rule: { Schedule P Self };
 
     // A turn, to its end or to the end of the run. Which programs have a next step was noted.
-    fn turn<W: Watcher>(
+    fn turn<W: Watcher, K: History>(
         &mut self,
-        system: &mut System,
+        system: &mut System<K>,
         programs: &mut [P],
         log: &mut Log<W>,
     ) -> Result<(), End>

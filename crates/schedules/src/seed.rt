@@ -19,7 +19,7 @@ use crate::look_ups::next_in;
 use crate::schedule::Schedule;
 use crate::turn::{attempt, deliver, do_step, make};
 use crate::watcher::Watcher;
-use interleaving_core::{Event, System, with_bit};
+use interleaving_core::{Event, History, System, with_bit};
 use network::LineNo;
 use programs::End;
 use programs::program::Program;
@@ -67,14 +67,14 @@ trait Holder {
 
     ghost eviction: { ℕ → ℕ → Event };
 
-    fn holders(system: &System) -> u32
+    fn holders<K: History>(system: &System<K>) -> u32
         ensures value { result ≡ holders system.now }
         ensures bound { result ≤ 64 };
 
-    fn count(system: &System, holder: u32) -> usize
+    fn count<K: History>(system: &System<K>, holder: u32) -> usize
         ensures { result ≡ length (lines system.now holder) };
 
-    fn line(system: &System, holder: u32, at: usize) -> Result<LineNo, AllocError>
+    fn line<K: History>(system: &System<K>, holder: u32, at: usize) -> Result<LineNo, AllocError>
         requires { at < length (lines system.now holder) }
         ensures { IfOk result (λ line.
             slice_get (sorted (lines system.now holder)) at ≡ Some line) };
@@ -96,15 +96,15 @@ impl Holder for Copies {
 
     ghost eviction = { event.EvictCache };
 
-    fn holders(system: &System) -> u32 {
+    fn holders<K: History>(system: &System<K>) -> u32 {
         system.cores()
     }
 
-    fn count(system: &System, holder: u32) -> usize {
+    fn count<K: History>(system: &System<K>, holder: u32) -> usize {
         system.free_copies(holder)
     }
 
-    fn line(system: &System, holder: u32, at: usize) -> Result<LineNo, AllocError> {
+    fn line<K: History>(system: &System<K>, holder: u32, at: usize) -> Result<LineNo, AllocError> {
         system.free_copy(holder, at)
     }
 
@@ -126,15 +126,15 @@ impl Holder for Entries {
 
     ghost eviction = { event.EvictBank };
 
-    fn holders(system: &System) -> u32 {
+    fn holders<K: History>(system: &System<K>) -> u32 {
         system.banks()
     }
 
-    fn count(system: &System, holder: u32) -> usize {
+    fn count<K: History>(system: &System<K>, holder: u32) -> usize {
         system.settled(holder)
     }
 
-    fn line(system: &System, holder: u32, at: usize) -> Result<LineNo, AllocError> {
+    fn line<K: History>(system: &System<K>, holder: u32, at: usize) -> Result<LineNo, AllocError> {
         system.entry(holder, at)
     }
 
@@ -156,8 +156,8 @@ fn place_in(b: u32, total: u128) -> u32
 }
 
 // An advance of a core.
-fn advance<P: Program, W: Watcher>(
-    system: &mut System,
+fn advance<P: Program, W: Watcher, K: History>(
+    system: &mut System<K>,
     programs: &mut [P],
     log: &mut Log<W>,
     b: u32,
@@ -173,7 +173,7 @@ fn advance<P: Program, W: Watcher>(
 }
 
 // How many lines all holders have together.
-fn line_count<H: Holder>(system: &System) -> u128
+fn line_count<H: Holder, K: History>(system: &System<K>) -> u128
     ensures { result ≡ length (line_events H.eviction (H.lines system.now)
         (H.holders system.now)) }
 {
@@ -187,12 +187,15 @@ fn line_count<H: Holder>(system: &System) -> u128
 // A line that is drawn, with its holder. Each holder is asked how many it has, and those up to the line's once more:
 // that costs less than a list of the counts, which would first be set to zeros. From the first time on the machine
 // keeps lines in rising order, so that a line is found without a list of them.
-fn drawn_line<H: Holder>(system: &mut System, b: u32) -> Result<Option<(u32, LineNo)>, AllocError>
+fn drawn_line<H: Holder, K: History>(
+    system: &mut System<K>,
+    b: u32,
+) -> Result<Option<(u32, LineNo)>, AllocError>
     ensures machine { system.new ≡ system.old }
     ensures found { IsLine H.eviction (choice_at
         (line_events H.eviction (H.lines system.old) (H.holders system.old)) b) result }
 {
-    let total = line_count::<H>(system);
+    let total = line_count::<H, K>(system);
     if total == 0 {
         return Ok(None);
     }
@@ -214,8 +217,8 @@ fn drawn_line<H: Holder>(system: &mut System, b: u32) -> Result<Option<(u32, Lin
 }
 
 // The eviction of a line.
-fn evict<P: Program, W: Watcher, H: Holder>(
-    system: &mut System,
+fn evict<P: Program, W: Watcher, H: Holder, K: History>(
+    system: &mut System<K>,
     programs: &mut [P],
     log: &mut Log<W>,
     b: u32,
@@ -224,7 +227,7 @@ fn evict<P: Program, W: Watcher, H: Holder>(
         (line_events H.eviction (H.lines system.old) (H.holders system.old)) b))
         (at system.old programs.old log.old) result (at system.new programs.new log.new) }
 {
-    let Ok(drawn) = drawn_line::<H>(system, b) else {
+    let Ok(drawn) = drawn_line::<H, K>(system, b) else {
         return Err(End::NoMemory);
     };
     let Some((holder, line)) = drawn else {
@@ -235,7 +238,11 @@ fn evict<P: Program, W: Watcher, H: Holder>(
 
 // The cores that do something next: core c is one exactly if bit c is set.
 #[inline(always)]
-fn ready_cores<P: Program, W: Watcher>(system: &System, _programs: &[P], log: &Log<W>) -> u64
+fn ready_cores<P: Program, W: Watcher, K: History>(
+    system: &System<K>,
+    _programs: &[P],
+    log: &Log<W>,
+) -> u64
     requires { IsAsked P.acts _programs.now log.now.unfinished }
     ensures each { (core : ℕ) → core < system.now.config.cores → bit_at result core ≡ length
         (core_step core (open_op system.now core) (next_in P.acts _programs.now core)) }
@@ -248,7 +255,12 @@ fn ready_cores<P: Program, W: Watcher>(system: &System, _programs: &[P], log: &L
 
 // The core that does something after so many others that do: the lowest one, once these are left out.
 #[inline(always)]
-fn core_at<P: Program>(_system: &System, _programs: &[P], ready: u64, place: u32) -> u32
+fn core_at<P: Program, K: History>(
+    _system: &System<K>,
+    _programs: &[P],
+    ready: u64,
+    place: u32,
+) -> u32
     requires inside { place < length (core_steps P.acts _system.now _programs.now
         _system.now.config.cores) }
     requires each { (core : ℕ) → core < _system.now.config.cores → bit_at ready core ≡ length
@@ -266,8 +278,8 @@ fn core_at<P: Program>(_system: &System, _programs: &[P], ready: u64, place: u32
 
 // A core does what it does next, which is something.
 #[inline(always)]
-fn step_core<P: Program, W: Watcher>(
-    system: &mut System,
+fn step_core<P: Program, W: Watcher, K: History>(
+    system: &mut System<K>,
     programs: &mut [P],
     log: &mut Log<W>,
     core: u32,
@@ -289,8 +301,8 @@ fn step_core<P: Program, W: Watcher>(
 }
 
 // A step of a core, or the delivery of a message.
-fn step<P: Program, W: Watcher>(
-    system: &mut System,
+fn step<P: Program, W: Watcher, K: History>(
+    system: &mut System<K>,
     programs: &mut [P],
     log: &mut Log<W>,
     b: u32,
@@ -311,15 +323,15 @@ fn step<P: Program, W: Watcher>(
         return step_core(system, programs, log, core);
     }
     match system.seek_message(at - count) {
-        Some(number) => deliver::<P, W>(system, log, false, number),
+        Some(number) => deliver::<P, W, K>(system, log, false, number),
         None => unreachable!(),
     }
 }
 
 // What two words draw: the first the list, and the second its entry.
 #[inline(always)]
-fn make_drawn<P: Program, W: Watcher>(
-    system: &mut System,
+fn make_drawn<P: Program, W: Watcher, K: History>(
+    system: &mut System<K>,
     programs: &mut [P],
     log: &mut Log<W>,
     a: u32,
@@ -331,8 +343,8 @@ fn make_drawn<P: Program, W: Watcher>(
 {
     match a % 16 {
         0 => advance(system, programs, log, b),
-        1 => evict::<P, W, Copies>(system, programs, log, b),
-        2 => evict::<P, W, Entries>(system, programs, log, b),
+        1 => evict::<P, W, Copies, K>(system, programs, log, b),
+        2 => evict::<P, W, Entries, K>(system, programs, log, b),
         _ => step(system, programs, log, b),
     }
 }
@@ -342,9 +354,9 @@ impl<P: Program> Schedule<P> for Seeds {
 
     ghost rule = { seeded P.acts };
 
-    fn turn<W: Watcher>(
+    fn turn<W: Watcher, K: History>(
         &mut self,
-        system: &mut System,
+        system: &mut System<K>,
         programs: &mut [P],
         log: &mut Log<W>,
     ) -> Result<(), End> {

@@ -9,13 +9,13 @@ ghost use Rattle.machine_theorem.specs.Service.{AreServed};
 
 use crate::driven::{Driven, drive};
 use crate::seed::Seeds;
-use interleaving_core::System;
+use interleaving_core::{History, System};
 use programs::End;
 use programs::program::Program;
 use std::alloc::Global;
 
 // After a run the machine keeps its lines in rising order exactly if it did before.
-pub(crate) fn order_as_before(system: &mut System, had_order: bool)
+pub(crate) fn order_as_before<K: History>(system: &mut System<K>, had_order: bool)
     ensures { system.new ≡ system.old }
 {
     if !had_order {

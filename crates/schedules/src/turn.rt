@@ -8,15 +8,15 @@ ghost use Rattle.schedules.specs.Notes.{Did, at};
 use crate::log::{Log, is_evicted, is_held, is_no_room, step, try_core};
 use crate::look_ups::{tell, tell_advance};
 use crate::watcher::Watcher;
-use interleaving_core::{Event, System};
+use interleaving_core::{Event, History, System};
 use network::MsgNo;
 use programs::program::Program;
 use programs::{End, Step};
 
 // An event that nothing follows.
 #[inline(always)]
-pub(crate) fn make<P: Program, W: Watcher>(
-    system: &mut System,
+pub(crate) fn make<P: Program, W: Watcher, K: History>(
+    system: &mut System<K>,
     programs: &mut [P],
     log: &mut Log<W>,
     event: &Event,
@@ -31,8 +31,8 @@ pub(crate) fn make<P: Program, W: Watcher>(
 
 // An attempt; if there is no place for the line, a copy goes. The result says whether there was none.
 #[inline(always)]
-pub(crate) fn attempt<P: Program, W: Watcher>(
-    system: &mut System,
+pub(crate) fn attempt<P: Program, W: Watcher, K: History>(
+    system: &mut System<K>,
     programs: &mut [P],
     log: &mut Log<W>,
     core: u32,
@@ -43,7 +43,7 @@ pub(crate) fn attempt<P: Program, W: Watcher>(
 {
     let plain = try_core(log, system, core)?;
     if is_no_room(&plain) {
-        evict::<P, W>(system, log, core)?;
+        evict::<P, W, K>(system, log, core)?;
         return Ok(true);
     }
     tell(system, programs, log, &plain);
@@ -52,8 +52,8 @@ pub(crate) fn attempt<P: Program, W: Watcher>(
 
 // A copy goes so that there is a place for the line of a core's open operation.
 #[inline(always)]
-fn evict<P: Program, W: Watcher>(
-    system: &mut System,
+fn evict<P: Program, W: Watcher, K: History>(
+    system: &mut System<K>,
     log: &mut Log<W>,
     core: u32,
 ) -> Result<(), End>
@@ -69,8 +69,8 @@ fn evict<P: Program, W: Watcher>(
 
 // A message is delivered; if it is held, a line leaves its bank if that makes a place.
 #[inline(always)]
-pub(crate) fn deliver<P: Program, W: Watcher>(
-    system: &mut System,
+pub(crate) fn deliver<P: Program, W: Watcher, K: History>(
+    system: &mut System<K>,
     log: &mut Log<W>,
     is_fair: bool,
     number: MsgNo,
@@ -80,7 +80,7 @@ pub(crate) fn deliver<P: Program, W: Watcher>(
 {
     let plain = step(log, system, &Event::Deliver(number))?;
     if is_held(&plain) {
-        return evict_bank::<P, W>(system, log, is_fair, number);
+        return evict_bank::<P, W, K>(system, log, is_fair, number);
     }
     Ok(())
 }
@@ -88,8 +88,8 @@ pub(crate) fn deliver<P: Program, W: Watcher>(
 // A line leaves the bank of a held message, if that makes a place for it. If that is answered Evicted and rounds are
 // fair, the message is delivered once more.
 #[inline(always)]
-fn evict_bank<P: Program, W: Watcher>(
-    system: &mut System,
+fn evict_bank<P: Program, W: Watcher, K: History>(
+    system: &mut System<K>,
     log: &mut Log<W>,
     is_fair: bool,
     number: MsgNo,
@@ -102,15 +102,15 @@ fn evict_bank<P: Program, W: Watcher>(
     };
     let plain = step(log, system, &Event::EvictBank(victim.0, victim.1))?;
     if is_fair && is_evicted(&plain) {
-        return deliver_again::<P, W>(system, log, number);
+        return deliver_again::<P, W, K>(system, log, number);
     }
     Ok(())
 }
 
 // A message that was held is delivered once more. Rounds that aren't fair pay nothing for this.
 #[inline(never)]
-fn deliver_again<P: Program, W: Watcher>(
-    system: &mut System,
+fn deliver_again<P: Program, W: Watcher, K: History>(
+    system: &mut System<K>,
     log: &mut Log<W>,
     number: MsgNo,
 ) -> Result<(), End>
@@ -122,8 +122,8 @@ fn deliver_again<P: Program, W: Watcher>(
 }
 
 // A core advances, and its program is told.
-fn advance<P: Program, W: Watcher>(
-    system: &mut System,
+fn advance<P: Program, W: Watcher, K: History>(
+    system: &mut System<K>,
     programs: &mut [P],
     log: &mut Log<W>,
     core: u32,
@@ -138,8 +138,8 @@ fn advance<P: Program, W: Watcher>(
 
 // A core does this step of its program.
 #[inline(always)]
-pub(crate) fn do_step<P: Program, W: Watcher>(
-    system: &mut System,
+pub(crate) fn do_step<P: Program, W: Watcher, K: History>(
+    system: &mut System<K>,
     programs: &mut [P],
     log: &mut Log<W>,
     core: u32,

@@ -50,7 +50,8 @@ module _ (test : Litmus) where
   )
 
   pub turn_led : (has : Bool) (next : List (List ℕ × List ℕ)) (p : Point) (t : ℕ) (x : Op)
-      (row order after : List ℕ) → AreLed has test next → length p.received ≡ test.threads → IsOrderOf has test order p →
+      (row order after : List ℕ) → AreLed has test next → length p.received ≡ test.threads →
+      IsOrderOf has test order p →
       t < test.threads → operation_at test p t ≡ Some x → row ≡ packed (turned p t x) → after ≡ with_turn has order t →
       AreLed has test (with_ordered next (row, after))
   turn_led has next p t x row order after each lists led lt e is by =

@@ -64,7 +64,8 @@ pub row_new : (es : List (Vec ℕ × Vec ℕ)) (row order : Vec ℕ) →
     is_some (lookup (λ key. bytes_eq row.items key.items) es) ≡ false →
     ordered_of (es ++ (row, order) ∷ []) ≡ with_ordered (ordered_of es) (row.items, order.items)
 row_new es row order h =
-    rw (found_by row order.items es ∙ h) (map-append (λ (e : Vec ℕ × Vec ℕ). (e.0.items, e.1.items)) es ((row, order) ∷ []))
+    rw (found_by row order.items es ∙ h)
+    (map-append (λ (e : Vec ℕ × Vec ℕ). (e.0.items, e.1.items)) es ((row, order) ∷ []))
 
 apart : (row : Vec ℕ) (keys : List (Vec ℕ)) → Each (λ (key : Vec ℕ). bytes_eq row.items key.items ≡ false) keys →
     Each (λ (other : List ℕ). bytes_eq row.items other ≡ false) (rows_of keys)

@@ -4,7 +4,7 @@ ghost use Rattle.std.specs.Prelude.{◌≡◌, ◌<◌, ◌≤◌, ◌^◌, ℕ,
 ghost use Rattle.litmus_reader.specs.TestViews.{test_of};
 ghost use Rattle.sequential_machine.specs.Turns.{Point, turned, values_at};
 ghost use Rattle.sequential_ends.specs.Packed.{packed, packed_lists, IsRowOf, AreRowsOf};
-ghost use Rattle.sequential_ends.specs.Rows.{rows_in, with_ordered, with_row};
+ghost use Rattle.sequential_ends.specs.Rows.{rows_in, with_ordered};
 ghost use Rattle.sequential_ends.specs.Orders.{with_turn, IsOrderOf, AreLed, AreEndOrders};
 ghost use Rattle.sequential_ends.specs.Layers.{with_turns, has_turn, behind, with_end, with_ends};
 

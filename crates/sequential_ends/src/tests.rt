@@ -15,7 +15,8 @@ const BUFFERING: &str = "RISCV SB\n\
     exists (0:x7=0 /\\ 1:x7=0)\n";
 
 const SWAPS: &str = "RISCV SWAPS\n\
-    {0:x6=x; 0:x5=1; 1:x6=x; 1:x5=2; 2:x6=x; 2:x5=3; 3:x6=x; 3:x5=4; 4:x6=x; 4:x5=5; 5:x6=x; 5:x5=6; 6:x6=x; 6:x5=7; }\n\
+    {0:x6=x; 0:x5=1; 1:x6=x; 1:x5=2; 2:x6=x; 2:x5=3; 3:x6=x; 3:x5=4; 4:x6=x; 4:x5=5; 5:x6=x; 5:x5=6; \
+    6:x6=x; 6:x5=7; }\n\
     P0 | P1 | P2 | P3 | P4 | P5 | P6 ;\n\
     amoswap.w x7,x5,(x6) | amoswap.w x7,x5,(x6) | amoswap.w x7,x5,(x6) | amoswap.w x7,x5,(x6) | \
     amoswap.w x7,x5,(x6) | amoswap.w x7,x5,(x6) | amoswap.w x7,x5,(x6) ;\n\

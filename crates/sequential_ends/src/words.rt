@@ -1,7 +1,7 @@
 //! The words of a memory in a vector, by their numbers; those behind it are 0.
 
 ghost use Rattle.std.specs.Prelude.{◌≡◌, ◌≤◌, ℕ, length, IfOk, OnOk};
-ghost use Rattle.sequential_machine.specs.Turns.{word_in, with_word_in, words_after, value_for, words_set};
+ghost use Rattle.sequential_machine.specs.Turns.{word_in, with_word_in, words_after, value_for};
 ghost use Rattle.sequential_machine.specs.Turns.{point_opened};
 ghost use Rattle.litmus_reader.specs.TestViews.{test_of};
 

@@ -324,7 +324,8 @@ none_of n t (c ∷ cells) h le =
     let lt = ltb-true c.thread n both.0 in
     let q0 = none_of n t cells both.1 le in grind (arith, nat_tests, q0, lt)
 
-opening_followed : (test : Litmus) → list_all (is_of_thread test.threads) test.cells ≡ true → GoesOn test (sequential_opening test)
+opening_followed : (test : Litmus) → list_all (is_of_thread test.threads) test.cells ≡ true →
+    GoesOn test (sequential_opening test)
 opening_followed test below = record {
   turns = 0;
   point = point_opened test;

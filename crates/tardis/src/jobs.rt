@@ -1,6 +1,5 @@
 //! The jobs that words ask for, each done on its files.
 
-ghost use Rattle.std.specs.Prelude.{◌≡◌};
 ghost use Rattle.physiological_order.specs.Order.{flat};
 ghost use Rattle.tardis.specs.Answers.{Checks, ChecksOver, Does, ListsEndsOf, OnFile, OnFiles, OnOpening, OpensNamed};
 ghost use Rattle.tardis.specs.Answers.{RunsLitmus, RunsOn, RunsTrace, devices};

@@ -1,6 +1,6 @@
 -- How many items are of each core.
 use Rattle.std.proofs.Common.{◌≡◌, ◌+◌, ◌==◌, ℕ, cond, List, Option, Some, None, MatchOption, map, filter, get_or}
-use Rattle.std.proofs.Common.{length, count_by, sym, ◌∙◌}
+use Rattle.std.proofs.Common.{arith, length, count_by, sym, ◌∙◌}
 use Rattle.std.proofs.lemmas.List.{length-map}
 use Rattle.std.proofs.lemmas.List.Folds.{fold-map}
 use Rattle.std.proofs.lemmas.List.Sums.{length-filter}
@@ -36,7 +36,10 @@ told operations records issued done (Some lack) ops rs other =
     let counted = λ (core : ℕ). rs core ∙ of_records records core in
     let listed = λ (core : ℕ). ops core ∙ of_operations operations core in
     record {
-      lacks = λ e. other.differ (listed lack.core ∙ sym (counted lack.core ∙ e));
-      first = λ core below. sym (other.first core below ∙ counted core) ∙ listed core;
+      first = record {
+        among = omega arith;
+        lacks = λ e. other.differ (listed lack.core ∙ sym (counted lack.core ∙ e));
+        first = λ core below. sym (other.first core below ∙ counted core) ∙ listed core;
+      };
       place_is = other.place_is ∙ counted lack.core;
     }

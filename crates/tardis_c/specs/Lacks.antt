@@ -1,8 +1,8 @@
 -- Which operation of a history has no record.
-use Rattle.std.specs.Prelude.{◌≡◌, ◌≢◌, ◌⊎◌, ◌<◌, ℕ, List, get_or, length, map}
+use Rattle.std.specs.Prelude.{◌≡◌, ◌≢◌, ◌⊎◌, ◌+◌, ◌<◌, ℕ, List, get_or, length, map}
 use Rattle.physiological_order.specs.declared.operation.Op.{Op}
 use Rattle.physiological_order.specs.declared.operation.Record.{Record}
-use Rattle.report.specs.Complete.{AreAll, count_of_core}
+use Rattle.report.specs.Complete.{IsFirstLack, count_of_core}
 use Rattle.tardis_c.specs.Arrays.{HaveNone, HasFirst}
 use Rattle.tardis_c.specs.Plain.{issued_of, operation_fault, record_fault, record_of}
 use Rattle.tardis_c.specs.declared.arrays.Told.{Told}
@@ -23,8 +23,7 @@ HaveAll issued records = (core : ℕ) → count_of_core core records ≡ length 
 
 -- the first core that hasn't, and how many records it has
 pub record IsLack (issued : ℕ → List Op) (records : List Record) (lack : Lack) : Type 0 where
-  pub lacks : count_of_core lack.core records ≢ length (issued lack.core)
-  pub first : AreAll lack.core issued records
+  pub first : IsFirstLack (lack.core + 1) issued records lack.core
   pub place_is : lack.place ≡ count_of_core lack.core records
 
 -- some item has a fault

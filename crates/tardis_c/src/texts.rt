@@ -1,5 +1,5 @@
 //! Runs of litmus tests and of traces, and checks of records, from texts to texts.
-ghost use Rattle.std.specs.Prelude.{◌≡◌, Some, false};
+ghost use Rattle.std.specs.Prelude.{Some, false};
 ghost use Rattle.std.specs.FinMap.{empty};
 ghost use Rattle.physiological_order.specs.Order.{flat};
 ghost use Rattle.report.specs.Layouts.{layout_of};

@@ -1,8 +1,8 @@
 //! Runs whose counts were worked out by hand, from docs/COUNTS.md and docs/PROTOCOL.md.
-use event_counts::{BankCounts, CoreCounts, Counter, KindCounts};
+use event_counts::{CoreCounts, Counter, KindCounts, PartCounts};
 use interleaving_core::{Config, Event, LineNo, MsgNo, System};
 use physiological_order::{Memory, Op, WordAddr};
-use std::alloc::Global;
+use std::alloc::{AllocError, Global};
 use std::test::Fail;
 
 // Two cores with one way each, a bank, lines of one word, and leases of three.
@@ -36,16 +36,24 @@ fn deliver(number: u64) -> Event {
 #[derive(Drop)]
 struct Wanted {
     cores: [CoreCounts; 2],
-    bank: BankCounts,
+    bank: PartCounts,
     held: u64,
     dropped: u64,
 }
 
 const NO_CORE: CoreCounts = CoreCounts::NONE;
 
-const NO_BANK: BankCounts = BankCounts::NONE;
+const NO_PART: PartCounts = PartCounts::NONE;
 
 const NO_KINDS: KindCounts = KindCounts::NONE;
+
+// The machine makes an event, and the counter counts it; an error if an allocation failed.
+fn count(counter: &mut Counter, system: &mut System, event: &Event) -> Result<(), AllocError> {
+    counter.prepare(system, event)?;
+    let plain = system.step_plain(*event);
+    counter.see(system, event, &plain);
+    Ok(())
+}
 
 // The counts of a machine that has just opened and made these events; `None` if an allocation failed.
 fn counted(
@@ -56,11 +64,9 @@ fn counted(
 ) -> Option<Counter> {
     let mut counter = Counter::new(alloc, system.cores(), system.banks(), every).ok()?;
     for event in events {
-        if counter.reserve().is_err() {
+        if count(&mut counter, system, event).is_err() {
             return None;
         }
-        let plain = system.step_plain(*event);
-        counter.see(system, event, &plain);
     }
     Some(counter)
 }
@@ -105,19 +111,19 @@ fn a_first_store_is_counted(rt: HostRuntime) {
                 stores: 1,
                 cold: 1,
                 last_time: 1,
-                sent,
+                part: PartCounts { sent, ..NO_PART },
                 ..NO_CORE
             },
             NO_CORE,
         ],
-        bank: BankCounts {
+        bank: PartCounts {
             held: 1,
             sent: KindCounts {
                 dram_ld: 1,
                 dram_ld_rep: 1,
                 ..sent
             },
-            ..NO_BANK
+            ..NO_PART
         },
         held: 1,
         dropped: 0,
@@ -164,12 +170,15 @@ fn an_ended_lease_and_a_write_back_are_counted(rt: HostRuntime) {
                 stores: 1,
                 cold: 1,
                 last_time: 4,
-                sent: KindCounts {
-                    ex_req: 1,
-                    ex_rep: 1,
-                    wb_req: 1,
-                    wb_rep: 1,
-                    ..NO_KINDS
+                part: PartCounts {
+                    sent: KindCounts {
+                        ex_req: 1,
+                        ex_rep: 1,
+                        wb_req: 1,
+                        wb_rep: 1,
+                        ..NO_KINDS
+                    },
+                    ..NO_PART
                 },
                 ..NO_CORE
             },
@@ -180,15 +189,18 @@ fn an_ended_lease_and_a_write_back_are_counted(rt: HostRuntime) {
                 ended: 1,
                 reloads: 1,
                 last_time: 4,
-                sent: KindCounts {
-                    sh_req: 2,
-                    sh_rep: 2,
-                    ..NO_KINDS
+                part: PartCounts {
+                    sent: KindCounts {
+                        sh_req: 2,
+                        sh_rep: 2,
+                        ..NO_KINDS
+                    },
+                    ..NO_PART
                 },
                 ..NO_CORE
             },
         ],
-        bank: BankCounts {
+        bank: PartCounts {
             sent: KindCounts {
                 sh_req: 2,
                 sh_rep: 2,
@@ -200,7 +212,7 @@ fn an_ended_lease_and_a_write_back_are_counted(rt: HostRuntime) {
                 dram_ld_rep: 1,
                 ..NO_KINDS
             },
-            ..NO_BANK
+            ..NO_PART
         },
         held: 0,
         dropped: 0,
@@ -250,15 +262,19 @@ fn evictions_and_a_dropped_recall_are_counted(rt: HostRuntime) {
                 stores: 1,
                 cold: 1,
                 shared: 1,
-                evictions: 1,
                 returns: 1,
                 last_time: 4,
-                sent,
+                part: PartCounts {
+                    evictions: 1,
+                    dropped: 1,
+                    sent,
+                    ..NO_PART
+                },
                 ..NO_CORE
             },
             NO_CORE,
         ],
-        bank: BankCounts {
+        bank: PartCounts {
             evictions: 1,
             sent: KindCounts {
                 dram_ld: 1,
@@ -267,7 +283,7 @@ fn evictions_and_a_dropped_recall_are_counted(rt: HostRuntime) {
                 dram_st_rep: 1,
                 ..sent
             },
-            ..NO_BANK
+            ..NO_PART
         },
         held: 0,
         dropped: 1,
@@ -335,21 +351,24 @@ fn lost_copies_are_causes(rt: HostRuntime) {
                 evicted: 1,
                 recalled: 1,
                 shared: 1,
-                evictions: 1,
-                held: 1,
                 last_time: 4,
-                sent,
+                part: PartCounts {
+                    evictions: 1,
+                    held: 1,
+                    sent,
+                    ..NO_PART
+                },
                 ..NO_CORE
             },
             NO_CORE,
         ],
-        bank: BankCounts {
+        bank: PartCounts {
             sent: KindCounts {
                 dram_ld: 1,
                 dram_ld_rep: 1,
                 ..sent
             },
-            ..NO_BANK
+            ..NO_PART
         },
         held: 1,
         dropped: 0,
@@ -372,11 +391,14 @@ const ROWS: [Row; 2] = [
             loads: 2,
             cold: 1,
             evicted: 1,
-            evictions: 1,
-            sent: KindCounts {
-                sh_req: 2,
-                sh_rep: 2,
-                ..NO_KINDS
+            part: PartCounts {
+                evictions: 1,
+                sent: KindCounts {
+                    sh_req: 2,
+                    sh_rep: 2,
+                    ..NO_KINDS
+                },
+                ..NO_PART
             },
             ..NO_CORE
         },
@@ -390,16 +412,19 @@ const ROWS: [Row; 2] = [
             cold: 1,
             evicted: 1,
             shared: 1,
-            evictions: 1,
-            held: 1,
             last_time: 4,
-            sent: KindCounts {
-                sh_req: 2,
-                sh_rep: 2,
-                ex_req: 1,
-                upgrade_rep: 1,
-                flush_req: 1,
-                ..NO_KINDS
+            part: PartCounts {
+                evictions: 1,
+                held: 1,
+                sent: KindCounts {
+                    sh_req: 2,
+                    sh_rep: 2,
+                    ex_req: 1,
+                    upgrade_rep: 1,
+                    flush_req: 1,
+                    ..NO_KINDS
+                },
+                ..NO_PART
             },
             ..NO_CORE
         },

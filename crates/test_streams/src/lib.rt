@@ -11,6 +11,8 @@ mod in_memory;
 #[cfg(test)]
 mod limited;
 #[cfg(test)]
+mod steps_ahead;
+#[cfg(test)]
 mod streams;
 #[cfg(test)]
 mod sums;

@@ -1,6 +1,6 @@
 //! Two workers that do jobs at the same time, and one that does them one after the other and keeps its state. Each job
 //! is done while the gate has it under way.
-ghost use Rattle.std.specs.Prelude.{ℕ, ◌<◌, ◌≤◌};
+ghost use Rattle.std.specs.Prelude.{◌<◌};
 
 use crate::turn_counts::{Calls, TurnCounts};
 use shared_jobs::{Begun, Free, Jobs, run_jobs};

@@ -1,5 +1,5 @@
 //! Which turns workers give seats, as a gate sees them.
-ghost use Rattle.std.specs.Prelude.{◌<◌, ◌≤◌};
+ghost use Rattle.std.specs.Prelude.{◌<◌};
 
 use crate::driver::{Case, ONE, end_of};
 use crate::turn_counts::TurnCounts;

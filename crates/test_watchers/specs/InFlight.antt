@@ -10,6 +10,6 @@ is_waiting Waiting = true
 is_waiting _ = false
 
 -- one more number, and one more attempt that waited, modulo 2^64
-abbrev pub sees_messages : List ℕ × ℕ → Machine → Event → Answer → List ℕ × ℕ
-sees_messages seen m event answer =
-    (seen.0 ++ length m.mail.messages ∷ [], if is_waiting answer then (seen.1 + 1) % 2 ^ 64 else seen.1)
+abbrev pub sees_messages : List ℕ × ℕ → Machine → Event → Answer → Machine → List ℕ × ℕ
+sees_messages seen m event answer after =
+    (seen.0 ++ length after.mail.messages ∷ [], if is_waiting answer then (seen.1 + 1) % 2 ^ 64 else seen.1)

@@ -4,7 +4,7 @@ ghost use Rattle.physiological_order.specs.declared.operation.Record.{Record};
 ghost use Rattle.interleaving_core.specs.PartChanges.{answer_in};
 ghost use Rattle.test_watchers.specs.InFlight.{is_waiting, sees_messages};
 
-use interleaving_core::{Event, PlainAnswer, System};
+use interleaving_core::{Event, History, PlainAnswer, System};
 use schedules::Watcher;
 use std::alloc::AllocError;
 
@@ -28,18 +28,22 @@ impl Watcher for InFlight {
       Seen = List ℕ × ℕ;
       seen = λ w. (w.counts.items, w.waits);
       sees = sees_messages;
-      HasRoom = λ w. 0 < vec_capacity w.counts - vec_len w.counts;
+      IsReady = λ w m event. 0 < vec_capacity w.counts - vec_len w.counts;
       asks = true;
     } };
 
-    fn reserve(&mut self) -> Result<(), AllocError> {
+    fn prepare<K: History>(
+        &mut self,
+        _system: &System<K>,
+        _event: &Event,
+    ) -> Result<(), AllocError> {
         if self.counts.len() >= self.most {
             return Err(AllocError);
         }
         self.counts.reserve(1)
     }
 
-    fn see(&mut self, system: &System, _event: &Event, plain: &Option<PlainAnswer>) {
+    fn see<K: History>(&mut self, system: &System<K>, _event: &Event, plain: &Option<PlainAnswer>) {
         self.counts.push_reserved(u64::from(system.messages()));
         if is_waiting(plain) {
             self.waits = self.waits.wrapping_add(1);

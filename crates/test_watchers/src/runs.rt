@@ -33,9 +33,10 @@ struct Case {
     waits: u64,
 }
 
-/// By rounds the store is issued, and its request 0 sent and taken in, which sends DramLd. While DRAM answers and the
-/// words come, the core waits and the request is held. In the fourth round the request is answered by ExRep, which
-/// comes in the fifth; the sixth completes the store. With room for two events, the delivery of the request isn't made.
+/// By rounds the store is issued, and the core sends a request. The bank takes it in and sends DramLd. While DRAM
+/// answers and the words come, the core waits and the request is held. In the fourth round the request is answered by
+/// ExRep, which comes in the fifth; the sixth completes the store. With room for two events, the delivery of the
+/// request isn't made.
 ///
 /// Seed 1 draws: Issue, Attempt, the request, which is taken in, then held four times, DramLd, its reply, Advance, the
 /// request, ExRep, EvictBank, which recalls the line, the recall, held twice, Advance, and the attempt that completes.

@@ -10,7 +10,8 @@ use Rattle.trace_lines.specs.declared.errors.TraceError.{TraceError}
 use Rattle.text_lines.specs.Reading.{◌>>=◌}
 use Rattle.trace_reader.specs.declared.limits.TheConstants.{MOST_BYTES, MOST_LINES}
 use Rattle.trace_reader.specs.Causes.{IsTooLong}
-use Rattle.trace_reader.specs.Reading.{at_line, behind, fitted}
+use Rattle.trace_reader.specs.Reading.{fitted}
+use Rattle.trace_reader.proofs.ToldLines.{read_behind, read_on_at}
 
 pub bind-ok : {A B : Type 0} (r : Result A Kind) (f : A → Result B Kind) (y : B) → (r >>= f) ≡ Ok y →
     (x : A) × (r ≡ Ok x) × (f x ≡ Ok y)
@@ -26,25 +27,25 @@ pub ok-pair : {A B : Type 0} (x y : A × B) → ◌≡◌ {A = Result (A × B) K
 ok-pair {A = A} {B = B} x y e =
     let same : x ≡ y = cc in (ap (λ (w : A × B). w.0) same, ap (λ (w : A × B). w.1) same)
 
-pub behind-ok : {X : Type 0} (xs : List X) (r : Result (List X) TraceError) (told : List X) → behind xs r ≡ Ok told →
+pub behind-ok : {X : Type 0} (xs : List X) (r : Result (List X) TraceError) (told : List X) → read_behind xs r ≡ Ok told →
     (ys : List X) × (r ≡ Ok ys) × (xs ++ ys ≡ told)
 behind-ok xs (Ok ys) told e = (ys, refl, cc)
 behind-ok xs (Err k) told e = absurd cc
 
 pub behind-err : {X : Type 0} (xs : List X) (r : Result (List X) TraceError) (fault : TraceError) →
-    behind xs r ≡ Err fault → r ≡ Err fault
+    read_behind xs r ≡ Err fault → r ≡ Err fault
 behind-err xs (Ok ys) fault e = absurd cc
 behind-err xs (Err k) fault e = e
 
 line-ok : {X Y : Type 0} (number : ℕ) (b : Bool) (r : Result X Kind) (f : X → Result Y TraceError) (y : Y) →
-    at_line number (cond b (Err TooLong) r) f ≡ Ok y → (b ≡ false) × ((x : X) × (r ≡ Ok x) × (f x ≡ Ok y))
+    read_on_at number (cond b (Err TooLong) r) f ≡ Ok y → (b ≡ false) × ((x : X) × (r ≡ Ok x) × (f x ≡ Ok y))
 line-ok number true r f y e = absurd cc
 line-ok number false (Ok x) f y e = (refl, (x, refl, e))
 line-ok number false (Err k) f y e = absurd cc
 
 -- a line that was read is short and stands early
 pub fitted-ok : {X Y : Type 0} (number : ℕ) (line : List ℕ) (r : Result X Kind) (f : X → Result Y TraceError) (y : Y) →
-    at_line number (fitted number line r) f ≡ Ok y →
+    read_on_at number (fitted MOST_LINES number line r) f ≡ Ok y →
     ((length line ≤ MOST_BYTES) × (number ≤ MOST_LINES)) × ((x : X) × (r ≡ Ok x) × (f x ≡ Ok y))
 fitted-ok number line r f y e =
     let o = line-ok number (nat_lt MOST_BYTES (length line) || nat_lt MOST_LINES number) r f y e in
@@ -58,7 +59,7 @@ LineFault {X = X} number b r f fault = ((b ≡ true) × (fault ≡ record { line
 
 line-err : {X Y : Type 0} (number : ℕ) (b : Bool) (r : Result X Kind) (f : X →
     Result Y TraceError) (fault : TraceError) →
-    at_line number (cond b (Err TooLong) r) f ≡ Err fault → LineFault number b r f fault
+    read_on_at number (cond b (Err TooLong) r) f ≡ Err fault → LineFault number b r f fault
 line-err number true r f fault e = inl (refl, cc)
 line-err number false (Ok x) f fault e = inr (inr (refl, (x, refl, e)))
 line-err number false (Err k) f fault e = inr (inl (refl, cc, cc))
@@ -77,7 +78,7 @@ too-long number line few e =
 
 -- a line is too long or too late; or it is refused for what it says; or a later one is
 pub fitted-err : {X Y : Type 0} (number : ℕ) (line : List ℕ) (r : Result X Kind) (f : X → Result Y TraceError)
-    (fault : TraceError) → number ≤ suc MOST_LINES → at_line number (fitted number line r) f ≡ Err fault →
+    (fault : TraceError) → number ≤ suc MOST_LINES → read_on_at number (fitted MOST_LINES number line r) f ≡ Err fault →
     ((fault.line ≡ number) × (fault.kind ≡ TooLong) × IsTooLong number line)
     ⊎ ((fault.line ≡ number) × (r ≡ Err fault.kind))
     ⊎ ((number ≤ MOST_LINES) × ((x : X) × (r ≡ Ok x) × (f x ≡ Err fault)))

@@ -2,8 +2,11 @@ mod NextLine
 mod ByCore
 pub mod Lemmas
 mod OnLines
+mod ToldLines
 mod Inverses
 mod LinesRead
+mod StreamLines
+mod QueuedSteps
 mod LinesMeant
 mod TextAnswers
 mod StepsMeant

@@ -12,9 +12,10 @@ use Rattle.trace_reader.specs.Lines.{with_fields, worded}
 use Rattle.trace_reader.specs.Grammar.{AreShort, HasFewShortLines}
 use Rattle.trace_reader.specs.Causes.{IsTooLong, LineCause, StandsAtLine}
 use Rattle.trace_reader.specs.Outcomes.{IsOfLine}
-use Rattle.trace_reader.specs.Reading.{behind, list_of_option, read_from}
+use Rattle.trace_reader.specs.Reading.{list_of_option, read_from}
 use Rattle.trace_reader.proofs.Inverses.{behind-ok, behind-err, fitted-ok, fitted-err}
 use Rattle.trace_reader.proofs.LinesRead.{line-said, lines-end}
+use Rattle.trace_reader.proofs.ToldLines.{read-next, read_behind}
 
 abbrev FitsFrom : ℕ → List (List ℕ) → Type 0
 FitsFrom number lines = (number + length lines ≤ suc MOST_LINES) × AreShort lines
@@ -49,13 +50,15 @@ module _ {S X : Type 0} (says : S → List (List ℕ) → Result (S × Option X)
   found-from : Means → (lines : List (List ℕ)) (number : ℕ) (state : S) (told : List X) →
       number ≤ suc MOST_LINES → read_from says number state lines ≡ Ok told →
       FitsFrom number lines × Tells state (worded lines) told
-  unfolding read_from AreShort worded
+  unfolding AreShort worded
   found-from m [] number state told few e =
+      let none = lines-end says number state in
       let same : [] ≡ told = cc in
       ((omega arith, tt), subst (λ (w : List X). Tells state [] w) same (m.none state))
   found-from m (line ∷ lines) number state told few e =
       let o = fitted-ok number line (says state (fields_of line))
-      (λ said. behind (list_of_option said.1) (read_from says (suc number) said.0 lines)) told e in
+      (λ said. read_behind (list_of_option said.1) (read_from says (suc number) said.0 lines)) told
+      (sym (read-next says number state line lines) ∙ e) in
       let next = o.1.0.0 in
       let said = o.1.0.1 in
       let b = behind-ok (list_of_option said) (read_from says (suc number) next lines) told o.1.2 in
@@ -79,7 +82,7 @@ module _ {S X : Type 0} (says : S → List (List ℕ) → Result (S × Option X)
   only-from m (line ∷ lines) number state told fits t =
       let p = m.parts state (fields_of line) (worded lines) told t in
       line-said says number state p.0 line lines p.1 fits.1.0 (omega (arith, fits.0)) p.4
-      ∙ ap (behind (list_of_option p.1)) (only-from m lines (suc number) p.0 p.2 (omega (arith, fits.0), fits.1.1) p.5)
+      ∙ ap (read_behind (list_of_option p.1)) (only-from m lines (suc number) p.0 p.2 (omega (arith, fits.0), fits.1.1) p.5)
       ∙ ap Ok p.3
 
   pub lines-only : Means → (first : S) (lines : List (List ℕ)) (told : List X) → HasFewShortLines lines →
@@ -101,11 +104,12 @@ module _ {S X : Type 0} (says : S → List (List ℕ) → Result (S × Option X)
       number ≤ suc MOST_LINES → read_from says number state lines ≡ Err fault →
       StandsAtLine number lines fault.line
       (λ before line. LineCause (Cause state (worded before)) fault.kind fault.line line)
-  unfolding read_from worded
-  fault-from m [] number state fault few e = absurd cc
+  unfolding worded
+  fault-from m [] number state fault few e = let none = lines-end says number state in absurd cc
   fault-from m (line ∷ lines) number state fault few e =
       elim (fitted-err number line (says state (fields_of line))
-      (λ said. behind (list_of_option said.1) (read_from says (suc number) said.0 lines)) fault few e) [
+      (λ said. read_behind (list_of_option said.1) (read_from says (suc number) said.0 lines)) fault few
+      (sym (read-next says number state line lines) ∙ e)) [
         | inl t ↦ (
           [],
           line,

@@ -11,9 +11,10 @@ use Rattle.trace_reader.specs.declared.limits.TheConstants.{MOST_BYTES, MOST_LIN
 use Rattle.trace_reader.specs.Ahead.{Both}
 use Rattle.text_lines.specs.Lines.{lines_of}
 use Rattle.trace_reader.specs.Outcomes.{IsFound, BeginTooLong, IsOfLine, WantsMemory}
-use Rattle.trace_reader.specs.Reading.{at_line, behind, list_of_option, read_from}
-use Rattle.trace_reader.proofs.OnLines.{both-next, both-fault, both-long, both-end}
-use Rattle.trace_reader.proofs.OnLines.{fitted-short, fitted-long, behind-behind}
+use Rattle.trace_reader.specs.Reading.{all_told, list_of_option, read_from}
+use Rattle.trace_reader.proofs.OnLines.{both-next, both-fault, both-long, both-end, fitted-short}
+use Rattle.trace_reader.proofs.ToldLines.{read-all, read-next, read_behind, read_on_at}
+use Rattle.trace_reader.proofs.ToldLines.{told-end, told-long, told-refused}
 
 pub long-of-line : (number : ℕ) (fault : TraceError) → fault ≡ record { line = suc number; kind = TooLong } →
     IsOfLine fault
@@ -27,42 +28,42 @@ some-more : {X : Type 0} (xs : List X) (x : X) → (y : X) × (ys : List X) × (
 some-more [] x = (x, [], refl)
 some-more (y ∷ ys) x = (y, ys ++ x ∷ [], refl)
 
+behind-behind : {X : Type 0} (xs ys : List X) (r : Result (List X) TraceError) →
+    read_behind xs (read_behind ys r) ≡ read_behind (xs ++ ys) r
+behind-behind xs ys (Ok zs) = ap Ok (sym (append_assoc xs ys zs))
+behind-behind xs ys (Err e) = refl
+
 module _ {S X : Type 0} (says : S → List (List ℕ) → Result (S × Option X) Kind) where
   -- ---- the next line
 
   abbrev from : ℕ → S → List (List ℕ) → Result (List X) TraceError
   from number state lines = read_from says number state lines
 
-  abbrev goes_on : ℕ → List (List ℕ) → S × Option X → Result (List X) TraceError
-  goes_on number later said = behind (list_of_option said.1) (from (suc number) said.0 later)
-
   pub line-said : (number : ℕ) (state next : S) (line : List ℕ) (later : List (List ℕ)) (said : Option X) →
       length line ≤ MOST_BYTES → number ≤ MOST_LINES → says state (fields_of line) ≡ Ok (next, said) →
-      from number state (line ∷ later) ≡ behind (list_of_option said) (from (suc number) next later)
-  unfolding read_from
+      from number state (line ∷ later) ≡ read_behind (list_of_option said) (from (suc number) next later)
   line-said number state next line later said h k e =
-      ap (λ (r : Result (S × Option X) Kind). at_line number r (goes_on number later))
-      (fitted-short number line (says state (fields_of line)) h k ∙ e)
+      read-next says number state line later
+      ∙ ap (λ (r : Result (S × Option X) Kind). read_on_at number r
+      (λ said. read_behind (list_of_option said.1) (from (suc number) said.0 later)))
+      (fitted-short MOST_LINES number line (says state (fields_of line)) h k ∙ e)
 
   line-refused : (number : ℕ) (state : S) (line : List ℕ) (later : List (List ℕ)) (kind : Kind) →
       length line ≤ MOST_BYTES → number ≤ MOST_LINES → says state (fields_of line) ≡ Err kind →
       from number state (line ∷ later) ≡ Err (record { line = number; kind = kind })
-  unfolding read_from
   line-refused number state line later kind h k e =
-      ap (λ (r : Result (S × Option X) Kind). at_line number r (goes_on number later))
-      (fitted-short number line (says state (fields_of line)) h k ∙ e)
+      read-all says number state (line ∷ later)
+      ∙ ap all_told (told-refused says MOST_LINES number state line later kind h k e)
 
   line-long : (number : ℕ) (state : S) (line : List ℕ) (later : List (List ℕ)) →
       (nat_lt MOST_BYTES (length line) || nat_lt MOST_LINES number) ≡ true →
       from number state (line ∷ later) ≡ Err (record { line = number; kind = TooLong })
-  unfolding read_from
   line-long number state line later e =
-      ap (λ (r : Result (S × Option X) Kind). at_line number r (goes_on number later))
-      (fitted-long number line (says state (fields_of line)) e)
+      read-all says number state (line ∷ later)
+      ∙ ap all_told (told-long says MOST_LINES number state line later e)
 
   pub lines-end : (number : ℕ) (state : S) → from number state [] ≡ Ok []
-  unfolding read_from
-  lines-end number state = refl
+  lines-end number state = read-all says number state [] ∙ ap all_told (told-end says MOST_LINES number state)
 
   -- ---- what was read so far
 
@@ -71,12 +72,12 @@ module _ {S X : Type 0} (says : S → List (List ℕ) → Result (S × Option X)
       Type 0 where
     pub done : List (List ℕ)
     pub split : lines_of before ≡ done ++ left
-    pub gives : (later : List (List ℕ)) → from 1 first (done ++ later) ≡ behind told (from number state later)
+    pub gives : (later : List (List ℕ)) → from 1 first (done ++ later) ≡ read_behind told (from number state later)
 
   pub none-done : (first : S) (before : List ℕ) → SoFar first [] 1 first before (lines_of before)
   none-done first before = record { done = []; split = refl; gives = λ later. nothing (from 1 first later) }
     where
-      nothing : (r : Result (List X) TraceError) → r ≡ behind [] r
+      nothing : (r : Result (List X) TraceError) → r ≡ read_behind [] r
       nothing (Ok xs) = refl
       nothing (Err e) = refl
 
@@ -88,7 +89,7 @@ module _ {S X : Type 0} (says : S → List (List ℕ) → Result (S × Option X)
 
   whole-gives : (first : S) (told : List X) (number : ℕ) (state : S) (before : List ℕ) (left : List (List ℕ)) →
       SoFar first told number state before left →
-      from 1 first (lines_of before) ≡ behind told (from number state left)
+      from 1 first (lines_of before) ≡ read_behind told (from number state left)
   whole-gives first told number state before left s = ap (from 1 first) s.split ∙ s.gives left
 
   one-done : (first : S) (told : List X) (said : Option X) (number : ℕ) (state next : S) (before line : List ℕ)
@@ -99,7 +100,7 @@ module _ {S X : Type 0} (says : S → List (List ℕ) → Result (S × Option X)
     done = s.done ++ line ∷ [];
     split = s.split ∙ sym (append_assoc s.done (line ∷ []) left);
     gives = λ later. ap (from 1 first) (append_assoc s.done (line ∷ []) later) ∙ s.gives (line ∷ later)
-        ∙ ap (behind told) (line-said number state next line later said short early e)
+        ∙ ap (read_behind told) (line-said number state next line later said short early e)
         ∙ behind-behind told (list_of_option said) (from (suc number) next later);
   }
 
@@ -114,7 +115,7 @@ module _ {S X : Type 0} (says : S → List (List ℕ) → Result (S × Option X)
         length s.done,
         some.0,
         some.1,
-        ap (from 1 first) there ∙ s.gives [] ∙ ap (behind (told ++ x ∷ [])) (lines-end number state)
+        ap (from 1 first) there ∙ s.gives [] ∙ ap (read_behind (told ++ x ∷ [])) (lines-end number state)
             ∙ ap Ok (append-nil (told ++ x ∷ []) ∙ some.2),
       )
 
@@ -123,13 +124,13 @@ module _ {S X : Type 0} (says : S → List (List ℕ) → Result (S × Option X)
     abbrev Stands : List ℕ → List (List ℕ) → Type 0
     Stands before left = SoFar first told (suc number) state before left
 
-    pub refused-long : (fault : TraceError) → Both b c (λ before after. BeginTooLong (suc number)
+    pub refused-long : (fault : TraceError) → Both b c (λ before after. BeginTooLong MOST_LINES (suc number)
         (lines_of (old ++ before))) → fault ≡ record { line = suc number; kind = TooLong } →
         IfSome a (λ bytes. from 1 first (lines_of bytes) ≡ Err fault)
     refused-long fault q e =
         both-long Stands (λ bytes. from 1 first (lines_of bytes) ≡ Err fault) a b c old (suc number) p q
         (λ before line later long s. whole-gives first told (suc number) state before (line ∷ later) s
-        ∙ ap (behind told) (line-long (suc number) state line later long) ∙ ap Err (sym e))
+        ∙ ap (read_behind told) (line-long (suc number) state line later long) ∙ ap Err (sym e))
 
     module _ (new : List ℕ) (found : Option ℕ) (q : Both b c (λ before after. IsFound found (old ++ before) new after))
       where
@@ -137,7 +138,7 @@ module _ {S X : Type 0} (says : S → List (List ℕ) → Result (S × Option X)
         all-read e =
             both-end Stands (λ bytes. from 1 first (lines_of bytes) ≡ Ok told) a b c old new found p q e
             (λ before s. whole-gives first told (suc number) state before [] s
-            ∙ ap (behind told) (lines-end (suc number) state) ∙ ap Ok (append-nil told))
+            ∙ ap (read_behind told) (lines-end (suc number) state) ∙ ap Ok (append-nil told))
 
         module _ (line : List ℕ) (n : ℕ) (e : found ≡ Some n)
             (h : (n ≤ MOST_BYTES) × (n ≤ length new) × (number < MOST_LINES)) (f : line ≡ take n new) where
@@ -164,7 +165,7 @@ module _ {S X : Type 0} (says : S → List (List ℕ) → Result (S × Option X)
               let again : suc number ≡ fault.line = omega (arith, at) in
               both-fault Stands (λ bytes. from 1 first (lines_of bytes) ≡ Err fault) a b c old new found n p q e
               (λ before later s. whole-gives first told (suc number) state before (take n new ∷ later) s
-              ∙ ap (behind told) (line-refused (suc number) state (take n new) later fault.kind short early now)
+              ∙ ap (read_behind told) (line-refused (suc number) state (take n new) later fault.kind short early now)
               ∙ ap (λ k. Err (record { line = k; kind = fault.kind })) again)
 
           -- what memory was refused for was there

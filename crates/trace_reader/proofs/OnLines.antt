@@ -1,16 +1,15 @@
 -- What holds of a text and the lines that are left of it, when the next line is taken.
 use Rattle.std.proofs.Common.{◌≡◌, ℕ, ◌+◌, ◌≤◌, true, false, List, [], ◌∷◌, ◌++◌, take, drop, length}
-use Rattle.std.proofs.Common.{Option, Some, None, IfSome, refl, sym, ap, subst, arith, append_assoc}
-use Rattle.std.specs.Prelude.{Result, Ok, Err, ◌||◌, nat_lt}
+use Rattle.std.proofs.Common.{Option, Some, None, IfSome, refl, sym, subst, arith}
+use Rattle.std.specs.Prelude.{Result, Err, ◌||◌, nat_lt}
 use Rattle.std.proofs.lemmas.Bool.Decides.{nat_tests}
 use Rattle.trace_lines.specs.declared.errors.Kind.{Kind}
 use Rattle.trace_lines.specs.declared.errors.Kind.TheVariants.{TooLong}
-use Rattle.trace_lines.specs.declared.errors.TraceError.{TraceError}
 use Rattle.trace_reader.specs.declared.limits.TheConstants.{MOST_BYTES, MOST_LINES}
 use Rattle.trace_reader.specs.Ahead.{Both}
 use Rattle.text_lines.specs.Lines.{lines_of}
 use Rattle.trace_reader.specs.Outcomes.{IsFound, BeginTooLong}
-use Rattle.trace_reader.specs.Reading.{fitted, behind}
+use Rattle.trace_reader.specs.Reading.{fitted}
 
 pub both-next : (P Q : List ℕ → List (List ℕ) → Type 0) (a b c : Option (List ℕ)) (old new : List ℕ) (found : Option ℕ)
     (n : ℕ) → Both a b (λ before after. P before (lines_of (old ++ after))) →
@@ -40,7 +39,7 @@ both-fault P Q (Some x) (Some y) (Some z) old new found n p q e f =
 
 pub both-long : (P : List ℕ → List (List ℕ) → Type 0) (Q : List ℕ → Type 0) (a b c : Option (List ℕ)) (old : List ℕ)
     (number : ℕ) → Both a b (λ before after. P before (lines_of (old ++ after))) →
-    Both b c (λ before after. BeginTooLong number (lines_of (old ++ before))) →
+    Both b c (λ before after. BeginTooLong MOST_LINES number (lines_of (old ++ before))) →
     ((before line : List ℕ) (later : List (List ℕ)) →
     (nat_lt MOST_BYTES (length line) || nat_lt MOST_LINES number) ≡ true → P before (line ∷ later) → Q before) →
     IfSome a Q
@@ -63,18 +62,13 @@ both-end P Q (Some x) (Some y) (Some z) old new found p q e f =
 
 -- ---- the length of a line
 
-pub fitted-short : {X : Type 0} (number : ℕ) (line : List ℕ) (said : Result X Kind) → length line ≤ MOST_BYTES →
-    number ≤ MOST_LINES → fitted number line said ≡ said
-fitted-short number line said h k =
+pub fitted-short : {X : Type 0} (most number : ℕ) (line : List ℕ) (said : Result X Kind) →
+    length line ≤ MOST_BYTES → number ≤ most → fitted most number line said ≡ said
+fitted-short most number line said h k =
     let short : nat_lt MOST_BYTES (length line) ≡ false = grind (arith, nat_tests) in
-    let early : nat_lt MOST_LINES number ≡ false = grind (arith, nat_tests) in
+    let early : nat_lt most number ≡ false = grind (arith, nat_tests) in
     rw (short, early) refl
 
-pub fitted-long : {X : Type 0} (number : ℕ) (line : List ℕ) (said : Result X Kind) →
-    (nat_lt MOST_BYTES (length line) || nat_lt MOST_LINES number) ≡ true → fitted number line said ≡ Err TooLong
-fitted-long number line said e = rw e refl
-
-pub behind-behind : {X : Type 0} (xs ys : List X) (r : Result (List X) TraceError) →
-    behind xs (behind ys r) ≡ behind (xs ++ ys) r
-behind-behind xs ys (Ok zs) = ap Ok (sym (append_assoc xs ys zs))
-behind-behind xs ys (Err e) = refl
+pub fitted-long : {X : Type 0} (most number : ℕ) (line : List ℕ) (said : Result X Kind) →
+    (nat_lt MOST_BYTES (length line) || nat_lt most number) ≡ true → fitted most number line said ≡ Err TooLong
+fitted-long most number line said e = rw e refl

@@ -6,3 +6,5 @@ pub mod Causes
 pub mod Reading
 pub mod Ahead
 pub mod Outcomes
+pub mod Streams
+pub mod Filling

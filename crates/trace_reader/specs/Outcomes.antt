@@ -4,17 +4,17 @@ use Rattle.std.specs.Prelude.{Option, Some, None, Result, Ok, Err, ◌⊎◌, If
 use Rattle.trace_lines.specs.declared.errors.Kind.{Kind}
 use Rattle.trace_lines.specs.declared.errors.Kind.TheVariants.{Read, NoMemory}
 use Rattle.trace_lines.specs.declared.errors.TraceError.{TraceError}
-use Rattle.trace_reader.specs.declared.limits.TheConstants.{MOST_BYTES, MOST_LINES}
+use Rattle.trace_reader.specs.declared.limits.TheConstants.{MOST_BYTES}
 use Rattle.text_lines.specs.Lines.{lines_of}
 
 -- a fault of no line
 abbrev pub whole : Kind → TraceError
 whole kind = record { line = 0; kind = kind }
 
--- the lines begin with one that is too long, or that comes too late
-abbrev pub BeginTooLong : ℕ → List (List ℕ) → Type 0
-BeginTooLong number lines = (line : List ℕ) × (later : List (List ℕ)) × (lines ≡ line ∷ later)
-    × ((nat_lt MOST_BYTES (length line) || nat_lt MOST_LINES number) ≡ true)
+-- the lines begin with one that is too long, or that comes behind the most that there may be
+abbrev pub BeginTooLong : ℕ → ℕ → List (List ℕ) → Type 0
+BeginTooLong most number lines = (line : List ℕ) × (later : List (List ℕ)) × (lines ≡ line ∷ later)
+    × ((nat_lt MOST_BYTES (length line) || nat_lt most number) ≡ true)
 
 -- the next line is in front of the block, or else there is none
 abbrev pub IsFound : Option ℕ → List ℕ → List ℕ → List ℕ → Type 0

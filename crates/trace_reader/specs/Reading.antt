@@ -1,5 +1,5 @@
 -- Reading the lines of a text from its front, up to the first fault.
-use Rattle.std.specs.Prelude.{ℕ, suc, ◌||◌, nat_lt, if◌then◌else◌, List, [], ◌∷◌, ◌++◌, length}
+use Rattle.std.specs.Prelude.{ℕ, suc, ◌||◌, nat_lt, if◌then◌else◌, List, [], ◌∷◌, ◌++◌, length, map}
 use Rattle.std.specs.Prelude.{Option, Some, None, Result, Ok, Err}
 use Rattle.std.specs.FinMap.{FinMap, empty, get, insert}
 use Rattle.std.specs.Ordering.{nat_cmp}
@@ -16,24 +16,40 @@ use Rattle.trace_lines.specs.Reading.{trace_line_at, record_line_at, form_line_a
 use Rattle.trace_reader.specs.declared.limits.TheConstants.{MOST_BYTES, MOST_LINES}
 use Rattle.text_lines.specs.Lines.{lines_of}
 
--- what a line with this number says, unless it is too long
-abbrev pub fitted : {X : Type 0} → ℕ → List ℕ → Result X Kind → Result X Kind
-fitted number line said =
-    if nat_lt MOST_BYTES (length line) || nat_lt MOST_LINES number then Err TooLong else said
+-- what a line with this number says, unless it is too long or stands behind the most lines that a text has
+abbrev pub fitted : {X : Type 0} → ℕ → ℕ → List ℕ → Result X Kind → Result X Kind
+fitted most number line said =
+    if nat_lt MOST_BYTES (length line) || nat_lt most number then Err TooLong else said
 
--- what is read on, or the fault of the line with this number
-abbrev pub at_line : {X Y : Type 0} → ℕ → Result X Kind → (X → Result Y TraceError) → Result Y TraceError
+-- what lines tell, each with its line's number, up to their first fault; and that fault, if a line has one
+abbrev pub Told : Type 0 → Type 0
+Told X = List (ℕ × X) × Option TraceError
+
+-- what is told from here on, or the fault of the line with this number
+abbrev pub at_line : {X Y : Type 0} → ℕ → Result X Kind → (X → Told Y) → Told Y
 at_line number (Ok x) f = f x
-at_line number (Err kind) f = Err (record { line = number; kind = kind })
+at_line number (Err kind) f = ([], Some (record { line = number; kind = kind }))
+
+-- what the line with this number tells, if anything
+abbrev pub numbered : {X : Type 0} → ℕ → Option X → List (ℕ × X)
+numbered number None = []
+numbered number (Some x) = (number, x) ∷ []
 
 abbrev pub list_of_option : {X : Type 0} → Option X → List X
 list_of_option None = []
 list_of_option (Some x) = x ∷ []
 
--- these in front of what is read on
-abbrev pub behind : {X : Type 0} → List X → Result (List X) TraceError → Result (List X) TraceError
-behind xs (Ok ys) = Ok (xs ++ ys)
-behind xs (Err e) = Err e
+-- these in front of what is told from here on
+abbrev pub behind : {X : Type 0} → List (ℕ × X) → Told X → Told X
+behind xs told = (xs ++ told.0, told.1)
+
+-- what was told, without numbers; the fault in its place, if a line has one
+abbrev pub unless_fault : {X : Type 0} → List (ℕ × X) → Option TraceError → Result (List X) TraceError
+unless_fault told None = Ok (map (λ one. one.1) told)
+unless_fault told (Some e) = Err e
+
+abbrev pub all_told : {X : Type 0} → Told X → Result (List X) TraceError
+all_told told = unless_fault told.0 told.1
 
 -- a step of a line in a form that is known
 abbrev pub step_said : Form → List (List ℕ) → Result (Option Form × Option (ℕ × Step)) Kind
@@ -50,12 +66,18 @@ unfoldable pub said_at : Option Form → List (List ℕ) → Result (Option Form
 said_at (Some form) fields = step_said form fields
 said_at None fields = form_line_at fields >>= form_said fields
 
--- what lines say, behind lines that left this state, or their first fault; the first line has this number
+-- what lines of a text of so many lines at most tell, behind lines that left this state; the first has this number
+unfoldable pub told_from : {S X : Type 0} → ℕ → (S → List (List ℕ) → Result (S × Option X) Kind) → ℕ → S →
+    List (List ℕ) → Told X
+told_from most says number state [] = ([], None)
+told_from most says number state (line ∷ lines) =
+    at_line number (fitted most number line (says state (fields_of line)))
+    (λ said. behind (numbered number said.1) (told_from most says (suc number) said.0 lines))
+
+-- all that lines say, behind lines that left this state, or their first fault; the first line has this number
 unfoldable pub read_from : {S X : Type 0} → (S → List (List ℕ) → Result (S × Option X) Kind) → ℕ → S → List (List ℕ) →
     Result (List X) TraceError
-read_from says number state [] = Ok []
-read_from says number state (line ∷ lines) = at_line number (fitted number line (says state (fields_of line)))
-    (λ said. behind (list_of_option said.1) (read_from says (suc number) said.0 lines))
+read_from says number state lines = all_told (told_from MOST_LINES says number state lines)
 
 -- the steps of lines in their order, and of a text
 abbrev pub steps_in : List (List ℕ) → Result (List (ℕ × Step)) TraceError

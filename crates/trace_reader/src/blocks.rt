@@ -62,7 +62,7 @@ impl Block {
         self.end = end - start;
     }
 
-    /// Appends more bytes to those that are there. It appends none only at the end.
+    /// Appends more bytes to those that are there. It appends none only at the end, and none is lost if it fails.
     fn fill<S: Source>(&mut self, source: &mut S) -> Result<bool, DeviceError>
         requires { length (ahead self.old) ≤ MOST_BYTES }
         ensures bytes { IfOk result (λ more. (came : List ℕ)
@@ -72,6 +72,8 @@ impl Block {
             × (more ≡ false → came ≡ [])) }
         ensures end { result ≡ Ok false →
             IfSome (S.remaining source.old) (λ known. AtEnd (S.remaining source.new)) }
+        ensures kept { OnErr result (Both (S.remaining source.old) (S.remaining source.new)
+            (λ before after. ahead self.old ++ before ≡ ahead self.new ++ after)) }
         ensures count { Counts (S.failures source.old) (S.failures source.new) result }
     {
         self.move_to_front();
@@ -93,6 +95,8 @@ impl Block {
             (λ n. IsNextLine n (ahead self.new) after))) }
         ensures within { IfOk result (λ found. MatchOption found (Unit {0})
             (λ n. n ≤ length (ahead self.new))) }
+        ensures kept { OnErr result (Both (S.remaining source.old) (S.remaining source.new)
+            (λ before after. ahead self.old ++ before ≡ ahead self.new ++ after)) }
         ensures count { Counts (S.failures source.old) (S.failures source.new) result }
     {
         let mut length = self.line_length();

@@ -33,7 +33,7 @@ fn step_said(form: Form, line: &[u8]) -> Result<Said, Kind>
 
 /// What a line says after lines that declared this form or none: the form from there on, and a step of a core.
 #[tactic(auto, unfolding(crate::specs::Reading::said_at))]
-fn said(form: Option<Form>, line: &[u8]) -> Result<Said, Kind>
+pub(crate) fn said(form: Option<Form>, line: &[u8]) -> Result<Said, Kind>
     ensures told { result ≡ said_at form (fields_of line.now) }
     ensures few { IfOk result (λ said. IfSome said.1 (λ told. told.0 < 64)) }
 {

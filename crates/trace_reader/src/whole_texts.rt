@@ -7,6 +7,7 @@ ghost use Rattle.trace_reader.specs.Outcomes.{Refused};
 ghost use Rattle.trace_reader.specs.Reading.{read_from};
 
 use crate::blocks::Block;
+use crate::limits::MOST_LINES;
 use crate::next_lines::next_line;
 use byte_streams::Source;
 use trace_lines::TraceError;
@@ -66,7 +67,7 @@ pub(crate) fn read_lines<S: Source, L: FromLines>(
 {
     let mut block = Block::new();
     let mut number = 0;
-    'lines: while let Some(length) = next_line(&mut block, source, number)? {
+    'lines: while let Some(length) = next_line(&mut block, source, number, MOST_LINES)? {
         number += 1;
         kept.add_line(number, block.front(length))?;
         block.pass(length);

@@ -2,7 +2,7 @@
 use Rattle.std.specs.Prelude.{ℕ, zero, suc, ◌+◌, ◌*◌, List, [], ◌++◌, Option, Some, None, codes, decimal}
 use Rattle.event_counts.specs.Counting.{EventCounts}
 use Rattle.event_counts.specs.declared.part_counts.CoreCounts.{CoreCounts}
-use Rattle.event_counts.specs.declared.part_counts.BankCounts.{BankCounts}
+use Rattle.event_counts.specs.declared.part_counts.PartCounts.{PartCounts}
 use Rattle.event_counts.specs.declared.kind_counts.KindCounts.{KindCounts}
 use Rattle.report_lines.specs.declared.layout.Layout.{Layout}
 use Rattle.report_lines.specs.declared.layout.Layout.TheVariants.{Lines, Json}
@@ -70,23 +70,25 @@ found_text layout n = next_named layout (codes "hits") n.hits
     ++ next_named layout (codes "ended") n.ended
     ++ next_named layout (codes "shared") n.shared
 
--- what became of a core's copies, the deliveries to it that were held, and its time
+-- what became of a core's copies, the deliveries to it that were held or dropped, and its time
 abbrev pub copies_text : Layout → CoreCounts → List ℕ
-copies_text layout n = next_named layout (codes "evictions") n.evictions
+copies_text layout n = next_named layout (codes "evictions") n.part.evictions
     ++ next_named layout (codes "returns") n.returns
     ++ next_named layout (codes "reloads") n.reloads
-    ++ next_named layout (codes "held") n.held
+    ++ next_named layout (codes "held") n.part.held
+    ++ next_named layout (codes "dropped") n.part.dropped
     ++ next_named layout (codes "time") n.last_time
 
 -- a core: its line, or an object
 unfoldable pub core_text : Layout → ℕ → CoreCounts → List ℕ
 core_text layout core n = part_text layout (codes "core ") core ++ done_text layout n ++ found_text layout n
-    ++ copies_text layout n ++ sent_text layout n.sent ++ either layout newline (codes "}")
+    ++ copies_text layout n ++ sent_text layout n.part.sent ++ either layout newline (codes "}")
 
 -- a bank
-unfoldable pub bank_text : Layout → ℕ → BankCounts → List ℕ
+unfoldable pub bank_text : Layout → ℕ → PartCounts → List ℕ
 bank_text layout bank n = part_text layout (codes "bank ") bank ++ named layout (codes "evictions") n.evictions
-    ++ next_named layout (codes "held") n.held ++ sent_text layout n.sent ++ either layout newline (codes "}")
+    ++ next_named layout (codes "held") n.held ++ next_named layout (codes "dropped") n.dropped
+    ++ sent_text layout n.sent ++ either layout newline (codes "}")
 
 -- the events, and the deliveries that were held or dropped; no member stands before these
 abbrev pub totals_text : Layout → EventCounts → List ℕ
@@ -100,7 +102,7 @@ abbrev pub cores_text : Layout → List CoreCounts → List ℕ
 cores_text layout cores =
     either layout [] (codes ",\"cores\":[") ++ parted layout (core_text layout) 0 cores ++ list_closing layout
 
-abbrev pub banks_text : Layout → List BankCounts → List ℕ
+abbrev pub banks_text : Layout → List PartCounts → List ℕ
 banks_text layout banks =
     either layout [] (codes ",\"banks\":[") ++ parted layout (bank_text layout) 0 banks ++ list_closing layout
 

@@ -9,7 +9,7 @@ ghost use Rattle.trace_texts.specs.CountLines.{part_text, recalled_text, row_tex
 ghost use Rattle.trace_texts.specs.CountLines.{completed_text, end_counts_text, end_opening, row_opening};
 ghost use Rattle.trace_texts.specs.CountLines.{totals_text};
 
-use event_counts::{BankCounts, CoreCounts, EventCounts, KindCounts};
+use event_counts::{CoreCounts, EventCounts, KindCounts, PartCounts};
 use itoa::Buffer;
 use report_lines::{Layout, put_either, put_field, put_list_closing, put_parting};
 use std::alloc::AllocError;
@@ -129,14 +129,15 @@ fn put_found(out: &mut Vec<u8>, layout: Layout, counts: &CoreCounts) -> Result<(
     put_next(out, layout, b"shared", counts.shared)
 }
 
-// What became of its copies, the deliveries to it that were held, and its time.
+// What became of its copies, the deliveries to it that were held or dropped, and its time.
 fn put_copies(out: &mut Vec<u8>, layout: Layout, counts: &CoreCounts) -> Result<(), AllocError>
     ensures { OnOk result (out.new.items ≡ out.old.items ++ copies_text layout counts.now) }
 {
-    put_next(out, layout, b"evictions", counts.evictions)?;
+    put_next(out, layout, b"evictions", counts.part.evictions)?;
     put_next(out, layout, b"returns", counts.returns)?;
     put_next(out, layout, b"reloads", counts.reloads)?;
-    put_next(out, layout, b"held", counts.held)?;
+    put_next(out, layout, b"held", counts.part.held)?;
+    put_next(out, layout, b"dropped", counts.part.dropped)?;
     put_next(out, layout, b"time", counts.last_time)
 }
 
@@ -154,7 +155,7 @@ fn put_core(
     put_done(out, layout, counts)?;
     put_found(out, layout, counts)?;
     put_copies(out, layout, counts)?;
-    put_sent(out, layout, &counts.sent)?;
+    put_sent(out, layout, &counts.part.sent)?;
     put_either(out, layout, b"\n", b"}")
 }
 
@@ -164,13 +165,14 @@ fn put_bank(
     out: &mut Vec<u8>,
     layout: Layout,
     bank: usize,
-    counts: &BankCounts,
+    counts: &PartCounts,
 ) -> Result<(), AllocError>
     ensures { OnOk result (out.new.items ≡ out.old.items ++ bank_text layout bank counts.now) }
 {
     put_part(out, layout, b"bank ", bank)?;
     put_named(out, layout, b"evictions", counts.evictions)?;
     put_next(out, layout, b"held", counts.held)?;
+    put_next(out, layout, b"dropped", counts.dropped)?;
     put_sent(out, layout, &counts.sent)?;
     put_either(out, layout, b"\n", b"}")
 }
@@ -197,7 +199,7 @@ fn put_cores(out: &mut Vec<u8>, layout: Layout, cores: &[CoreCounts]) -> Result<
     put_list_closing(out, layout)
 }
 
-fn put_banks(out: &mut Vec<u8>, layout: Layout, banks: &[BankCounts]) -> Result<(), AllocError>
+fn put_banks(out: &mut Vec<u8>, layout: Layout, banks: &[PartCounts]) -> Result<(), AllocError>
     ensures { OnOk result (out.new.items ≡ out.old.items ++ banks_text layout banks.now) }
 {
     put_either(out, layout, b"", b",\"banks\":[")?;

@@ -1,5 +1,5 @@
-//! The texts that are written of traces: records, as the reader of records reads them back, the report on a run, and
-//! the line of a verdict.
+//! The texts that are written of traces: records, as the reader of records reads them back, the report on a run, what
+//! it did in numbers, and a verdict.
 #![tactic(auto)]
 
 mod count_lines;

@@ -1,5 +1,5 @@
 //! A machine after a run by any driver, as reports look at it.
-ghost use Rattle.std.specs.Prelude.{◌≡◌, ℕ, List, [], map, slice_index_or, IfOk};
+ghost use Rattle.std.specs.Prelude.{◌≡◌, [], map, slice_index_or, IfOk};
 ghost use Rattle.physiological_order.specs.declared.operation.Op.{Op};
 ghost use Rattle.physiological_order.specs.StaleHits.{RisesByNumber};
 ghost use Rattle.machine_table.specs.Machine.{Machine};
@@ -15,7 +15,7 @@ use thread_driver::laws::closed_machines_list_what_was_issued;
 
 /// A machine after a run. Reports have its records and what these left.
 pub trait Finished {
-    ghost use Rattle.std.specs.Prelude.{◌≡◌, ℕ, List, [], map, slice_index_or, IfOk};
+    ghost use Rattle.std.specs.Prelude.{◌≡◌, [], map, slice_index_or, IfOk};
     ghost use Rattle.physiological_order.specs.declared.operation.Op.{Op};
     ghost use Rattle.physiological_order.specs.StaleHits.{RisesByNumber};
     ghost use Rattle.machine_table.specs.Machine.{Machine};

@@ -1,5 +1,5 @@
 //! The machine that options ask for, what drives a run of it, and how far it goes.
-ghost use Rattle.std.specs.Prelude.{◌≡◌, ◌≢◌, ◌<◌, ◌≤◌, ◌^◌, false, true, IfSome, None};
+ghost use Rattle.std.specs.Prelude.{◌≡◌, ◌≢◌, ◌<◌, ◌≤◌, false, true, IfSome, None};
 ghost use Rattle.machine_table.specs.SetUp.{is_good};
 ghost use Rattle.run_options.specs.declared.options.Schedule.TheVariants.{FairRound, Round};
 ghost use Rattle.worker_driver.specs.SetUp.{config_of, driver_of, has_small_parts, limit_of, workers_by};

@@ -3,7 +3,6 @@ ghost use Rattle.std.specs.Prelude.{◌≡◌, ◌<◌, ◌≤◌, true, IfOk, l
 ghost use Rattle.std.specs.List.{AllByRecursion};
 ghost use Rattle.litmus_reader.specs.TestViews.{test_of};
 ghost use Rattle.machine_table.specs.SetUp.{is_good};
-ghost use Rattle.thread_driver.specs.ThreadRuns.{IsRunFrom};
 ghost use Rattle.worker_driver.specs.declared.set_up.Driver.TheVariants.{ByThreads};
 ghost use Rattle.worker_driver.specs.Outcomes.{HasOutcome};
 ghost use Rattle.worker_driver.specs.Runs.{AreFrom, IsRun, threads_from};

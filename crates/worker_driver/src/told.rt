@@ -1,5 +1,5 @@
 //! The result of a run of a litmus test.
-ghost use Rattle.std.specs.Prelude.{◌≡◌, ◌≤◌, ℕ, length, map, IfOk};
+ghost use Rattle.std.specs.Prelude.{◌≡◌, ◌≤◌, map, IfOk};
 ghost use Rattle.litmus_reader.specs.TestViews.{test_of};
 ghost use Rattle.machine_table.specs.Machine.{Machine};
 ghost use Rattle.machine_theorem.specs.Coherence.{coherent};

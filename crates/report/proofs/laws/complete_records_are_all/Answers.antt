@@ -60,5 +60,9 @@ pub returns-clause-lack : goal.returns-clause-lack
 returns-clause-lack c = λ opening cores issued records core legal lack.
     let few = at_most_all opening issued records legal core in
     let lacks = lack.lacks in
-    let operation = operation_at (issued core) _ (omega (arith, few, lacks)) in
-    (operation.0, operation.1, places_below opening issued records legal core)
+    let operation = operation_at (issued core) _ (omega (arith, few, lacks)) in (
+      operation.0,
+      operation.1,
+      places_below opening issued records legal core,
+      record_at opening issued records legal core,
+    )

@@ -24,5 +24,5 @@ returns-clause-served g c =
     let plan = plan_of g.P.Program.acts g.S.Schedule.rule a.limit in
     all_served plan c.requires.gives a.system.now a.programs.now a.schedule.now
     (c.cores-cores.ensures.count ∙ c.cores-cores.ensures.cores)
-    c.records-before.ensures.issued c.run-end.ensures.0 n.system n.programs c.run-end.result
-    c.records-after.ensures.issued c.run-end.ensures.1
+    c.records_are_legal.ensures.issued c.run-end.ensures.0 n.system n.programs c.run-end.result
+    c.records_are_legal-2.ensures.issued c.run-end.ensures.1

@@ -60,7 +60,8 @@ returns-in-Err-TooMany-clause-many c = λ enough told.
     let short = c.len-in-loop-alloc-2.ensures.small in
     let few = inv.few in
     let same : c.saturating_mul-enough.result ≡ enough = cc in
-    stops test k c.args.most_states enough inv.kept (omega (arith, more, long, is, few)) (omega (arith, small, is, short))
+    stops test k c.args.most_states enough inv.kept (omega (arith, more, long, is, few))
+    (omega (arith, small, is, short))
     (sym same ∙ c.saturating_mul-enough.ensures
     ∙ ap₂ (λ (n threads : ℕ). min (n * (1 + threads)) (2 ^ 64 - 1)) (c.len-in-Err-TooMany.ensures.count ∙ long)
     c.threads-in-Err-TooMany.ensures.count)
@@ -71,8 +72,10 @@ overflow_add-turns c =
     let small = c.args.test.now.cells.small in
     let some = c.loop-alloc-test.true in
     let is = c.len.ensures.count in
-    let le = layer_few test c.loop-alloc.turns c.loop-alloc.layer c.loop-alloc.invariant.layer_is (omega (arith, some, is)) in
-    let most = mul-le test.threads (length test.cells) 16 (2 ^ 63) c.args.test.now.few.1 (omega (arith, small)) in omega (arith, le, most)
+    let le = layer_few test c.loop-alloc.turns c.loop-alloc.layer c.loop-alloc.invariant.layer_is
+    (omega (arith, some, is)) in
+    let most = mul-le test.threads (length test.cells) 16 (2 ^ 63) c.args.test.now.few.1 (omega (arith, small)) in
+    omega (arith, le, most)
 
 pub loop-alloc-smaller : goal.loop-alloc-smaller
 loop-alloc-smaller c =
@@ -100,7 +103,8 @@ loop-alloc-preserved c =
       layer_is = next.next (layer test k) (inv.layer_is, lists_in test k)
           ∙ ap (λ (n : ℕ). map packed (layer test n)) (plus_one k);
       rows_are = next.ends (layer test k) (inv.layer_is, lists_in test k)
-          ∙ ap (λ (es : List (List ℕ)). with_ends test es (layer test k)) inv.rows_are ∙ ap (ends_before test) (plus_one k);
+          ∙ ap (λ (es : List (List ℕ)). with_ends test es (layer test k)) inv.rows_are
+          ∙ ap (ends_before test) (plus_one k);
       states_are = omega (arith, sum, old, len, long, more);
       led = next.led inv.led;
       orders = next.orders inv.led inv.orders;
@@ -108,7 +112,8 @@ loop-alloc-preserved c =
       kept = λ j lt.
           ⊎_elim
           (λ (e : j ≡ k). subst (λ (i : ℕ). kept_at test i ≤ c.args.most_states) (sym e)
-          (let after = layer_long test (suc k) c.in-Ok.next (next.next (layer test k) (inv.layer_is, lists_in test k)) in omega (arith, room, few, is, long, after)))
+          (let after = layer_long test (suc k) c.in-Ok.next (next.next (layer test k)
+          (inv.layer_is, lists_in test k)) in omega (arith, room, few, is, long, after)))
           (λ (ne : j ≡ k → ⊥). inv.kept j (omega (arith, lt, ne)))
           (cases_eq j k);
     }

@@ -13,7 +13,9 @@ invariant-loop-thread l =
     × (length l.next ≤ l.room)
     × ((p : Point) → IsRowOf (test_of l.fn.test) p l.fn.row → l.left ≡ packed_lists (drop l.thread p.received))
     × ((p : Point) → IsRowOf (test_of l.fn.test) p l.fn.row → l.moved ≡ has_turn (test_of l.fn.test) p l.thread)
-    × ((p : Point) (points : List Point) → IsRowOf (test_of l.fn.test) p l.fn.row → rows_in l.fn.next ≡ map packed points →
+    × ((p : Point) (points : List Point) → IsRowOf (test_of l.fn.test) p l.fn.row →
+    rows_in l.fn.next ≡ map packed points →
     rows_in l.next ≡ map packed (with_turns (test_of l.fn.test) p l.thread points))
-    × ((p : Point) → IsRowOf (test_of l.fn.test) p l.fn.row → IsOrderOf l.fn.has_orders (test_of l.fn.test) l.fn.order p →
+    × ((p : Point) → IsRowOf (test_of l.fn.test) p l.fn.row →
+    IsOrderOf l.fn.has_orders (test_of l.fn.test) l.fn.order p →
     AreLed l.fn.has_orders (test_of l.fn.test) l.fn.next → AreLed l.fn.has_orders (test_of l.fn.test) l.next)

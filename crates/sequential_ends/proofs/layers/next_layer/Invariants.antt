@@ -16,4 +16,5 @@ invariant-loop-number l =
     rows_in l.ends ≡ with_ends (test_of l.fn.test) (rows_in l.fn.ends) (take l.number points))
     × (AreLed l.fn.has_orders (test_of l.fn.test) l.fn.layer → AreLed l.fn.has_orders (test_of l.fn.test) l.next)
     × (AreLed l.fn.has_orders (test_of l.fn.test) l.fn.layer →
-    AreEndOrders l.fn.has_orders (test_of l.fn.test) l.fn.ends → AreEndOrders l.fn.has_orders (test_of l.fn.test) l.ends)
+    AreEndOrders l.fn.has_orders (test_of l.fn.test) l.fn.ends →
+    AreEndOrders l.fn.has_orders (test_of l.fn.test) l.ends)

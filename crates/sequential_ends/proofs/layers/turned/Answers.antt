@@ -10,4 +10,5 @@ returns c = λ p t lt w l e.
     let after = c.in_ok-after.ensures in
     IfOk-weaker c.row_with.result _ _ (λ row is. is ∙ turned_packed p t c.args.op c.deref.result.now c.args.lists.now
     c.args.left.now _ c.first_list.result.0.now c.first_list.result.1.now c.in_ok-after.value lt
-    (c.deref.ensures.value ∙ after.0 ∙ ap (λ (ws : List ℕ). words_after ws c.args.op) w) (after.1 ∙ ap (λ (ws : List ℕ). value_for ws c.args.op) w) l e refl parts.0 parts.1) c.row_with.ensures
+    (c.deref.ensures.value ∙ after.0 ∙ ap (λ (ws : List ℕ). words_after ws c.args.op) w)
+    (after.1 ∙ ap (λ (ws : List ℕ). value_for ws c.args.op) w) l e refl parts.0 parts.1) c.row_with.ensures

@@ -15,6 +15,7 @@ loop-thread-preserved c = λ p is.
     let parts = c.first_list-in-loop-thread.ensures.split _ _ ((c.loop-thread.invariant p is).0
     ∙ list_next p.received t (omega (arith, lt, end, many))) in (
       parts.1,
-      c.in_ok-push.ensures.items ∙ ap₂ (λ (xs : List Thread) (x : Thread). xs ++ x ∷ []) (c.loop-thread.invariant p is).1
+      c.in_ok-push.ensures.items ∙ ap₂ (λ (xs : List Thread) (x : Thread). xs ++ x ∷ [])
+          (c.loop-thread.invariant p is).1
           (c.thread_at.ensures ∙ ap (resumed (thread_started test t)) parts.0) ∙ threads_next test p t,
     )

@@ -9,5 +9,6 @@ returns c =
     let count = c.threads-end.ensures.count in
     let words = c.deref.result.now in
     opened_packed c.loop.row.items c.put_list.new.row.items words _ c.loop.counter c.args.test.now.threads
-    c.loop.invariant (c.in_ok-put_list.ensures ∙ ap (λ (xs : List ℕ). xs ++ length words ∷ words) c.new-row.ensures.items)
+    c.loop.invariant (c.in_ok-put_list.ensures
+    ∙ ap (λ (xs : List ℕ). xs ++ length words ∷ words) c.new-row.ensures.items)
     (c.deref.ensures.value ∙ c.in_ok-words.ensures) (omega (arith, over, within, count))

@@ -71,7 +71,8 @@ returns-clause-outcome c =
     let opened = ap (λ (k : Machine). k.opening) after ∙ c.every_history_is_legal.ensures.opening config words events in
     IfOk-weaker c.told.result _ _ (λ run told.
     has_outcome c.performed_histories_are_sequential.ensures test config m threads c.requires.cores opened consistent
-    served (well_formed c.args.test.now) run.end (λ done core below. c.run_to_end-end.ensures.all_done (sym told.0 ∙ done) core below)
+    served (well_formed c.args.test.now) run.end (λ done core below. c.run_to_end-end.ensures.all_done
+    (sym told.0 ∙ done) core below)
     run.state (told.1 m refl).state) c.told.ensures
 
 pub returns-clause-config : goal.returns-clause-config

@@ -1,15 +1,13 @@
-use Rattle.std.proofs.Common.{option_copied, subst, sym}
+use Rattle.std.proofs.Common.{ap₂, ◌∙◌}
 use Rattle.interleaving_core.specs.PartChanges.{answer_in}
-use Rattle.event_counts.specs.Counting.{FitsIn, HasRoom}
-use Rattle.event_counts.proofs.CountSizes.{seen_fits}
+use Rattle.event_counts.specs.Counting.{counted_on}
 use Rattle.event_counts.proofs.counter.Counter.see.Goals as goal
 
-pub push-requires : goal.push-requires
-push-requires c =
-    let room = subst HasRoom (sym c.self.view_is) c.requires.room in
-    let inside = c.self.inside in let m = c.args.system.now in (
-      room.1,
-      subst (λ n. FitsIn n inside.rows.spare) (sym c.see.ensures)
-          (seen_fits inside.rows.spare inside.counts inside.lost.lost m c.args.event.now
-          (answer_in m.records c.args.plain.now) (option_copied c.look-sent.result) room.2),
-    )
+pub count-requires : goal.count-requires
+count-requires g c = record { room = c.requires.1.room }
+
+pub returns : goal.returns
+returns g c before ready =
+    let m = c.args.system.now in
+    c.count.ensures ∙ ap₂ (λ to copy. counted_on c.args.self.now.seen to copy c.args.event.now
+    (answer_in m.records c.args.plain.now) m) ready.to ready.copy

@@ -18,7 +18,7 @@ use Rattle.interleaving_core.proofs.OpenCounts.{owed_kept}
 use Rattle.interleaving_core.proofs.machine_state.MachineState.advance.Goals as goal
 
 pub invariant_of-self : goal.invariant_of-self
-invariant_of-self c =
+invariant_of-self g c =
     let core = c.index_mut.result.now in
     let mail : Mail = c.self.inside.flight.mail in
     let here = slice_get_read c.self.inside.cores.items (length c.self.inside.cores.items) c.args.core
@@ -36,8 +36,8 @@ invariant_of-self c =
     }
 
 pub returns : goal.returns
-returns c =
-    let m : Machine = the_view c.self.inside in
+returns g c =
+    let m : Machine = the_view g.row.H g.H.History c.self.inside in
     let core = c.index_mut.result.now in
     let here = slice_get_read c.self.inside.cores.items (length c.self.inside.cores.items) c.args.core
     c.index_mut.result.now refl (omega (arith, c.if-at-len.false, c.len.ensures)) c.index_mut.ensures.value in

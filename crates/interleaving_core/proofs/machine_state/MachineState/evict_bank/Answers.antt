@@ -15,21 +15,21 @@ use Rattle.interleaving_core.proofs.Endpoints.{evicted_endpoints, fitted_ends}
 use Rattle.interleaving_core.proofs.machine_state.MachineState.evict_bank.Goals as goal
 
 pub evict_entry-plain-requires : goal.evict_entry-plain-requires
-evict_entry-plain-requires c =
-    let m : Machine = the_view c.self.inside in
+evict_entry-plain-requires g c =
+    let m : Machine = the_view g.row.H g.H.History c.self.inside in
     let part = c.index_mut.result.now in
     let here = slice_get_read c.self.inside.banks.items (length c.self.inside.banks.items) c.args.bank part refl
     (omega (arith, c.if-at-len.false, c.len.ensures)) c.index_mut.ensures.value in
     record {
-      endpoints = fitted_ends m.config c.self.inside.flight c.self.inside.cores.items c.self.inside.records.items _
+      endpoints = fitted_ends m.config c.self.inside.flight c.self.inside.cores.items (g.H.History.records c.self.inside.history) _
           c.self.invariant (λ a b. EvictedHasEndpoints a b (bank_table.evict part c.args.line).0)
           (evicted_endpoints m (subst Invariant (sym c.self.view_is) c.requires) c.args.bank
           part here c.args.line);
     }
 
 pub returns : goal.returns
-returns c =
-    let m : Machine = the_view c.self.inside in
+returns g c =
+    let m : Machine = the_view g.row.H g.H.History c.self.inside in
     let part = c.index_mut.result.now in
     let here = slice_get_read c.self.inside.banks.items (length c.self.inside.banks.items) c.args.bank part refl
     (omega (arith, c.if-at-len.false, c.len.ensures)) c.index_mut.ensures.value in

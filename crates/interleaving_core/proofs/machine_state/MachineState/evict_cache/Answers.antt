@@ -21,21 +21,21 @@ use Rattle.interleaving_core.proofs.OpenCounts.{owed_kept}
 use Rattle.interleaving_core.proofs.machine_state.MachineState.evict_cache.Goals as goal
 
 pub evict_copy-plain-requires : goal.evict_copy-plain-requires
-evict_copy-plain-requires c =
-    let m : Machine = the_view c.self.inside in
+evict_copy-plain-requires g c =
+    let m : Machine = the_view g.row.H g.H.History c.self.inside in
     let part = c.index_mut.result.now in
     let here = slice_get_read c.self.inside.cores.items (length c.self.inside.cores.items) c.args.core part refl
     (omega (arith, c.if-at-len.false, c.len.ensures)) c.index_mut.ensures.value in
     record {
-      endpoints = fitted_ends m.config c.self.inside.flight c.self.inside.cores.items c.self.inside.records.items _
+      endpoints = fitted_ends m.config c.self.inside.flight c.self.inside.cores.items (g.H.History.records c.self.inside.history) _
           c.self.invariant (λ a b. BackHasEndpoints a b (core_table.evict part c.args.line).0)
           (back_endpoints m (subst Invariant (sym c.self.view_is) c.requires) c.args.core
           part here c.args.line);
     }
 
 pub invariant_of-self : goal.invariant_of-self
-invariant_of-self c =
-    let m : Machine = the_view c.self.inside in
+invariant_of-self g c =
+    let m : Machine = the_view g.row.H g.H.History c.self.inside in
     let part = c.index_mut.result.now in
     let here = slice_get_read c.self.inside.cores.items (length c.self.inside.cores.items) c.args.core part refl
     (omega (arith, c.if-at-len.false, c.len.ensures)) c.index_mut.ensures.value in
@@ -43,13 +43,13 @@ invariant_of-self c =
     (kept part (SameStatus part) (refl, refl) c.self.inside.flight.capacity m.mail None _
     (evict_only part c.args.line)) in
     let same = owed_kept m.cores c.args.core part c.evict_copy-plain.new.core here status.0 in
-    still_fitted m.config c.self.inside.flight c.self.inside.cores.items c.self.inside.records.items _
+    still_fitted m.config c.self.inside.flight c.self.inside.cores.items (g.H.History.records c.self.inside.history) _
     c.self.invariant _ _ _ _ _ c.evict_copy-plain.ensures.set_up (omega (arith, same, c.self.invariant.reserved))
     (still_masked c.self.inside.masks m.cores c.args.core part _ here c.self.invariant.masked status.0 status.1)
 
 pub returns : goal.returns
-returns c =
-    let m : Machine = the_view c.self.inside in
+returns g c =
+    let m : Machine = the_view g.row.H g.H.History c.self.inside in
     let part = c.index_mut.result.now in
     let here = slice_get_read c.self.inside.cores.items (length c.self.inside.cores.items) c.args.core part refl
     (omega (arith, c.if-at-len.false, c.len.ensures)) c.index_mut.ensures.value in

@@ -6,7 +6,7 @@ use Rattle.interleaving_core.proofs.OwnVictims.{own_victim}
 use Rattle.interleaving_core.proofs.machine_state.MachineState.open_victim.Goals as goal
 
 pub returns : goal.returns
-returns c =
+returns g c =
     let core = c.in-Some.own.now in
     let there : slice_get c.args.self.now.cores c.args.core ≡ Some core = search rules in
     c.open_victim.ensures

@@ -7,7 +7,7 @@ use Rattle.machine_theorem.proofs.Lemmas.{consistent}
 use Rattle.interleaving_core.proofs.system.System.coherent.Goals as goal
 
 pub returns-clause-left : goal.returns-clause-left
-returns-clause-left c = λ arranged is. c.coherent.ensures
+returns-clause-left g c = λ arranged is. c.coherent.ensures
     ∙ subst (λ (m : Machine). (arranged : List Record) → Arrangement m.records arranged → coherent c.self.inside.state
     c.args.addr ≡ replay_end (flat m.opening) (map (λ r. r.op) arranged) c.args.addr)
     c.self.view_is (λ order sorted. (consistent _ c.self.invariant.1).coherent order sorted c.args.addr) arranged is

@@ -3,10 +3,10 @@ use Rattle.machine_theorem.proofs.Lemmas.{consistent}
 use Rattle.interleaving_core.proofs.system.System.owners.Goals as goal
 
 pub owners-requires : goal.owners-requires
-owners-requires c = (consistent _ c.self.invariant.1).one_owner c.args.line
+owners-requires g c = (consistent _ c.self.invariant.1).one_owner c.args.line
 
 pub returns-clause-one : goal.returns-clause-one
-returns-clause-one c = let one = (consistent _ c.self.invariant.1).one_owner c.args.line in omega (arith, one, c.owners.ensures)
+returns-clause-one g c = let one = (consistent _ c.self.invariant.1).one_owner c.args.line in omega (arith, one, c.owners.ensures)
 
 pub overflow_cast-result : goal.overflow_cast-result
-overflow_cast-result c = let one = (consistent _ c.self.invariant.1).one_owner c.args.line in omega (arith, one, c.owners.ensures)
+overflow_cast-result g c = let one = (consistent _ c.self.invariant.1).one_owner c.args.line in omega (arith, one, c.owners.ensures)

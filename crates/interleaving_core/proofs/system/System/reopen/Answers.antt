@@ -7,7 +7,7 @@ use Rattle.interleaving_core.specs.RecordOrder.{AreNumbered}
 use Rattle.interleaving_core.proofs.system.System.reopen.Goals as goal
 
 pub invariant_of-result : goal.invariant_of-result
-invariant_of-result c = (
+invariant_of-result g c = (
   subst (λ (m : Machine). is_good m.config ≡ true) (sym c.in_ok-state.ensures) c.self.invariant.0,
   subst Invariant (sym c.in_ok-state.ensures) (at_start_invariant _ c.args.memory (fair _ c.self.invariant.0)),
   subst (λ (m : Machine). AreNumbered 0 m.records) (sym c.in_ok-state.ensures) tt,

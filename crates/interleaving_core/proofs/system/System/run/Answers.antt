@@ -10,7 +10,7 @@ use Rattle.interleaving_core.proofs.RunSteps.{ran_more, set_up_on}
 use Rattle.interleaving_core.proofs.system.System.run.Goals as goal
 
 pub loop-event-init : goal.loop-event-init
-loop-event-init c =
+loop-event-init g c =
     let none = ap length c.in_ok-answers.ensures.items in
     record {
       ran = subst (λ (answers : List Answer). Ran c.args.self.now [] answers c.args.self.now)
@@ -20,7 +20,7 @@ loop-event-init c =
     }
 
 pub loop-event-preserved : goal.loop-event-preserved
-loop-event-preserved c =
+loop-event-preserved g c =
     let taken = take_more c.args.events.now c.loop-event.event-index c.event-item.result c.loop-event-test.true
     ∙ ap (λ (e : Event). take c.loop-event.event-index c.args.events.now ++ e ∷ []) (sym c.event-item.is) in
     let one = ap length c.add.ensures.items in
@@ -36,7 +36,7 @@ loop-event-preserved c =
     }
 
 pub returns-clause-throughout : goal.returns-clause-throughout
-returns-clause-throughout c = λ k.
+returns-clause-throughout g c = λ k.
     throughout c.args.self.now c.loop-event.self c.args.events.now c.loop-event.answers.items
     (subst Invariant c.self.view_is c.self.invariant.1)
     (subst (λ (es : List Event). Ran c.args.self.now es c.loop-event.answers.items c.loop-event.self)

@@ -1,4 +1,5 @@
 pub mod PartChanges
+pub mod PartsInMemory
 pub mod CoreMasks
 pub mod Endpoints
 pub mod OpeningWords

@@ -3,6 +3,7 @@
 #![tactic(auto)]
 
 mod core_masks;
+mod deliveries;
 pub mod histories;
 mod kept_orders;
 pub mod laws;

@@ -20,8 +20,8 @@ use physiological_order::{Op, Record};
 use private_cache::{CacheError, CopyState};
 use timestamp_manager::Exhausted;
 
-/// A core of this number attempts its open operation, after `count` completed operations.
-#[inline(always)]
+/// A core of this number attempts its open operation, after `count` completed operations. It is too large to be placed
+/// in line where it is called more than once, and `MachineState::attempt`, which is generic, is there more than once.
 pub(crate) fn attempt(core: &mut Core, flight: &mut InFlight, number: u32, count: usize) -> Answer
     requires number { core.old.number < flight.old.cores }
     requires banks { core.old.banks ≡ flight.old.banks }

@@ -19,7 +19,6 @@ use std::alloc::AllocError;
 /// Exhausted times stop the machine. An error leaves all as it was. The compiler sets what a function keeps on its
 /// stack to zeros where that begins, also where it is inlined: so a delivery does so for the response of one part
 /// alone.
-#[inline(always)]
 pub(crate) fn deliver_to<P: Part>(
     part: &mut P,
     flight: &mut InFlight,

@@ -5,15 +5,15 @@ ghost use Rattle.machine_theorem.specs.Kept.{Invariant};
 ghost use Rattle.interleaving_core.specs.PartChanges.{answer_in, answer_of};
 ghost use Rattle.interleaving_core.specs.StepAnswers.{Stepped, TakesMemory, asks_memory};
 
-use crate::core_masks::{note, note_attempt, note_delivery};
+use crate::core_masks::{note, note_attempt};
+use crate::deliveries::deliver;
 use crate::histories::History;
 use crate::machine_state::MachineState;
 use crate::operations;
 use crate::plain_answer::{PlainAnswer, plain_of, stop_after};
-use crate::reactions::deliver_to;
 use crate::records::{keep, stop};
 use machine_table::{Answer, Event, Refusal};
-use network::{LineNo, MsgNo, Node};
+use network::{LineNo, MsgNo};
 use physiological_order::Op;
 use std::alloc::AllocError;
 
@@ -45,6 +45,7 @@ impl<H: History> MachineState<H> {
 
     // A core tries to complete its open operation. Where it is completed there is no plain answer: its record is the
     // last one.
+    #[inline(always)]
     fn attempt(&mut self, core: u32) -> Option<PlainAnswer>
         requires { Invariant self.old }
         ensures tried { (answer_in self.new.records result, self.new) ≡
@@ -108,6 +109,7 @@ impl<H: History> MachineState<H> {
     }
 
     // A message in flight is delivered.
+    #[inline(always)]
     fn deliver(&mut self, number: MsgNo) -> Result<PlainAnswer, AllocError>
         requires { Invariant self.old }
         ensures done { IfOk result (λ plain. (answer_of plain, self.new) ≡
@@ -118,25 +120,15 @@ impl<H: History> MachineState<H> {
         ensures store { OnErr result
             (IsTrue (asks_memory self.old (Event.Deliver number))) }
     {
-        let Some(message) = self.flight.look(number) else {
-            return Ok(PlainAnswer::Refused(Refusal::NoSuch));
-        };
-        match message.to {
-            Node::Core(number_of_core) => {
-                let core = &mut self.cores[number_of_core as usize];
-                let plain = deliver_to(core, &mut self.flight, &mut self.is_stopped, number)?;
-                note_delivery(&mut self.masks, number_of_core, core);
-                Ok(plain)
-            }
-            Node::Bank(bank) => {
-                let bank = &mut self.banks[bank as usize];
-                deliver_to(bank, &mut self.flight, &mut self.is_stopped, number)
-            }
-            Node::Dram(bank) => {
-                let dram = &mut self.drams[bank as usize];
-                deliver_to(dram, &mut self.flight, &mut self.is_stopped, number)
-            }
-        }
+        deliver(
+            &mut self.flight,
+            number,
+            &mut self.cores,
+            &mut self.banks,
+            &mut self.drams,
+            &mut self.masks,
+            &mut self.is_stopped,
+        )
     }
 
     // What the table answers to an event, if there is memory for it.

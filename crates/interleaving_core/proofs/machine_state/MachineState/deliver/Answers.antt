@@ -1,92 +1,46 @@
-use Rattle.std.proofs.Common.{◌≡◌, Result, Ok, Some, sym, subst, refl, arith, set}
-use Rattle.std.proofs.lemmas.Option.{slice_get_within}
-use Rattle.network.specs.Mail.{Mail}
-use Rattle.core_pts.specs.CoreTable.{CoreState}
+use Rattle.std.proofs.Common.{◌≡◌, IfOk, OnErr, IsTrue, sym, subst, refl}
 use Rattle.machine_table.specs.declared.event.Answer.{Answer}
+use Rattle.machine_table.specs.declared.event.Event.TheVariants.{Deliver}
 use Rattle.machine_table.specs.Machine.{Machine}
+use Rattle.machine_table.specs.Transition.{on_event}
+use Rattle.machine_theorem.specs.Kept.{Invariant}
 use Rattle.interleaving_core.specs.contracts.machine_state.MachineState.{the_view}
-use Rattle.interleaving_core.specs.declared.plain_answer.PlainAnswer.{PlainAnswer}
-use Rattle.interleaving_core.proofs.ChangedParts.{bank_place, core_place, dram_place}
-use Rattle.interleaving_core.proofs.Endpoints.{delivered, delivery_wanted, dram_asks, gets_case, of_there, part_here}
-use Rattle.interleaving_core.proofs.Endpoints.{with_endpoints, still_fitted}
-use Rattle.interleaving_core.proofs.Only.{SameOpen, core_only, kept}
-use Rattle.interleaving_core.proofs.OpenCounts.{owed_kept}
+use Rattle.interleaving_core.specs.PartChanges.{answer_of}
+use Rattle.interleaving_core.specs.PartsInMemory.{with_parts}
+use Rattle.interleaving_core.specs.StepAnswers.{TakesMemory, asks_memory}
 use Rattle.interleaving_core.proofs.machine_state.MachineState.deliver.Goals as goal
 
-pub deliver_to-requires-clause-case : goal.deliver_to-requires-clause-case
-deliver_to-requires-clause-case g c =
-    gets_case c.self.view_is c.requires c.args.number c.in-Some.ensures.value (core_place _ c.in-Core.number_of_core)
-    c.in-Core.is c.index_mut-core.ensures.value
+pub deliver-requires : goal.deliver-requires
+deliver-requires g c = (
+  the_view g.row.H g.H.History c.self.inside,
+  g.H.History.room c.self.inside.history,
+  record { are = refl; kept = subst Invariant (sym c.self.view_is) c.requires; fits = c.self.invariant },
+)
 
-pub deliver_to-requires-clause-endpoints : goal.deliver_to-requires-clause-endpoints
-deliver_to-requires-clause-endpoints g c =
-    with_endpoints c.self.view_is c.requires c.args.number c.in-Some.ensures.value
-    (core_place _ c.in-Core.number_of_core) c.in-Core.is c.index_mut-core.ensures.value c.self.invariant
+pub invariant_of-self : goal.invariant_of-self
+invariant_of-self g c =
+    c.deliver.ensures.fitted (the_view g.row.H g.H.History c.self.inside) (g.H.History.room c.self.inside.history)
+    (record { are = refl; kept = subst Invariant (sym c.self.view_is) c.requires; fits = c.self.invariant })
 
-pub note_delivery-requires : goal.note_delivery-requires
-note_delivery-requires g c =
+pub returns-clause-done : goal.returns-clause-done
+returns-clause-done g c =
     let m : Machine = the_view g.row.H g.H.History c.self.inside in
-    let within = slice_get_within m.cores c.in-Core.number_of_core c.index_mut-core.result.now
-    (part_here c.self.view_is c.requires c.args.number c.in-Some.ensures.value (core_place _ c.in-Core.number_of_core)
-    c.in-Core.is c.index_mut-core.ensures.value) in
-    omega (arith, within, c.self.invariant.masked.few)
+    let new = c.deliver.new in
+    subst (λ (x : Machine). IfOk c.deliver.result (λ plain. ◌≡◌ {A = Answer × Machine} (
+      answer_of plain,
+      with_parts m new.cores.items new.banks.items new.drams.items new.flight.mail new.is_stopped,
+    ) (on_event x (Deliver c.args.number)))) c.self.view_is
+    (c.deliver.ensures.done m (g.H.History.room c.self.inside.history)
+    (record { are = refl; kept = subst Invariant (sym c.self.view_is) c.requires; fits = c.self.invariant }))
 
-pub invariant_of-self-in-Core : goal.invariant_of-self-in-Core
-invariant_of-self-in-Core g c =
-    let m : Machine = the_view g.row.H g.H.History c.self.inside in
-    let part = c.index_mut-core.result.now in
-    let here = part_here c.self.view_is c.requires c.args.number c.in-Some.ensures.value
-    (core_place _ c.in-Core.number_of_core) c.in-Core.is c.index_mut-core.ensures.value in
-    let after = c.deliver_to.new.part in
-    let open_kept = subst (λ (x : Answer × CoreState × Mail). x.1.open_op ≡ part.open_op)
-    (sym (of_there _ c.in-Some.ensures.value c.in_ok-plain-in-Core.ensures.done))
-    (kept part (SameOpen part) refl c.self.inside.flight.capacity m.mail (Some c.args.number) _
-    (core_only part c.in-Some.message.now)) in
-    let same = owed_kept m.cores c.in-Core.number_of_core part after here open_kept in
-    still_fitted m.config c.self.inside.flight m.cores (g.H.History.records c.self.inside.history) _ c.self.invariant
-    c.deliver_to.new.flight (set m.cores c.in-Core.number_of_core after) (g.H.History.records c.self.inside.history)
-    (g.H.History.room c.self.inside.history) c.note_delivery.new.masks c.deliver_to.ensures.set_up
-    (omega (arith, same, c.self.invariant.reserved))
-    (c.note_delivery.ensures m.cores part here open_kept c.self.invariant.masked)
+pub returns-clause-wanted : goal.returns-clause-wanted
+returns-clause-wanted g c =
+    subst (λ (x : Machine). OnErr c.deliver.result (TakesMemory x (on_event x (Deliver c.args.number)))) c.self.view_is
+    (c.deliver.ensures.wanted (the_view g.row.H g.H.History c.self.inside) (g.H.History.room c.self.inside.history)
+    (record { are = refl; kept = subst Invariant (sym c.self.view_is) c.requires; fits = c.self.invariant }))
 
-pub deliver_to-requires-in-Bank-clause-case : goal.deliver_to-requires-in-Bank-clause-case
-deliver_to-requires-in-Bank-clause-case g c =
-    gets_case c.self.view_is c.requires c.args.number c.in-Some.ensures.value (bank_place _ c.in-Bank.bank)
-    c.in-Bank.is c.index_mut-bank.ensures.value
-
-pub deliver_to-requires-in-Bank-clause-endpoints : goal.deliver_to-requires-in-Bank-clause-endpoints
-deliver_to-requires-in-Bank-clause-endpoints g c =
-    with_endpoints c.self.view_is c.requires c.args.number c.in-Some.ensures.value (bank_place _ c.in-Bank.bank)
-    c.in-Bank.is c.index_mut-bank.ensures.value c.self.invariant
-
-pub returns-in_ok-plain-in-Core-clause-done : goal.returns-in_ok-plain-in-Core-clause-done
-returns-in_ok-plain-in-Core-clause-done g c =
-    let result : Result PlainAnswer (Unit {0}) = Ok c.in_ok-plain-in-Core.plain in
-    delivered c.self.view_is c.requires c.args.number c.in-Some.ensures.value (core_place _ c.in-Core.number_of_core)
-    c.in-Core.is c.index_mut-core.ensures.value c.self.invariant.capacity_is result _ _ _
-    c.in_ok-plain-in-Core.ensures.done c.in_ok-plain-in-Core.ensures.stop
-
-pub returns-in-Bank-clause-done : goal.returns-in-Bank-clause-done
-returns-in-Bank-clause-done g c =
-    delivered c.self.view_is c.requires c.args.number c.in-Some.ensures.value (bank_place _ c.in-Bank.bank)
-    c.in-Bank.is c.index_mut-bank.ensures.value c.self.invariant.capacity_is _ _ _ _
-    c.deliver_to-in-Bank.ensures.done c.deliver_to-in-Bank.ensures.stop
-
-pub returns-in-Dram-clause-done : goal.returns-in-Dram-clause-done
-returns-in-Dram-clause-done g c =
-    delivered c.self.view_is c.requires c.args.number c.in-Some.ensures.value (dram_place _ c.in-Dram.bank)
-    c.in-Dram.is c.index_mut-dram.ensures.value c.self.invariant.capacity_is _ _ _ _
-    c.deliver_to-in-Dram.ensures.done c.deliver_to-in-Dram.ensures.stop
-
-pub returns-in-Dram-clause-wanted : goal.returns-in-Dram-clause-wanted
-returns-in-Dram-clause-wanted g c =
-    delivery_wanted c.self.view_is c.requires c.args.number c.in-Some.ensures.value (dram_place _ c.in-Dram.bank)
-    c.in-Dram.is c.index_mut-dram.ensures.value c.self.invariant.capacity_is c.deliver_to-in-Dram.result
-    c.deliver_to-in-Dram.ensures.memory
-
-pub returns-in-Dram-clause-store : goal.returns-in-Dram-clause-store
-returns-in-Dram-clause-store g c =
-    dram_asks c.self.view_is c.args.number c.in-Some.ensures.value c.in-Dram.bank c.in-Dram.is
-    (part_here c.self.view_is c.requires c.args.number c.in-Some.ensures.value (dram_place _ c.in-Dram.bank)
-    c.in-Dram.is c.index_mut-dram.ensures.value)
-    c.deliver_to-in-Dram.result c.deliver_to-in-Dram.ensures.sure
+pub returns-clause-store : goal.returns-clause-store
+returns-clause-store g c =
+    subst (λ (x : Machine). OnErr c.deliver.result (IsTrue (asks_memory x (Deliver c.args.number)))) c.self.view_is
+    (c.deliver.ensures.store (the_view g.row.H g.H.History c.self.inside) (g.H.History.room c.self.inside.history)
+    (record { are = refl; kept = subst Invariant (sym c.self.view_is) c.requires; fits = c.self.invariant }))

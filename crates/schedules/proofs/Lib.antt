@@ -4,6 +4,8 @@ mod ReadyCores
 mod TableSteps
 mod Parts
 mod Events
+mod Iterations
+mod MoreTurns
 mod RunTurns
 mod GivenSteps
 mod RoundSteps
@@ -12,6 +14,7 @@ mod SeedEntries
 mod ServiceSteps
 mod RunLaws
 mod Served
+mod ServedRuns
 mod StillRounds
 mod Stalls
 mod FewMessages
@@ -19,5 +22,7 @@ mod JoinedLists
 mod LongerTurns
 mod LongerRuns
 mod RunsGoingOn
+mod PieceTurns
+mod NoTurns
 mod FilledLists
 mod ShortLists

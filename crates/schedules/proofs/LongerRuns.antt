@@ -5,8 +5,9 @@ use Rattle.std.proofs.Common.{ap₂, ◌∙◌, subst, arith}
 use Rattle.std.specs.Prelude.{option_map, slice_get}
 use Rattle.std.specs.Fn.{iterate}
 use Rattle.std.specs.List.{list_all}
-use Rattle.std.proofs.lemmas.Bool.{and_parts, and_right, eqb-true, true≢false}
+use Rattle.std.proofs.lemmas.Bool.{and_parts, and_right, cases_lt, eqb-true, true≢false}
 use Rattle.std.proofs.lemmas.Option.{slice_get-get_or}
+use Rattle.rand_pcg.specs.Lcg.{Lcg}
 use Rattle.rand_pcg.specs.Pcg.{pcg32}
 use Rattle.machine_table.specs.declared.event.Event.{Event}
 use Rattle.machine_table.specs.Machine.{Machine, open_op}
@@ -23,12 +24,14 @@ use Rattle.schedules.specs.RoundSchedule.{no_round, rounds}
 use Rattle.schedules.specs.SeedSchedule.{of_seed, seeded}
 use Rattle.schedules.specs.Runs.{Plan, Position, is_over, are_over, end_here, plan_of, opened, initial_position, begin}
 use Rattle.schedules.specs.Runs.{turn_at, end_of_turn, after_turn, one_more, run, IsCut, HasRun, Ended}
+use Rattle.schedules.specs.Runs.{EndedIn}
+use Rattle.schedules.specs.Paces.{GoesOnIn, Paced}
 use Rattle.schedules.specs.LongerLists.{GoesOnBy, IsAhead, end_before, joined, step_acts}
 use Rattle.schedules.proofs.JoinedLists.{Ready, fewer, list_joined, next_joined, ready_for_less}
 use Rattle.schedules.proofs.LongerTurns.{AreAlike, Kept, drawn_kept, events_alike, front_alike, leads_alike, longer}
 use Rattle.schedules.proofs.LongerTurns.{round_kept}
 use Rattle.schedules.proofs.Over.{not_over, one_not_over}
-use Rattle.schedules.proofs.RunLaws.{turn_makes}
+use Rattle.schedules.proofs.RunLaws.{not_cut, turn_makes}
 
 -- whether nothing stands behind any list
 abbrev is_nothing : List (List Step) → Bool
@@ -281,6 +284,35 @@ module _ {S : Type 0} (behind : List (List Step)) (schedule : Schedule (List Ste
           asks = cut.asks;
         }
 
+  -- so many turns may follow the start of a run
+  waits_first : (k : ℕ) (m : Machine) (lists : List (List Step)) (own : S) → length lists ≡ m.config.cores →
+      length behind ≡ m.config.cores → IsAhead k lists behind → Waits k (initial_position step_acts m lists own)
+  waits_first k m lists own one_each as_many ahead =
+      let count : length behind ≡ length lists = as_many ∙ sym one_each in
+      let ready : Ready behind (λ core. k) lists = record { ahead = ahead; count = count } in record {
+        ready = ready;
+        cores = sym as_many;
+        early = λ some. end_early behind m lists count (sym as_many) k some ready;
+      }
+
+  -- a run isn't all done before lists that are ahead of it are
+  all_used : (keeps : Bool) (m after : Machine) (lists left : List (List Step)) (own : S) (made : List Event) (k : ℕ) →
+      length lists ≡ m.config.cores → length behind ≡ m.config.cores → IsAhead k lists behind →
+      Ended keeps plan (initial_position step_acts m lists own) made after left AllDone →
+      end_before behind AllDone ≡ TurnsUsed → k ≤ limit
+  all_used keeps m after lists left own made k one_each as_many ahead ended more = elim (cases_lt limit k) [
+    | inr within ↦ within
+    | inl below ↦
+        let rest = k - suc limit in
+        let count : k ≡ limit + suc rest = omega (arith, below) in
+        let start = initial_position step_acts m lists own in
+        let waits = waits_first k m lists own one_each as_many ahead in
+        let last = (run_longer limit (suc rest) start (subst (λ (n : ℕ). Waits n start) count waits)).1 in
+        let same = subst (λ (e : End). end_before behind e ≡ e) (not_cut ended (λ bad. absurd cc)).end_is
+        (last.early (omega arith)) in
+        absurd (let z : AllDone ≡ TurnsUsed = sym same ∙ more in cc)
+  ]
+
   pub ended_longer : (keeps : Bool) (m after : Machine) (lists left : List (List Step)) (own : S) (made : List Event)
       (e : End) → length lists ≡ m.config.cores → length behind ≡ m.config.cores → IsAhead limit lists behind →
       Ended keeps plan (initial_position step_acts m lists own) made after left e →
@@ -301,15 +333,8 @@ module _ {S : Type 0} (behind : List (List Step)) (schedule : Schedule (List Ste
       count : length behind ≡ length lists
       count = as_many ∙ sym one_each
 
-      ready : Ready behind (λ core. limit) lists
-      ready = record { ahead = ahead; count = count }
-
       waits : Waits limit start
-      waits = record {
-        ready = ready;
-        cores = sym as_many;
-        early = λ some. end_early behind m lists count (sym as_many) limit some ready;
-      }
+      waits = waits_first limit m lists own one_each as_many ahead
 
       same_start : longer_at start ≡ initial_position step_acts m (joined lists behind) own
       same_start = λ i. record {
@@ -325,6 +350,11 @@ module _ {S : Type 0} (behind : List (List Step)) (schedule : Schedule (List Ste
       by_end (inl h) = inl (run_is keeps start waits made ended.last e h)
       by_end (inr cut) = inr (cut_is keeps start waits made ended.last e cut)
 
+words_kept : (behind : List (List Step)) (generator : Lcg) (k : ℕ) (s : Standing (List Step)) →
+    Ready behind (λ core. suc k) s.programs → Kept behind (λ core. k) ((seeded step_acts).turn generator) s
+words_kept behind generator k s ready =
+    drawn_kept behind k s ready (pcg32 generator).0 (pcg32 (pcg32 generator).1).0
+
 pub steps_behind : (keeps : Bool) (policy : Policy) (turns limit : ℕ) (m after : Machine)
     (lists behind left : List (List Step)) (events : List Event) (end : End) → length lists ≡ m.config.cores →
     length behind ≡ m.config.cores → IsAhead limit lists behind →
@@ -338,6 +368,41 @@ steps_behind keeps FairRounds turns limit m after lists behind left events end =
     ended_longer behind (rounds step_acts) (round_kept behind) limit keeps m after lists left
     (no_round true m.config.cores) events end
 steps_behind keeps (Seed seed) turns limit m after lists behind left events end =
-    ended_longer behind (seeded step_acts)
-    (λ generator k s ready. drawn_kept behind k s ready (pcg32 generator).0 (pcg32 (pcg32 generator).1).0) limit keeps
-    m after lists left (iterate (seeded step_acts).next turns (of_seed seed)) events end
+    ended_longer behind (seeded step_acts) (words_kept behind) limit keeps m after lists left
+    (iterate (seeded step_acts).next turns (of_seed seed)) events end
+
+-- lists that are ahead of a piece last as long as it does
+module _ {S : Type 0} (behind : List (List Step)) (schedule : Schedule (List Step) S)
+    (keeps_turn : (own : S) (k : ℕ) (s : Standing (List Step)) → Ready behind (λ core. suc k) s.programs →
+    Kept behind (λ core. k) (schedule.turn own) s) (keeps : Bool) (turns limit : ℕ) (m after : Machine)
+    (lists left : List (List Step)) (own : S) (events : List Event) (one_each : length lists ≡ m.config.cores)
+    (as_many : length behind ≡ m.config.cores) (ahead : IsAhead limit lists behind) where
+  used_by : (end : End) →
+      EndedIn turns keeps (plan_of step_acts schedule limit) (initial_position step_acts m lists own) events after left
+      end → end_before behind end ≡ TurnsUsed → turns ≡ limit
+  used_by TurnsUsed is more = is.used refl
+  used_by AllDone is more =
+      let enough = all_used behind schedule keeps_turn turns keeps m after lists left own events limit one_each as_many
+      ahead is.ended more in omega (arith, is.within, enough)
+  used_by _ is more = absurd (cc)
+
+pub lists_used : (keeps : Bool) (pace : Paced) (turns limit : ℕ) (m after : Machine)
+    (lists behind left : List (List Step)) (events : List Event) (end : End) → length lists ≡ m.config.cores →
+    length behind ≡ m.config.cores → IsAhead limit lists behind →
+    GoesOnIn keeps step_acts pace turns limit m lists events after left end → end_before behind end ≡ TurnsUsed →
+    turns ≡ limit
+lists_used keeps pace turns limit m after lists behind left events end one_each as_many ahead =
+    by_policy pace.policy pace.generator
+  where
+    by_policy : (policy : Policy) (generator : Lcg) →
+        GoesOnIn keeps step_acts (record { policy = policy; generator = generator }) turns limit m lists events after
+        left end → end_before behind end ≡ TurnsUsed → turns ≡ limit
+    by_policy Rounds generator =
+        used_by behind (rounds step_acts) (round_kept behind) keeps turns limit m after lists left
+        (no_round false m.config.cores) events one_each as_many ahead end
+    by_policy FairRounds generator =
+        used_by behind (rounds step_acts) (round_kept behind) keeps turns limit m after lists left
+        (no_round true m.config.cores) events one_each as_many ahead end
+    by_policy (Seed seed) generator =
+        used_by behind (seeded step_acts) (words_kept behind) keeps turns limit m after lists left generator events
+        one_each as_many ahead end

@@ -1,6 +1,6 @@
 -- A run that goes on where another one used its turns stands where one run of all the turns does.
-use Rattle.std.proofs.Common.{◌≡◌, ◌≢◌, ◌⊎◌, ℕ, zero, suc, ◌+◌, Bool, true, false, cond, List, ◌++◌, inl, inr, refl}
-use Rattle.std.proofs.Common.{sym, ap, ap₂, ◌∙◌, subst, arith, append-nil, append_assoc, ◌↔◌}
+use Rattle.std.proofs.Common.{◌≡◌, ◌≢◌, ◌⊎◌, ℕ, zero, suc, ◌+◌, ◌≤◌, Bool, true, false, cond, List, ◌++◌, inl, inr}
+use Rattle.std.proofs.Common.{refl, sym, ap, ap₂, ◌∙◌, subst, arith, append-nil, append_assoc, ◌↔◌}
 use Rattle.std.specs.Fn.{iterate}
 use Rattle.machine_table.specs.declared.event.Event.{Event}
 use Rattle.machine_table.specs.Machine.{Machine}
@@ -18,22 +18,9 @@ use Rattle.schedules.specs.SeedSchedule.{of_seed, seeded}
 use Rattle.schedules.specs.Runs.{Plan, Position, are_over, plan_of, initial_position, begin, turn_at}
 use Rattle.schedules.specs.Runs.{end_of_turn, one_more, run, IsCut, HasRun, Ended}
 use Rattle.schedules.specs.LongerLists.{GoesOnBy}
+use Rattle.schedules.proofs.Iterations.{iterate_both, iterate_last, iterate_stays}
+use Rattle.schedules.proofs.MoreTurns.{further, run_same}
 use Rattle.schedules.proofs.RunLaws.{here_says, not_cut, run_makes, run_says}
-
-module _ {A : Type 0} (f : A → A) where
-  iterate_last : (n : ℕ) (x : A) → f (iterate f n x) ≡ iterate f (suc n) x
-  iterate_last zero x = refl
-  iterate_last (suc n) x = iterate_last n (f x)
-
-  iterate_both : (m n : ℕ) (x : A) → iterate f n (iterate f m x) ≡ iterate f (m + n) x
-  iterate_both zero n x = let count : n ≡ 0 + n = omega arith in ap (λ (k : ℕ). iterate f k x) count
-  iterate_both (suc m) n x =
-      let count : suc (m + n) ≡ suc m + n = omega arith in
-      iterate_both m n (f x) ∙ ap (λ (k : ℕ). iterate f k x) count
-
-  iterate_stays : ((x : A) → f x ≡ x) → (n : ℕ) (x : A) → iterate f n x ≡ x
-  iterate_stays stays zero x = refl
-  iterate_stays stays (suc n) x = iterate_stays stays n (f x) ∙ stays x
 
 in_time_if : (out : Bool) (e : End) → cond out Exhausted e ≡ TurnsUsed → out ≡ false
 in_time_if true e used = absurd (cc)
@@ -42,18 +29,6 @@ in_time_if false e used = refl
 module _ {P S : Type 0} (acts : Acts P) (schedule : Schedule P S) where
   abbrev by : ℕ → Plan P S
   by limit = plan_of acts schedule limit
-
-  -- the limit isn't seen by turns
-  more_same : (j k : ℕ) (e : End) (p : Position P S) → one_more (by j) e p ≡ one_more (by k) e p
-  more_same j k TurnsUsed p = refl
-  more_same j k _ p = refl
-
-  run_same : (j k n : ℕ) (p : Position P S) → run (by j) n p ≡ run (by k) n p
-  unfolding run
-  run_same j k zero p = refl
-  run_same j k (suc n) p =
-      ap (λ (q : Position P S). one_more (by j) q.end q) (run_same j k n p)
-      ∙ more_same j k (run (by k) n p).end (run (by k) n p)
 
   -- a run whose turns are used has time left, and made them all
   module _ (limit : ℕ) (m : Machine) (opening : List P) (own : S) where
@@ -216,7 +191,8 @@ module _ {P S : Type 0} (acts : Acts P) (schedule : Schedule P S) where
 
     begins_whole : Follows events (run (by (turns + limit)) turns start) next
     begins_whole =
-        subst (λ (p : Position P S). Follows events p next) (run_same turns (turns + limit) turns start) begins
+        subst (λ (p : Position P S). Follows events p next) (run_same (by (turns + limit)) turns turns start)
+        begins
 
     module _ (also : Bool) (after : Machine) (left : List P) (end : End) where
       abbrev pub Part : List Event → Type 0
@@ -250,6 +226,17 @@ module _ {P : Type 0} (acts : Acts P) where
   goes_on_at_first keeps Rounds limit m after programs left events end = (λ ends. ends, λ ends. ends)
   goes_on_at_first keeps FairRounds limit m after programs left events end = (λ ends. ends, λ ends. ends)
   goes_on_at_first keeps (Seed seed) limit m after programs left events end = (λ ends. ends, λ ends. ends)
+
+  pub runs_further : (keeps : Bool) (policy : Policy) (turns limit more : ℕ) (m after : Machine)
+      (programs left : List P) (events : List Event) (end : End) →
+      GoesOnBy keeps acts policy turns limit m programs events after left end → end ≢ TurnsUsed → limit ≤ more →
+      GoesOnBy keeps acts policy turns more m programs events after left end
+  runs_further keeps Rounds turns limit more m after programs left events end ended other within =
+      further (plan_of acts (rounds acts) limit) more within _ other ended
+  runs_further keeps FairRounds turns limit more m after programs left events end ended other within =
+      further (plan_of acts (rounds acts) limit) more within _ other ended
+  runs_further keeps (Seed seed) turns limit more m after programs left events end ended other within =
+      further (plan_of acts (seeded acts) limit) more within _ other ended
 
   module _ (keeps : Bool) (turns limit : ℕ) (m between after : Machine) (programs met left : List P)
       (events : List Event) (end : End) where

@@ -10,4 +10,5 @@ pub mod Notes
 pub mod Watches
 pub mod GivenSteps
 pub mod Stalls
+pub mod Paces
 pub mod LongerLists

@@ -1,7 +1,6 @@
 -- Runs of lists of steps with more behind them, and runs that go on where others ended.
 use Rattle.std.specs.Prelude.{◌≡◌, ◌⊎◌, ◌==◌, ℕ, ◌≤◌, Bool, List, [], ◌++◌, length, map, get_or}
 use Rattle.std.specs.Prelude.{if◌then◌else◌}
-use Rattle.std.specs.Fn.{iterate}
 use Rattle.std.specs.List.{list_all, zip}
 use Rattle.machine_table.specs.declared.event.Event.{Event}
 use Rattle.machine_table.specs.Machine.{Machine}
@@ -10,10 +9,7 @@ use Rattle.programs.specs.declared.ends.End.TheVariants.{AllDone, TurnsUsed}
 use Rattle.programs.specs.declared.steps.Step.{Step}
 use Rattle.programs.specs.Acts.{Acts, first_step, behind_first}
 use Rattle.schedules.specs.declared.policy.Policy.{Policy}
-use Rattle.schedules.specs.declared.policy.Policy.TheVariants.{Seed}
-use Rattle.schedules.specs.Policies.{EndsBy}
-use Rattle.schedules.specs.Runs.{Ended, initial_position, plan_of}
-use Rattle.schedules.specs.SeedSchedule.{of_seed, seeded}
+use Rattle.schedules.specs.Paces.{GoesOnFrom, paced}
 
 -- a list of steps is a program that does its head and goes on with its tail
 abbrev pub step_acts : Acts (List Step)
@@ -36,8 +32,4 @@ end_before behind end = end
 -- that a seeded run drew in those turns aren't drawn again
 abbrev pub GoesOnBy : {P : Type 0} → Bool → Acts P → Policy → ℕ → ℕ → Machine → List P → List Event → Machine →
     List P → End → Type 0
-GoesOnBy keeps acts (Seed seed) turns limit m programs events after programs_after end =
-    Ended keeps (plan_of acts (seeded acts) limit)
-    (initial_position acts m programs (iterate (seeded acts).next turns (of_seed seed))) events after programs_after end
-GoesOnBy keeps acts policy turns limit m programs events after programs_after end =
-    EndsBy keeps acts policy limit m programs events after programs_after end
+GoesOnBy keeps acts policy turns = GoesOnFrom keeps acts (paced policy turns)

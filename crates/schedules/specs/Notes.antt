@@ -1,6 +1,7 @@
 -- How a run notes the events that it makes.
 use Rattle.std.specs.Prelude.{◌≡◌, ℕ, ◌<◌, Bool, true, false, ◌||◌, List, ◌++◌, Option, is_some}
 use Rattle.std.specs.Prelude.{Some, None, Result, Ok, Err, IsTrue, if◌then◌else◌}
+use Rattle.std.specs.Fn.{iterate}
 use Rattle.std.specs.Int.{bit_at}
 use Rattle.physiological_order.specs.declared.operation.Record.{Record}
 use Rattle.machine_table.specs.declared.event.Event.{Event}
@@ -16,7 +17,7 @@ use Rattle.programs.specs.declared.ends.End.{End}
 use Rattle.programs.specs.declared.ends.End.TheVariants.{AllDone, Stalled, TurnsUsed, Exhausted, NoMemory}
 use Rattle.programs.specs.Acts.{Acts, next_in}
 use Rattle.schedules.specs.Parts.{Action, Standing, Part, after_actions, events_of, is_progress, is_times_end}
-use Rattle.schedules.specs.Runs.{Plan, Position, AsksMemory, Ended}
+use Rattle.schedules.specs.Runs.{Plan, Position, AsksMemory, Ended, EndedIn}
 use Rattle.schedules.specs.Watches.{Watches, AreSeen}
 use Rattle.schedules.specs.declared.log.Log.{Log}
 
@@ -123,8 +124,12 @@ end_in (Err e) = Some e
 abbrev pub Did : {X P W : Type 0} → Acts P → Watches W → Part P → Point P W → Result X End → Point P W → Type 0
 Did acts watches part p r q = Reaches acts watches part p (end_in r) q
 
--- a run ends so, by its plan from a start: its events were shown to the watcher, and lead to the machine
-abbrev pub Finishes : {P S W : Type 0} → Watches W → Plan P S → Position P S → W → W → Machine → List P → End → Type 0
-Finishes watches plan start watcher after m programs end =
+-- a run ends so, by its plan from a start: its events were shown to the watcher, and lead to the machine; and by each
+-- turn that it began its schedule went on
+abbrev pub Finishes : {P S W : Type 0} → Watches W → Plan P S → Position P S → W → W → Machine → List P → S → End →
+    Type 0
+Finishes watches plan start watcher after m programs own end =
     (events : List Event) × Ended watches.asks plan start events m programs end
     × AreSeen watches (watches.seen watcher) start.standing.machine events m after
+    × (turns : ℕ) × EndedIn turns watches.asks plan start events m programs end
+    × (own ≡ iterate plan.schedule.next turns start.own)

@@ -1,5 +1,5 @@
 -- A run by a schedule: turn after turn, until one is the last; and how it ends.
-use Rattle.std.specs.Prelude.{◌≡◌, ◌⊎◌, ℕ, zero, suc, ◌<◌, Bool, true, false, ◌&&◌, ◌||◌, not, is_none, IsTrue}
+use Rattle.std.specs.Prelude.{◌≡◌, ◌⊎◌, ℕ, zero, suc, ◌<◌, ◌≤◌, Bool, true, false, ◌&&◌, ◌||◌, not, is_none, IsTrue}
 use Rattle.std.specs.Prelude.{List, [], ◌∷◌, ◌++◌, if◌then◌else◌}
 use Rattle.machine_table.specs.declared.event.Event.{Event}
 use Rattle.machine_table.specs.declared.event.Event.TheVariants as event
@@ -125,3 +125,11 @@ pub record Ended {P S : Type 0} (keeps : Bool) (plan : Plan P S) (start : Positi
   pub machine_is : last.machine ≡ m
   pub programs_are : last.programs ≡ programs
   pub ends : HasRun (run plan plan.limit start) events last end ⊎ IsCut keeps plan start events last end
+
+-- as Ended, of a run that began so many turns: it used each but the last one, and the limit if that is its end
+pub record EndedIn {P S : Type 0} (turns : ℕ) (keeps : Bool) (plan : Plan P S) (start : Position P S)
+    (events : List Event) (m : Machine) (programs : List P) (end : End) : Type 0 where
+  pub within : turns ≤ plan.limit
+  pub used : end ≡ TurnsUsed → turns ≡ plan.limit
+  pub begun : (fewer : ℕ) → fewer < turns → (run plan fewer start).end ≡ TurnsUsed
+  pub ended : Ended keeps (plan_of plan.acts plan.schedule turns) start events m programs end

@@ -84,11 +84,15 @@ chosen acts Nothing s = []
 abbrev pub drawn : {P : Type 0} → Acts P → ℕ → ℕ → Part P
 drawn acts a b s = chosen acts (choice_at (drawn_list acts s.machine s.programs (a % 16)) b) s
 
+-- a generator once a turn has drawn its two words
+abbrev pub two_drawn : Lcg → Lcg
+two_drawn generator = (pcg32 (pcg32 generator).1).1
+
 -- two words are drawn when a turn begins; a seeded run never stalls
 abbrev pub seeded : {P : Type 0} → Acts P → Schedule P Lcg
 seeded acts = record {
   turn = λ generator. let a = pcg32 generator in let b = pcg32 a.1 in drawn acts a.0 b.0;
-  next = λ generator. (pcg32 (pcg32 generator).1).1;
+  next = two_drawn;
   stalls = false;
 }
 

@@ -36,7 +36,7 @@ pub(crate) fn finish<P: Program, W: Watcher, S: Schedule<P>, K: History>(
     requires no_progress_yet { log.old.has_progressed ≡ false }
     ensures ended { Finishes W.watches (plan_of P.acts S.rule limit)
         (initial_position P.acts system.old programs.old schedule.old)
-        log.old.watcher log.new.watcher system.new programs.new result }
+        log.old.watcher log.new.watcher system.new programs.new schedule.new result }
     ensures all_done { result ≡ End.AllDone → (core : ℕ) → core < system.old.config.cores →
         (open_op system.new core ≡ None) × (next_in P.acts programs.new core ≡ None) }
     ensures served { AreServed P.acts system.old system.new programs.old programs.new }

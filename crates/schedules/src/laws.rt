@@ -1,7 +1,7 @@
 //! Which answers are progress, which events rounds make, that seeds differ, that a run has no choice, and how one goes
 //! on while its lists of steps are filled. A function does nothing: its contract is the law.
-ghost use Rattle.std.specs.Prelude.{◌≡◌, ◌≢◌, ◌↔◌, ◌+◌, ◌<◌, ◌^◌, Bool, false, true, ℕ, None};
-ghost use Rattle.std.specs.Prelude.{List, [], ◌∷◌, ◌++◌, length};
+ghost use Rattle.std.specs.Prelude.{◌≡◌, ◌≢◌, ◌↔◌, ◌+◌, ◌<◌, ◌≤◌, ◌^◌, Bool, false, true, ℕ, None};
+ghost use Rattle.std.specs.Prelude.{List, [], ◌∷◌, ◌++◌, length, replicate};
 ghost use Rattle.physiological_order.specs.declared.operation.Record.{Record};
 ghost use Rattle.std.specs.Ordering.{nat_cmp};
 ghost use Rattle.std.specs.FinMap.{FinMap};
@@ -16,6 +16,7 @@ ghost use Rattle.machine_table.specs.declared.event.Refusal.{Refusal};
 ghost use Rattle.machine_table.specs.Transition.{transition};
 ghost use Rattle.machine_theorem.specs.Replies.{AdvancesBetween};
 ghost use Rattle.machine_theorem.specs.Rounds.{IsInRound};
+ghost use Rattle.machine_theorem.specs.Service.{AreServed};
 ghost use Rattle.programs.specs.declared.ends.End.{End};
 ghost use Rattle.programs.specs.declared.steps.Step.{Step};
 ghost use Rattle.schedules.specs.declared.policy.Policy.{Policy};
@@ -23,11 +24,13 @@ ghost use Rattle.schedules.specs.declared.policy.Policy.TheVariants as policy;
 ghost use Rattle.schedules.specs.Batches.{policy_of_run};
 ghost use Rattle.schedules.specs.Policies.{EndedBy, EndsBy};
 ghost use Rattle.schedules.specs.LongerLists.{GoesOnBy, IsAhead, end_before, joined, step_acts};
+ghost use Rattle.schedules.specs.Paces.{GoesOnFrom, GoesOnIn, Paced, gone, paced};
 ghost use Rattle.schedules.specs.Parts.{Does, Standing, after_actions, is_progress};
 ghost use Rattle.schedules.specs.Runs.{Ended, initial_position, opened, plan_of};
 ghost use Rattle.schedules.specs.Stalls.{IsAmong, StallsSince, StallsFromOpening};
 ghost use Rattle.schedules.specs.RoundSchedule.{Round, no_round, round_of, rounds, AreRounds, ArePartOfRounds};
 
+use machine_theorem::laws::every_history_is_legal;
 use programs::End;
 use programs::program::Program;
 
@@ -113,6 +116,20 @@ pub fn rounds_stall_on_few_messages<P: Program>()
         End.Stalled → StallsFromOpening P.acts config m programs }
 {}
 
+/// At any end, a run by a policy served its cores. The machine opened with a good set-up, and any events were made of
+/// it before the run. Each core without an open operation then was issued what its program gave, in order. The program
+/// received what each completed operation did, in order, and an operation that is still open is its next.
+pub fn runs_serve_programs<P: Program>()
+    ensures { (config : Config) (memory : FinMap nat_cmp ℕ) (earlier : List Event) → is_good config ≡ true →
+        let start = after_all (at_start config memory) earlier in
+        (keeps : Bool) (policy : Policy) (limit : ℕ) (m : Machine) (opening programs : List P)
+        (events : List Event) (end : End) →
+        EndsBy keeps P.acts policy limit start opening events m programs end →
+        AreServed P.acts start m opening programs }
+{
+    every_history_is_legal();
+}
+
 /// Up to 2^64 runs of a batch by seeds have seeds that differ: run i has the first seed plus i, modulo 2^64.
 pub fn seeds_of_runs_differ()
     ensures plain { (seed i : ℕ) → seed + i < 2 ^ 64 →
@@ -157,7 +174,8 @@ pub fn steps_behind_change_no_event()
 
 /// A run that used its turns and a run that goes on from there are one run of all these turns (`joins`). It makes the
 /// events of the first one and then those of the second, and ends as that does. Unless memory is refused, a run of all
-/// these turns is such a pair (`parts`). A run that goes on after no turn is one by the policy (`begins`).
+/// these turns is such a pair (`parts`). A run that ended otherwise is one of any more turns as well (`further`). A run
+/// that goes on after no turn is one by the policy (`begins`).
 pub fn runs_go_on<P: Program>()
     ensures begins { (keeps : Bool) (policy : Policy) (limit : ℕ) (m after : Machine) (programs left : List P)
         (events : List Event) (end : End) → GoesOnBy keeps P.acts policy 0 limit m programs events after left end ↔
@@ -173,6 +191,45 @@ pub fn runs_go_on<P: Program>()
         GoesOnBy keeps P.acts policy made (turns + limit) m programs all after left end → end ≢ End.NoMemory →
         (more : List Event) × (all ≡ events ++ more)
         × GoesOnBy keeps P.acts policy (made + turns) limit between met more after left end }
+    ensures further { (keeps : Bool) (policy : Policy) (made limit more : ℕ) (m after : Machine)
+        (programs left : List P) (events : List Event) (end : End) →
+        GoesOnBy keeps P.acts policy made limit m programs events after left end →
+        end ≢ End.TurnsUsed → limit ≤ more →
+        GoesOnBy keeps P.acts policy made more m programs events after left end }
+{}
+
+/// Where a run in pieces starts. A machine opens without an open operation (`idle`). Where that is so, all is done of
+/// empty lists before a first turn; if steps stand behind them, no more is known than that no turn is left (`begins`).
+/// With what stands behind them, empty lists are just that (`whole`).
+pub fn nothing_is_done_at_first()
+    ensures idle { (config : Config) (memory : FinMap nat_cmp ℕ) (core : ℕ) →
+        open_op (at_start config memory) core ≡ None }
+    ensures begins { (keeps : Bool) (policy : Policy) (m : Machine) (behind : List (List Step)) →
+        ((core : ℕ) → open_op m core ≡ None) → length behind ≡ m.config.cores →
+        let lists = joined (replicate m.config.cores []) behind in
+        EndsBy keeps step_acts policy 0 m lists [] m lists (end_before behind End.AllDone) }
+    ensures whole { (behind : List (List Step)) →
+        joined (replicate (length behind) []) behind ≡ behind }
+{}
+
+/// A piece of a run (`run_on`) goes on from a pace, and the pace by the turns that the piece began. These are at most
+/// its limit, and just that if it used its turns. It is a run of these turns as well as one of its limit (`turns`).
+/// After `made` turns and then these a pace is what it is after their sum (`sum`). Take lists that are ahead of a
+/// piece, with more behind them. Unless the run ends with that piece, it began as many turns as it might (`used`).
+pub fn pieces_go_by_turns<P: Program>()
+    ensures turns { (keeps : Bool) (pace : Paced) (turns limit : ℕ) (m after : Machine)
+        (programs left : List P) (events : List Event) (end : End) →
+        GoesOnIn keeps P.acts pace turns limit m programs events after left end → (turns ≤ limit)
+        × (end ≡ End.TurnsUsed → turns ≡ limit)
+        × GoesOnFrom keeps P.acts pace turns m programs events after left end
+        × GoesOnFrom keeps P.acts pace limit m programs events after left end }
+    ensures sum { (policy : Policy) (made turns : ℕ) →
+        gone turns (paced policy made) ≡ paced policy (made + turns) }
+    ensures used { (keeps : Bool) (pace : Paced) (turns limit : ℕ) (m after : Machine)
+        (lists behind left : List (List Step)) (events : List Event) (end : End) →
+        length lists ≡ m.config.cores → length behind ≡ m.config.cores → IsAhead limit lists behind →
+        GoesOnIn keeps step_acts pace turns limit m lists events after left end →
+        end_before behind end ≡ End.TurnsUsed → turns ≡ limit }
 {}
 
 /// So the lists of a run may be filled between turns. What is left to do is in the lists and behind them. It stays the

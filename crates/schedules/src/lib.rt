@@ -6,6 +6,7 @@ mod driven;
 pub mod laws;
 mod log;
 mod look_ups;
+mod pace;
 pub mod policies;
 mod policy;
 mod round;
@@ -18,7 +19,8 @@ mod turn;
 mod watcher;
 
 pub use driven::Driven;
-pub use policies::{run_to_end, run_watched};
+pub use pace::Pace;
+pub use policies::{run_on, run_to_end, run_watched};
 pub use policy::Policy;
 pub use rounds::{drive_fair_round, drive_round};
 pub use seeds::drive_seed;

@@ -1,18 +1,19 @@
-//! A run by a policy to its end, without its list of events: watched, or not.
+//! A run by a policy, without its list of events: watched or not, to its end or in pieces.
 ghost use Rattle.std.specs.Prelude.{◌≡◌, ◌<◌, false, List, None, length, ℕ};
 ghost use Rattle.machine_table.specs.Runs.{after_all};
 ghost use Rattle.machine_table.specs.declared.event.Event.{Event};
 ghost use Rattle.machine_table.specs.Machine.{open_op};
 ghost use Rattle.programs.specs.Acts.{next_in};
+ghost use Rattle.schedules.specs.Paces.{GoesOnIn, gone};
 ghost use Rattle.schedules.specs.Policies.{EndedBy, EndsBy};
 ghost use Rattle.schedules.specs.Watches.{AreSeen, watched};
 ghost use Rattle.machine_theorem.specs.Service.{AreServed};
 
 use crate::driven::finish;
 use crate::log::Log;
+use crate::pace::Pace;
 use crate::policy::Policy;
 use crate::round::Rounds;
-use crate::seed::Seeds;
 use crate::seeds::order_as_before;
 use crate::watcher::Watcher;
 use interleaving_core::{History, System};
@@ -64,31 +65,61 @@ pub fn run_watched<P: Program, W: Watcher, K: History>(
         (open_op system.new core ≡ None) × (next_in P.acts programs.new core ≡ None) }
     ensures served { AreServed P.acts system.old system.new programs.old programs.new }
 {
+    let mut pace = Pace::new(policy);
+    run_on(alloc, system, programs, watcher, &mut pace, limit)
+}
+
+/// Drives the machine as `run_watched` does, from where earlier pieces of the run ended, for at most `limit` more
+/// turns. The pace says where that is, and then where this piece ended: it goes on by each turn that the piece begins,
+/// even by one that a refused allocation cuts short. A piece that used its turns and the next one are one run
+/// (`laws::runs_go_on`). Lists of steps may be filled between them, and `laws::pieces_go_by_turns` says how many turns
+/// a piece began.
+pub fn run_on<P: Program, W: Watcher, K: History>(
+    alloc: Global,
+    system: &mut System<K>,
+    programs: &mut [P],
+    watcher: W,
+    pace: &mut Pace,
+    limit: u32,
+) -> (End, W)
+    requires one_each { length programs.old ≡ system.old.config.cores }
+    ensures ended { (events : List Event) × (turns : ℕ)
+        × GoesOnIn W.watches.asks P.acts pace.old turns limit system.old programs.old events
+        system.new programs.new result.0
+        × (pace.new ≡ gone turns pace.old)
+        × (system.new ≡ after_all system.old events)
+        × (W.watches.seen result.1 ≡
+        watched W.watches (W.watches.seen watcher) system.old events) }
+    ensures all_done { result.0 ≡ End.AllDone → (core : ℕ) → core < system.old.config.cores →
+        (open_op system.new core ≡ None) × (next_in P.acts programs.new core ≡ None) }
+    ensures served { AreServed P.acts system.old system.new programs.old programs.new }
+{
     let mut log = Log::new(watcher);
-    let end = finish_by(alloc, system, programs, &mut log, policy, limit);
+    let end = finish_on(alloc, system, programs, &mut log, pace, limit);
     (end, log.into_watcher())
 }
 
 // Turns of the policy's schedule until a run ends.
-fn finish_by<P: Program, W: Watcher, K: History>(
+fn finish_on<P: Program, W: Watcher, K: History>(
     alloc: Global,
     system: &mut System<K>,
     programs: &mut [P],
     log: &mut Log<W>,
-    policy: Policy,
+    pace: &mut Pace,
     limit: u32,
 ) -> End
     requires { log.old.has_progressed ≡ false }
-    ensures ended { (events : List Event)
-        × EndsBy W.watches.asks P.acts policy limit system.old programs.old events system.new
-        programs.new result
+    ensures ended { (events : List Event) × (turns : ℕ)
+        × GoesOnIn W.watches.asks P.acts pace.old turns limit system.old programs.old events
+        system.new programs.new result
+        × (pace.new ≡ gone turns pace.old)
         × AreSeen W.watches (W.watches.seen log.old.watcher) system.old events system.new
         log.new.watcher }
     ensures all_done { result ≡ End.AllDone → (core : ℕ) → core < system.old.config.cores →
         (open_op system.new core ≡ None) × (next_in P.acts programs.new core ≡ None) }
     ensures served { AreServed P.acts system.old system.new programs.old programs.new }
 {
-    match policy {
+    match pace.policy {
         Policy::Rounds => {
             let mut schedule = Rounds::new(alloc, false, system.cores());
             finish(&mut schedule, system, programs, log, limit)
@@ -97,10 +128,9 @@ fn finish_by<P: Program, W: Watcher, K: History>(
             let mut schedule = Rounds::new(alloc, true, system.cores());
             finish(&mut schedule, system, programs, log, limit)
         }
-        Policy::Seed(seed) => {
-            let mut schedule = Seeds::new(seed);
+        Policy::Seed(_) => {
             let had_order = system.keeps_order();
-            let end = finish(&mut schedule, system, programs, log, limit);
+            let end = finish(&mut pace.seeds, system, programs, log, limit);
             order_as_before(system, had_order);
             end
         }

@@ -30,7 +30,7 @@ pub(crate) fn run<P: Program, W: Watcher, S: Schedule<P>, K: History>(
     requires no_progress_yet { log.old.has_progressed ≡ false }
     ensures { Finishes W.watches (plan_of P.acts S.rule limit) (initial_position P.acts system.old
         programs.old schedule.old)
-        log.old.watcher log.new.watcher system.new programs.new result }
+        log.old.watcher log.new.watcher system.new programs.new schedule.new result }
 {
     log.note_all(unfinished(programs));
     for _made in 0..limit {

@@ -1,5 +1,5 @@
 //! Schedules: the turns of a run.
-ghost use Rattle.std.specs.Prelude.{◌≡◌, OnOk};
+ghost use Rattle.std.specs.Prelude.{◌≡◌};
 ghost use Rattle.schedules.specs.Notes.{Did, IsAsked, at};
 
 use crate::log::Log;
@@ -15,7 +15,8 @@ pub(crate) trait Schedule<P: Program> {
     // How its turns go.
     ghost rule: { Schedule P Self };
 
-    // A turn, to its end or to the end of the run. Which programs have a next step was noted.
+    // A turn, to its end or to the end of the run; the schedule goes on by it either way. Which programs have a next
+    // step was noted.
     fn turn<W: Watcher, K: History>(
         &mut self,
         system: &mut System<K>,
@@ -25,7 +26,7 @@ pub(crate) trait Schedule<P: Program> {
         requires { IsAsked P.acts programs.old log.old.unfinished }
         ensures did { Did P.acts W.watches (rule.turn self.old) (at system.old programs.old log.old) result
             (at system.new programs.new log.new) }
-        ensures next { OnOk result (self.new ≡ rule.next self.old) };
+        ensures next { self.new ≡ rule.next self.old };
 
     // Whether a turn without progress is the last.
     fn stalls(&self) -> bool

@@ -3,7 +3,7 @@ use crate::in_flight::InFlight;
 use interleaving_core::{Config, System};
 use physiological_order::{Memory, Op, WordAddr};
 use programs::{End, OpProgram};
-use schedules::{Policy, run_watched};
+use schedules::{Pace, Policy, run_on};
 use std::alloc::Global;
 
 /// The program's defaults, with one core.
@@ -21,11 +21,12 @@ const ONE: Config = Config {
     private_write: false,
 };
 
-/// A run of one store: its policy, the most events that the watcher takes, how it ends, how many messages are in flight
-/// after each event and at the end, and how many attempts waited.
+/// A run of one store: its policy, how many turns are a piece of its own, the most events that the watcher takes, how it
+/// ends, how many messages are in flight after each event and at the end, and how many attempts waited.
 #[derive(Clone, Copy)]
 struct Case {
     policy: Policy,
+    first: u32,
     most: usize,
     end: End,
     counts: &'static [u64],
@@ -43,6 +44,7 @@ struct Case {
 const CASES: [Case; 3] = [
     Case {
         policy: Policy::Rounds,
+        first: 2,
         most: 14,
         end: End::AllDone,
         counts: &[0, 1, 2, 2, 2, 2, 2, 2, 1, 1, 1, 1, 0, 0],
@@ -51,6 +53,7 @@ const CASES: [Case; 3] = [
     },
     Case {
         policy: Policy::Rounds,
+        first: 0,
         most: 2,
         end: End::NoMemory,
         counts: &[0, 1],
@@ -59,6 +62,7 @@ const CASES: [Case; 3] = [
     },
     Case {
         policy: Policy::Seed(1),
+        first: 5,
         most: 17,
         end: End::AllDone,
         counts: &[0, 1, 2, 2, 2, 2, 2, 2, 1, 1, 1, 0, 1, 1, 1, 1, 1],
@@ -91,7 +95,19 @@ fn is_as_told(alloc: Global, case: &Case) -> Option<bool> {
         waits: 0,
         most: case.most,
     };
-    let (end, seen) = run_watched(alloc, &mut system, &mut programs, watcher, case.policy, 100);
+    let mut pace = Pace::new(case.policy);
+    let (met, watcher) = run_on(
+        alloc,
+        &mut system,
+        &mut programs,
+        watcher,
+        &mut pace,
+        case.first,
+    );
+    if met != End::TurnsUsed || system.cores() != 1 {
+        return None;
+    }
+    let (end, seen) = run_on(alloc, &mut system, &mut programs, watcher, &mut pace, 100);
     Some(
         end == case.end
             && seen.counts.as_slice() == case.counts

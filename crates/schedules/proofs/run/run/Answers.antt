@@ -36,8 +36,8 @@ returns-in-Err g c =
     let first = a.log.now.watcher in
     let now = turn_begun watches plan start first l._made l.system l.programs l.log c.begin_turn.new.self l.schedule
     l.invariant.here (sym c.if-are_over.ensures) c.begin_turn.ensures in
-    did_end watches plan start first l._made (at l.system l.programs c.begin_turn.new.self) l.schedule now
-    c.loop-made-test.true c.in-Err.end (at n.system n.programs n.log) c.in-Err.ensures.did
+    did_end watches plan start first l._made (at l.system l.programs c.begin_turn.new.self) l.schedule now n.self
+    c.in-Err.ensures.next c.loop-made-test.true c.in-Err.end (at n.system n.programs n.log) c.in-Err.ensures.did
 
 pub returns-then-is_last : goal.returns-then-is_last
 returns-then-is_last g c =
@@ -50,8 +50,9 @@ returns-then-is_last g c =
     let first = a.log.now.watcher in
     let now = turn_begun watches plan start first l._made l.system l.programs l.log c.begin_turn.new.self l.schedule
     l.invariant.here (sym c.if-are_over.ensures) c.begin_turn.ensures in
-    stalled watches plan start first l._made (at l.system l.programs c.begin_turn.new.self) l.schedule now
-    (at n.system n.programs n.log) c.in_default.ensures.did (sym c.if-is_last.ensures) c.loop-made-test.true
+    stalled watches plan start first l._made (at l.system l.programs c.begin_turn.new.self) l.schedule now n.self
+    c.in_default.ensures.next (at n.system n.programs n.log) c.in_default.ensures.did (sym c.if-is_last.ensures)
+    c.loop-made-test.true
 
 pub loop-made-preserved : goal.loop-made-preserved
 loop-made-preserved g c =
@@ -65,8 +66,8 @@ loop-made-preserved g c =
     let now = turn_begun watches plan start first l._made l.system l.programs l.log c.begin_turn.new.self l.schedule
     l.invariant.here (sym c.if-are_over.ensures) c.begin_turn.ensures in record {
       here = turn_over watches plan start first l._made (at l.system l.programs c.begin_turn.new.self) l.schedule now
-          (at n.system n.programs n.log) c.in_default.ensures.did (sym c.if-is_last.ensures) n.self
-          c.in_default.ensures.next;
+          n.self c.in_default.ensures.next (at n.system n.programs n.log) c.in_default.ensures.did
+          (sym c.if-is_last.ensures);
       asked = c.in_default.ensures.did.asked (rw c.begin_turn.ensures l.invariant.asked);
     }
 

@@ -1,6 +1,6 @@
 use Rattle.schedules.proofs.RoundSteps.{rounds_give_steps}
 use Rattle.schedules.proofs.SeedSteps.{seeds_give_steps}
-use Rattle.schedules.proofs.policies.finish_by.Goals as goal
+use Rattle.schedules.proofs.policies.finish_on.Goals as goal
 
 pub finish-requires-clause-gives : goal.finish-requires-clause-gives
 finish-requires-clause-gives g c = rounds_give_steps g.P.Program.acts (Unit {0})

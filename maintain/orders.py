@@ -1,5 +1,7 @@
 #!/usr/bin/env python3
-"""Measures how long tools/order.py takes to decide random histories: maintain/orders.py [--seeds N] [--from SEED]
+"""Measures how long tools/order.py takes to decide random histories:
+
+    maintain/orders.py [--seeds N] [--from SEED] [--reasons]
 
 Each history has 600 operations of 3 cores. Its seed gives the words, 2 to 8, and the values of each, 2 to 4
 (`drawn`). Of each seed (300, from 0) there are two: one as drawn, which has an order, and one with a received value
@@ -7,9 +9,13 @@ changed, which may have none. Measured is the processor time from the operations
 (`decide`), also that of z3, if that is asked. The script prints those that take more than a second, and last how many
 don't. An order is replayed on a flat memory (reference/order.py); an answer that the draw rules out ends the script.
 Standard error has the load of the machine: figures for a page are those of an idle one.
+
+With --reasons it also leaves operations out of each history of which only the search, or layers, know that it has no
+order. It prints whether facts then show that, else how many operations are left. That takes up to ten seconds each.
 """
 import argparse
 import os
+import re
 import sys
 from pathlib import Path
 
@@ -19,7 +25,7 @@ from reference.order import check  # noqa: E402
 from reference.traces import Trace, read_records  # noqa: E402
 from tests.order import drawn_text  # noqa: E402
 from tools.orders import witness  # noqa: E402
-from tools.orders.answer import decide  # noqa: E402
+from tools.orders.answer import decide, least  # noqa: E402
 from tools.orders.forced import NoOrder, TimeUp  # noqa: E402
 from tools.orders.history import read_history, words_of  # noqa: E402
 from tools.orders.problem import Problem  # noqa: E402
@@ -62,6 +68,14 @@ def is_legal(operations, order):
     return len(records) == len(operations) and check({}, trace.issued(), records) == "legal"
 
 
+def left_of(operations):
+    """How many operations the set has that is printed, and whether it is said to be the least; none if facts of a part
+    are."""
+    first = next(iter(least(operations, {})))
+    count = re.search(r"these (\d+) operations", first)
+    return (int(count[1]), first.endswith("none can be left out:")) if count else None
+
+
 def measure(seed, wrong):
     """The seconds of one history, and what it was found to be."""
     words, values, operations = drawn(seed, wrong)
@@ -85,6 +99,7 @@ def main():
     words = argparse.ArgumentParser(description=__doc__, formatter_class=argparse.RawDescriptionHelpFormatter)
     words.add_argument("--seeds", type=int, default=300, metavar="N")
     words.add_argument("--from", type=int, default=0, metavar="SEED", dest="first")
+    words.add_argument("--reasons", action="store_true")
     given = words.parse_args()
     seeds, rows = range(given.first, given.first + given.seeds), {}
     print(f"load {os.getloadavg()[0]:.1f} of {os.cpu_count()}", file=sys.stderr)
@@ -96,6 +111,11 @@ def main():
     ends = [said for _, said in rows[0] + rows[1]]
     print(f"no order: {ends.count('none') + ends.count('none by facts')}, by facts: {ends.count('none by facts')}; "
           f"undecided: {ends.count('undecided')}")
+    if given.reasons:
+        found = [left_of(drawn(seed, 1)[2]) for seed, (_, said) in zip(seeds, rows[1]) if said == "none"]
+        sets = sorted(count for count, _ in filter(None, found))
+        print(f"facts of a part: {found.count(None)}; sets of operations: {sets}, the least: "
+              f"{sum(is_least for _, is_least in filter(None, found))}")
     print(f"load {os.getloadavg()[0]:.1f} of {os.cpu_count()}", file=sys.stderr)
 
 

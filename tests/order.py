@@ -1,11 +1,12 @@
 #!/usr/bin/env python3
-"""Tries tools/order.py: tests/order.py PROGRAM [--histories N] [--large].
+"""Tries tools/order.py: tests/order.py PROGRAM [--histories N] [--seed N] [--drawn] [--large].
 
 It draws small histories, half of them without an order, and must get the answer that listing all orders gives: here
 all interleavings of the cores, or of cores with store buffers, are made one by one. PROGRAM must call each order that
 is found legal, and facts that are printed are looked at one by one. Then come texts, refusals, sizes, times
 (tools/number.py) and the histories of examples/ and tools/mesi.py. --histories (300) says how many are drawn of each
-kind, and --large adds the sizes that take a minute. The last line is `N tried, M wrong`.
+kind, --seed (0) which ones, --drawn that nothing else is tried, and --large adds the sizes that take a minute. The last
+line is `N tried, M wrong`.
 """
 import argparse
 import contextlib
@@ -16,124 +17,33 @@ import re
 import sys
 import tempfile
 import time
-from decimal import Decimal
+from itertools import permutations
 from pathlib import Path
 
 sys.path.insert(0, str(Path(__file__).resolve().parent.parent))
 from reference import tso  # noqa: E402
 from reference.traces import read_records  # noqa: E402
+from tests.listed_orders import drawn_history, has_buffered_order, has_listed_order  # noqa: E402
+from tests.order_facts import facts_hold, set_holds  # noqa: E402
 from tests.texts import TOP, Tester  # noqa: E402
 from tools.mesi import Machine  # noqa: E402
 from tools.number import numbered  # noqa: E402
 from tools.order import confirmed  # noqa: E402
-from tools.orders import layers, reasons, search, solver, witness  # noqa: E402
+from tools.orders import layers, least, reasons, search, solver, witness  # noqa: E402
 from tools.orders.answer import answer  # noqa: E402
 from tools.orders.forced import Forced, NoOrder, TimeUp  # noqa: E402
-from tools.orders.history import Operation, read_history, words_of  # noqa: E402
-from tools.orders.least import Stuck  # noqa: E402
+from tools.orders.history import read_history  # noqa: E402
+from tools.orders.least import Least, Stuck  # noqa: E402
 from tools.orders.problem import Problem  # noqa: E402
 
 TOOL = TOP / "tools/order.py"
 EXAMPLES = TOP / "examples/histories"
-SECONDS = 20
+SECONDS = 200  # a busy machine may give a history little of them
+LISTED = 5     # operations of which all orders are looked at, for z3's question
 ORDERS = 600  # drawn histories that have an order
 BRANCHES = 4000  # of the search on 600 operations
 SLOW = [(3, 2, 253), (2, 3, 91), (4, 2, 149), (2, 3, 427)]
 HARD = [(2, 2, 525), (2, 2, 546)]
-
-
-def programs_of(operations):
-    cores = {}
-    for place, operation in enumerate(operations):
-        cores.setdefault(operation.core, []).append(place)
-    return list(cores.values())
-
-
-def has_listed_order(operations, real_time=False, ends=()):
-    """By all interleavings of the cores on one memory, up to the first value that doesn't fit. It is enough to come to
-    the end of one of the cores in `ends`."""
-    cores = programs_of(operations)
-
-    def ends_before(place, done):
-        start = operations[place].start
-        return real_time and start is not None and any(
-            other.end is not None and other.end < start and at not in done for at, other in enumerate(operations))
-
-    def goes_on(at, memory, done):
-        if len(done) == len(operations) or any(
-                places[-1] in done for places in cores if operations[places[0]].core in ends):
-            return True
-        for number, places in enumerate(cores):
-            if at[number] == len(places) or ends_before(places[at[number]], done):
-                continue
-            place = places[at[number]]
-            operation, after = operations[place], memory
-            if operation.received not in (None, memory.get(operation.address, 0)):
-                continue
-            if operation.written is not None:
-                after = {**memory, operation.address: operation.written}
-            if goes_on((*at[:number], at[number] + 1, *at[number + 1:]), after, done | {place}):
-                return True
-        return False
-    return goes_on((0,) * len(cores), {}, frozenset())
-
-
-def has_buffered_order(operations):
-    """By all runs of cores with a store buffer each, on one memory."""
-    cores, seen = programs_of(operations), set()
-
-    def goes_on(at, buffers, memory):
-        state = at, buffers, tuple(sorted(memory.items()))
-        if state in seen:
-            return False
-        seen.add(state)
-        return all(at[number] == len(places) for number, places in enumerate(cores)) or any(
-            goes_on(*after) for number in range(len(cores)) for after in steps(number, at, buffers, memory))
-
-    def steps(number, at, buffers, memory):
-        own = buffers[number]
-        if own:
-            yield at, put(buffers, number, own[1:]), {**memory, own[0][0]: own[0][1]}
-        if at[number] == len(cores[number]):
-            return
-        operation, after = operations[cores[number][at[number]]], put(at, number, at[number] + 1)
-        seen_there = next((value for address, value in reversed(own) if address == operation.address),
-                          memory.get(operation.address, 0))
-        if operation.kind == "W":
-            yield after, put(buffers, number, (*own, (operation.address, operation.written))), memory
-        elif operation.kind == "R":
-            if seen_there == operation.received:
-                yield after, buffers, memory
-        elif not own and operation.kind == "F":
-            yield after, buffers, memory
-        elif not own and seen_there == operation.received:
-            yield after, buffers, {**memory, operation.address: operation.written}
-
-    def put(items, number, item):
-        return (*items[:number], item, *items[number + 1:])
-    return goes_on((0,) * len(cores), ((),) * len(cores), {})
-
-
-def drawn_history(draw, fences=False):
-    """At most 12 operations: an interleaving, with some values received changed."""
-    count, cores, words, values = draw.randint(1, 12), draw.randint(1, 4), draw.randint(1, 3), draw.randint(1, 4)
-    operations, memory, now = [], {}, 0
-    for line in range(1, count + 1):
-        core, address = draw.randrange(cores), 8 * draw.randrange(words)
-        kind = draw.choice("RRRWWS" + "F" * fences)
-        value = draw.randint(1, values) if draw.random() < 0.7 else 10 + line
-        operation = Operation(line, core, kind) if kind == "F" else Operation(
-            line, core, kind, address, None if kind == "R" else value, None if kind == "W" else memory.get(address, 0))
-        if operation.written is not None:
-            memory[address] = value
-        operation.start, operation.end = Decimal(max(0, now - draw.randint(0, 20))), Decimal(now + draw.randint(0, 9))
-        now += draw.randint(0, 5)
-        operations.append(operation)
-    for operation in operations:
-        if operation.received is not None and draw.random() < 0.3:
-            written = [other.written for other in operations if other.address == operation.address]
-            operation.received = draw.choice([0, *(value for value in written if value is not None)])
-    return operations
 
 
 def text_of(operations):
@@ -150,219 +60,148 @@ class Orders(Tester):
         found = answer(operations, SECONDS, **settings)
         self.expect(found.is_known and (found.order is not None) == has_order,
                     f"{settings}: {has_order} by listing, not by the search: {text_of(operations)}")
+        opening = settings.get("opening", {})
         if found.order is not None:
-            self.confirms(operations, found.order, settings.get("model", "sc"))
+            self.confirms(operations, found.order, settings.get("model", "sc"), opening)
         elif settings.get("model") != "tso" and not settings.get("real_time"):
-            self.expect(facts_hold(operations, found.lines), f"facts: {found.lines} of {text_of(operations)}")
+            self.expect(facts_hold(operations, found.lines, opening), f"facts: {found.lines} of {text_of(operations)}")
 
-    def confirms(self, operations, order, model="sc"):
-        words = words_of(operations)
-        trace, records = self.folder / "a.trace", self.folder / "a.records"
-        witness.write(trace, witness.trace_lines(operations, words, model == "tso"))
-        witness.write(records, witness.record_lines(operations, words, order))
+    def confirms(self, operations, order, model="sc", opening=()):
+        texts = witness.texts(operations, order, dict(opening), model == "tso")
+        paths = witness.write_all(self.folder, "a", texts, ())
         if model == "tso":
-            said = tso.verdict(*tso.read_trace(trace.read_bytes()), read_records(records.read_bytes()))
+            trace, records = (paths[what].read_bytes() for what in ("trace", "records"))
+            said = tso.verdict(*tso.read_trace(trace), read_records(records),
+                               {address // 8: value for address, value in dict(opening).items()})
         else:
-            said = Tester(self.program_file).run("check", str(trace), str(records))[1].strip()
+            said = Tester(self.program_file).run(*map(str, witness.words_of_check(paths)))[1].strip()
         self.expect(said == "legal", f"{model}: {said} is said of the order {order} of {text_of(operations)}")
 
 
-# A fact, and what it cites. Each has its own test in `fact_holds`.
-FACT = re.compile(r"  (\d+): (.*?)(?:, by ([\d, ]+))?")
-ORDERED = r"line (\d+) before line (\d+): "
-
-
-def facts_hold(operations, lines):
-    """Each fact printed is right, from those that it names alone, and the ring's neighbours are facts. A set without
-    facts must have no order by listing, and must have one without any operation that may be left out."""
-    if lines[0].startswith("not consistent: no order of these"):
-        return set_holds(operations, lines)
-    by_line, facts = {operation.line: operation for operation in operations}, {}
-    found = [FACT.fullmatch(line) for line in lines]
-    for match in filter(None, found):
-        cited = [facts.get(int(number)) for number in (match[3] or "").split(", ") if number]
-        if None in cited or not fact_holds(by_line, match[2], cited):
-            return False
-        facts[int(match[1])] = match[2]
-    if "nothing" in lines[0] or "ruled out" in lines[0]:
-        return read_holds(operations, lines[0], facts.values())
-    ring = [int(re.match(r"  line (\d+)", line)[1]) for line in lines if line.startswith("  line")]
-    ordered = {tuple(map(int, match.groups())) for fact in facts.values() if (match := re.match(ORDERED, fact))}
-    return len(ring) > 0 and all(pair in ordered for pair in zip(ring, [*ring[1:], ring[0]]))
-
-
-def written_by(by_line, line, read):
-    """This line wrote what the read received, and no other did."""
-    return [other.line for other in by_line.values() if other is not read and other.kind != "F"
-            and (other.address, other.written) == (read.address, read.received)] == [line] and read.received != 0
-
-
-def is_source(by_line, read, line, cited):
-    """The read's source is this line: it alone wrote the value, or a cited fact says so."""
-    return written_by(by_line, line, read) or any(
-        fact.startswith(f"line {read.line} received what line {line} wrote: no other") for fact in cited)
-
-
-def goes(cited, one, other, by_line=()):
-    """The cited facts lead from one line to the other, with the program order of these lines."""
-    steps = [tuple(map(int, match.groups())) for fact in cited if (match := re.match(ORDERED, fact))]
-    reached = {one}
-    while True:
-        more = {end for start, end in steps if start in reached} | {
-            line for line in by_line for start in reached if by_line[start].core == by_line[line].core and start < line}
-        more -= reached
-        if not more:
-            return other in reached
-        reached |= more
-
-
-def fact_holds(by_line, fact, cited):
-    """By the rules of tools/orders/reasons.py, each looked at on its own."""
-    match = re.fullmatch(ORDERED + "(.*)", fact)
-    if not match:
-        return source_holds(by_line, fact, cited)
-    one, other, (why, _, rest) = by_line[int(match[1])], by_line[int(match[2])], match[3].partition("; ")
-    numbers = list(map(int, re.findall(r"line (\d+)", why)))
-    if why.startswith("program order"):
-        return one.core == other.core and one.line < other.line
-    if "opening value" in why:
-        opened = one.received == 0 and not any(
-            each.written == 0 and each.address == one.address and each is not one for each in by_line.values())
-        told = any(fact.startswith(f"line {one.line} received the opening value: no other") for fact in cited)
-        return numbers == [one.line] and (opened or told) and differs(other, one, rest)
-    read = by_line[numbers[0]]
-    if "whichever" in why:
-        return whichever_holds(by_line, read, one, other, numbers[1:], rest, cited)
-    if "behind" in why:
-        _, write, source = numbers
-        return (write, source) == (one.line, other.line) and is_source(by_line, read, source, cited) and \
-            goes(cited, write, read.line) and differs(one, read, rest)
-    if "before" in why:
-        _, source, write = numbers
-        return (read, write) == (one, other.line) and is_source(by_line, read, source, cited) and \
-            goes(cited, source, write) and differs(other, read, rest)
-    return numbers == [other.line, one.line] and is_source(by_line, other, one.line, cited)
-
-
-def differs(other, read, rest):
-    """It wrote the read's word, or the fact's rest says that it received another value there, and it did."""
-    received = rest == f"line {other.line} received another value" and other.received not in (None, read.received)
-    return other is not read and other.address == read.address and (other.written is not None or received)
-
-
-def writers_of(by_line, read):
-    """What may have written what a read received, as far as values go."""
-    return {each.line for each in by_line.values() if each is not read and each.written == read.received
-            and each.address == read.address} | ({"opening"} if read.received == 0 else set())
-
-
-def named_by(fact):
-    """The sources that a fact leaves a read."""
-    return set(map(int, re.findall(r"line (\d+)", fact)[1:])) | ({"opening"} if "opening" in fact else set())
-
-
-def whichever_holds(by_line, read, one, other, numbers, rest, cited):
-    """A fact about all that a read may have received from: that all are behind a line, or before one."""
-    left = [named_by(fact) for fact in cited if fact.startswith(f"line {read.line} received ") and "no other" in fact]
-    sources = left[0] if left else writers_of(by_line, read)
-    lines = sources - {"opening"}
-    if other is read:
-        return numbers == [one.line] and lines == sources and all(
-            line == one.line or goes(cited, one.line, line, by_line) for line in lines)
-    if one is read:
-        return numbers == [other.line] and differs(other, read, rest) and all(
-            goes(cited, line, other.line, by_line) for line in lines)
-    return numbers == [one.line, other.line] and lines == sources and one.line not in lines and \
-        differs(one, read, rest) and goes(cited, one.line, read.line) and all(
-            line == other.line or goes(cited, line, other.line, by_line) for line in lines)
-
-
-def source_holds(by_line, fact, cited):
-    """Facts about where a value comes from."""
-    numbers = list(map(int, re.findall(r"line (\d+)", fact)))
-    read = by_line[numbers[0]]
-    if "no other" in fact:
-        out = {"opening" if "opening" in each else int(re.findall(r"line (\d+)", each)[1]) for each in cited
-               if each.startswith(f"line {read.line} received nothing from")
-               or each.startswith(f"line {read.line} didn't")}
-        return writers_of(by_line, read) - out == named_by(fact)
-    if "which is later" in fact:
-        return goes(cited, read.line, numbers[1])
-    write = by_line[numbers[-1]]
-    rest = f"line {write.line} received another value" if "received another value" in fact else ""
-    is_write = differs(write, read, rest) and goes(cited, write.line, read.line)
-    return is_write and ("didn't" in fact or goes(cited, numbers[1], write.line))
-
-
-def read_holds(operations, first, facts):
-    """A read that nothing explains: each operation that wrote the value is ruled out by a fact."""
-    by_line = {operation.line: operation for operation in operations}
-    read = by_line[int(re.search(r"line (\d+)", first)[1])]
-    ruled_out = {"opening" if "opening" in fact else int(re.findall(r"line (\d+)", fact)[1]) for fact in facts
-                 if fact.startswith((f"line {read.line} received nothing", f"line {read.line} didn't"))}
-    return ruled_out == writers_of(by_line, read)
-
-
-def set_holds(operations, lines):
-    """What is left out is no source of what is kept, unless it is behind the last one of a core that is named."""
-    ends = set(map(int, re.findall(r"\d+", lines[0].partition("the last one of core ")[2])))
-    kept = {int(re.match(r"  line (\d+)", line)[1]) for line in lines[1:]}
-    part = [operation for operation in operations if operation.line in kept]
-
-    def may_go(one, rest):
-        last = max((other.line for other in rest if other.core == one.core), default=0)
-        return one.core in ends and one.line > last or one.written is None or not any(
-            (other.address, other.received) == (one.address, one.written) for other in rest)
-    rests = [(one, [other for other in part if other is not one]) for one in part]
-    return "none can be left out" in lines[0] and not has_listed_order(part, ends=ends) and \
-        all(one in part or may_go(one, part) for one in operations) and all(
-            has_listed_order(rest, ends=ends) for one, rest in rests
-            if may_go(one, rest) and ends <= {other.core for other in rest})
-
-
-def draws(tester, count):
+def draws(tester, count, seed=0):
     """Half of the histories of each kind have an order, as far as drawing goes. A try of the search has few branches,
     so that it begins anew on these, too."""
     usual, search.FIRST_BRANCHES = search.FIRST_BRANCHES, 0.2
     for real_time, model in ((False, "sc"), (True, "sc"), (False, "tso")):
-        draw, left = random.Random(f"{real_time} {model}"), {True: count // 2, False: count - count // 2}
+        draw, left = random.Random(f"{real_time} {model} {seed}"), {True: count // 2, False: count - count // 2}
         while any(left.values()):
-            operations = drawn_history(draw, model == "tso")
-            has_order = has_buffered_order(operations) if model == "tso" else has_listed_order(operations, real_time)
+            operations, opening = drawn_history(draw, model == "tso")
+            has_order = has_buffered_order(operations, opening) if model == "tso" else \
+                has_listed_order(operations, real_time, opening=opening)
             if left[has_order]:
                 left[has_order] -= 1
-                tester.agrees(operations, has_order, model=model, real_time=real_time)
-                looks_at_all(tester, operations, has_order, model, real_time)
-                if solver.is_installed() and count <= 1000:
-                    asks(tester, operations, has_order, model, real_time)
+                settings = {"model": model, "real_time": real_time, "opening": opening}
+                tester.agrees(operations, has_order, **settings)
+                looks_at_all(tester, operations, has_order, settings)
+                asks(tester, operations, has_order, settings, count <= 1000)
     search.FIRST_BRANCHES = usual
 
 
-def looks_at_all(tester, operations, has_order, model="sc", real_time=False):
-    """Layers, where they fit, know the same, and what they can't perform has no order."""
-    problem = Problem(operations, model, real_time)
+def looks_at_all(tester, operations, has_order, settings):
+    """Layers, where they fit, know the same, and what they can't perform has no order. Nor has what is left by the
+    search alone."""
+    problem, parts = Problem(operations, **settings), []
     if layers.fits(problem):
         found = layers.Layers(problem).run()
         tester.expect((found is not None) == has_order, f"layers: {found} of {text_of(operations)}")
         if found:
-            tester.confirms(operations, found)
+            tester.confirms(operations, found, opening=problem.opening)
         else:
-            stuck = Stuck(operations, {}, float("inf"))
-            kept = Problem([operations[node] for node in stuck.nodes])
-            lines = list(reasons.lines_of_set(kept, stuck.is_least, stuck.cores))
-            tester.expect(set_holds(operations, lines), f"{lines} of {text_of(operations)}")
+            parts.append(Stuck(operations, settings, float("inf")))
+    if problem.is_plain and not has_order:
+        parts.append(Least(operations, settings, float("inf")))
+    for part in parts:
+        kept = Problem([operations[node] for node in part.nodes])
+        lines = list(reasons.lines_of_set(kept, part.is_least, part.cores if part is not parts[-1] else ()))
+        tester.expect(set_holds(operations, lines, problem.opening), f"{lines} of {text_of(operations)}")
 
 
-def asks(tester, operations, has_order, model, real_time):
-    """z3, if it is there, knows the same."""
-    problem = Problem(operations, model, real_time)
+def asks(tester, operations, has_order, settings, is_run):
+    """The question for z3 has an answer exactly if there is an order; z3, if it is there, knows the same."""
+    problem = Problem(operations, **settings)
     try:
-        found = solver.ask(problem, Forced(problem), SECONDS)
+        forced = Forced(problem)
     except NoOrder:
         return
+    if len(problem.nodes) <= LISTED:
+        tester.expect(has_answer(solver.Question(problem, forced)) == has_order, f"question: {text_of(operations)}")
+    if not (is_run and solver.is_installed()):
+        return
+    found = solver.ask(problem, forced, SECONDS)
     tester.expect(found is not None and (found is not False) == has_order, f"z3: {found} of {text_of(operations)}")
     if found:
-        tester.confirms(operations, found, model)
+        tester.confirms(operations, found, settings["model"], problem.opening)
+
+
+def has_answer(question):
+    """By all orders of the nodes. A claim of a source that isn't chosen says nothing: each is looked at alone."""
+    claims = [nested(line)[0][1] for line in question.lines if line.startswith("(assert ")]
+    names = [line.split()[1] for line in question.lines if line.endswith(" Bool)")]
+    return any(answers(claims, names, {f"t{node}": at for at, node in enumerate(order)})
+               for order in permutations(question.problem.nodes))
+
+
+def answers(claims, names, numbers):
+    """Whether these numbers meet the claims, with all sources chosen that they allow."""
+    def holds(claim, chosen):
+        if isinstance(claim, str):
+            return claim in chosen
+        word, *parts = claim
+        if word == "<":
+            return numbers[parts[0]] < numbers[parts[1]]
+        found = [holds(part, chosen) for part in parts]
+        return any(found) if word == "or" else not found[0]
+    allowed = {name for name in names if all(holds(claim, {name}) for claim in claims if ["not", name] in claim)}
+    return all(holds(claim, allowed) for claim in claims)
+
+
+def nested(text):
+    """A text in parentheses, as lists of words."""
+    stack = [[]]
+    for word in re.findall(r"[()]|[^()\s]+", text):
+        if word == "(":
+            stack.append([])
+        elif word == ")":
+            stack[-2].append(stack.pop())
+        else:
+            stack[-1].append(word)
+    return stack[0]
+
+
+# Two swaps of the opening value, which write it again; behind the store of 15 none of them may come.
+REOPENED = b"0 S 0x0 1 1\n1 S 0x0 1 1\n2 W 0x0 15\n2 R 0x0 1\n"
+# What z3 may print, in part or whole, and what is made of it: an order of two nodes, none, or that it isn't known.
+PRINTED = [("sat\n(\n  (define-fun t0 () Int\n    3)\n  (define-fun t1 () Int\n    (- 1))\n)\n", [1, 0]),
+           ("sat\n((define-fun t1 () Int 3) (define-fun s1_0 () Bool true) (define-fun t0 () Int (- 4)))\n", [0, 1]),
+           ("sat\n((define-fun t0 () Int 1))\n", [1, 0]),
+           ("unsat\n(error \"line 9 column 10: model is not available\")\n", False),
+           ("unknown\n", None), ("timeout\n", None), ("", None)]
+
+
+def printed(tester):
+    """z3's answers are read, from a program that prints them in its place. The question has what the opening says."""
+    for text, has_order in ((REOPENED, False), (REOPENED.replace(b"2 R", b"3 R"), True)):
+        asks(tester, read_history(text), has_order, {"opening": {0: 1}}, False)
+    problem, usual = Problem(read_history(b"0 W 0x0 1\n1 W 0x0 2\n")), os.environ["PATH"]
+    (tester.folder / "z3").write_text('#!/bin/sh\ncat >"$0.asked"\ncat "$0.printed"\n')
+    (tester.folder / "z3").chmod(0o755)
+    os.environ["PATH"] = f"{tester.folder}:{usual}"
+    for text, wanted in PRINTED:
+        (tester.folder / "z3.printed").write_text(text)
+        found = solver.ask(problem, Forced(problem), SECONDS)
+        tester.expect(found == wanted and type(found) is type(wanted), f"z3 prints {text!r}: {found}")
+    asked = (tester.folder / "z3.asked").read_text().splitlines()
+    tester.expect([asked[0], *asked[-2:]] == [solver.LOGIC, "(check-sat)", "(get-model)"], f"z3 is asked: {asked}")
+    os.environ["PATH"] = usual
+
+
+def unfinished(tester):
+    """Where the time is up, nothing is left out, and the set isn't said to be the least."""
+    operations = read_history(b"".join(b"%d R 0x0 1\n%d W 0x0 1\n" % (core, core) for core in range(3)))
+    usual, least.PART_SECONDS = least.PART_SECONDS, -1
+    for part in (Least(operations, {}, float("inf")), Least(operations, {}, 0), Stuck(operations, {}, 0)):
+        tester.expect((part.nodes, part.is_least) == (list(range(6)), False), f"time is up: {part.nodes}")
+    least.PART_SECONDS = usual
 
 
 # Texts with the answer's first words; those of Axe's form as its users write them.
@@ -387,6 +226,10 @@ TEXTS = [
     ("1 1 R 0x0 0 0 0\n1 0 R 0x8 1 0 1\n0 1 W 0x8 1 0 2\n0 0 W 0x0 1 0 3\n", "not consistent"),
     # Repeated values: the first load must have seen line 3, the second line 1, and the third none of them.
     ("0 W 0x0 1\n0 W 0x0 2\n0 W 0x0 1\n1 R 0x0 2\n1 R 0x0 1\n1 R 0x0 2\n", "not consistent"),
+    # The opening value may be meant, and not what line 4 wrote.
+    ("0 R 0x0 0\n0 R 0x8 0\n1 W 0x8 1\n1 W 0x0 0\n", "consistent"),
+    # By the lines 3, 1, 4, 5, 6, 2: what a swap takes from a word, a write that waited may put there again.
+    ("0 S 0x0 1 1\n1 S 0x0 3 1\n2 W 0x0 1\n2 S 0x0 0 1\n2 S 0x0 1 0\n2 S 0x0 1 1\n", "consistent"),
 ]
 # Texts that are refused, with the line and the cause.
 BAD = [
@@ -414,6 +257,10 @@ BAD = [
     ("64: sync\n", "line 1: the core 64 is greater than 63"), ("0: M[0] := x\n", "line 1: `M[0] := x` is no operation"),
 ]
 BUFFERS = "0: M[0] := 1\n0:{} M[1] == 0\n1: M[1] := 1\n1:{} M[0] == 0\n"
+# Where a swap stands in place of a store, no store is delayed.
+SWAPPED = "0 S 0x0 1 0\n0 R 0x8 0\n1 S 0x8 1 0\n1 R 0x0 0\n"
+# Core 0 sees its own store early, which tells nothing of the word: core 2's load of it comes later, and received 0.
+EARLY = "0 W 0x0 1\n0 R 0x0 1\n0 R 0x8 0\n1 W 0x0 1\n2 W 0x8 1\n2 R 0x8 1\n2 R 0x0 0\n"
 # Core 0's load of 0x0 sees its own store while that is delayed: behind core 1's load, which precedes the store of 0x18.
 OWN = "0 W 0x18 1\n0 W 0x0 1\n0 R 0x0 1\n0 R 0x10 0\n1 W 0x10 5\n1 F\n1 R 0x18 0\n2 W 0x0 1\n"
 
@@ -446,6 +293,9 @@ def settings(tester):
                                 (BUFFERS.format("", ""), [], "not consistent"),
                                 (BUFFERS.format("", ""), ["--model", "tso"], "consistent: checked by reference/tso.py"),
                                 (fenced, ["--model", "tso"], "not consistent"),
+                                (SWAPPED, ["--model", "tso"], "not consistent"),
+                                (EARLY, [], "not consistent"), (EARLY, ["--model", "tso"], "consistent"),
+                                (SWAPPED.replace("S 0x0 1 0", "W 0x0 1"), ["--model", "tso"], "consistent"),
                                 (OWN, ["--model", "tso"], "consistent: checked by reference/tso.py")):
         history.write_text(text)
         status, out, error = tester.run(*words, "--out", tester.folder, history)
@@ -512,6 +362,15 @@ TOLD = [
     ("0 R 0x0 1\n0 W 0x0 1\n1 R 0x0 1\n1 W 0x0 1\n2 R 0x0 1\n2 W 0x0 1\n", [], [
         "not consistent: no order of these 3 operations gets to the last one of core 0, 1 or 2, and none can be left "
         "out:", *(f"  line {2 * core + 1} (core {core}'s load of 0x0, which received 1)" for core in range(3))]),
+    # The same of four cores, by the search: no swap goes whose value another one received.
+    ("0 S 0x0 1 1\n1 S 0x0 1 1\n2 S 0x0 1 1\n3 R 0x8 0\n", [], [
+        "not consistent: no order of these 3 operations explains what they received, and none can be left out:",
+        *(f"  line {core + 1} (core {core}'s swap of 0x0, which received 1 and wrote 1)" for core in range(3))]),
+    # Addresses are named as the text has them.
+    ("0: M[0x21] := 1\n1: M[ 33 ] == 2\n", [], [
+        "not consistent: line 2 (core 1's load of M[33], which received 2), and nothing wrote that there"]),
+    ("0 W 0x08 1\n1 R 8 2\n", [], ["not consistent: line 2 (core 1's load of 8, which received 2), and nothing wrote "
+                                    "that there"]),
     ("0 W 0x0 1\n0 R 0x8 6\n1 W 0x8 1\n1 R 0x0 5\n", ["--model", "tso", "--opening", "OPENING"], [
         f"consistent: checked by reference/tso.py {tso.NOT_PROVED}"]),
     ("0 W 0x0 1\n0 R 0x8 0\n", ["--model", "tso", "--opening", "OPENING"], [
@@ -629,7 +488,7 @@ def branches(tester):
                       f"600 on {words} words, {values} values, drawn by the seed {seed}: {looked.states} branches")
     for words, values, seed in SLOW:
         operations = read_history(drawn_text(600, 3, words, values, seed))
-        looks_at_all(tester, operations, True)
+        looks_at_all(tester, operations, True, {})
         start = time.process_time()
         tester.agrees(operations, True)
         tester.expect(time.process_time() - start < 5, f"600 on {words} words, drawn by the seed {seed}: too slow")
@@ -766,24 +625,19 @@ def main():
     words = argparse.ArgumentParser(description=__doc__, formatter_class=argparse.RawDescriptionHelpFormatter)
     words.add_argument("program", metavar="PROGRAM")
     words.add_argument("--histories", type=int, default=300, metavar="N")
+    words.add_argument("--seed", type=int, default=0, metavar="N")
+    words.add_argument("--drawn", action="store_true")
     words.add_argument("--large", action="store_true")
     given = words.parse_args()
     os.environ["TARDIS"] = os.path.abspath(given.program)
     with tempfile.TemporaryDirectory() as folder:
         tester = Orders(os.environ["TARDIS"], folder)
-        draws(tester, given.histories)
-        texts(tester)
-        settings(tester)
-        confirmations(tester)
-        told(tester)
-        orders_of_buffers(tester)
-        drawn_orders(tester)
-        branches(tester)
-        sizes(tester, given.large)
-        numbers(tester)
-        kept(tester)
-        directories(tester)
-        examples(tester)
+        draws(tester, given.histories, given.seed)
+        if not given.drawn:
+            for part in (printed, unfinished, texts, settings, confirmations, told, orders_of_buffers, drawn_orders,
+                         branches, numbers, kept, directories, examples):
+                part(tester)
+            sizes(tester, given.large)
     print(f"{tester.tried} tried, {tester.wrong} wrong")
     return int(tester.wrong > 0)
 

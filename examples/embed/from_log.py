@@ -5,7 +5,7 @@
 
 A line of the log has when an operation completed, and which it was: `42 core 2 load 0x8 got 0`. Where an invalidation
 overtook a load's data, `sent 28 overtaken` follows, and the load takes effect when its data was sent. --completion
-takes no notice of that. For a log of your own, change LINE and effect().
+takes no notice of that. For a log of your own, change LINE, LETTERS and effect().
 """
 import argparse
 import re
@@ -29,12 +29,12 @@ def main():
     for number, text in enumerate(given.LOG, 1):
         text = text.partition("#")[0].strip()
         line = LINE.fullmatch(text)
-        if text and not (line and (line["kind"] == "store") == (line["received"] is None)
-                         and (line["sent"] is None or line["kind"] == "load")):
+        letter = line and LETTERS[line["kind"]]
+        if text and not (line and (letter == "W") == (line["received"] is None)
+                         and (line["sent"] is None or letter == "R")):
             sys.exit(f"from_log.py: line {number}: `{text}`")
         values = [line[name] for name in ("written", "received") if line[name]] if line else []
-        print(*[line["core"], LETTERS[line["kind"]], line["address"], *values, "@", effect(line, given.completion)]
-              if line else [])
+        print(*[line["core"], letter, line["address"], *values, "@", effect(line, given.completion)] if line else [])
 
 
 if __name__ == "__main__":

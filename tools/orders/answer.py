@@ -8,7 +8,7 @@ from tools.orders.layers import fits
 from tools.orders.least import Least, Stuck
 from tools.orders.problem import Problem
 
-LEAST_SECONDS = 5  # for leaving out operations; with layers, of processor time
+LEAST_SECONDS = 5  # of processor time, for leaving out operations by layers, and again by the search
 
 
 class Answer:
@@ -49,7 +49,7 @@ def least(operations, settings):
     """What to say of a history of which only a search knows that it has no order. Facts of a part come first."""
     stuck = Stuck(operations, settings, time.process_time() + LEAST_SECONDS) if fits(Problem(operations, **settings)) \
         else None
-    found = stuck if stuck and stuck.cores else Least(operations, settings, time.monotonic() + LEAST_SECONDS)
+    found = stuck if stuck and stuck.cores else Least(operations, settings, time.process_time() + LEAST_SECONDS)
     part = Problem([operations[node] for node in (found.sources() if found is stuck else found.nodes)], **settings)
     try:
         Forced(part)

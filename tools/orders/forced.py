@@ -36,8 +36,9 @@ class Forced:
     """`sources[r]`: what a read may receive from; `dropped[r]`: what it can't, each with the reason.
     `before[a][c]`: how many operations of chain c come before a; `after[a][c]`: the first place of c behind a."""
 
-    def __init__(self, problem, deadline=float("inf")):
-        self.problem, self.deadline, self.level, self.edges = problem, deadline, 0, problem.edges
+    def __init__(self, problem, deadline=float("inf"), until=float("inf")):
+        """It ends at the deadline of the clock, or once this process has had processor time until then."""
+        self.problem, self.deadline, self.until, self.level, self.edges = problem, deadline, until, 0, problem.edges
         self.before, self.after, self.order = None, None, None
         self.into = [[] for _ in problem.operations]  # the other ends of edges to a node
         for one in problem.nodes:
@@ -82,7 +83,7 @@ class Forced:
 
     def sort(self):
         """`before`, `after` and a topological order, or `NoOrder`."""
-        if time.monotonic() > self.deadline:
+        if time.monotonic() > self.deadline or time.process_time() > self.until:
             raise TimeUp(f"what is forced isn't known yet, after {self.level} rounds over all reads")
         problem = self.problem
         chains, chain, place = problem.chains, problem.chain, problem.place

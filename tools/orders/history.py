@@ -92,7 +92,7 @@ def axe_operation(line, text):
         variable = number_of(line, parts[1], MOST // 8, "the variable")
         if kind == SWAP and variable != number_of(line, parts[3], MOST // 8, "the variable"):
             raise Fault(line, "the two parts of a swap name two variables")
-        operation.address, operation.name = 8 * variable, f"M[{variable}]"
+        operation.address, operation.name = 8 * variable, f"M[{parts[1]}]"
         values = [number_of(line, part, MOST, "the value") for part in parts.groups()[1::2]]
         operation.received = None if kind == STORE else values[0]
         operation.written = None if kind == LOAD else values[-1]
@@ -121,7 +121,7 @@ def record_operation(line, text):
     operation = Operation(line, core, kind)
     if kind != FENCE:
         operation.address = number_of(line, fields[2], MOST, "the address")
-        operation.name = f"{operation.address:#x}"
+        operation.name = fields[2]
         values = [number_of(line, field, MOST, "the value") for field in fields[3:]]
         operation.written = None if kind == LOAD else values[0]
         operation.received = None if kind == STORE else values[-1]

@@ -11,14 +11,14 @@ from tools.orders.layers import Layers
 from tools.orders.problem import Problem
 from tools.orders.search import Search
 
-PART_SECONDS = 0.5  # for a part; z3 seldom knows sooner
+PART_SECONDS = 0.5  # of processor time, for a part; z3 seldom knows sooner
 
 
 class Least:
     """`nodes`: the places in `operations` of those that are kept; `is_least`: none of them can be left out."""
 
-    def __init__(self, operations, settings, deadline):
-        self.operations, self.settings, self.deadline = operations, settings, deadline
+    def __init__(self, operations, settings, until):
+        self.operations, self.settings, self.until = operations, settings, until
         self.nodes, self.is_least, self.is_sure = sorted(
             range(len(operations)), key=lambda node: (operations[node].written is None, node)), False, True
         try:
@@ -35,13 +35,13 @@ class Least:
 
     def has_order(self, nodes):
         """Whether a part has an order, or whether that isn't known soon."""
-        now = time.monotonic()
-        if now > self.deadline:
+        now = time.process_time()
+        if now > self.until:
             raise TimeUp("")
-        until = min(self.deadline, now + PART_SECONDS)
+        until = min(self.until, now + PART_SECONDS)
         problem = Problem([self.operations[node] for node in sorted(nodes)], **self.settings)
         try:
-            return Search(problem, Forced(problem, until), until).run() is not None
+            return Search(problem, Forced(problem, until=until), until=until).run() is not None
         except NoOrder:
             return False
         except TimeUp:

@@ -99,4 +99,4 @@ def ask(problem, forced, seconds):
         return None
     numbers = {int(node): int(re.sub(r"[()\s]", "", number)) for node, number in re.findall(
         r"\(define-fun t(\d+) \(\) Int\s+(\(- \d+\)|\d+)\)", ran.stdout)}
-    return sorted(problem.nodes, key=numbers.__getitem__)
+    return sorted(problem.nodes, key=lambda node: numbers.get(node, 0))  # z3 says nothing of a node without claims

@@ -115,11 +115,11 @@ def driven(schedule, cores, plain):
                beside=[plain, *words], by="`bench/plain`")
 
 
-def trace(schedule, plain, folder):
-    """The whole command on a trace of 16 cores; a unit is an operation."""
+def trace(schedule, plain, folder, *more):
+    """The whole command, with more words, on a trace of 16 cores; a unit is an operation."""
     words = ["trace", "--schedule", schedule, "--seed", "1", "--records", "--limit", "4294967295", f"{folder}/16.{{}}"]
-    return row(f"trace --records, {schedule}, 16 cores", "operation", [built("tardis"), *words], loads=TRACES,
-               beside=[plain, *words], by="`bench/plain`")
+    return row(f"{' '.join(['trace', *more[:1], '--records'])}, {schedule}, 16 cores", "operation",
+               [built("tardis"), *words, *more], loads=TRACES, beside=[plain, *words], by="`bench/plain`")
 
 
 def batch(schedule):
@@ -147,6 +147,7 @@ def threads(count, cores, banks, beside):
 def rows(plain, folder):
     yield from (driven(schedule, cores, plain) for schedule in ("round", "seed") for cores in (4, 16))
     yield from (trace(schedule, plain, folder) for schedule in ("round", "seed"))
+    yield trace("round", plain, folder, "--stream", "--cores", "16")
     yield from map(batch, ("round", "seed"))
     yield from map(history, (4, 16))
     for cores, banks in ((16, 4), (64, 8)):

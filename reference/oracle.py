@@ -1,13 +1,14 @@
 #!/usr/bin/env python3
 """Prints what `tardis litmus|ends|trace|check [options] FILE..` must print, without the program.
 
-Written from docs/ alone: PROTOCOL.md, SCHEDULES.md, SEATS.md, TEXTS.md, ORDER.md. Its parts are in reference/. A
-refusal has the program's status and its line on standard error. But a wrong option has this script's own words, with
-status 2.
+Written from docs/ alone: PROTOCOL.md, SCHEDULES.md, SEATS.md, TEXTS.md, STREAMS.md, ORDER.md. Its parts are in
+reference/. A refusal has the program's status and its line on standard error. But a wrong option has this script's own
+words, with status 2.
 
     reference/oracle.py litmus [--schedule seed --seed N] [--runs N] [--fair] [--lease N] .. [--json] FILE
     reference/oracle.py ends [--states N] [--orders] [--json] FILE
     reference/oracle.py trace [--records | [--counts [--every N]] [--json]] [--schedule seed --seed N] [--fair] .. FILE
+    reference/oracle.py trace --stream [--cores N] [--no-words] [--records | --json] .. FILE
     reference/oracle.py check [--complete] [--opening FILE] [--json] TRACE RECORDS
     reference/oracle.py --rows <ROWS
     reference/oracle.py --self-test
@@ -32,6 +33,7 @@ from reference.litmus_faults import LitmusFault  # noqa: E402
 from reference.order import lack_line, lacking, verdict, verdict_line  # noqa: E402
 from reference.reports import litmus_report, text_of, trace_report  # noqa: E402
 from reference.schedules import test_generator  # noqa: E402
+from reference.streams import CORES, stream_report  # noqa: E402
 from reference.traces import Fault, Trace, read_opening, read_records, record_line  # noqa: E402
 from reference.worked import test_machine  # noqa: E402
 
@@ -81,6 +83,9 @@ def words():
     commands.choices["trace"].add_argument("--records", action="store_true")
     commands.choices["trace"].add_argument("--counts", action="store_true")
     commands.choices["trace"].add_argument("--every", type=number("every", 1), metavar="N")
+    commands.choices["trace"].add_argument("--stream", action="store_true")
+    commands.choices["trace"].add_argument("--cores", type=number("cores", 1, 64), metavar="N")
+    commands.choices["trace"].add_argument("--no-words", action="store_true")
     command = commands.add_parser("ends", allow_abbrev=False)
     command.add_argument("--states", type=number("states", 1, sequential.GREATEST), default=sequential.MOST_STATES)
     command.add_argument("--orders", action="store_true")
@@ -150,9 +155,17 @@ def refuse_json(options):
         raise Refused(3, f"error: '--json' cannot be used with '--records'{MORE}")
 
 
+def refuse_stream(options):
+    """A trace that is read as it runs goes by rounds, and isn't counted; only there the cores must be named."""
+    if options.command == "trace" and options.stream and (options.schedule != "round" or options.counts):
+        raise Refused(3, f"error: '--stream' needs '--schedule round', and no '--counts'{MORE}")
+    if options.command == "trace" and not options.stream and (options.cores or options.no_words):
+        raise Refused(3, f"error: '--cores' and '--no-words' need '--stream'{MORE}")
+
+
 def refuse(options):
     """What can't be had together is refused before any file is read."""
-    for one in (refuse_fair, refuse_counts, refuse_every, refuse_json):
+    for one in (refuse_fair, refuse_counts, refuse_every, refuse_json, refuse_stream):
         one(options)
 
 
@@ -192,8 +205,10 @@ def run(options):
         return text, int(not is_good)
     if options.command == "ends":
         return ends_report(options), 0
-    read = read_litmus(options.FILE) if options.command == "litmus" else read_trace(options.FILE)
-    if not has_machine(options, len(read.programs())):
+    is_streamed = options.command == "trace" and options.stream
+    reader = contents if is_streamed else read_litmus if options.command == "litmus" else read_trace
+    read = reader(options.FILE)
+    if not has_machine(options, (options.cores or CORES) if is_streamed else len(read.programs())):
         raise Refused(3, "tardis: bad configuration")
     if options.schedule == "threads":
         refuse_threads(options)
@@ -207,10 +222,8 @@ def run(options):
         if options.events:
             events.append(list_of_events(run, end, seed))
 
-    if options.command == "litmus":
-        text, all_done = litmus_report(read, options, options.tell and tell, after)
-    else:
-        text, all_done = trace_report(read, options, options.tell and tell, after)
+    report = litmus_report if options.command == "litmus" else stream_report if is_streamed else trace_report
+    text, all_done = report(read, options, options.tell and tell, after)
     return "".join(events) if options.events else text, int(not all_done)
 
 
@@ -236,6 +249,7 @@ def main(given):
     try:
         text, status = run(words().parse_args(given))
     except (Fault, LitmusFault) as fault:
+        sys.stdout.write(getattr(fault, "written", ""))
         print(f"tardis: {fault}", file=sys.stderr)
         return 2
     except Refused as cause:

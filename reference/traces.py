@@ -18,6 +18,7 @@ class Fault(Exception):
     def __init__(self, line, kind):
         super().__init__(f"line {line}: {kind} {KINDS[kind]}")
         self.line, self.kind = line, kind
+        self.written = ""  # what was written before, of a text that is run as it is read
 
 
 class Fields:
@@ -61,13 +62,14 @@ class Fields:
             self.fault(EXTRA_WORDS)
 
 
-def lines_with_fields(text):
-    """Each line that has fields. A line's length is tested before its fields, with its comment."""
+def lines_with_fields(text, most=LINES):
+    """Each line that has fields. `most` is the last line that a text may have, if there is one. A line's length is
+    tested before its fields, with its comment."""
     lines = text.split(b"\n")
     if not lines[-1]:
         lines.pop()
     for number, line in enumerate(lines, 1):
-        if number > LINES or len(line) > BYTES:
+        if most and number > most or len(line) > BYTES:
             raise Fault(number, TOO_LONG)
         fields = [field for field in re.split(rb"[ \t]", line.split(b"#")[0]) if field]
         if fields:
@@ -78,16 +80,13 @@ class Trace:
     """Steps by core. `steps[c]` has core c's operations and advances in their order."""
 
     def __init__(self, text):
-        self.form, listed = None, []
-        for fields in lines_with_fields(text):
-            if self.form is None:
-                self.form = form_of(fields)
-                if self.form == 2:
-                    continue
-            listed.append(trace_step(fields, self.form))
-        self.cores = max((core for core, _ in listed), default=0) + 1
+        self.take(list(steps_in(text)))
+
+    def take(self, listed):
+        """Takes steps with their lines and cores, in the order of a text."""
+        self.cores = max((core for _, core, _ in listed), default=0) + 1
         self.steps = [[] for _ in range(self.cores)]
-        for core, step in listed:
+        for _, core, step in listed:
             self.steps[core].append(step)
 
     def issued(self):
@@ -98,6 +97,17 @@ class Trace:
 
     def programs(self):
         return [Steps(steps) for steps in self.steps]
+
+
+def steps_in(text, most=LINES):
+    """Each step of a text, behind the number of its line and its core."""
+    form = None
+    for fields in lines_with_fields(text, most):
+        if form is None:
+            form = form_of(fields)
+            if form == 2:
+                continue
+        yield fields.line, *trace_step(fields, form)
 
 
 def form_of(fields):

@@ -4,7 +4,8 @@ A run ends so only before an event that allocates: one that opens an operation, 
 line. Or it ends where the schedule lists something: the messages in flight, before a round's first delivery, and the
 lines of all parts, before the first eviction that a seed drew. From then on the machine keeps them in order, and no
 later eviction allocates. The run then reports the events before that. A run whose events are counted may end so before
-any event: the room for the next row and the next lost copy is found ahead.
+any event: the room for the next row and the next lost copy is found ahead. So may one whose trace is read as it goes:
+the room for the next record is.
 """
 from itertools import product
 
@@ -56,11 +57,11 @@ def run_of(options, programs, memory, seed, last=None, machine=Machine):
         return run, "memory"
 
 
-def ends_of(start, tell, is_counted=False):
-    """The report of a run that ends before each event that allocates, or each event of a run that is counted, in the
+def ends_of(start, tell, is_watched=False):
+    """The report of a run that ends before each event that allocates, or each event of a run that is watched, in the
     order of the events."""
     whole, _ = start(None)
-    return [tell(*start(last)) for last in (range(len(whole.made)) if is_counted else whole.asks)]
+    return [tell(*start(last)) for last in (range(len(whole.made)) if is_watched else whole.asks)]
 
 
 def cuts_of(options):
@@ -103,7 +104,7 @@ def of_trace(options):
 
     machine = machine_of(options)
     return ends_of(lambda last: run_of(options, trace.programs(), {}, options.seed, last, machine), tell,
-                   options.counts)
+                   options.counts or options.stream)
 
 
 def told_of(words):

@@ -74,7 +74,16 @@ EQUAL = [("0 W 0x0 1\n0 W 0x8 1\n1 R 0x0\n1 R 0x8\n1 R 0x0\n",
               "It hadn't touched the word since line 1.", "another order explains these records"]),
          ("0 W 0x0 1\n1 S 0x0 2\n1 R 0x0\n", "0 0 W 0x0 1 0 0\n1 0 S 0x0 2 1 0 1\n1 1 R 0x0 1 0 2\n", [
              "wrong value 2", "1 later write had replaced, its own at line 2 among them: it lost its own write.",
-             "no order explains these records"])]
+             "no order explains these records"]),
+         # Of two writes of the value received, the later one counts.
+         ("0 W 0x0 1\n0 W 0x0 2\n0 W 0x0 1\n0 W 0x0 3\n1 R 0x0\n",
+          "0 0 W 0x0 1 0 0\n0 1 W 0x0 2 0 1\n0 2 W 0x0 1 0 2\n0 3 W 0x0 3 0 3\n1 0 R 0x0 1 0 4\n", [
+              "wrong value 4", "Core 1 received a value that 1 later write had replaced, as when an invalidation",
+              "It hadn't touched the word before.", "another order explains these records"]),
+         # What stands behind a record in the text, such as its line in a history, is shown with it, but in no sentence.
+         ("0 W 0x0 1\n1 R 0x0\n", "0 0 W 0x0 1 0 0 # line 7\n1 0 R 0x0 5 0 1 #line 9\ta \r\n", [
+             "records, line 2: 1 0 R 0x0 5 0 1 # line 9\\ta\n", "  line 1: 0 0 W 0x0 1 0 0 wrote that\n",
+             "\n  line 1: 0 0 W 0x0 1 0 0 # line 7\n", "\n> line 2: 1 0 R 0x0 5 0 1 # line 9\\ta\n"])]
 # The same by swaps, in a trace with advances: a swap writes, and it receives.
 SWAPS = ("trace 2\n0 A\n0 S 0x0 1\n0 A\n0 S 0x0 2\n1 R 0x0\n", [
     ("0 0 S 0x0 1 0 1 0\n0 1 S 0x0 2 0 2 1\n1 0 R 0x0 2 2 2\n", [
@@ -317,7 +326,8 @@ def causes(tester):
     for name, text, wanted in (("a.trace", gzip.compress(b"0 R 0x0\n" * 99, mtime=0), "It is compressed by gzip"),
                                ("a.litmus", gzip.compress(PLAIN.encode(), mtime=0), "It is compressed by gzip"),
                                ("a.trace", "0 R 0x0\n".encode("utf-16"), "It is in UTF-16"),
-                               ("a.trace", b"#\n" * 16_777_217, "It has more lines than are read"),
+                               ("a.trace", b"#\n" * 16_777_217, "It has more lines than are read: `head -n 16777216 FILE` is its beginning. "
+                                "`tardis trace --stream FILE` runs all."),
                                ("a.trace", b"0 R 0x0 #" + b"." * 260, "A comment that is too long.")):
         tester.tells([f"{name}, line ", f"often meant: {wanted}"], text, names=[name])
     tester.tells(["7 BadValue: RECEIVED: ", "64 bits: what the operation received"], b"", b"0 0 R 0x0 x 0 0\n",

@@ -158,6 +158,9 @@ def runs():
     for flags in ("--counts", "--counts --every 2", "--json --counts --every 2", "--json"):
         words = ["trace", *flags.split(" "), *options_of(text), text]
         yield f"{text.name} {flags}", words, oracle.run(oracle.words().parse_args([*map(str, words)]))[0]
+    for flags in ("--stream", "--stream --records --cores 16", "--stream --json --cores 16"):
+        words = ["trace", *flags.split(" "), *options_of(text), text]
+        yield f"{text.name} {flags}", words, oracle.run(oracle.words().parse_args([*map(str, words)]))[0]
     words = ["litmus", "--json", LITMUS / "SB.litmus"]
     yield "SB --json", words, oracle.run(oracle.words().parse_args([*map(str, words)]))[0]
 
@@ -224,6 +227,8 @@ def commands(folder):
         (["ends", text], SB_ENDS),
         (["trace", *options, trace], trace.with_suffix(".report").read_text()),
         (["trace", "--records", *options, trace], trace.with_suffix(".records").read_text()),
+        (["trace", "--stream", *options, trace], trace.with_suffix(".report").read_text()),
+        (["trace", "--stream", "--records", *options, trace], trace.with_suffix(".records").read_text()),
         (["check", trace, trace.with_suffix(".records")], "legal\n"),
         (["check", "--opening", opening, loads, loaded], "legal\n"),
         (["trace", many], MANY_LOADS),

@@ -67,7 +67,8 @@ def limit_data(size):
 
 def with_bad_file(bad, some):
     """A command of each kind that reads the bad file, and for a check the other one, too."""
-    return ["litmus", bad], ["trace", bad], ["trace", "--records", bad], ["check", bad, some], ["check", some, bad]
+    return (["litmus", bad], ["trace", bad], ["trace", "--records", bad], ["trace", "--stream", "--records", bad],
+            ["check", bad, some], ["check", some, bad])
 
 
 def unreadable(tester, folder):

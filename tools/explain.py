@@ -45,12 +45,14 @@ def lines_with_fields(text):
 
 
 class Record:
-    """A record with its line. Sorting is by time and number."""
+    """A record with its line and the comment there. Sorting is by time and number."""
 
-    __slots__ = ("key", "line", "fields")
+    __slots__ = ("key", "line", "fields", "comment")
 
-    def __init__(self, line, fields):
+    def __init__(self, line, fields, comment):
         self.key, self.line, self.fields = (int(fields[-2]), int(fields[-1])), line, fields
+        said = comment.strip().decode("latin-1").encode("unicode_escape").decode()
+        self.comment = f" # {said}" if said else ""
 
     number = property(lambda self: self.key[1])
     core = property(lambda self: int(self.fields[0]))
@@ -63,6 +65,10 @@ class Record:
     def told(self):
         return f"line {self.line}: {b' '.join(self.fields).decode()}"
 
+    def shown(self):
+        """With the comment: tools/order.py and tools/number.py name the line of a history there."""
+        return self.told() + self.comment
+
     def when(self):
         return f"time {self.key[0]} and number {self.key[1]}"
 
@@ -73,7 +79,8 @@ class History:
 
     def __init__(self, trace, records, opening):
         self.trace, self.opening = trace, {int(word, 16): int(value) for _, (word, value) in lines_with_fields(opening)}
-        self.records = [Record(*line) for line in lines_with_fields(records)]
+        comments = [line.partition(b"#")[2] for line in records.split(b"\n")]
+        self.records = [Record(line, fields, comments[line - 1]) for line, fields in lines_with_fields(records)]
         self.records.sort(key=lambda record: record.key)
 
     def at(self, number):
@@ -91,7 +98,7 @@ def around(title, records, at):
     """What comes before and after a place in a list of records, with a mark there."""
     yield title
     for place in range(max(0, at - AROUND), min(len(records), at + AROUND + 1)):
-        yield f"{'>' if place == at else ' '} {records[place].told()}"
+        yield f"{'>' if place == at else ' '} {records[place].shown()}"
 
 
 def wrong_value(history, at):
@@ -207,7 +214,7 @@ def explained_records(paths, texts, opening, complete):
         yield from bad_number(history, number)
         return
     at = history.at(number)
-    yield f"{paths[1]}, {history.records[at].told()}"
+    yield f"{paths[1]}, {history.records[at].shown()}"
     yield from {"wrong value": wrong_value, "out of program order": out_of_order}[what](history, at)
     yield from around("The records around it, by time and number:", history.records, at)
     if what == "wrong value" and history.records[0].key[0] == history.records[-1].key[0]:

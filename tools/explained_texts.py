@@ -204,7 +204,8 @@ def of_whole(text, what, number):
     if text.startswith(b"\xef\xbb\xbf") and number == 1:
         return "A byte order mark stands at the front: `tail -c +4 FILE` leaves it out."
     if what != "test" and number > MOST_LINES:
-        return "It has more lines than are read: `head -n 16777216 FILE` is its beginning."
+        return "It has more lines than are read: `head -n 16777216 FILE` is its beginning." + \
+            " `tardis trace --stream FILE` runs all." * (what == "trace")
     fields = next((line.split() for line in text[:MOST_LOOKED].split(b"\n") if line.partition(b"#")[0].split()), [])
     is_number = len(fields) > 1 and fields[0].isdigit()
     if what == "test" and (is_number and fields[1] in (b"R", b"W", b"S") or fields[:2] == [b"trace", b"2"]):

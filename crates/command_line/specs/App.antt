@@ -102,8 +102,13 @@ abbrev pub count_rules : List Rule
 count_rules =
     flag_rule (codes "records") ∷ flag_rule (codes "counts") ∷ bare_rule (codes "every") from_one ∷ json_rule ∷ []
 
+-- a trace may be read as the run goes, by a machine of so many cores, and with no words in its report
+abbrev pub stream_rules : List Rule
+stream_rules =
+    flag_rule (codes "stream") ∷ bare_rule (codes "cores") (up_to 64) ∷ flag_rule (codes "no-words") ∷ []
+
 abbrev pub trace_app : ValueParser → App
-trace_app p = with_run_and_file (with_rules (new_app (codes "trace")) count_rules) p
+trace_app p = with_run_and_file (with_rules (with_rules (new_app (codes "trace")) count_rules) stream_rules) p
 
 -- a check needs two files, may ask for all records, and may name a file with an opening
 abbrev pub check_app : App

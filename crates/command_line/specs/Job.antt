@@ -1,24 +1,33 @@
 -- What a job has of the words, and why words are refused.
-use Rattle.std.specs.Prelude.{◌≡◌, ◌⊎◌, ℕ, List, [], ◌++◌, Option, Some, None, if◌then◌else◌, codes}
+use Rattle.std.specs.Prelude.{◌≡◌, ◌⊎◌, ℕ, List, [], ◌++◌, Option, Some, None, if◌then◌else◌, codes, false, true}
 use Rattle.std.specs.Prelude.{option_map, string_bytes}
 use Rattle.clap.specs.Words.{IsAmong, Row, Text, fault_of, subcommand_of}
 use Rattle.clap.specs.declared.error.kind.ErrorKind.{ErrorKind}
 use Rattle.command_line.specs.App.{NameSchedules, Parsers, tardis_app}
-use Rattle.command_line.specs.Options.{HasPath, HasWord, IsOrder, TellsCheck, TellsEnds, TellsLitmus, TellsTrace}
-use Rattle.command_line.specs.Options.{counts_in_vain, json_in_vain, rows_in_vain}
+use Rattle.command_line.specs.Options.{HasPath, HasWord, IsOrder, TellsAsked, TellsCheck, TellsEnds, TellsLitmus}
+use Rattle.command_line.specs.Options.{cores_in_vain, counts_in_vain, json_in_vain, rows_in_vain, stream_in_vain}
+use Rattle.command_line.specs.Options.{stream_of}
+use Rattle.command_line.specs.declared.options.Asked.{Asked}
 use Rattle.command_line.specs.declared.words.Conflict.{Conflict}
 use Rattle.command_line.specs.declared.words.Conflict.TheVariants.{Fair, Counts, Every, Json}
+use Rattle.command_line.specs.declared.words.Conflict.TheVariants.{Stream as StreamConflict, Cores}
 use Rattle.command_line.specs.declared.words.Job.{Job}
-use Rattle.command_line.specs.declared.words.Job.TheVariants.{Litmus, Ends, Trace, Check}
-use Rattle.run_options.specs.declared.options.TraceOptions.{TraceOptions}
+use Rattle.command_line.specs.declared.words.Job.TheVariants.{Litmus, Ends, Trace, Stream, Check}
 use Rattle.command_line.specs.declared.words.WordsError.{WordsError}
 use Rattle.command_line.specs.declared.words.WordsError.TheVariants.{NoMemory, Refused}
 
--- the first of what a run of a trace can't have together, if its options ask for that
-abbrev pub conflict_of : TraceOptions → Option Conflict
-conflict_of options =
-    if counts_in_vain options then Some Counts
-    else (if rows_in_vain options then Some Every else (if json_in_vain options then Some Json else None))
+-- the first of what a run of a trace can't have together, if the words ask for that
+abbrev pub conflict_of : Asked → Option Conflict
+conflict_of asked =
+    if counts_in_vain asked.trace then Some Counts
+    else (if rows_in_vain asked.trace then Some Every
+    else (if json_in_vain asked.trace then Some Json
+    else (if stream_in_vain asked then Some StreamConflict
+    else (if cores_in_vain asked then Some Cores else None))))
+
+-- the words ask for this run of a trace, which can be had
+abbrev pub AskForTrace : Text → List Row → Asked → Type 0
+AskForTrace command rows asked = (command ≡ codes "trace") × TellsAsked rows asked × (conflict_of asked ≡ None)
 
 -- the command, its options and its files are those that the words give
 abbrev pub GivesJob : Text → List Row → Job → Type 0
@@ -27,7 +36,10 @@ GivesJob command rows (Litmus options file) =
 GivesJob command rows (Ends options file) =
     (command ≡ codes "ends") × TellsEnds rows options × HasWord rows (codes "FILE") file.now
 GivesJob command rows (Trace options file) =
-    (command ≡ codes "trace") × TellsTrace rows options × (conflict_of options ≡ None)
+    (asked : Asked) × AskForTrace command rows asked × (asked.stream ≡ false) × (options ≡ asked.trace)
+    × HasWord rows (codes "FILE") file.now
+GivesJob command rows (Stream options file) =
+    (asked : Asked) × AskForTrace command rows asked × (asked.stream ≡ true) × (options ≡ stream_of asked)
     × HasWord rows (codes "FILE") file.now
 GivesJob command rows (Check options opening trace records) =
     (command ≡ codes "check") × TellsCheck rows options
@@ -51,7 +63,7 @@ IsAskedBy words job = (found : Text × List Row) × AreTaken words found × Give
 abbrev pub AskForConflict : Text → List Row → Conflict → Type 0
 AskForConflict command rows Fair = IsOrder rows None
 AskForConflict command rows why =
-    (command ≡ codes "trace") × (options : TraceOptions) × TellsTrace rows options × (conflict_of options ≡ Some why)
+    (command ≡ codes "trace") × (asked : Asked) × TellsAsked rows asked × (conflict_of asked ≡ Some why)
 
 -- what is said then
 abbrev pub conflict_text : Conflict → Text
@@ -60,6 +72,8 @@ conflict_text Counts =
     codes "error: '--counts' needs '--schedule round' or '--schedule seed', and no '--records'\n\n" ++ more_text
 conflict_text Every = codes "error: '--every' needs '--counts'\n\n" ++ more_text
 conflict_text Json = codes "error: '--json' cannot be used with '--records'\n\n" ++ more_text
+conflict_text StreamConflict = codes "error: '--stream' needs '--schedule round', and no '--counts'\n\n" ++ more_text
+conflict_text Cores = codes "error: '--cores' and '--no-words' need '--stream'\n\n" ++ more_text
 
 -- clap's rules find a fault of this kind in the words
 abbrev pub IsFaulty : List Text → ErrorKind → Type 0

@@ -1,12 +1,14 @@
 -- What the options say in the matches.
 use Rattle.std.specs.Prelude.{◌≡◌, ℕ, ◌≤◌, Bool, true, false, ◌&&◌, ◌||◌, List, [], Option, Some, None, codes}
 use Rattle.std.specs.Prelude.{is_some, not, unwrap_or}
+use Rattle.command_line.specs.declared.options.Asked.{Asked}
 use Rattle.std.specs.Str.Parse.{IsNumeral, digits_value, without_leading_plus}
 use Rattle.clap.specs.Words.{Row, Text, first_of, one_of}
 use Rattle.run_options.specs.declared.options.TheConstants.EndsOptions.{DEFAULT as ends_default}
 use Rattle.run_options.specs.declared.options.TheConstants.LitmusOptions.{DEFAULT as litmus_default}
 use Rattle.run_options.specs.declared.options.TheConstants.MachineOptions.{DEFAULT as machine_default}
 use Rattle.run_options.specs.declared.options.TheConstants.RunOptions.{DEFAULT as run_default}
+use Rattle.run_options.specs.declared.options.TheConstants.StreamOptions.{DEFAULT as stream_default}
 use Rattle.run_options.specs.declared.options.CheckOptions.{CheckOptions}
 use Rattle.run_options.specs.declared.options.EndsOptions.{EndsOptions}
 use Rattle.run_options.specs.declared.options.LitmusOptions.{LitmusOptions}
@@ -14,6 +16,7 @@ use Rattle.run_options.specs.declared.options.MachineOptions.{MachineOptions}
 use Rattle.run_options.specs.declared.options.RunOptions.{RunOptions}
 use Rattle.run_options.specs.declared.options.Schedule.{Schedule}
 use Rattle.run_options.specs.declared.options.Schedule.TheVariants.{Round, FairRound, Seed, Threads, FairThreads}
+use Rattle.run_options.specs.declared.options.StreamOptions.{StreamOptions}
 use Rattle.run_options.specs.declared.options.TraceOptions.{TraceOptions}
 
 -- the text is this number in decimal, with a plus before it or without one
@@ -138,6 +141,23 @@ TellsTrace rows options =
     × MayHaveNumber rows (codes "every") 1 18446744073709551615 options.every
     × IsFlag rows (codes "json") options.json × TellsRun rows options.run
 
+-- how a trace is run, whether it is read as the run goes, and what is said of that: how many cores there are, and that
+-- its report has no words
+abbrev pub TellsAsked : List Row → Asked → Type 0
+TellsAsked rows asked =
+    TellsTrace rows asked.trace × IsFlag rows (codes "stream") asked.stream
+    × MayHaveNumber rows (codes "cores") 1 64 asked.cores × IsFlag rows (codes "no-words") asked.no_words
+
+-- the options of a trace that is read as the run goes
+abbrev pub stream_of : Asked → StreamOptions
+stream_of asked = record {
+  records = asked.trace.records;
+  words = not asked.no_words;
+  json = asked.trace.json;
+  cores = unwrap_or asked.cores stream_default.cores;
+  run = asked.trace.run;
+}
+
 -- whether all records are asked for, and whether the verdict is JSON
 abbrev pub TellsCheck : List Row → CheckOptions → Type 0
 TellsCheck rows options =
@@ -165,3 +185,19 @@ rows_in_vain options = is_some options.every && not options.counts
 -- JSON is asked for beside records, which are lines
 abbrev pub json_in_vain : TraceOptions → Bool
 json_in_vain options = options.json && options.records
+
+-- rounds, fair or not, can be run as their trace is read
+abbrev pub can_stream : Schedule → Bool
+can_stream Round = true
+can_stream FairRound = true
+can_stream Seed = false
+can_stream Threads = false
+can_stream FairThreads = false
+
+-- the trace is to be read as the run goes, but by a schedule that can't, or with counts
+abbrev pub stream_in_vain : Asked → Bool
+stream_in_vain asked = asked.stream && (asked.trace.counts || not (can_stream asked.trace.run.schedule))
+
+-- a number of cores is asked for, or no words, but the trace is read before it runs
+abbrev pub cores_in_vain : Asked → Bool
+cores_in_vain asked = not asked.stream && (is_some asked.cores || asked.no_words)

@@ -7,7 +7,7 @@ ghost use Rattle.command_line.specs.Additions.{Adds, IsApp, IsArg};
 ghost use Rattle.command_line.specs.App.{NameSchedules, NamesSchedules, any_number, bare_rule, check_app};
 ghost use Rattle.command_line.specs.App.{count_rules, ends_app, from_one};
 ghost use Rattle.command_line.specs.App.{file_rule, flag_rule, litmus_app, machine_rules, number_rule, path_rule};
-ghost use Rattle.command_line.specs.App.{run_rules};
+ghost use Rattle.command_line.specs.App.{run_rules, stream_rules};
 ghost use Rattle.command_line.specs.App.{tardis_app, trace_app, wanting, with_rules, with_run_and_file};
 
 use clap::builder::ValueParser;
@@ -74,6 +74,13 @@ const EVERY: &str =
 const JSON: &str = "Writes a JSON object in place of lines";
 
 const TRACE_JSON: &str = "Writes a JSON object in place of lines; not with --records";
+
+const STREAM: &str =
+    "Reads the trace as the run goes, without a limit of lines; not by schedule seed or threads, nor with --counts";
+
+const CORES: &str = "How many cores the machine of a stream has, 1 to 64; by default 64";
+
+const NO_WORDS: &str = "Leaves the words out of a stream's report";
 
 const COMPLETE: &str = "Asks for a record of each operation of the trace";
 
@@ -272,6 +279,19 @@ fn with_count_options<'a>(
     with(three, flag(alloc, "json", TRACE_JSON))
 }
 
+/// A command with the options of a trace that is read as the run goes.
+fn with_stream_options<'a>(
+    command: Result<Command<'a>, AllocError>,
+    alloc: Global,
+) -> Result<Command<'a>, AllocError>
+    ensures { Adds command.entry (λ app. with_rules app stream_rules) result }
+{
+    let cores = value_parser!(u64).range(1..65);
+    let one = with(command, flag(alloc, "stream", STREAM));
+    let two = with(one, bare(alloc, "cores", cores, CORES));
+    with(two, flag(alloc, "no-words", NO_WORDS))
+}
+
 /// The command `trace`.
 fn trace_command<'a>(alloc: Global) -> Result<Command<'a>, AllocError>
     ensures { (p : _) × NamesSchedules p × IfOk result (IsApp (trace_app p)) }
@@ -279,7 +299,8 @@ fn trace_command<'a>(alloc: Global) -> Result<Command<'a>, AllocError>
     let about = "Runs a trace and reports what came of it, or its records";
     let named = empty(alloc, "trace", about);
     let counted = with_count_options(named, alloc);
-    with_run(counted, alloc, TRACE_FILE)
+    let streamed = with_stream_options(counted, alloc);
+    with_run(streamed, alloc, TRACE_FILE)
 }
 
 /// The command `check`.

@@ -1,18 +1,23 @@
 //! Laws of options. The functions do nothing: their contracts are the laws.
-ghost use Rattle.std.specs.Prelude.{◌≡◌, List, ◌≤◌, String, codes};
+ghost use Rattle.std.specs.Borrow.{Bor};
+ghost use Rattle.std.specs.Prelude.{◌≡◌, List, ◌≤◌, String, codes, true};
 ghost use Rattle.std.specs.declared.alloc.Global.{Global};
-ghost use Rattle.clap.specs.Words.{Row};
+ghost use Rattle.clap.specs.Words.{Row, Text};
 ghost use Rattle.run_options.specs.declared.options.EndsOptions.{EndsOptions};
 ghost use Rattle.run_options.specs.declared.options.LitmusOptions.{LitmusOptions};
 ghost use Rattle.run_options.specs.declared.options.RunOptions.{RunOptions};
 ghost use Rattle.run_options.specs.declared.options.TraceOptions.{TraceOptions};
-ghost use Rattle.command_line.specs.Job.{words_number};
-ghost use Rattle.command_line.specs.Options.{EveryIsInRange, GivesNumber, GivesSome, RunIsInRange};
-ghost use Rattle.command_line.specs.Options.{TellsEnds, TellsLitmus, TellsRun, TellsTrace};
+ghost use Rattle.run_options.specs.declared.options.StreamOptions.{StreamOptions};
+ghost use Rattle.command_line.specs.Job.{GivesJob, words_number};
+ghost use Rattle.command_line.specs.Options.{EveryIsInRange, GivesNumber, GivesSome, RunIsInRange, TellsAsked};
+ghost use Rattle.command_line.specs.Options.{TellsEnds, TellsLitmus, TellsRun, TellsTrace, can_stream, stream_of};
+ghost use Rattle.command_line.specs.declared.options.Asked.{Asked};
+ghost use Rattle.command_line.specs.declared.words.Job.TheVariants.{Stream};
 ghost use Rattle.command_line.specs.declared.words.WordsError.TheVariants.{NoMemory, Refused};
 
 /// Options always ask for 1 to 16 workers, a limit of 1 to 4,294,967,295, 1 to 1,000,000 runs, 1 to 4,294,967,295
-/// states, and a row of counts for each 1 to 18,446,744,073,709,551,615 operations or for none, for any words.
+/// states, 1 to 64 cores of a stream, and a row of counts for each 1 to 18,446,744,073,709,551,615 operations or for
+/// none, for any words.
 pub fn options_are_in_range()
     ensures run { (rows : List Row) (options : RunOptions) → TellsRun rows options →
         RunIsInRange options }
@@ -22,10 +27,12 @@ pub fn options_are_in_range()
         (1 ≤ options.most_states) × (options.most_states ≤ 4294967295) }
     ensures trace { (rows : List Row) (options : TraceOptions) → TellsTrace rows options →
         RunIsInRange options.run × EveryIsInRange options.every }
+    ensures stream { (rows : List Row) (asked : Asked) → TellsAsked rows asked →
+        (1 ≤ (stream_of asked).cores) × ((stream_of asked).cores ≤ 64) }
 {}
 
-/// A number of workers, a limit, a number of runs, of states or of operations for a row of counts that the words give,
-/// and that is in range, is the one that is taken.
+/// A number of workers, a limit, a number of runs, of states, of a stream's cores or of operations for a row of counts
+/// that the words give, and that is in range, is the one that is taken.
 pub fn numbers_in_range_are_taken()
     ensures workers { (rows : List Row) (options : RunOptions) → TellsRun rows options →
         GivesNumber rows (codes "workers") 1 16 options.workers }
@@ -37,6 +44,14 @@ pub fn numbers_in_range_are_taken()
         GivesNumber rows (codes "states") 1 4294967295 options.most_states }
     ensures every { (rows : List Row) (options : TraceOptions) → TellsTrace rows options →
         GivesSome rows (codes "every") 1 18446744073709551615 options.every }
+    ensures cores { (rows : List Row) (asked : Asked) → TellsAsked rows asked →
+        GivesNumber rows (codes "cores") 1 64 (stream_of asked).cores }
+{}
+
+/// A trace that is read as the run goes is run by rounds, fair or not.
+pub fn streams_are_by_rounds()
+    ensures { (command : Text) (rows : List Row) (options : StreamOptions) (file : Bor Text) →
+        GivesJob command rows (Stream options file) → can_stream options.run.schedule ≡ true }
 {}
 
 /// Refused words have the number 1, and lack of memory the number 2.

@@ -3,14 +3,29 @@
 ghost use Rattle.std.specs.Prelude.{◌≡◌, IfSome, None, option_map};
 ghost use Rattle.clap.specs.Words.{found_of, rows_of};
 ghost use Rattle.command_line.specs.Options.{HasPath, HasWord, HasAnyNumber, IsFlag, HasNumber, IsOrder};
-ghost use Rattle.command_line.specs.Options.{IsSchedule, MayHaveNumber, TellsCheck, TellsEnds, TellsLitmus};
-ghost use Rattle.command_line.specs.Options.{TellsMachine, TellsRun, TellsTrace, counts_in_vain, fairly};
-ghost use Rattle.command_line.specs.Options.{json_in_vain, rows_in_vain};
+ghost use Rattle.command_line.specs.Options.{IsSchedule, MayHaveNumber, TellsAsked, TellsCheck, TellsEnds};
+ghost use Rattle.command_line.specs.Options.{TellsLitmus, TellsMachine, TellsRun, TellsTrace, can_stream};
+ghost use Rattle.command_line.specs.Options.{cores_in_vain, counts_in_vain, fairly, json_in_vain, rows_in_vain};
+ghost use Rattle.command_line.specs.Options.{stream_in_vain, stream_of};
 
 use clap::ArgMatches;
 use run_options::{
-    CheckOptions, EndsOptions, LitmusOptions, MachineOptions, RunOptions, Schedule, TraceOptions,
+    CheckOptions, EndsOptions, LitmusOptions, MachineOptions, RunOptions, Schedule, StreamOptions,
+    TraceOptions,
 };
+
+/// What the words ask of the run of a trace.
+#[derive(Clone, Copy, Debug)]
+pub(crate) struct Asked {
+    /// How it goes, and what is written of it.
+    pub(crate) trace: TraceOptions,
+    /// Whether the trace is read as the run goes.
+    pub(crate) stream: bool,
+    /// How many cores its machine has then, if the words say it.
+    pub(crate) cores: Option<u64>,
+    /// Whether its report has no words then.
+    pub(crate) no_words: bool,
+}
 
 /// The number from least to most that an option's text writes, if it writes one.
 fn number_in(matches: &ArgMatches<'_>, name: &str, least: u64, most: u64) -> Option<u64>
@@ -152,7 +167,7 @@ pub(crate) fn ends_options(matches: &ArgMatches<'_>) -> EndsOptions
 }
 
 /// The run of a trace that the words ask for; none as for any run.
-pub(crate) fn trace_options(matches: &ArgMatches<'_>) -> Option<TraceOptions>
+fn trace_options(matches: &ArgMatches<'_>) -> Option<TraceOptions>
     ensures trace { IfSome result (TellsTrace (rows_of (found_of matches.now))) }
     ensures unfair { result ≡ None → IsOrder (rows_of (found_of matches.now)) None }
 {
@@ -164,6 +179,33 @@ pub(crate) fn trace_options(matches: &ArgMatches<'_>) -> Option<TraceOptions>
         json: flag(matches, "json"),
         run,
     })
+}
+
+/// What the words ask of the run of a trace; none as for any run.
+pub(crate) fn asked_of(matches: &ArgMatches<'_>) -> Option<Asked>
+    ensures asked { IfSome result (TellsAsked (rows_of (found_of matches.now))) }
+    ensures unfair { result ≡ None → IsOrder (rows_of (found_of matches.now)) None }
+{
+    let trace = trace_options(matches)?;
+    Some(Asked {
+        trace,
+        stream: flag(matches, "stream"),
+        cores: number_in(matches, "cores", 1, 64),
+        no_words: flag(matches, "no-words"),
+    })
+}
+
+/// The options of a trace that is read as the run goes.
+pub(crate) fn stream_of(asked: &Asked) -> StreamOptions
+    ensures { result ≡ stream_of asked.now }
+{
+    StreamOptions {
+        records: asked.trace.records,
+        words: !asked.no_words,
+        json: asked.trace.json,
+        cores: asked.cores.unwrap_or(StreamOptions::DEFAULT.cores),
+        run: asked.trace.run,
+    }
 }
 
 /// The check that the words ask for.
@@ -199,4 +241,25 @@ pub(crate) fn json_in_vain(options: &TraceOptions) -> bool
     ensures { result ≡ json_in_vain options.now }
 {
     options.json && options.records
+}
+
+/// Whether a trace can be read as a run of this schedule goes.
+fn can_stream(schedule: Schedule) -> bool
+    ensures { result ≡ can_stream schedule }
+{
+    matches!(schedule, Schedule::Round | Schedule::FairRound)
+}
+
+/// Whether it is asked in vain to read the trace as the run goes: by a schedule that can't, or next to counts.
+pub(crate) fn stream_in_vain(asked: &Asked) -> bool
+    ensures { result ≡ stream_in_vain asked.now }
+{
+    asked.stream && (asked.trace.counts || !can_stream(asked.trace.run.schedule))
+}
+
+/// Whether a number of cores, or no words, are asked for in vain: of a trace that is read before it runs.
+pub(crate) fn cores_in_vain(asked: &Asked) -> bool
+    ensures { result ≡ cores_in_vain asked.now }
+{
+    !asked.stream && (asked.cores.is_some() || asked.no_words)
 }

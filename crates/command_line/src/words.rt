@@ -7,12 +7,12 @@ ghost use Rattle.command_line.specs.Job.{IsRefusedFor, conflict_of, conflict_tex
 
 use crate::app::command;
 use crate::options::{
-    check_options, counts_in_vain, ends_options, json_in_vain, litmus_options, path_of,
-    rows_in_vain, trace_options, word_of,
+    Asked, asked_of, check_options, cores_in_vain, counts_in_vain, ends_options, json_in_vain,
+    litmus_options, path_of, rows_in_vain, stream_in_vain, stream_of, word_of,
 };
 use clap::error::ErrorKind;
 use clap::{ArgMatches, Error};
-use run_options::{CheckOptions, EndsOptions, LitmusOptions, TraceOptions};
+use run_options::{CheckOptions, EndsOptions, LitmusOptions, StreamOptions, TraceOptions};
 use std::alloc::Global;
 
 /// What the words ask for.
@@ -24,6 +24,9 @@ pub enum Job<'a> {
     Ends(EndsOptions, &'a str),
     /// To run the trace of the file that has this path.
     Trace(TraceOptions, &'a str),
+    /// To run the trace of the file that has this path, and to read it as the run goes. Its schedule is round, fair or
+    /// not.
+    Stream(StreamOptions, &'a str),
     /// To check the records of the file at the last path against the trace of the file before it, over the opening of
     /// the first file, if one is named.
     Check(CheckOptions, Option<&'a str>, &'a str, &'a str),
@@ -33,8 +36,9 @@ pub enum Job<'a> {
 #[derive(Debug, Drop)]
 pub enum WordsError {
     /// The command line doesn't take the words, or they ask for help, or for what can't be had together: a fair
-    /// schedule that is seed, counts of a run by threads or next to records, rows of counts without counts, or JSON
-    /// next to records. This is the text to show, in whole lines.
+    /// schedule that is seed, counts of a run by threads or next to records, rows of counts without counts, JSON next
+    /// to records, a stream by seeds or threads or with counts, or cores or no words of no stream. This is the text to
+    /// show, in whole lines.
     Refused(String),
     /// Allocation failed.
     NoMemory,
@@ -73,6 +77,10 @@ enum Conflict {
     Every,
     /// JSON next to records.
     Json,
+    /// A trace that is read as the run goes by seeds or threads, or with counts.
+    Stream,
+    /// A number of cores, or no words, of a trace that is read before it runs.
+    Cores,
 }
 
 /// What is said of it.
@@ -93,6 +101,13 @@ fn conflict_text(why: Conflict) -> &'static str
         Conflict::Json => {
             "error: '--json' cannot be used with '--records'\n\nFor more information, try '--help'.\n"
         }
+        Conflict::Stream => {
+            "error: '--stream' needs '--schedule round', and no '--counts'\n\n\
+            For more information, try '--help'.\n"
+        }
+        Conflict::Cores => {
+            "error: '--cores' and '--no-words' need '--stream'\n\nFor more information, try '--help'.\n"
+        }
     }
 }
 
@@ -108,20 +123,42 @@ fn refused_for(alloc: Global, why: Conflict) -> WordsError
     }
 }
 
-/// The first of what a run of a trace can't have together, if its options ask for that.
-fn conflict_of(options: &TraceOptions) -> Option<Conflict>
-    ensures { result ≡ conflict_of options.now }
+/// The first of what a run of a trace can't have together, if the words ask for that.
+fn conflict_of(asked: &Asked) -> Option<Conflict>
+    ensures { result ≡ conflict_of asked.now }
 {
-    if counts_in_vain(options) {
+    if counts_in_vain(&asked.trace) {
         return Some(Conflict::Counts);
     }
-    if rows_in_vain(options) {
+    if rows_in_vain(&asked.trace) {
         return Some(Conflict::Every);
     }
-    if json_in_vain(options) {
+    if json_in_vain(&asked.trace) {
         return Some(Conflict::Json);
     }
+    if stream_in_vain(asked) {
+        return Some(Conflict::Stream);
+    }
+    if cores_in_vain(asked) {
+        return Some(Conflict::Cores);
+    }
     None
+}
+
+/// The run of a trace, or what it asks for that can't be had together.
+fn trace_job<'a>(matches: &ArgMatches<'a>) -> Result<Job<'a>, Conflict>
+    ensures job { IfOk result (GivesJob (codes "trace") (rows_of (found_of matches.now))) }
+    ensures conflict { IfErr result (AskForConflict (codes "trace") (rows_of (found_of matches.now))) }
+{
+    let asked = asked_of(matches).ok_or(Conflict::Fair)?;
+    if let Some(why) = conflict_of(&asked) {
+        return Err(why);
+    }
+    let file = word_of(matches, "FILE");
+    if asked.stream {
+        return Ok(Job::Stream(stream_of(&asked), file));
+    }
+    Ok(Job::Trace(asked.trace, file))
 }
 
 /// The job of a command that the program has, or what it asks for that can't be had together.
@@ -137,13 +174,7 @@ fn job_of<'a>(name: &str, matches: &ArgMatches<'a>) -> Result<Job<'a>, Conflict>
             Ok(Job::Litmus(options, word_of(matches, "FILE")))
         }
         "ends" => Ok(Job::Ends(ends_options(matches), word_of(matches, "FILE"))),
-        "trace" => {
-            let options = trace_options(matches).ok_or(Conflict::Fair)?;
-            if let Some(why) = conflict_of(&options) {
-                return Err(why);
-            }
-            Ok(Job::Trace(options, word_of(matches, "FILE")))
-        }
+        "trace" => trace_job(matches),
         _ => Ok(Job::Check(
             check_options(matches),
             path_of(matches, "opening"),

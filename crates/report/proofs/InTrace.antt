@@ -26,7 +26,7 @@ use Rattle.trace_texts.specs.Records.{AreComplete, HasItsValue}
 use Rattle.programs.specs.declared.ends.End.{End}
 use Rattle.programs.specs.declared.steps.Step.{Step}
 use Rattle.programs.specs.declared.steps.Step.TheVariants as step
-use Rattle.trace_reader.specs.Steps.{lane, ops_of, trace_cores, trace_ops}
+use Rattle.trace_reader.specs.Steps.{lane, ops_of, trace_ops}
 use Rattle.machine_theorem.specs.Service.{AreServed}
 use Rattle.programs.specs.Performs.{Performs, Told, rests, advances, does}
 use Rattle.worker_driver.specs.declared.set_up.Driver.{Driver}
@@ -133,8 +133,7 @@ both (r ∷ rs) n few there has =
 -- ---- a run of a trace
 
 module _ (lanes : List (List Step)) (config : Config) (m : Machine) (programs : List (List Step))
-    (cores : config.cores ≡ trace_cores lanes)
-    (served : AreServed step_acts (at_start config empty) m (programs_below lanes (trace_cores lanes)) programs) where
+    (served : AreServed step_acts (at_start config empty) m (programs_below lanes config.cores) programs) where
   abbrev issued_to : ℕ → List Op
   issued_to core = slice_index_or m.issued core []
 
@@ -147,13 +146,12 @@ module _ (lanes : List (List Step)) (config : Config) (m : Machine) (programs : 
   opened None q next = (ops_of q, refl)
   opened (Some op) q next = (ops_of (step_acts.done q None), with_op q op None next)
 
-  in_lane : (core : ℕ) → core < config.cores → (rest : List Op) × (ops_of (lane lanes core) ≡ issued_to core ++ rest)
+  pub in_lane : (core : ℕ) → core < config.cores → (rest : List Op) × (ops_of (lane lanes core) ≡ issued_to core ++ rest)
   in_lane core below =
       let s = served.each core below (nothing_open config 0 config.cores core) in
       let now_open = operation_of (slice_get m.cores core) in
       let told = subst (λ (o : Option (List Step)). Told step_acts (of_core core served.added) now_open o
-      (slice_get programs core)) (lane_there lanes (trace_cores lanes) core (subst (λ (n : ℕ). core < n) cores below))
-      s.told in
+      (slice_get programs core)) (lane_there lanes config.cores core below) s.told in
       let left = opened now_open told.now told.ahead in
       let done = map (λ (r : Record). r.op) (of_core core served.added) in
       let issued : issued_to core ≡ done ++ listed now_open =
@@ -202,7 +200,7 @@ module _ (lanes : List (List Step)) (config : Config) (m : Machine) (programs : 
   -- a run that came to a consistent machine
   pub is_run : IsConsistent m → m.opening ≡ empty → RisesByNumber m.records → config.cores ≤ 64 →
       (asks : Bool) (driver : Driver) (limit : ℕ) (end : End) →
-      LeadsFromZeros asks driver limit config (programs_below lanes (trace_cores lanes)) m programs end →
+      LeadsFromZeros asks driver limit config (programs_below lanes config.cores) m programs end →
       IsTraceRun asks driver limit config lanes end m
   is_run consistent opened rising few asks driver limit end led =
       let legal = subst (λ (ws : FinMap nat_cmp ℕ). Legal (flat ws) (λ core. slice_index_or m.issued core []) m.records)

@@ -9,3 +9,9 @@ mod Pairs
 mod CompleteRecords
 mod LastStates
 mod HeldEnds
+mod LanesByCore
+mod StreamedSteps
+mod StreamedTexts
+mod StreamedPieces
+mod WrittenPieces
+mod StoppedPieces

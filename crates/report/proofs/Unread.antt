@@ -11,7 +11,7 @@ use Rattle.trace_reader.specs.Outcomes.{IsCaused, IsOfLine, Refused, WantsMemory
 use Rattle.report.specs.Refusals.{IsFault, IsUnread, refusal, refusal_of}
 use Rattle.text_lines.specs.Lines.{lines_of}
 
-fault_told : (kind : Kind) (e : TraceError) → kind ≢ Read → kind ≢ NoMemory → refusal_of kind e ≡ Trace e
+pub fault_told : (kind : Kind) (e : TraceError) → kind ≢ Read → kind ≢ NoMemory → refusal_of kind e ≡ Trace e
 fault_told Read e read memory = absurd (read refl)
 fault_told NoMemory e read memory = absurd (memory refl)
 fault_told TooLong e read memory = refl

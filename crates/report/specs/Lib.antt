@@ -10,3 +10,5 @@ pub mod Refusals
 pub mod Reports
 pub mod Verdicts
 pub mod Openings
+pub mod Streams
+pub mod StreamParts

@@ -1,18 +1,17 @@
 -- What a run of a trace is, and the texts that report it.
-use Rattle.std.specs.Prelude.{◌≡◌, ℕ, zero, suc, ◌+◌, Bool, true, false, List, [], ◌∷◌, ◌++◌, length, map}
+use Rattle.std.specs.Prelude.{◌≡◌, ℕ, zero, suc, Bool, true, false, List, [], ◌∷◌, ◌++◌, map}
 use Rattle.std.specs.Prelude.{Option, Some, None, option_map, slice_index_or}
 use Rattle.std.specs.Borrow.{Bor}
 use Rattle.std.specs.Ordering.{nat_cmp}
-use Rattle.std.specs.FinMap.{FinMap, empty, entries, insert}
+use Rattle.std.specs.FinMap.{FinMap, empty}
 use Rattle.machine_table.specs.declared.config.Config.{Config}
 use Rattle.machine_table.specs.declared.event.Event.{Event}
 use Rattle.machine_table.specs.Machine.{Machine}
 use Rattle.machine_table.specs.Opening.{at_start}
 use Rattle.machine_theorem.specs.Coherence.{coherent}
-use Rattle.physiological_order.specs.declared.operation.Op.{Op}
 use Rattle.physiological_order.specs.declared.operation.Record.{Record}
 use Rattle.physiological_order.specs.declared.verdict.Verdict.TheVariants.{Legal as LegalVerdict}
-use Rattle.physiological_order.specs.Order.{address, flat, Legal, Arrangement, replay_end}
+use Rattle.physiological_order.specs.Order.{flat, Legal, Arrangement, replay_end}
 use Rattle.physiological_order.specs.StaleHits.{RisesByNumber, stale_count}
 use Rattle.trace_texts.specs.Records.{AreComplete, records_text}
 use Rattle.schedules.specs.declared.policy.Policy.{Policy}
@@ -23,7 +22,8 @@ use Rattle.worker_driver.specs.Orders.{LeadsTo}
 use Rattle.programs.specs.declared.ends.End.{End}
 use Rattle.programs.specs.declared.ends.End.TheVariants.{AllDone, Stalled, TurnsUsed, Exhausted, NoMemory}
 use Rattle.programs.specs.declared.steps.Step.{Step}
-use Rattle.trace_reader.specs.Steps.{lane, ops_of, trace_cores, trace_ops}
+use Rattle.streamed_runs.specs.StreamStates.{issued_below, values_in}
+use Rattle.trace_reader.specs.Steps.{lane, ops_of, trace_cores, trace_ops, with_words}
 use Rattle.trace_texts.specs.declared.reports.TraceEnd.{TraceEnd}
 use Rattle.event_counts.specs.Counting.{Counter, CounterState}
 use Rattle.report_lines.specs.declared.layout.Layout.{Layout}
@@ -47,13 +47,14 @@ LeadsFromZeros asks (ByPolicy policy) limit config before m after end =
 LeadsFromZeros asks (ByThreads fair) limit config before m after end =
     LeadsTo step_acts (ByThreads fair) limit config empty before m after end
 
--- A run of a trace over a memory of zeros, by a policy or by threads. Its records are a legal history of what the
--- cores were issued, and so of the operations of the trace. They are in rising order of number, and a text of records
--- can write them. The words have the values that the records leave, one after the other in the order of their times.
+-- A run of a trace over a memory of zeros, by a policy or by threads. A core that the trace hasn't has no steps. The
+-- records are a legal history of what the cores were issued, and so of the operations of the trace. They are in rising
+-- order of number, and a text of records can write them. The words have the values that the records leave, one after
+-- the other in the order of their times.
 pub record IsTraceRun (asks : Bool) (driver : Driver) (limit : ℕ) (config : Config) (lanes : List (List Step))
     (end : End) (machine : Machine) : Type 0 where
   pub programs : List (List Step)
-  pub led : LeadsFromZeros asks driver limit config (programs_below lanes (trace_cores lanes)) machine programs end
+  pub led : LeadsFromZeros asks driver limit config (programs_below lanes config.cores) machine programs end
   pub legal : Legal (flat empty) (λ core. slice_index_or machine.issued core []) machine.records
   pub legal_in_trace : Legal (flat empty) (trace_ops lanes) machine.records
   pub rising : RisesByNumber machine.records
@@ -67,28 +68,14 @@ pub record IsWatched {W : Type 0} (watches : Watches W) (before : watches.Seen) 
     (config : Config) (lanes : List (List Step)) (end : End) (machine : Machine) (after : watches.Seen) : Type 0 where
   pub events : List Event
   pub programs : List (List Step)
-  pub ended : EndsBy watches.asks step_acts policy limit (at_start config empty)
-      (programs_below lanes (trace_cores lanes)) events machine programs end
+  pub ended : EndsBy watches.asks step_acts policy limit (at_start config empty) (programs_below lanes config.cores)
+      events machine programs end
   pub seen : after ≡ watched watches before (at_start config empty) events
-
--- how many operations the cores below a number were issued
-abbrev pub issued_below : Machine → ℕ → ℕ
-issued_below m zero = 0
-issued_below m (suc core) = issued_below m core + length (slice_index_or m.issued core [])
-
--- the words that operations name, and those that are there: a map, whose entries rise by word
-abbrev pub with_words : FinMap nat_cmp ℕ → List Op → FinMap nat_cmp ℕ
-with_words words [] = words
-with_words words (op ∷ ops) = with_words (insert words (address op) 0) ops
 
 -- the words that the operations of the cores below a number name, done or not
 abbrev pub words_below : List (List Step) → ℕ → FinMap nat_cmp ℕ
 words_below lanes zero = empty
 words_below lanes (suc core) = with_words (words_below lanes core) (ops_of (lane lanes core))
-
--- the values of words, where they are
-abbrev pub values_in : Machine → FinMap nat_cmp ℕ → List (ℕ × ℕ)
-values_in m words = map (λ entry. (entry.0, coherent m entry.0)) (entries words)
 
 -- what the report says of a run, apart from its records and its words
 abbrev pub trace_end_of : List (List Step) → End → Machine → TraceEnd

@@ -14,6 +14,8 @@ mod openings;
 mod outputs;
 mod reports;
 mod sources;
+mod stream_parts;
+mod streams;
 mod texts;
 mod trace_programs;
 mod words;
@@ -29,7 +31,9 @@ pub use report_lines::Layout;
 pub use report_text::litmus_text;
 pub use reports::run_trace;
 pub use run_options::{
-    CheckOptions, EndsOptions, LitmusOptions, MachineOptions, RunOptions, Schedule, TraceOptions,
+    CheckOptions, EndsOptions, LitmusOptions, MachineOptions, RunOptions, Schedule, StreamOptions,
+    TraceOptions,
 };
 pub use run_results::{Done, RunError, exit_status};
+pub use streams::run_stream;
 pub use trace_texts::{TraceEnd, records_text, trace_text};

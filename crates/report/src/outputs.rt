@@ -22,6 +22,20 @@ pub fn layout_of(json: bool) -> Layout
     if json { Layout::Json } else { Layout::Lines }
 }
 
+/// Writes the text.
+pub(crate) fn put_text<K: Sink>(sink: &mut K, text: &[u8]) -> Result<(), RunError>
+    ensures all { OnOk result (Grows (K.contents sink.old) (K.contents sink.new) text.now) }
+    ensures none_failed { OnOk result (K.failures sink.new ≡ K.failures sink.old) }
+    ensures failed { IfErr result (IsWriteError
+        (K.contents sink.old) (K.contents sink.new) (K.failures sink.old) (K.failures sink.new)
+        text.now) }
+{
+    match write_all(sink, text) {
+        Ok(()) => Ok(()),
+        Err(DeviceError) => Err(RunError::Write),
+    }
+}
+
 /// Writes the text, and answers whether it says that all is done.
 pub fn put_out<K: Sink>(sink: &mut K, text: &[u8], done: Done) -> Result<Done, RunError>
     ensures done { IfOk result (λ answer. answer ≡ done) }
@@ -31,8 +45,6 @@ pub fn put_out<K: Sink>(sink: &mut K, text: &[u8], done: Done) -> Result<Done, R
         (K.contents sink.old) (K.contents sink.new) (K.failures sink.old) (K.failures sink.new)
         text.now) }
 {
-    match write_all(sink, text) {
-        Ok(()) => Ok(done),
-        Err(DeviceError) => Err(RunError::Write),
-    }
+    put_text(sink, text)?;
+    Ok(done)
 }

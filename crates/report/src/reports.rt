@@ -189,7 +189,8 @@ fn is_counted(options: &TraceOptions) -> bool
     options.counts && !options.records
 }
 
-fn is_all_done(end: End) -> bool
+/// Whether a run ended all done.
+pub(crate) fn is_all_done(end: End) -> bool
     ensures { result ≡ is_all_done end }
 {
     matches!(end, End::AllDone)

@@ -3,8 +3,9 @@
 ghost use Rattle.std.specs.Prelude.{◌≡◌, map, IfOk, OnOk};
 ghost use Rattle.std.specs.FinMap.{entries};
 ghost use Rattle.machine_table.specs.Machine.{Machine};
-ghost use Rattle.trace_reader.specs.Steps.{trace_cores};
-ghost use Rattle.report.specs.Runs.{issued_below, values_in, with_words, words_below};
+ghost use Rattle.streamed_runs.specs.StreamStates.{issued_below, values_in};
+ghost use Rattle.trace_reader.specs.Steps.{trace_cores, with_words};
+ghost use Rattle.report.specs.Runs.{words_below};
 
 use physiological_order::{Memory, Op, WordAddr};
 use std::alloc::{AllocError, Global};

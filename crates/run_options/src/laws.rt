@@ -1,6 +1,6 @@
 //! The defaults of all options. The function does nothing: its contract is the law.
 
-ghost use Rattle.std.specs.Prelude.{◌≡◌, None, false};
+ghost use Rattle.std.specs.Prelude.{◌≡◌, None, false, true};
 ghost use Rattle.run_options.specs.declared.options.Schedule.TheVariants.{Round};
 ghost use Rattle.run_options.specs.declared.options.TheConstants.MachineOptions.{DEFAULT as machine_default};
 ghost use Rattle.run_options.specs.declared.options.TheConstants.RunOptions.{DEFAULT as run_default};
@@ -8,11 +8,13 @@ ghost use Rattle.run_options.specs.declared.options.TheConstants.EndsOptions.{DE
 ghost use Rattle.run_options.specs.declared.options.TheConstants.LitmusOptions.{DEFAULT as litmus_default};
 ghost use Rattle.run_options.specs.declared.options.TheConstants.TraceOptions.{DEFAULT as trace_default};
 ghost use Rattle.run_options.specs.declared.options.TheConstants.CheckOptions.{DEFAULT as check_default};
+ghost use Rattle.run_options.specs.declared.options.TheConstants.StreamOptions.{DEFAULT as stream_default};
 
 /// A machine has a lease of 10, the time 0, one bank, private caches of 64 sets of 4 lines, a bank of 256 sets of 8
 /// lines, lines of one word, 4,096 messages in flight and no private writes. A run is by rounds, at most 100,000 of
 /// them, with one worker. A litmus test has one run. A list of ends keeps at most 4,194,304 states and has no
-/// orders. A trace has a report without counts. A check takes records that lack some operations. All write lines.
+/// orders. A trace has a report without counts; one that is read as the run goes has a machine of 64 cores, and its
+/// report has the words. A check takes records that lack some operations. All write lines.
 pub fn defaults_are_these()
     ensures machine { machine_default ≡ record {
       lease = 10;
@@ -40,6 +42,13 @@ pub fn defaults_are_these()
       counts = false;
       every = None;
       json = false;
+      run = run_default;
+    } }
+    ensures stream { stream_default ≡ record {
+      records = false;
+      words = true;
+      json = false;
+      cores = 64;
       run = run_default;
     } }
     ensures check { check_default ≡ record { complete = false; json = false } }

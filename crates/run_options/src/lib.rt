@@ -6,5 +6,6 @@ pub mod laws;
 mod options;
 
 pub use options::{
-    CheckOptions, EndsOptions, LitmusOptions, MachineOptions, RunOptions, Schedule, TraceOptions,
+    CheckOptions, EndsOptions, LitmusOptions, MachineOptions, RunOptions, Schedule, StreamOptions,
+    TraceOptions,
 };

@@ -153,6 +153,32 @@ impl TraceOptions {
     };
 }
 
+/// The run of a trace that is read as the run goes.
+#[derive(Clone, Copy, Debug, PartialEq, Eq)]
+pub struct StreamOptions {
+    /// Whether the records are written in place of the report.
+    pub records: bool,
+    /// Whether the report ends with the words that the trace names, and their values; of no effect where the records
+    /// are written.
+    pub words: bool,
+    /// Whether the report is a JSON object in place of lines; of no effect where the records are written.
+    pub json: bool,
+    /// How many cores the machine has, as they aren't counted in the trace before the run. A machine takes 1 to 64.
+    pub cores: u64,
+    pub run: RunOptions,
+}
+
+impl StreamOptions {
+    /// The run of such a trace if no option says otherwise.
+    pub const DEFAULT: StreamOptions = StreamOptions {
+        records: false,
+        words: true,
+        json: false,
+        cores: 64,
+        run: RunOptions::DEFAULT,
+    };
+}
+
 /// The check of records against a trace.
 #[derive(Clone, Copy, Debug, PartialEq, Eq)]
 pub struct CheckOptions {

@@ -8,7 +8,7 @@ use Rattle.byte_streams.specs.Device.{Grows}
 use Rattle.byte_streams.specs.Whole.{GrowsByFront}
 use Rattle.command_line.specs.declared.words.Job.{Job}
 use Rattle.command_line.specs.declared.words.Job.TheVariants.{Litmus as LitmusJob, Ends as EndsJob}
-use Rattle.command_line.specs.declared.words.Job.TheVariants.{Trace as TraceJob, Check as CheckJob}
+use Rattle.command_line.specs.declared.words.Job.TheVariants.{Trace as TraceJob, Stream as StreamJob, Check as CheckJob}
 use Rattle.command_line.specs.declared.words.WordsError.{WordsError}
 use Rattle.command_line.specs.declared.words.WordsError.TheVariants.{Refused as RefusedWords}
 use Rattle.command_line.specs.declared.words.WordsError.TheVariants.{NoMemory as NoMemoryForWords}
@@ -22,15 +22,17 @@ use Rattle.report.specs.Litmus.{HasNoReport, IsLitmusReport}
 use Rattle.run_options.specs.declared.options.CheckOptions.{CheckOptions}
 use Rattle.run_options.specs.declared.options.EndsOptions.{EndsOptions}
 use Rattle.run_options.specs.declared.options.LitmusOptions.{LitmusOptions}
+use Rattle.run_options.specs.declared.options.StreamOptions.{StreamOptions}
 use Rattle.run_options.specs.declared.options.TraceOptions.{TraceOptions}
 use Rattle.run_results.specs.ErrorLine.{error_line}
 use Rattle.run_results.specs.declared.results.Done.{Done}
 use Rattle.run_results.specs.declared.results.RunError.{RunError}
-use Rattle.run_results.specs.declared.results.RunError.TheVariants.{Read, Write}
+use Rattle.run_results.specs.declared.results.RunError.TheVariants.{BadConfig, Read, Write}
 use Rattle.programs.specs.declared.steps.Step.{Step}
 use Rattle.report.specs.Openings.{HasNoOpening, IsOpened}
 use Rattle.report.specs.Refusals.{IsRead}
 use Rattle.report.specs.Reports.{HasNoTraceReport, IsTraceReport}
+use Rattle.report.specs.Streams.{FollowsRounds, HasNoStream, IsBegun, IsStreamReport, IsStreamText}
 use Rattle.report.specs.Verdicts.{HasNoVerdict, IsCheckReport, ReadsCounted, WritesCounted}
 
 -- what went out is a beginning of the text, and all of it if no write failed
@@ -104,6 +106,18 @@ abbrev pub RunsTrace : {F K : Type 0} → Devices F K → TraceOptions → Optio
 RunsTrace d options known old new came =
     Came d (IsTraceReport options known) (HasNoTraceReport options known) old new came
 
+-- the report of a trace that is run as it is read, or its records. On an error what went out before it stays: nothing,
+-- or records of the run's first turns. A machine that can't be had is told before that
+abbrev pub RunsStream : {F K : Type 0} → Devices F K → StreamOptions → Option (List ℕ) → K → K →
+    Result Done RunError → Type 0
+RunsStream d options known old new (Ok done) =
+    IsReported (IsStreamReport options known done.all_done) (d.contents old) (d.contents new)
+RunsStream d options known old new (Err Read) = IsReported (IsBegun options known) (d.contents old) (d.contents new)
+RunsStream d options known old new (Err Write) = IsCutOff (IsStreamText options known) (d.contents old) (d.contents new)
+RunsStream d options known old new (Err BadConfig) = HasNoStream options known BadConfig × (new ≡ old)
+RunsStream d options known old new (Err error) =
+    HasNoStream options known error × IsReported (IsBegun options known) (d.contents old) (d.contents new)
+
 -- the job was done on a file, which it left as another: failures are reported exactly as they were counted
 abbrev pub RunsOn : {F K : Type 0} → Devices F K → (Option (List ℕ) → K → K → Result Done RunError → Type 0) →
     (file left : F) → K → K → Result Done RunError → Type 0
@@ -166,6 +180,11 @@ abbrev pub OpensNamed : {F : Type 0} → (List ℕ → Result F DeviceError → 
 OpensNamed opens None opened = opened ≡ None
 OpensNamed {F} opens (Some name) opened = (file : Result F DeviceError) × opens name.now file × (opened ≡ Some file)
 
+-- a trace that is run as it is read is run by rounds
+abbrev pub CanBeDone : Job → Type 0
+CanBeDone (StreamJob options name) = FollowsRounds options.run
+CanBeDone job = Unit {0}
+
 -- the job was done on the files that have its names, given what opening each name may answer
 abbrev pub Does : {F K : Type 0} → Devices F K → (List ℕ → Result F DeviceError → Type 0) → Job → K → K →
     Result Done RunError → Type 0
@@ -175,6 +194,8 @@ Does {F} d opens (EndsJob options name) old new came = (opened : Result F Device
     × OnFile d (ListsEndsOf d options) opened old new came
 Does {F} d opens (TraceJob options name) old new came = (opened : Result F DeviceError) × opens name.now opened
     × OnFile d (RunsTrace d options) opened old new came
+Does {F} d opens (StreamJob options name) old new came = (opened : Result F DeviceError) × opens name.now opened
+    × OnFile d (RunsStream d options) opened old new came
 Does {F} d opens (CheckJob options opening trace records) old new came = (first : Option (Result F DeviceError))
     × OpensNamed opens opening first × (opened opened' : Result F DeviceError)
     × opens trace.now opened × opens records.now opened' × OnFiles d options first opened opened' old new came

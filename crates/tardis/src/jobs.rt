@@ -1,20 +1,21 @@
 //! The jobs that words ask for, each done on its files.
 
 ghost use Rattle.physiological_order.specs.Order.{flat};
-ghost use Rattle.tardis.specs.Answers.{Checks, ChecksOver, Does, ListsEndsOf, OnFile, OnFiles, OnOpening, OpensNamed};
-ghost use Rattle.tardis.specs.Answers.{RunsLitmus, RunsOn, RunsTrace, devices};
+ghost use Rattle.report.specs.Streams.{FollowsRounds};
+ghost use Rattle.tardis.specs.Answers.{CanBeDone, Checks, ChecksOver, Does, ListsEndsOf, OnFile, OnFiles, OnOpening};
+ghost use Rattle.tardis.specs.Answers.{OpensNamed, RunsLitmus, RunsOn, RunsStream, RunsTrace, devices};
 
 use crate::files::Files;
 use byte_streams::{DeviceError, Sink, Source};
 use command_line::Job;
 use physiological_order::Memory;
-use report::{check_history, layout_of, opening_of, run_ends, run_litmus, run_trace};
-use run_options::{CheckOptions, EndsOptions, LitmusOptions, TraceOptions};
+use report::{check_history, layout_of, opening_of, run_ends, run_litmus, run_stream, run_trace};
+use run_options::{CheckOptions, EndsOptions, LitmusOptions, StreamOptions, TraceOptions};
 use run_results::{Done, RunError};
 use std::alloc::Global;
 use std::thread::Threads;
 
-/// Does a job, and opens all its files first.
+/// Does a job that can be done, and opens all its files first.
 pub(crate) fn run_job<R: Threads + Sync, F: Files, K: Sink>(
     rt: &R,
     alloc: Global,
@@ -22,6 +23,7 @@ pub(crate) fn run_job<R: Threads + Sync, F: Files, K: Sink>(
     job: &Job<'_>,
     out: &mut K,
 ) -> Result<Done, RunError>
+    requires { CanBeDone job.now }
     ensures { Does (devices F.File.remaining F.File.failures K.contents K.failures)
         (F.opens files.now) job.now out.old out.new result }
 {
@@ -29,6 +31,7 @@ pub(crate) fn run_job<R: Threads + Sync, F: Files, K: Sink>(
         Job::Litmus(options, name) => litmus_of(rt, alloc, files.open(name), options, out),
         Job::Ends(options, name) => ends_of(alloc, files.open(name), options, out),
         Job::Trace(options, name) => trace_of(rt, alloc, files.open(name), options, out),
+        Job::Stream(options, name) => stream_of(alloc, files.open(name), options, out),
         Job::Check(options, opening, trace, records) => {
             let opening = open_named(files, *opening);
             let trace = files.open(trace);
@@ -133,6 +136,39 @@ fn trace_on<R: Threads + Sync, S: Source + Drop, K: Sink>(
 {
     let mut source = file;
     run_trace(rt, alloc, &mut source, out, options)
+}
+
+// Runs the trace of a file that was opened while it reads it.
+fn stream_of<S: Source + Drop, K: Sink>(
+    alloc: Global,
+    opened: Result<S, DeviceError>,
+    options: &StreamOptions,
+    out: &mut K,
+) -> Result<Done, RunError>
+    requires { FollowsRounds options.now.run }
+    ensures { OnFile (devices S.remaining S.failures K.contents K.failures)
+        (RunsStream (devices S.remaining S.failures K.contents K.failures) options.now) opened
+        out.old out.new result }
+{
+    match opened {
+        Ok(file) => stream_on(alloc, file, options, out),
+        Err(DeviceError) => Err(RunError::Read),
+    }
+}
+
+fn stream_on<S: Source + Drop, K: Sink>(
+    alloc: Global,
+    file: S,
+    options: &StreamOptions,
+    out: &mut K,
+) -> Result<Done, RunError>
+    requires { FollowsRounds options.now.run }
+    ensures { (left : S) × RunsOn (devices S.remaining S.failures K.contents K.failures)
+        (RunsStream (devices S.remaining S.failures K.contents K.failures) options.now) file left
+        out.old out.new result }
+{
+    let mut source = file;
+    run_stream(alloc, &mut source, out, options)
 }
 
 // The file that has a name, if there is a name.

@@ -3,10 +3,10 @@ use crate::limited::Limited;
 use byte_streams::FromRead;
 use physiological_order::Op;
 use programs::Program;
-use std::alloc::Global;
+use std::alloc::{AllocError, Global};
 use std::io;
 use std::io::Read;
-use trace_reader::{AheadError, Kind, Step, StepQueue, StepStream, TraceError, fill};
+use trace_reader::{AheadError, Kind, ReadAhead, Step, StepStream, TraceError};
 
 // What a stream tells of a text: each step's line, its core, and whether it is an advance.
 type Told = (usize, u32, bool);
@@ -139,37 +139,99 @@ fn no_byte_is_lost_where_calls_fail(rt: HostRuntime) {
 
 const TRACE: &[u8] = b"0 R 0x0\n0 R 0x8\n\n1 R 0x0\n2 W 0x0 1\n0 R 0x8\n";
 
-// How many steps are left of two cores, and the line that was taken last.
-fn left(stream: &StepStream, queues: &[StepQueue; 2]) -> (usize, usize, usize) {
-    (queues[0].left(), queues[1].left(), stream.lines_taken())
+// How many steps the shortest queue has, the greatest core that was met plus 1, and how many words were named.
+type Ahead = (usize, u32, usize);
+
+fn ahead_of(ahead: &ReadAhead) -> Result<Ahead, AllocError> {
+    Ok((ahead.shortest(), ahead.met(), ahead.words().words()?.len()))
+}
+
+// A reader of TRACE with so many queues is asked for so many steps: what it answers, and what is ahead then. The rest
+// is skipped: what it answers, and what it has met by then.
+type Row = (
+    u32,
+    usize,
+    Result<bool, AheadError>,
+    Ahead,
+    Result<bool, AheadError>,
+    u32,
+);
+
+const ROWS: &[Row] = &[
+    (3, 0, Ok(true), (1, 3, 2), Ok(true), 3),
+    (3, 5, Ok(true), (1, 3, 2), Ok(false), 3),
+    (3, 6, Ok(false), (1, 3, 2), Ok(false), 3),
+    (4, 1, Ok(false), (0, 3, 2), Ok(false), 3),
+    (2, 3, Ok(true), (1, 2, 2), Err(AheadError::NoQueue(5)), 2),
+    (
+        2,
+        4,
+        Err(AheadError::NoQueue(5)),
+        (1, 2, 2),
+        Err(AheadError::NoQueue(5)),
+        2,
+    ),
+    (1, 1, Ok(true), (1, 1, 1), Err(AheadError::NoQueue(4)), 1),
+    (0, 0, Ok(true), (0, 0, 0), Err(AheadError::NoQueue(1)), 0),
+];
+
+fn is_read(alloc: Global, row: &Row, names: bool) -> Result<bool, AllocError> {
+    let (cores, wanted, filled, (shortest, met, words), skipped, met_in_all) = *row;
+    let mut source = FromRead::new(TRACE);
+    let mut ahead = ReadAhead::new(alloc, cores, names)?;
+    let came = ahead.fill(&mut source, wanted);
+    let now = (shortest, met, if names { words } else { 0 });
+    Ok(
+        came == filled
+            && ahead_of(&ahead)? == now
+            && ahead.are_empty() == (met == 0)
+            && ahead.skip(&mut source) == skipped
+            && ahead.met() == met_in_all,
+    )
+}
+
+#[test]
+fn texts_are_read_ahead(rt: HostRuntime) {
+    for row in ROWS {
+        for names in [false, true] {
+            assert_eq!(rt; is_read(rt.alloc(), row, names), Ok(true));
+        }
+    }
+}
+
+// A text that is skipped fills no queue, but its cores and its words are met.
+fn is_skipped(alloc: Global) -> Result<bool, AllocError> {
+    let mut source = FromRead::new(TRACE);
+    let mut ahead = ReadAhead::new(alloc, 3, true)?;
+    let came = ahead.skip(&mut source);
+    Ok(came == Ok(true) && ahead.are_empty() && ahead_of(&ahead)? == (0, 3, 2))
 }
 
 // Both queues are filled from the first four lines, and keep what they have. Once the second is empty again, the next
 // line is of a core without a queue, each time.
-fn filled(alloc: Global) -> bool {
+fn are_filled(alloc: Global) -> Result<bool, AllocError> {
     let _inside: Option<Op> = None;
     let mut source = FromRead::new(TRACE);
-    let mut stream = StepStream::new();
-    let mut queues = [StepQueue::new(alloc), StepQueue::new(alloc)];
+    let mut ahead = ReadAhead::new(alloc, 2, true)?;
     for _ in 0..2 {
-        if fill(&mut stream, &mut source, &mut queues) != Ok(true)
-            || left(&stream, &queues) != (2, 1, 4)
-        {
-            return false;
+        if ahead.fill(&mut source, 0) != Ok(true) || ahead_of(&ahead)? != (1, 2, 2) {
+            return Ok(false);
         }
     }
-    queues[1].done(Some(0));
+    if let Some(queue) = ahead.queues().get_mut(1) {
+        queue.done(Some(0));
+    }
     for _ in 0..2 {
-        if fill(&mut stream, &mut source, &mut queues) != Err(AheadError::NoQueue(5))
-            || left(&stream, &queues) != (2, 0, 5)
+        if ahead.fill(&mut source, 0) != Err(AheadError::NoQueue(5))
+            || ahead_of(&ahead)? != (0, 2, 2)
         {
-            return false;
+            return Ok(false);
         }
     }
-    true
+    Ok(true)
 }
 
 #[test]
 fn queues_are_filled(rt: HostRuntime) {
-    assert!(rt; filled(rt.alloc()));
+    assert!(rt; is_skipped(rt.alloc()) == Ok(true) && are_filled(rt.alloc()) == Ok(true));
 }

@@ -2,3 +2,7 @@
 
 -- No steps, and one more step of a core, by core.
 pub use Rattle.trace_reader.proofs.ByCore.{bycore-push}
+-- What is to come of a text, and what was taken of it, of parts that follow each other.
+pub use Rattle.trace_reader.proofs.StreamLines.{yields-more, yields-none}
+pub use Rattle.trace_reader.proofs.QueuedSteps.{known-more, steps-append, cores-append, named-append}
+pub use Rattle.trace_reader.proofs.QueuedSteps.{none-taken, more-taken}

@@ -1,11 +1,23 @@
--- Steps of a text that are put into the queues of their cores.
-use Rattle.std.specs.Prelude.{◌≡◌, ℕ, ◌≤◌, ◌<◌, ◌⊎◌, List, [], ◌∷◌, ◌++◌, length, map, Option, Some, None}
+-- Steps of a text that are read ahead: each is met, and put into the queue of its core.
+use Rattle.std.specs.Prelude.{◌≡◌, ℕ, max, ◌≤◌, ◌<◌, ◌⊎◌, Bool, true, false, List, [], ◌∷◌, ◌++◌, length, map}
+use Rattle.std.specs.Prelude.{Option, Some, None}
+use Rattle.std.specs.FinMap.{FinMap}
+use Rattle.std.specs.Ordering.{nat_cmp}
 use Rattle.programs.specs.declared.steps.Step.{Step}
 use Rattle.trace_reader.specs.declared.read_ahead.AheadError.{AheadError}
 use Rattle.trace_reader.specs.declared.read_ahead.AheadError.TheVariants.{Text, NoQueue, NoMemory}
-use Rattle.trace_reader.specs.Reading.{list_of_option}
-use Rattle.trace_reader.specs.Steps.{lane, steps_of}
+use Rattle.trace_reader.specs.declared.step_streams.StepStream.{StepStream}
+use Rattle.trace_reader.specs.Steps.{cores_of, lane, named, steps_of}
 use Rattle.trace_reader.specs.Streams.{Interrupts, StepsTold, Yields}
+
+-- What is read ahead of a text: its reader, the steps that wait for each core, the greatest core that was met plus 1,
+-- and the words that were named, if these are asked for.
+pub record AheadState : Type 0 where
+  pub stream : StepStream
+  pub queues : List (List Step)
+  pub met : ℕ
+  pub words : FinMap nat_cmp ℕ
+  pub names : Bool
 
 -- steps with their cores, without the numbers of their lines
 abbrev pub unnumbered : List (ℕ × (ℕ × Step)) → List (ℕ × Step)
@@ -20,19 +32,37 @@ queued queues taken core = lane queues core ++ steps_of core (unnumbered taken)
 abbrev pub AreQueued : List (List Step) → List (List Step) → List (ℕ × (ℕ × Step)) → Type 0
 AreQueued old new taken = (length new ≡ length old) × ((core : ℕ) → lane new core ≡ queued old taken core)
 
--- of two values that are to come, the first yields one step more than the second, or none, which is queued
-abbrev pub HasQueued : Option StepsTold → Option StepsTold → List (List Step) → List (List Step) → Type 0
-HasQueued before after old new = (step : Option (ℕ × (ℕ × Step))) × Yields before after (list_of_option step)
-    × AreQueued old new (list_of_option step)
+-- the same if the steps are kept; else the queues stay as they are
+abbrev pub AreKept : (keeps : Bool) → List (List Step) → List (List Step) → List (ℕ × (ℕ × Step)) → Type 0
+AreKept true old new taken = AreQueued old new taken
+AreKept false old new taken = new ≡ old
+
+-- What stays of steps that were read: they were met, and stand in their cores' queues if they are kept. Each is of a
+-- core that has a queue.
+pub record HasTaken (keeps : Bool) (old new : AheadState) (taken : List (ℕ × (ℕ × Step))) : Type 0 where
+  pub queued : AreKept keeps old.queues new.queues taken
+  pub met : new.met ≡ max old.met (cores_of (unnumbered taken))
+  pub words : new.words ≡ named old.names old.words (unnumbered taken)
+  pub names : new.names ≡ old.names
+  pub few : cores_of (unnumbered taken) ≤ length old.queues
+
+-- of two values that are to come, the first yields one step more than the second, and it was taken
+abbrev pub HasTakenOne : (keeps : Bool) → Option StepsTold → Option StepsTold → AheadState → AheadState → Type 0
+HasTakenOne keeps before after old new = (one : ℕ × (ℕ × Step)) × Yields before after (one ∷ [])
+    × HasTaken keeps old new (one ∷ [])
 
 -- a core's queue has no step
 abbrev pub HasEmpty : ℕ → (ℕ → List Step) → Type 0
 HasEmpty queues steps = (core : ℕ) × (core < queues) × (steps core ≡ [])
 
--- no step is taken but while a queue has none
-abbrev pub AreNeeded : List (List Step) → List (ℕ × (ℕ × Step)) → Type 0
-AreNeeded old taken = (taken ≡ []) ⊎ ((front : List (ℕ × (ℕ × Step))) × (last : ℕ × (ℕ × Step))
-    × (taken ≡ front ++ last ∷ []) × HasEmpty (length old) (queued old front))
+-- fewer steps were taken than asked for, or a queue has none behind those that it had
+abbrev pub AreTooFew : ℕ → List (List Step) → List (ℕ × (ℕ × Step)) → Type 0
+AreTooFew wanted old taken = (length taken < wanted) ⊎ HasEmpty (length old) (queued old taken)
+
+-- no step is taken but while those before it are too few
+abbrev pub AreNeeded : ℕ → List (List Step) → List (ℕ × (ℕ × Step)) → Type 0
+AreNeeded wanted old taken = (taken ≡ []) ⊎ ((front : List (ℕ × (ℕ × Step))) × (last : ℕ × (ℕ × Step))
+    × (taken ≡ front ++ last ∷ []) × AreTooFew wanted old front)
 
 -- this holds of the next step to come, where it is known
 abbrev pub ComesFirst : Option StepsTold → (ℕ × (ℕ × Step) → Type 0) → Type 0

@@ -8,3 +8,4 @@ pub mod Ahead
 pub mod Outcomes
 pub mod Streams
 pub mod Filling
+pub mod AheadLends

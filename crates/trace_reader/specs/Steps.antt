@@ -1,7 +1,10 @@
 -- Steps in the order of a text, and the same by core.
-use Rattle.std.specs.Prelude.{◌≡◌, ℕ, suc, ◌==◌, max, if◌then◌else◌, List, [], ◌∷◌, length, map, get_or}
-use Rattle.std.specs.Prelude.{slice_index_or}
+use Rattle.std.specs.Prelude.{◌≡◌, ℕ, suc, ◌==◌, max, if◌then◌else◌, Bool, true, false, List, [], ◌∷◌, length, map}
+use Rattle.std.specs.Prelude.{get_or, slice_index_or}
+use Rattle.std.specs.FinMap.{FinMap, insert}
+use Rattle.std.specs.Ordering.{nat_cmp}
 use Rattle.physiological_order.specs.declared.operation.Op.{Op}
+use Rattle.physiological_order.specs.Order.{address}
 use Rattle.programs.specs.declared.steps.Step.{Step}
 use Rattle.programs.specs.declared.steps.Step.TheVariants as step
 
@@ -36,3 +39,13 @@ trace_cores lanes = max 1 (length lanes)
 -- the operations of each core of a trace; a core that it hasn't has none
 abbrev pub trace_ops : List (List Step) → ℕ → List Op
 trace_ops lanes core = slice_index_or (map ops_of lanes) core []
+
+-- the words that operations name, and those that are there: a map, whose entries rise by word
+abbrev pub with_words : FinMap nat_cmp ℕ → List Op → FinMap nat_cmp ℕ
+with_words words [] = words
+with_words words (op ∷ ops) = with_words (insert words (address op) 0) ops
+
+-- the words that steps name, if they are asked for, and those that are there
+abbrev pub named : Bool → FinMap nat_cmp ℕ → List (ℕ × Step) → FinMap nat_cmp ℕ
+named true words steps = with_words words (ops_of (map (λ one. one.1) steps))
+named false words steps = words

@@ -18,7 +18,7 @@ pub use byte_streams::{FromRead, Source};
 pub use limits::{MOST_BYTES, MOST_LINES, MOST_NUMBERED};
 pub use opening_texts::read_opening;
 pub use queues::StepQueue;
-pub use read_ahead::{AheadError, fill};
+pub use read_ahead::{AheadError, ReadAhead};
 pub use record_texts::read_records;
 pub use step_streams::StepStream;
 pub use trace_lines::{Form, Kind, Step, TraceError};

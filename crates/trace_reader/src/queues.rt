@@ -1,12 +1,29 @@
 //! A queue of steps as a program of a core.
-ghost use Rattle.std.specs.Prelude.{◌≡◌, ◌==◌, ◌++◌, ◌∷◌, [], length, OnErr, OnOk};
+ghost use Rattle.std.specs.Prelude.{◌≡◌, ◌==◌, ◌++◌, ◌∷◌, [], ℕ, length, OnErr, OnOk};
+ghost use Rattle.trace_reader.specs.Steps.{named};
 
-use physiological_order::Op;
+use physiological_order::{Memory, Op};
 use programs::program::Program;
 use std::alloc::{AllocError, Global};
 use std::collections::VecDeque;
 use std::marker::Model;
 use trace_lines::Step;
+
+/// Adds the word that a step names, if words are asked for. If an allocation fails, nothing changes.
+#[tactic(auto, unfolding(crate::specs::Steps::ops_of))]
+pub(crate) fn add_word(step: &Step, names: bool, words: &mut Memory) -> Result<(), AllocError>
+    ensures named { OnOk result ((core : ℕ) →
+        words.new ≡ named names words.old ((core, step.now) ∷ [])) }
+    ensures refused { OnErr result (words.new ≡ words.old) }
+{
+    if !names {
+        return Ok(());
+    }
+    match step {
+        Step::Op(op) => words.set(op.addr(), 0),
+        Step::Advance => Ok(()),
+    }
+}
 
 /// Steps that wait, the next one in front; more may come behind them. Contracts see the steps that are left.
 #[derive(Drop)]
@@ -25,7 +42,7 @@ impl Model for StepQueue {
 
 impl StepQueue {
     /// No steps; this allocates nothing yet.
-    pub fn new(alloc: Global) -> StepQueue
+    pub(crate) fn new(alloc: Global) -> StepQueue
         ensures { result ≡ [] }
     {
         StepQueue {
@@ -47,14 +64,24 @@ impl StepQueue {
         self.steps.is_empty()
     }
 
-    /// Puts a step behind those that are left. If an allocation fails, nothing changes.
-    pub fn push(&mut self, step: Step) -> Result<(), AllocError>
+    /// Puts a step behind those that are left, and adds the word that it names, if words are asked for. If an allocation
+    /// fails, nothing changes.
+    pub(crate) fn push(
+        &mut self,
+        step: Step,
+        names: bool,
+        words: &mut Memory,
+    ) -> Result<(), AllocError>
         ensures pushed { OnOk result (self.new ≡ self.old ++ step ∷ []) }
-        ensures refused { OnErr result (self.new ≡ self.old) }
+        ensures named { OnOk result ((core : ℕ) →
+            words.new ≡ named names words.old ((core, step) ∷ [])) }
+        ensures refused { OnErr result ((self.new ≡ self.old) × (words.new ≡ words.old)) }
     {
         // The check finds what a step holds only where the function names its type.
         let _inside: Option<Op> = None;
-        self.steps.push_back(step)?;
+        self.steps.reserve(1)?;
+        add_word(&step, names, words)?;
+        self.steps.push_back_reserved(step);
         Ok(())
     }
 }

@@ -1,19 +1,21 @@
 //! Steps of a text that are read ahead, into a queue for each core.
 
-ghost use Rattle.std.specs.Prelude.{◌≡◌, ◌<◌, ◌≤◌, ◌≢◌, ◌==◌, ◌++◌, ◌∷◌, [], ℕ, List, length};
-ghost use Rattle.std.specs.Prelude.{if◌then◌else◌};
-ghost use Rattle.std.specs.Prelude.{Option, Ok, Err, Some, None, true, false, IfErr, IfSome, OnErr, OnOk, IsSome};
+ghost use Rattle.std.specs.Prelude.{◌≡◌, ◌<◌, ◌≤◌, ◌≢◌, ◌⊎◌, ◌∷◌, [], ℕ, List, length, nat_lt, replicate};
+ghost use Rattle.std.specs.Prelude.{Option, Ok, Err, Some, None, true, false, IsSome};
+ghost use Rattle.std.specs.Prelude.{IfOk, IfErr, IfSome, OnErr, OnOk};
+ghost use Rattle.std.specs.FinMap.{empty};
 ghost use Rattle.byte_streams.specs.Device.{AtEnd};
 ghost use Rattle.programs.specs.declared.steps.Step.{Step};
-ghost use Rattle.trace_reader.specs.Filling.{AreNeeded, AreQueued, HasEmpty, HasQueued, Stops};
+ghost use Rattle.trace_reader.specs.Filling.{AreNeeded, AreTooFew, HasTaken, HasTakenOne, Stops};
 ghost use Rattle.trace_reader.specs.Steps.{lane};
-ghost use Rattle.trace_reader.specs.Streams.{coming, where_known, OnlyFault, Yields};
+ghost use Rattle.trace_reader.specs.Streams.{coming, steps_told, where_known, OnlyFault, Yields};
 
-use crate::queues::StepQueue;
+use crate::queues::{StepQueue, add_word};
 use crate::step_streams::StepStream;
 use byte_streams::Source;
-use physiological_order::Op;
-use std::alloc::AllocError;
+use physiological_order::{Memory, Op};
+use std::alloc::{AllocError, Global};
+use std::marker::Model;
 use trace_lines::{Step, TraceError};
 
 /// Why no more steps are read ahead.
@@ -27,123 +29,290 @@ pub enum AheadError {
     NoMemory,
 }
 
-// Whether a core's queue has no step.
-fn has_none(queues: &[StepQueue], at: usize) -> bool
-    requires { at < length queues.now }
-    ensures none { result ≡ true → lane queues.now at ≡ [] }
-    ensures some { result ≡ false → lane queues.now at ≢ [] }
-{
-    queues[at].is_empty()
-}
-
-// Puts a step behind those of a core's queue. If an allocation fails, nothing changes.
-fn push_at(queues: &mut [StepQueue], core: u32, step: Step) -> Result<(), AllocError>
-    requires { core < length queues.old }
-    ensures long { length queues.new ≡ length queues.old }
-    ensures steps { OnOk result ((k : ℕ) → lane queues.new k
-        ≡ (if core == k then lane queues.old k ++ step ∷ [] else lane queues.old k)) }
-    ensures refused { OnErr result (queues.new ≡ queues.old) }
-{
-    queues[core as usize].push(step)
-}
-
-// Puts the step that a stream holds into its core's queue, if it holds one. If there is an error, nothing changes.
-fn queue_held(stream: &mut StepStream, queues: &mut [StepQueue]) -> Result<(), AheadError>
-    requires { IsSome stream.old.held }
-    ensures same { OnErr result (queues.new ≡ queues.old) }
-    ensures filled { (bytes : Option (List ℕ)) → HasQueued (coming stream.old bytes)
-        (coming stream.new bytes) queues.old queues.new }
-    ensures taken { OnOk result (stream.new.held ≡ None) }
-    ensures further { stream.new.number ≡ stream.old.number }
-    ensures stops { IfErr result (λ e. (bytes : Option (List ℕ)) (failures : ℕ) →
-        Stops (length queues.old) failures failures (coming stream.new bytes) e) }
-{
-    // The check finds what a step holds only where the function names its type.
-    let _inside: Option<Op> = None;
-    let Some((core, step)) = stream.held() else {
-        return Ok(());
-    };
-    if core as usize >= queues.len() {
-        return Err(AheadError::NoQueue(stream.lines_taken()));
-    }
-    match push_at(queues, core, step) {
-        Ok(()) => {
-            let _queued = stream.let_go();
-            Ok(())
-        }
-        Err(AllocError) => Err(AheadError::NoMemory),
-    }
-}
-
-// Reads on until the next step stands in its core's queue: whether there was one.
-fn queue_one<S: Source>(
-    stream: &mut StepStream,
-    source: &mut S,
-    queues: &mut [StepQueue],
-) -> Result<bool, AheadError>
-    ensures filled { HasQueued (coming stream.old (S.remaining source.old))
-        (coming stream.new (S.remaining source.new)) queues.old queues.new }
-    ensures end { result ≡ Ok false →
-        IfSome (S.remaining source.old) (λ known. AtEnd (S.remaining source.new))
-        × OnlyFault None (where_known (S.remaining source.old)
-        (coming stream.new (S.remaining source.new)))
-        × (queues.new ≡ queues.old) }
-    ensures same { OnErr result (queues.new ≡ queues.old) }
-    ensures taken { result ≡ Ok true → stream.new.held ≡ None }
-    ensures further { result ≡ Ok true → (stream.old.number ≤ stream.new.number)
-        × (stream.old.held ≡ None → stream.old.number < stream.new.number) }
-    ensures none_failed { OnOk result (S.failures source.new ≡ S.failures source.old) }
-    ensures stops { IfErr result (Stops (length queues.old) (S.failures source.old)
-        (S.failures source.new)
-        (where_known (S.remaining source.old) (coming stream.new (S.remaining source.new)))) }
-{
-    match stream.hold(source) {
-        Err(error) => Err(AheadError::Text(error)),
-        Ok(false) => Ok(false),
-        Ok(true) => {
-            queue_held(stream, queues)?;
-            Ok(true)
-        }
-    }
-}
-
-/// Reads on until each queue has a step, or to the end of the text: whether each has one. The queue with the number n
-/// is that of the core n. The source is to be the one of all earlier calls of this stream.
+/// What is read ahead of a text: its reader, a queue of steps for each core, and what was met in all steps that were
+/// read so far: the greatest core plus 1, and the words that they name, if those are asked for. The text's source stays
+/// its caller's, who gives the same one at each call.
 ///
-/// Nothing of the text is lost if there is an error: each step that was taken stands in its core's queue, and the one
-/// for which there was no memory, or no queue, stays the next of the stream.
-pub fn fill<S: Source>(
-    stream: &mut StepStream,
-    source: &mut S,
-    queues: &mut [StepQueue],
-) -> Result<bool, AheadError>
-    // The steps that were taken stand in their cores' queues, in order, and no more than were needed.
-    ensures filled { (taken : List (ℕ × (ℕ × Step)))
-        × Yields (coming stream.old (S.remaining source.old))
-        (coming stream.new (S.remaining source.new)) taken
-        × AreQueued queues.old queues.new taken × AreNeeded queues.old taken }
-    ensures all { result ≡ Ok true → (core : ℕ) → core < length queues.new →
-        lane queues.new core ≢ [] }
-    ensures end { result ≡ Ok false → HasEmpty (length queues.new) (lane queues.new)
-        × IfSome (S.remaining source.old) (λ known. AtEnd (S.remaining source.new))
-        × OnlyFault None (where_known (S.remaining source.old)
-        (coming stream.new (S.remaining source.new))) }
-    // An error comes only while a queue has no step.
-    ensures needed { OnErr result (HasEmpty (length queues.new) (lane queues.new)) }
-    ensures none_failed { OnOk result (S.failures source.new ≡ S.failures source.old) }
-    ensures stops { IfErr result (Stops (length queues.old) (S.failures source.old)
-        (S.failures source.new)
-        (where_known (S.remaining source.old) (coming stream.new (S.remaining source.new)))) }
-{
-    let mut at = 0;
-    'queues: while at < queues.len() {
-        if has_none(queues, at) {
-            if !queue_one(stream, source, queues)? {
+/// Nothing of the text is lost if there is an error: the step for which there was no memory, or no queue, stays the
+/// next one, and all before it were read.
+#[derive(Drop)]
+pub struct ReadAhead {
+    stream: StepStream,
+    queues: Vec<StepQueue>,
+    met: u32,
+    words: Memory,
+    names: bool,
+}
+
+impl Model for ReadAhead {
+    ghost use Rattle.std.specs.FinMap as finite;
+    ghost use Rattle.std.specs.Ordering.{nat_cmp};
+    ghost use Rattle.std.specs.Coded.{codes, coded_ℕ};
+    ghost use Rattle.trace_reader.specs.Filling.{AheadState};
+
+    ghost Value = { AheadState };
+
+    ghost coded = { Prim.hlevel (codes, finite.code {R = nat_cmp} coded_ℕ coded_ℕ) };
+
+    ghost view = { λ ahead. record {
+      stream = ahead.stream;
+      queues = ahead.queues.items;
+      met = ahead.met;
+      words = ahead.words;
+      names = ahead.names;
+    } };
+}
+
+impl ReadAhead {
+    ghost use Rattle.std.specs.Borrow.{sem};
+    ghost use Rattle.trace_reader.specs.AheadLends.{lends_queues};
+
+    /// No step is read yet. There is a queue for each core below this number, and `names` says whether words are asked
+    /// for.
+    pub fn new(alloc: Global, cores: u32, names: bool) -> Result<ReadAhead, AllocError>
+        // What a source has is all that is to come.
+        ensures told { IfOk result (λ ahead. (bytes : List ℕ) →
+            coming ahead.stream (Some bytes) ≡ Some (steps_told bytes)) }
+        ensures none { IfOk result (λ ahead. (ahead.queues ≡ replicate cores []) × (ahead.met ≡ 0)
+            × (ahead.words ≡ empty) × (ahead.names ≡ names)) }
+    {
+        let mut queues = Vec::with_capacity(alloc, cores as usize)?;
+        for _ in 0..cores {
+            queues.push(StepQueue::new(alloc))?;
+        }
+        Ok(ReadAhead {
+            stream: StepStream::new(),
+            queues,
+            met: 0,
+            words: Memory::new(alloc),
+            names,
+        })
+    }
+
+    fn cores(&self) -> usize
+        ensures { result ≡ length self.now.queues }
+    {
+        self.queues.len()
+    }
+
+    // How many steps a core's queue has; 0 if there is no such queue.
+    fn left(&self, core: usize) -> usize
+        ensures { result ≡ length (lane self.now.queues core) }
+    {
+        match self.queues.get(core) {
+            Some(queue) => queue.left(),
+            None => 0,
+        }
+    }
+
+    // Meets a step, and puts it into its core's queue if it is kept. If an allocation fails, nothing changes.
+    fn meet(&mut self, core: u32, step: Step, keeps: bool) -> Result<(), AllocError>
+        requires there { core < length self.old.queues }
+        requires few { core < 64 }
+        ensures met { OnOk result ((line : ℕ) →
+            HasTaken keeps self.old self.new ((line, (core, step)) ∷ [])) }
+        ensures stream { self.new.stream ≡ self.old.stream }
+        ensures refused { OnErr result (self.new ≡ self.old) }
+    {
+        if keeps {
+            self.queues[core as usize].push(step, self.names, &mut self.words)?;
+        } else {
+            add_word(&step, self.names, &mut self.words)?;
+        }
+        self.met = self.met.max(core + 1);
+        Ok(())
+    }
+
+    // Takes the step that the stream holds, if it holds one. If there is an error, nothing changes.
+    fn take_held(&mut self, keeps: bool) -> Result<(), AheadError>
+        requires { IsSome self.old.stream.held }
+        ensures same { OnErr result (self.new ≡ self.old) }
+        ensures one { OnOk result ((bytes : Option (List ℕ)) → HasTakenOne keeps
+            (coming self.old.stream bytes) (coming self.new.stream bytes) self.old self.new) }
+        ensures taken { OnOk result (self.new.stream.held ≡ None) }
+        ensures further { self.new.stream.number ≡ self.old.stream.number }
+        ensures stops { IfErr result (λ e. (bytes : Option (List ℕ)) (failures : ℕ) →
+            Stops (length self.old.queues) failures failures (coming self.new.stream bytes) e) }
+    {
+        // The check finds what a step holds only where the function names its type.
+        let _inside: Option<Op> = None;
+        let Some((core, step)) = self.stream.held() else {
+            return Ok(());
+        };
+        if core as usize >= self.queues.len() {
+            return Err(AheadError::NoQueue(self.stream.lines_taken()));
+        }
+        match self.meet(core, step, keeps) {
+            Ok(()) => {
+                let _taken = self.stream.let_go();
+                Ok(())
+            }
+            Err(AllocError) => Err(AheadError::NoMemory),
+        }
+    }
+
+    // Reads on until the next step is taken, and put into its core's queue if it is kept: whether there was one.
+    fn take_one<S: Source>(&mut self, source: &mut S, keeps: bool) -> Result<bool, AheadError>
+        ensures one { result ≡ Ok true → HasTakenOne keeps
+            (coming self.old.stream (S.remaining source.old))
+            (coming self.new.stream (S.remaining source.new)) self.old self.new }
+        ensures none { result ≢ Ok true → Yields
+            (coming self.old.stream (S.remaining source.old))
+            (coming self.new.stream (S.remaining source.new)) []
+            × HasTaken keeps self.old self.new [] }
+        ensures some { result ≡ Ok true → self.new.stream.held ≡ None }
+        ensures end { result ≡ Ok false →
+            IfSome (S.remaining source.old) (λ known. AtEnd (S.remaining source.new))
+            × OnlyFault None (where_known (S.remaining source.old)
+            (coming self.new.stream (S.remaining source.new))) }
+        ensures further { result ≡ Ok true → (self.old.stream.number ≤ self.new.stream.number)
+            × (self.old.stream.held ≡ None → self.old.stream.number < self.new.stream.number) }
+        ensures none_failed { OnOk result (S.failures source.new ≡ S.failures source.old) }
+        ensures stops { IfErr result (Stops (length self.old.queues) (S.failures source.old)
+            (S.failures source.new) (where_known (S.remaining source.old)
+            (coming self.new.stream (S.remaining source.new)))) }
+    {
+        match self.stream.hold(source) {
+            Err(error) => Err(AheadError::Text(error)),
+            Ok(false) => Ok(false),
+            Ok(true) => {
+                self.take_held(keeps)?;
+                Ok(true)
+            }
+        }
+    }
+
+    // The first queue from this one on that has no step, or a number that no queue has.
+    fn next_empty(&self, from: usize) -> usize
+        ensures some { (core : ℕ) → from ≤ core → core < result → lane self.now.queues core ≢ [] }
+        ensures none { lane self.now.queues result ≡ [] }
+    {
+        for at in from..self.queues.len() {
+            if self.queues[at].is_empty() {
+                return at;
+            }
+        }
+        from.max(self.queues.len())
+    }
+
+    // Whether steps are left to be read, or there is a queue with this number or a greater one.
+    fn reads_on(&self, left: usize, at: usize) -> bool
+        ensures more { result ≡ true → (0 < left) ⊎ (at < length self.now.queues) }
+        ensures enough { result ≡ false → (left ≡ 0) × (length self.now.queues ≤ at) }
+    {
+        left > 0 || at < self.queues.len()
+    }
+
+    /// Reads on until each queue has a step and this call has read at least `wanted` steps: true, or false if the text
+    /// ends before that. The queue with the number n is that of the core n. Each step has to be of a core that has a
+    /// queue.
+    pub fn fill<S: Source>(&mut self, source: &mut S, wanted: usize) -> Result<bool, AheadError>
+        // The steps that were taken stand in their cores' queues, in order, and no more than were asked for.
+        ensures filled { (taken : List (ℕ × (ℕ × Step)))
+            × Yields (coming self.old.stream (S.remaining source.old))
+            (coming self.new.stream (S.remaining source.new)) taken
+            × HasTaken true self.old self.new taken × AreNeeded wanted self.old.queues taken
+            × (result ≡ Ok true → wanted ≤ length taken)
+            × (result ≢ Ok true → AreTooFew wanted self.old.queues taken) }
+        ensures all { result ≡ Ok true → (core : ℕ) → core < length self.new.queues →
+            lane self.new.queues core ≢ [] }
+        ensures end { result ≡ Ok false →
+            IfSome (S.remaining source.old) (λ known. AtEnd (S.remaining source.new))
+            × OnlyFault None (where_known (S.remaining source.old)
+            (coming self.new.stream (S.remaining source.new))) }
+        ensures none_failed { OnOk result (S.failures source.new ≡ S.failures source.old) }
+        ensures stops { IfErr result (Stops (length self.old.queues) (S.failures source.old)
+            (S.failures source.new) (where_known (S.remaining source.old)
+            (coming self.new.stream (S.remaining source.new)))) }
+    {
+        let mut left = wanted;
+        let mut at = self.next_empty(0);
+        'steps: while self.reads_on(left, at) {
+            if !self.take_one(source, true)? {
                 return Ok(false);
             }
-        } else {
-            at += 1;
+            left = left.saturating_sub(1);
+            at = self.next_empty(at);
         }
+        Ok(true)
     }
-    Ok(true)
+
+    /// Reads to the end of the text, and queues nothing: whether there was a step. Each step has to be of a core that
+    /// has a queue, as in `fill`.
+    pub fn skip<S: Source>(&mut self, source: &mut S) -> Result<bool, AheadError>
+        ensures skipped { (taken : List (ℕ × (ℕ × Step)))
+            × Yields (coming self.old.stream (S.remaining source.old))
+            (coming self.new.stream (S.remaining source.new)) taken
+            × HasTaken false self.old self.new taken
+            × IfOk result (λ some. some ≡ nat_lt 0 (length taken)) }
+        ensures end { OnOk result
+            (IfSome (S.remaining source.old) (λ known. AtEnd (S.remaining source.new))
+            × OnlyFault None (where_known (S.remaining source.old)
+            (coming self.new.stream (S.remaining source.new)))) }
+        ensures none_failed { OnOk result (S.failures source.new ≡ S.failures source.old) }
+        ensures stops { IfErr result (Stops (length self.old.queues) (S.failures source.old)
+            (S.failures source.new) (where_known (S.remaining source.old)
+            (coming self.new.stream (S.remaining source.new)))) }
+    {
+        let mut some = false;
+        'steps: while self.take_one(source, false)? {
+            some = true;
+        }
+        Ok(some)
+    }
+
+    /// The queues, one for each core: a run takes steps out of them. Nothing else changes.
+    pub fn queues(&mut self) -> &mut [StepQueue]
+        ensures* takes_back { sem 𝓛 (lends_queues self.entry result) }
+        ensures value { result.now ≡ self.old.queues }
+    {
+        &mut self.queues
+    }
+
+    /// How many steps the shortest queue has; 0 if there is no queue.
+    pub fn shortest(&self) -> usize
+        ensures least { (core : ℕ) → core < length self.now.queues →
+            result ≤ length (lane self.now.queues core) }
+        ensures one { 0 < length self.now.queues → (core : ℕ) × (core < length self.now.queues)
+            × (result ≡ length (lane self.now.queues core)) }
+        ensures none { self.now.queues ≡ [] → result ≡ 0 }
+    {
+        let cores = self.cores();
+        if cores == 0 {
+            return 0;
+        }
+        let mut shortest = self.left(0);
+        for at in 1..cores {
+            shortest = shortest.min(self.left(at));
+        }
+        shortest
+    }
+
+    /// Whether no queue has a step.
+    pub fn are_empty(&self) -> bool
+        ensures all { result ≡ true → (core : ℕ) → lane self.now.queues core ≡ [] }
+        ensures one { result ≡ false → (core : ℕ) × (core < length self.now.queues)
+            × (lane self.now.queues core ≢ []) }
+    {
+        for at in 0..self.queues.len() {
+            if !self.queues[at].is_empty() {
+                return false;
+            }
+        }
+        true
+    }
+
+    /// The greatest core of a step that was read, plus 1; 0 before the first.
+    pub fn met(&self) -> u32
+        ensures { result ≡ self.now.met }
+    {
+        self.met
+    }
+
+    /// The words that the steps that were read name, each with a 0; none if they aren't asked for.
+    pub fn words(&self) -> &Memory
+        ensures { result.now ≡ self.now.words }
+    {
+        &self.words
+    }
 }

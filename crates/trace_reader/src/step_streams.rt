@@ -110,7 +110,8 @@ impl StepStream {
 
     /// The step that is held.
     pub(crate) fn held(&self) -> Option<(u32, Step)>
-        ensures { result ≡ self.now.held }
+        ensures held { result ≡ self.now.held }
+        ensures few { IfSome result (λ told. told.0 < 64) }
     {
         self.held
     }

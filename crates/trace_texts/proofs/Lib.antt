@@ -1,3 +1,4 @@
 mod Numerals
 mod SpacedFields
 mod ReadBack
+pub mod Lemmas

@@ -10,6 +10,7 @@ use Rattle.report_lines.specs.Lines.{counts_text, field, value_text, word_field}
 use Rattle.programs.specs.declared.ends.End.{End}
 use Rattle.programs.specs.declared.ends.End.TheVariants.{AllDone, Stalled, TurnsUsed, Exhausted, NoMemory}
 use Rattle.trace_texts.specs.Verdicts.{order_text}
+use Rattle.trace_texts.specs.declared.reports.Kinds.{Kinds}
 use Rattle.trace_texts.specs.declared.reports.TraceEnd.{TraceEnd}
 
 abbrev pub end_name : End → List ℕ
@@ -50,21 +51,33 @@ stores_among records = count_by (λ r. is_store r.op) records
 abbrev pub swaps_among : List Record → ℕ
 swaps_among records = count_by (λ r. is_swap r.op) records
 
--- how many of the completed operations are of each kind
-abbrev pub kinds_text : Layout → List Record → List ℕ
-kinds_text layout records = field layout (codes "loads") (loads_among records)
-    ++ field layout (codes "stores") (stores_among records)
-    ++ field layout (codes "swaps") (swaps_among records)
+-- how many operations completed, and how many of them are of each kind
+abbrev pub kinds_of : List Record → Kinds
+kinds_of records = record {
+  completed = length records;
+  loads = loads_among records;
+  stores = stores_among records;
+  swaps = swaps_among records;
+}
+
+abbrev pub kinds_text : Layout → Kinds → List ℕ
+kinds_text layout done = field layout (codes "loads") done.loads ++ field layout (codes "stores") done.stores
+    ++ field layout (codes "swaps") done.swaps
 
 -- each word with its value, in order
 abbrev pub words_text : Layout → List (ℕ × ℕ) → List ℕ
 words_text layout values = either layout [] (codes ",\"words\":{")
     ++ parted layout (λ at v. value_text layout v.0 v.1) 0 values ++ either layout [] (codes "}")
 
--- the report on a run of a trace that left these records, on which a check has this verdict, and these values of the
--- words that the trace names; what the run did, in numbers, and what closes an object may stand behind it
-unfoldable pub trace_text : Layout → (cores : ℕ) → TraceEnd → Verdict → List Record → List (ℕ × ℕ) → List ℕ
-trace_text layout cores run verdict records values = opening layout (codes "trace")
-    ++ trace_end_text layout cores run (length records) ++ kinds_text layout records
+-- the report on a run of a trace in which these operations completed, on whose records a check has this verdict, and
+-- these values of the words that the trace names; what the run did, in numbers, and what closes an object may stand
+-- behind it
+unfoldable pub told_text : Layout → (cores : ℕ) → TraceEnd → Verdict → Kinds → List (ℕ × ℕ) → List ℕ
+told_text layout cores run verdict done values = opening layout (codes "trace")
+    ++ trace_end_text layout cores run done.completed ++ kinds_text layout done
     ++ counts_text layout run.counts ++ field layout (codes "stale-hits") run.stale ++ order_text layout verdict
     ++ words_text layout values
+
+-- the same of a run that left these records
+abbrev pub trace_text : Layout → (cores : ℕ) → TraceEnd → Verdict → List Record → List (ℕ × ℕ) → List ℕ
+trace_text layout cores run verdict records values = told_text layout cores run verdict (kinds_of records) values

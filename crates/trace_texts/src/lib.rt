@@ -11,5 +11,5 @@ mod verdicts;
 
 pub use count_lines::put_event_counts;
 pub use records::records_text;
-pub use reports::{TraceEnd, legal_trace_text, trace_text};
+pub use reports::{Kinds, TraceEnd, legal_trace_text, told_trace_text, trace_text};
 pub use verdicts::{check_text, lack_text};

@@ -63,6 +63,8 @@ pub fn records_text(alloc: Global, records: &[Record]) -> Result<Vec<u8>, AllocE
         length (lines_of text.items) ≡ length records.now) }
     ensures stands { IfOk result (λ text. AreComplete records.now →
         length records.now ≤ MOST_LINES → AreRecords text.items records.now) }
+    // So has a text that was written in parts, each of records whose numbers are in the ranges of their types.
+    ensures ranged { IfOk result (λ text. AreRanged records.now) }
 {
     let mut text = Vec::new(alloc);
     for told in records {

@@ -7,8 +7,9 @@ ghost use Rattle.physiological_order.specs.Order.{flat, Legal};
 ghost use Rattle.report_lines.specs.Layouts.{closing};
 ghost use Rattle.trace_reader.specs.Steps.{trace_cores, trace_ops};
 ghost use Rattle.trace_texts.specs.Reports.{end_name, is_load_op, is_store, is_swap};
-ghost use Rattle.trace_texts.specs.Reports.{loads_among, stores_among, swaps_among};
-ghost use Rattle.trace_texts.specs.Reports.{trace_end_text, kinds_text, trace_text, words_text};
+ghost use Rattle.trace_texts.specs.Reports.{kinds_of, loads_among, stores_among, swaps_among};
+ghost use Rattle.trace_texts.specs.Reports.{kinds_text, told_text, trace_end_text, trace_text};
+ghost use Rattle.trace_texts.specs.Reports.{words_text};
 
 use crate::verdicts::put_order;
 use network::Counts;
@@ -32,6 +33,29 @@ pub struct TraceEnd {
     /// How many of the records are loads of a value that was overwritten by a smaller completion number at a greater
     /// time.
     pub stale: u64,
+}
+
+/// How many operations completed, and how many of them are loads, stores and swaps.
+#[derive(Clone, Copy, Debug)]
+pub struct Kinds {
+    pub completed: usize,
+    pub loads: usize,
+    pub stores: usize,
+    pub swaps: usize,
+}
+
+impl Kinds {
+    /// Those of the operations of records.
+    pub fn of(records: &[Record]) -> Kinds
+        ensures { result ≡ kinds_of records.now }
+    {
+        Kinds {
+            completed: records.len(),
+            loads: loads_among(records),
+            stores: stores_among(records),
+            swaps: swaps_among(records),
+        }
+    }
 }
 
 // How a run ended, in a word.
@@ -100,12 +124,12 @@ fn put_ends(
 }
 
 // How many loads, stores and swaps there are among the completed operations.
-fn put_kinds(out: &mut Vec<u8>, layout: Layout, records: &[Record]) -> Result<(), AllocError>
-    ensures { OnOk result (out.new.items ≡ out.old.items ++ kinds_text layout records.now) }
+fn put_kinds(out: &mut Vec<u8>, layout: Layout, done: &Kinds) -> Result<(), AllocError>
+    ensures { OnOk result (out.new.items ≡ out.old.items ++ kinds_text layout done.now) }
 {
-    put_field(out, layout, b"loads", loads_among(records) as u128)?;
-    put_field(out, layout, b"stores", stores_among(records) as u128)?;
-    put_field(out, layout, b"swaps", swaps_among(records) as u128)
+    put_field(out, layout, b"loads", done.loads as u128)?;
+    put_field(out, layout, b"stores", done.stores as u128)?;
+    put_field(out, layout, b"swaps", done.swaps as u128)
 }
 
 // Each word with its value, in order.
@@ -145,7 +169,8 @@ pub fn trace_text(
     let cores = trace.cores();
     let issued = trace.into_issued()?;
     let verdict = check(alloc, &Memory::new(alloc), &issued, records)?;
-    let mut text = told(alloc, layout, cores, run, verdict, records, values)?;
+    let done = Kinds::of(records);
+    let mut text = told(alloc, layout, cores, run, verdict, &done, values)?;
     put_closing(&mut text, layout)?;
     Ok(text)
 }
@@ -164,35 +189,44 @@ pub fn legal_trace_text(
     ensures { IfOk result (λ text. text.items ≡
         trace_text layout (trace_cores trace.now) run.now Verdict.Legal records.now values.now) }
 {
-    told(
-        alloc,
-        layout,
-        trace.cores(),
-        run,
-        Verdict::Legal,
-        records,
-        values,
-    )
+    let done = Kinds::of(records);
+    told_trace_text(alloc, layout, trace.cores(), run, &done, values)
+}
+
+/// What `legal_trace_text` answers of legal records of which no more is known than these numbers, for a trace of so
+/// many cores.
+pub fn told_trace_text(
+    alloc: Global,
+    layout: Layout,
+    cores: u32,
+    run: &TraceEnd,
+    done: &Kinds,
+    values: &[(WordAddr, u64)],
+) -> Result<Vec<u8>, AllocError>
+    ensures { IfOk result (λ text.
+        text.items ≡ told_text layout cores run.now Verdict.Legal done.now values.now) }
+{
+    told(alloc, layout, cores, run, Verdict::Legal, done, values)
 }
 
 // The report without what closes it, with this verdict on the records.
-#[tactic(auto, unfolding(crate::specs::Reports::trace_text))]
+#[tactic(auto, unfolding(crate::specs::Reports::told_text))]
 fn told(
     alloc: Global,
     layout: Layout,
     cores: u32,
     run: &TraceEnd,
     verdict: Verdict,
-    records: &[Record],
+    done: &Kinds,
     values: &[(WordAddr, u64)],
 ) -> Result<Vec<u8>, AllocError>
     ensures { IfOk result (λ text.
-        text.items ≡ trace_text layout cores run.now verdict records.now values.now) }
+        text.items ≡ told_text layout cores run.now verdict done.now values.now) }
 {
     let mut out = Vec::new(alloc);
     put_opening(&mut out, layout, b"trace")?;
-    put_ends(&mut out, layout, cores, run, records.len())?;
-    put_kinds(&mut out, layout, records)?;
+    put_ends(&mut out, layout, cores, run, done.completed)?;
+    put_kinds(&mut out, layout, done)?;
     put_counts(&mut out, layout, run.counts)?;
     put_field(&mut out, layout, b"stale-hits", u128::from(run.stale))?;
     put_order(&mut out, layout, verdict)?;

@@ -3,4 +3,5 @@ use Rattle.command_line.proofs.app.trace_command.Goals as goal
 pub returns : goal.returns
 returns c =
     let run = c.with_run.ensures in
-    (run.0, run.1, run.2 _ (c.with_count_options-counted.ensures _ c.empty-named.ensures))
+    let counted = c.with_count_options-counted.ensures _ c.empty-named.ensures in
+    (run.0, run.1, run.2 _ (c.with_stream_options-streamed.ensures _ counted))

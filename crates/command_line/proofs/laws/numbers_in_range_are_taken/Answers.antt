@@ -1,3 +1,5 @@
+use Rattle.std.proofs.Common.{refl}
+use Rattle.command_line.specs.Options.{stream_of}
 use Rattle.command_line.proofs.Ranges.{some_taken, taken}
 use Rattle.command_line.proofs.laws.numbers_in_range_are_taken.Goals as goal
 
@@ -15,3 +17,6 @@ returns-clause-states c = λ rows options t. taken _ 1 4294967295 _ options.most
 
 pub returns-clause-every : goal.returns-clause-every
 returns-clause-every c = λ rows options t. some_taken _ 1 18446744073709551615 options.every t.2
+
+pub returns-clause-cores : goal.returns-clause-cores
+returns-clause-cores c = λ rows asked t. taken _ 1 64 _ (stream_of asked).cores (asked.cores, t.2, refl)

@@ -23,10 +23,9 @@ use Rattle.report.proofs.one_run.run_by_policy.Goals as goal
 -- a run from a machine and programs that are those of the trace
 of_trace : (policy : Policy) (limit : ℕ) (config : Config) (lanes : List (List Step)) (asks : Bool) (start : Machine)
     (before : List (List Step)) (events : List Event) (m : Machine) (last : List (List Step)) (end : End) →
-    start ≡ at_start config empty → before ≡ programs_below lanes (trace_cores lanes) →
+    start ≡ at_start config empty → before ≡ programs_below lanes config.cores →
     EndsBy asks step_acts policy limit start before events m last end →
-    EndsBy asks step_acts policy limit (at_start config empty) (programs_below lanes (trace_cores lanes)) events m last
-    end
+    EndsBy asks step_acts policy limit (at_start config empty) (programs_below lanes config.cores) events m last end
 of_trace policy limit config lanes asks start before events m last end opened given ended =
     subst (λ (ts : List (List Step)). EndsBy asks step_acts policy limit (at_start config empty) ts events m last end)
     given (subst (λ (k : Machine). EndsBy asks step_acts policy limit k before events m last end) opened ended)
@@ -45,7 +44,8 @@ returns-clause-run g c =
     let last = c.run_watched-end.new.programs in
     let ended = c.run_watched-end.ensures.ended in
     let first = c.in-Ok.ensures.opened ∙ ap (at_start config) c.new.ensures in
-    let given = c.as_mut_slice-steps.ensures.value ∙ c.in_ok-programs.ensures in
+    let given = c.as_mut_slice-steps.ensures.value ∙ c.in_ok-programs.ensures
+    ∙ ap (programs_below c.args.trace.now) (sym c.requires.cores) in
     let after : m ≡ after_all (at_start config empty) ended.0 =
     ended.2 ∙ ap (λ (k : Machine). after_all k ended.0) first in
     let consistent = subst IsConsistent (sym after)
@@ -55,7 +55,7 @@ returns-clause-run g c =
     let served = subst (λ (ts : List (List Step)). AreServed step_acts (at_start config empty) m ts last) given
     (subst (λ (k : Machine). AreServed step_acts k m c.as_mut_slice-steps.result.now last) first
     c.run_watched-end.ensures.served) in
-    is_run c.args.trace.now config m last c.requires.cores served consistent opened
+    is_run c.args.trace.now config m last served consistent opened
     (subst RisesByNumber c.records-rising.ensures.records c.records-rising.ensures.rising)
     (let few = c.cores-few.ensures.few in let same = c.cores-few.ensures.cores in let cores = c.requires.cores in
     omega (arith, few, same, cores)) g.W.Watcher.watches.asks (ByPolicy c.args.policy) c.args.limit
@@ -73,7 +73,8 @@ returns-clause-watched g c =
       programs = c.run_watched-end.new.programs;
       ended = of_trace c.args.policy c.args.limit c.args.config c.args.trace.now _ _ _ ended.0
           c.run_watched-end.new.system c.run_watched-end.new.programs c.run_watched-end.result.0
-          first (c.as_mut_slice-steps.ensures.value ∙ c.in_ok-programs.ensures) ended.1;
+          first (c.as_mut_slice-steps.ensures.value ∙ c.in_ok-programs.ensures
+          ∙ ap (programs_below c.args.trace.now) (sym c.requires.cores)) ended.1;
       seen = ended.3 ∙ ap (λ (k : Machine). watched g.W.Watcher.watches (g.W.Watcher.watches.seen c.args.watcher) k
           ended.0) first;
     }

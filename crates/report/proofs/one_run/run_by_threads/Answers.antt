@@ -22,6 +22,7 @@ pub returns : goal.returns
 returns g c =
     let lanes = c.args.trace.now in
     let config = c.args.config in
+    let given = c.in_ok-programs.ensures ∙ ap (programs_below lanes) (sym c.requires.cores) in
     let ran = c.in_ok-ran.ran in
     let is = c.in_ok-ran.ensures.run in
     let m : Machine = machine_of ran.run is.parts in
@@ -29,15 +30,15 @@ returns g c =
     let opened : m.opening ≡ empty = c.in_ok-ran.ensures.set_up.1 ∙ c.new-memory.ensures in
     let run = subst (λ (ts : List (List Step)).
     IsThreadRun step_acts c.args.fair c.args.limit ts m ran.programs.items ran.end)
-    c.in_ok-programs.ensures (record { run = ran.run; is_run = is; shows = refl }) in
-    let served = subst (λ ws. AreServed step_acts (at_start config ws) m (programs_below lanes (trace_cores lanes))
+    given (record { run = ran.run; is_run = is; shows = refl }) in
+    let served = subst (λ ws. AreServed step_acts (at_start config ws) m (programs_below lanes config.cores)
     ran.programs.items) opened
-    (subst (λ k. AreServed step_acts (at_start k m.opening) m (programs_below lanes (trace_cores lanes))
+    (subst (λ k. AreServed step_acts (at_start k m.opening) m (programs_below lanes config.cores)
     ran.programs.items) config_is
     (subst (λ (ts : List (List Step)). AreServed step_acts (at_start m.config m.opening) m ts ran.programs.items)
-    c.in_ok-programs.ensures is.served)) in (
+    given is.served)) in (
       is.parts,
-      λ asks. is_run lanes config m ran.programs.items c.requires.cores served
+      λ asks. is_run lanes config m ran.programs.items served
           (c.closed_machines_are_consistent.ensures ran.run is.parts) opened
           (subst RisesByNumber c.records-rising.ensures.records (c.records-rising.ensures.rising is.parts))
           (let few = c.cores-few.ensures.few in let same = c.cores-few.ensures.cores in let cores = c.requires.cores in

@@ -1,5 +1,5 @@
 use Rattle.std.proofs.Common.{◌≡◌, drop}
-use Rattle.report.specs.Runs.{with_words}
+use Rattle.trace_reader.specs.Steps.{with_words}
 use Rattle.report.proofs.words.add_words.Given as goal
 
 -- those so far, with those of what is left, are all of them

@@ -1,6 +1,6 @@
 use Rattle.std.proofs.Common.{◌≡◌, ◌≤◌, ◌*◌, ◌^◌}
 use Rattle.machine_table.specs.Machine.{Machine}
-use Rattle.report.specs.Runs.{issued_below}
+use Rattle.streamed_runs.specs.StreamStates.{issued_below}
 use Rattle.report.proofs.words.issued_below.Given as goal
 
 abbrev pub invariant-loop-core : goal.invariant-loop-core

@@ -9,6 +9,9 @@ returns-in-Ends g c = rw c.in-Ends.is (c.open-in-Ends.result, c.open-in-Ends.ens
 pub returns-in-Trace : goal.returns-in-Trace
 returns-in-Trace g c = rw c.in-Trace.is (c.open-in-Trace.result, c.open-in-Trace.ensures, c.trace_of.ensures)
 
+pub returns-in-Stream : goal.returns-in-Stream
+returns-in-Stream g c = rw c.in-Stream.is (c.open-in-Stream.result, c.open-in-Stream.ensures, c.stream_of.ensures)
+
 pub returns-in-Check : goal.returns-in-Check
 returns-in-Check g c = rw c.in-Check.is (
   c.open_named-opening.result,

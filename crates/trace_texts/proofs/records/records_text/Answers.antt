@@ -22,3 +22,7 @@ returns-clause-stands c = λ complete few.
     let ranged = subst (λ (rs : List Record). AreRanged rs) all c.loop-told.invariant.ranged in
     subst (λ (w : List ℕ). AreRecords w records) (sym (c.loop-told.invariant.text ∙ ap records_text all))
     (text-stands records (writable records complete ranged) few)
+
+pub returns-clause-ranged : goal.returns-clause-ranged
+returns-clause-ranged c = subst (λ (rs : List Record). AreRanged rs)
+    (take_all c.loop-told.told-index c.args.records.now c.loop-told-test.false) c.loop-told.invariant.ranged

@@ -1,11 +1,11 @@
-use Rattle.std.proofs.Common.{ℕ, List, [], ◌++◌, map, ap, subst, ◌∙◌}
+use Rattle.std.proofs.Common.{ℕ, List, [], ◌++◌, map, ap, ap₂, subst, ◌∙◌}
 use Rattle.std.specs.Prelude.{slice_index_or}
 use Rattle.std.specs.FinMap.{empty}
 use Rattle.physiological_order.specs.declared.operation.Op.{Op}
 use Rattle.physiological_order.specs.Faults.{IsVerdict, issued_by, IssuedLists}
 use Rattle.physiological_order.specs.Order.{flat}
 use Rattle.report_lines.specs.Layouts.{closing}
-use Rattle.trace_texts.specs.Reports.{trace_text}
+use Rattle.trace_texts.specs.Reports.{told_text}
 use Rattle.trace_texts.proofs.reports.trace_text.Goals as goal
 
 pub returns : goal.returns
@@ -18,8 +18,8 @@ returns c =
     c.in_ok-issued.ensures in
     let is = subst (λ (lists : List (List Op)). IsVerdict (flat empty) (λ core. slice_index_or lists core []) records
     verdict) same over_zeros in
-    let text = ap (λ n. trace_text c.args.layout n c.args.run.now verdict records c.args.values.now)
-    c.cores-cores.ensures.cores in (
+    let text = ap₂ (λ n done. told_text c.args.layout n c.args.run.now verdict done c.args.values.now)
+    c.cores-cores.ensures.cores c.of-done.ensures in (
       verdict,
       is,
       c.in_ok-put_closing.ensures

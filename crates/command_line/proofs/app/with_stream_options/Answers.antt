@@ -1,0 +1,10 @@
+use Rattle.std.proofs.Common.{◌≡◌}
+use Rattle.command_line.specs.App.{up_to}
+use Rattle.command_line.proofs.app.with_stream_options.Goals as goal
+
+pub returns : goal.returns
+returns c =
+    let most : c.range-cores.result ≡ up_to 64 = rw c.value_parser.ensures at c.range-cores.ensures in
+    let cores = rw most at c.bare.ensures in
+    λ app had.
+    c.with.ensures _ c.flag-2.ensures _ (c.with-two.ensures _ cores _ (c.with-one.ensures _ c.flag.ensures app had))

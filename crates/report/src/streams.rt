@@ -1,0 +1,152 @@
+//! From a source with the text of a trace to a sink for its report, while the trace is run.
+ghost use Rattle.std.specs.Prelude.{◌≡◌, ◌≢◌, [], IfErr, IfOk, IfSome, IsErrOf, OnOk, true};
+ghost use Rattle.byte_streams.specs.Device.{AtEnd};
+ghost use Rattle.machine_table.specs.SetUp.{is_good};
+ghost use Rattle.streamed_runs.specs.StreamStates.{AreRounds};
+ghost use Rattle.worker_driver.specs.SetUp.{driver_of};
+ghost use Rattle.worker_driver.specs.declared.set_up.Driver.TheVariants.{ByPolicy};
+ghost use Rattle.report.specs.Answers.{FailuresAreCounted, IsCutOff, IsReported};
+ghost use Rattle.report.specs.StreamParts.{IsRunning, IsStopped};
+ghost use Rattle.report.specs.Streams.{FollowsRounds, HasNoStream, IsBegun, IsStreamReport, IsStreamText};
+ghost use Rattle.report.specs.Streams.{stream_config};
+
+use crate::reports::is_all_done;
+use crate::stream_parts::{
+    asks_words, make_piece, put_records, put_report, read_rest, stream_config,
+};
+use byte_streams::{Sink, Source};
+use interleaving_core::Config;
+use machine_theorem::laws::every_history_is_legal;
+use run_options::StreamOptions;
+use run_results::{Done, RunError};
+use schedules::Policy;
+use schedules::laws::runs_serve_programs;
+use std::alloc::Global;
+use streamed_runs::StreamedRun;
+use trace_reader::StepQueue;
+use worker_driver::{Driver, driver_of, limit_of};
+
+/// Runs a trace by rounds over a memory of zeros while it reads the trace from the source, and writes the report of the
+/// run, or each record when its operation has completed. It keeps neither the trace nor the history: its memory is that
+/// of the machine, of the steps that were read ahead, of a time for each word that was written, and of the words that
+/// the trace names, if the report is to have them. What goes out reports a legal history, however the run ends.
+///
+/// BadConfig comes first, before anything is read: of a machine with a value out of its range, or with other than 1 to
+/// 64 cores. A refused line is Trace, with its number and its cause; so is, as BadCore, one with a step of a core that
+/// the machine hasn't. That comes once the line is read, behind the records that went out before. So do Read, of a
+/// failed call of the source, and NoMemory. The rest of the text is read even if the run has ended.
+pub fn run_stream<S: Source, K: Sink>(
+    alloc: Global,
+    source: &mut S,
+    sink: &mut K,
+    options: &StreamOptions,
+) -> Result<Done, RunError>
+    requires { FollowsRounds options.now.run }
+    ensures reported { IfOk result (λ done.
+        IsReported (IsStreamReport options.now (S.remaining source.old) done.all_done)
+        (K.contents sink.old) (K.contents sink.new)) }
+
+    // Why there is no report, and what went out until then: records of the run's first turns, or nothing.
+    ensures refused { IfErr result (λ e. e ≢ RunError.Read → e ≢ RunError.Write →
+        HasNoStream options.now (S.remaining source.old) e) }
+    ensures begun { IfErr result (λ e. e ≢ RunError.Write →
+        IsReported (IsBegun options.now (S.remaining source.old))
+        (K.contents sink.old) (K.contents sink.new)) }
+    ensures cut_off { IsErrOf result RunError.Write →
+        IsCutOff (IsStreamText options.now (S.remaining source.old))
+        (K.contents sink.old) (K.contents sink.new) }
+    ensures untouched { IsErrOf result RunError.BadConfig →
+        (source.new ≡ source.old) × (sink.new ≡ sink.old) }
+
+    // The text was read to its end, and failures are told.
+    ensures end { OnOk result (IfSome (S.remaining source.old)
+        (λ known. AtEnd (S.remaining source.new))) }
+    ensures counted { FailuresAreCounted result
+        (S.failures source.old) (S.failures source.new)
+        (K.failures sink.old) (K.failures sink.new) }
+{
+    let Some(config) = stream_config(options) else {
+        return Err(RunError::BadConfig);
+    };
+    match driver_of(&options.run) {
+        Driver::ByPolicy(policy) => told(alloc, source, sink, options, config, policy),
+        Driver::ByThreads(_) => unreachable!(),
+    }
+}
+
+// The run of a good machine, as it is told.
+fn told<S: Source, K: Sink>(
+    alloc: Global,
+    source: &mut S,
+    sink: &mut K,
+    options: &StreamOptions,
+    config: Config,
+    policy: Policy,
+) -> Result<Done, RunError>
+    requires good { is_good config ≡ true }
+    requires config { config ≡ stream_config options.now }
+    requires policy { driver_of options.now.run ≡ ByPolicy policy }
+    requires rounds { AreRounds policy }
+    ensures reported { IfOk result (λ done.
+        IsReported (IsStreamReport options.now (S.remaining source.old) done.all_done)
+        (K.contents sink.old) (K.contents sink.new)) }
+    ensures end { OnOk result (IfSome (S.remaining source.old)
+        (λ known. AtEnd (S.remaining source.new))) }
+    ensures none_failed { OnOk result ((S.failures source.new ≡ S.failures source.old)
+        × (K.failures sink.new ≡ K.failures sink.old)) }
+    ensures stopped { IfErr result (IsStopped options.now (S.remaining source.old)
+        (K.contents sink.old) (K.contents sink.new) (S.failures source.old) (S.failures source.new)
+        (K.failures sink.old) (K.failures sink.new)) }
+{
+    let (names, limit) = (asks_words(options), limit_of(&options.run));
+    let Ok(mut run) = StreamedRun::new(alloc, config, policy, limit, names) else {
+        return Err(RunError::NoMemory);
+    };
+    told_by_pieces(alloc, &mut run, source, sink, options)
+}
+
+// Pieces of a run that has made no turn, until it is over; then the rest of the text, and the report.
+fn told_by_pieces<S: Source, K: Sink>(
+    alloc: Global,
+    run: &mut StreamedRun,
+    source: &mut S,
+    sink: &mut K,
+    options: &StreamOptions,
+) -> Result<Done, RunError>
+    requires good { is_good (stream_config options.now) ≡ true }
+    requires running { IsRunning options.now (S.remaining source.old) run.old
+        (S.remaining source.old) }
+    requires none { run.old.machine.records ≡ [] }
+    ensures reported { IfOk result (λ done.
+        IsReported (IsStreamReport options.now (S.remaining source.old) done.all_done)
+        (K.contents sink.old) (K.contents sink.new)) }
+    ensures end { OnOk result (IfSome (S.remaining source.old)
+        (λ known. AtEnd (S.remaining source.new))) }
+    ensures none_failed { OnOk result ((S.failures source.new ≡ S.failures source.old)
+        × (K.failures sink.new ≡ K.failures sink.old)) }
+    ensures stopped { IfErr result (IsStopped options.now (S.remaining source.old)
+        (K.contents sink.old) (K.contents sink.new) (S.failures source.old) (S.failures source.new)
+        (K.failures sink.old) (K.failures sink.new)) }
+{
+    every_history_is_legal();
+    runs_serve_programs::<StepQueue>();
+    let mut goes_on = true;
+    'pieces: while goes_on {
+        goes_on = match make_piece(run, source) {
+            Ok(goes_on) => goes_on,
+            Err(error) => return Err(error),
+        };
+        if let Err(error) = put_records(alloc, sink, options.records, run.done()) {
+            return Err(error);
+        }
+    }
+    if let Err(error) = read_rest(run, source) {
+        return Err(error);
+    }
+    if let Err(error) = put_report(alloc, sink, options, run) {
+        return Err(error);
+    }
+    Ok(Done {
+        all_done: is_all_done(run.end()),
+    })
+}

@@ -1,0 +1,9 @@
+mod AddedRecords
+mod StaleRecords
+mod CountedRecords
+mod JoinedLanes
+mod MadePieces
+mod GoingRuns
+mod EndedRuns
+mod IssuedSums
+pub mod Lemmas

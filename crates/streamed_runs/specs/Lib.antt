@@ -1,0 +1,4 @@
+pub mod KeptRecords
+pub mod Summaries
+pub mod Pieces
+pub mod StreamStates

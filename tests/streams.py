@@ -1,0 +1,407 @@
+#!/usr/bin/env python3
+"""Tries `tardis trace --stream`: tests/streams.py PROGRAM [PART ..] [--traces N] [--seed N] [--self-test]
+
+What it writes must be what `trace` writes, byte for byte, with as many cores as the trace has, with more, and by
+default: of the examples, and of random traces on random machines, some longer than what is read ahead. So must its JSON
+and its report without words. If a line is at fault, standard error says which. What was written before must be a
+beginning of the records of the lines before it, and no more than the second program can write (docs/STREAMS.md).
+
+Pipes are tried that stay open or are long, and readers that leave early. The parts are examples, faults, cut_texts,
+cores, odd_texts, pipes, memory and at_random, and long, a text of 20,000,000 lines, which is tried only if it is named.
+--traces and --seed say how many traces are drawn, and which. --self-test spoils each answer: first the status, then the
+output, then standard error; and says which comparison doesn't notice. The last line is `N tried, M wrong`.
+"""
+import argparse
+import os
+import random
+import re
+import select
+import subprocess
+import sys
+import tempfile
+import threading
+from pathlib import Path
+
+sys.path.insert(0, str(Path(__file__).resolve().parent.parent))
+from reference import oracle  # noqa: E402
+from reference.traces import Fault, Trace  # noqa: E402
+from tests.expected import options_of  # noqa: E402
+from tests.texts import PATIENCE, TOP, Tester, form_2_faults, moved, of_printf, one_line_faults, rows  # noqa: E402
+
+FORMS = [], ["--records"], ["--json"]
+WITHOUT_WORDS = ["--no-words"], ["--no-words", "--json"]
+AHEAD = 4096  # steps that are read ahead at least
+NO_LIMIT = ["--limit", "4294967295"]
+# What spoils an answer: a part of status, output and standard error each.
+SPOILERS = {"status": lambda status, out, error: (status ^ 1, out, error),
+            "output": lambda status, out, error: (status, other_digit(out), error),
+            "standard error": lambda status, out, error: (status, out, other_digit(error))}
+
+
+def other_digit(text):
+    """A text whose last digit is another one; one more digit, if it has none."""
+    at = max(text.rfind(digit) for digit in "0123456789")
+    return text + "0" if at < 0 else f"{text[:at]}{(int(text[at]) + 1) % 10}{text[at + 1:]}"
+
+
+class Streams(Tester):
+    """Runs the program with `--stream`, and without. `spoil` changes each answer of the first."""
+
+    spoil = None
+
+    def stream(self, *words, text=None):
+        return self.came(self.run("trace", "--stream", *words, text=text))
+
+    def came(self, answer):
+        return self.spoil(*answer) if self.spoil else answer
+
+    def expect(self, good, what):
+        """While answers are spoilt, each comparison must fail."""
+        super().expect(good != bool(self.spoil), f"not noticed: {what[:200]}" if self.spoil else what)
+
+    def covers(self, good, what):
+        """What is said of the texts alone, not of an answer."""
+        if not self.spoil:
+            self.expect(good, what)
+
+
+def without_words(answer):
+    """The same answer, but that its report has no words."""
+    status, out, error = answer
+    return status, re.sub(r'"words":{.*?}', '"words":{}', re.sub(r"(?m)^word .*\n", "", out)), error
+
+
+def numbers_of_cores(cores):
+    """The words that give the machine as many cores as the trace has, more, and as many as by default."""
+    return ["--cores", str(cores)], ["--cores", str(min(64, cores + 1 + cores % 5))], []
+
+
+def same(tester, path, options, cores, choices):
+    """What is streamed is what `trace` writes: each form, with these numbers of cores. Answers the report."""
+    plain = {tuple(form): tester.run("trace", *form, *options, path) for form in FORMS}
+    wanted = [(form, plain[tuple(form)]) for form in FORMS]
+    wanted += [(form, without_words(plain[tuple(form[1:])])) for form in WITHOUT_WORDS]
+    for at, (form, answer) in enumerate(wanted):
+        for choice in choices(at):
+            words = [*form, *numbers_of_cores(cores)[choice], *options, path]
+            got = tester.stream(*words)
+            tester.expect(got == answer, f"{words}: {shown(got)}, wanted {shown(answer)}")
+    return plain[()][1]
+
+
+def shown(answer):
+    """An answer that isn't too long."""
+    status, out, error = answer
+    return status, f"{out[:300]} .. {out[-300:]}" if len(out) > 700 else out, error
+
+
+def examples(tester, folder):
+    """All examples that run by rounds, in each form and with each number of cores."""
+    seen = 0
+    for path in sorted((TOP / "examples/traces").glob("*.trace")):
+        options = options_of(path)
+        if "--schedule" not in options:
+            seen += 1
+            same(tester, str(path), options, Trace(path.read_bytes()).cores, lambda at: range(3))
+    tester.covers(seen > 30, f"only {seen} examples")
+
+
+def drawn_trace(draw, is_long):
+    """The text of a trace, in the order that the cores' lines have in it."""
+    cores, steps = draw.randint(1, 16), draw.randrange(AHEAD + 1, 4 * AHEAD) if is_long else draw.randrange(1, 150)
+    form, words = draw.choice([1, 2]), draw.choice([1, 3, 8, 30, 500])
+    letters = draw.choice(["RRRWWS", "RRRRRRRW", "R", "WS"]) + "A" * (form - 1)
+    turns = draw.choice([lambda at: draw.randrange(cores), lambda at: at % cores, lambda at: at * cores // steps,
+                         lambda at: at // 37 % cores, lambda at: min(draw.randrange(cores), draw.randrange(cores))])
+    lines = ["trace 2"] * (form - 1)
+    for at in range(steps):
+        letter, address = draw.choice(letters), f" {8 * draw.randrange(words):#x}"
+        behind = "" if letter == "A" else address if letter == "R" else f"{address} {draw.randrange(9)}"
+        lines.append(f"{turns(at)} {letter}{behind}")
+        if draw.random() < 0.01:
+            lines.append(draw.choice(["", "# a comment", " \t"]))
+    return "\n".join(lines) + draw.choice(["\n", ""])
+
+
+def drawn_options(draw, is_long):
+    """A machine, mostly small, and a limit that may cut the run; few messages stall it."""
+    few = draw.choice
+    options = {"--lease": few([1, 2, 10]), "--banks": few([1, 1, 3]), "--sets": few([1, 2, 64]), "--ways": few([1, 4]),
+               "--bank-sets": few([1, 2, 256]), "--bank-ways": few([1, 2, 8, 16]), "--line-words": few([1, 1, 8]),
+               "--messages": few([1, 2, 5, 30, 4096, 4096, 4096, 4096]), "--time": few([0, 0, 0, 2 ** 64 - 40]),
+               "--limit": few([3000, 20000, 60000] if is_long else [1, 5, 50, 3000, 3000])}
+    return [*(str(word) for option in options.items() for word in option), *few([[], ["--private-write"]]),
+            *few([[], ["--fair"]])]
+
+
+def at_random(tester, folder):
+    """Random traces on random machines. Every fifth is longer than what is read ahead."""
+    traces, draw, path = tester.given.traces, random.Random(tester.given.seed), Path(folder, "a.trace")
+    ends, far, stale = set(), 0, 0
+    for number in range(traces):
+        is_long = number % 5 == 0
+        text, options = drawn_trace(draw, is_long), drawn_options(draw, is_long)
+        path.write_text(text)
+        report = same(tester, str(path), options, Trace(text.encode()).cores, lambda at: [(number + at) % 3])
+        told = dict(line.split(" ", 1) for line in report.splitlines())
+        ends.add(told["end"])
+        far, stale = far + (int(told["completed"]) > 2 * AHEAD), stale + (told["stale-hits"] != "0")
+        if number % 10 == 1:
+            words = [*options, "--cores", "16", str(path)]
+            second(tester, [["--records"], ["--no-words"], ["--json"]][number // 10 % 3] + words)
+    tester.covers(ends == {"all-done", "stalled", "limit", "exhausted"} and far > traces / 40 and stale > traces / 40,
+                  f"random runs end {ends}, {far} are long, {stale} have stale hits")
+
+
+def second(tester, words):
+    """The second program writes the same."""
+    text, status = oracle.run(oracle.words().parse_args(["trace", "--stream", *words]))
+    got = tester.stream(*words)
+    tester.expect(got == (status, text, ""), f"{words}: {shown(got)}, the second program {status} {text[:600]}")
+
+
+def faulty(tester, path, text, fault, *options, least=0):
+    """A text with a fault, of which this is said: what is written before is a beginning of the records of the lines
+    before it, of `least` records or more, and no more than can be known."""
+    path.write_bytes(text)
+    line = int(re.search(r"line (\d+):", fault)[1])
+    before = Path(path.parent, "before.trace")
+    before.write_bytes(b"".join(part + b"\n" for part in text.split(b"\n")[:line - 1]))
+    whole = tester.run("trace", "--records", *without_cores(options), str(before))[1]
+    known = whole if len(text) > AHEAD else written_before(["--records", *options, str(path)])
+    said = f"tardis: {fault}\n"
+    status, out, error = tester.stream("--records", *options, str(path))
+    good = (status, error) == (2, said) and whole.startswith(out) and known.startswith(out) and out[-1:] in ("", "\n")
+    tester.expect(good and out.count("\n") >= least,
+                  f"{text[-80:]!r} {options}: wanted {said} and a beginning of {len(known)} bytes, got {status}, "
+                  f"{len(out)} bytes, {error}")
+    for form in [], ["--json"], ["--no-words"]:
+        got = tester.stream(*form, *options, str(path))
+        tester.expect(got == (2, "", said), f"{text[-80:]!r} {form} {options}: {shown(got)}, wanted {said}")
+
+
+def without_cores(options):
+    at = options.index("--cores") if "--cores" in options else len(options)
+    return [*options[:at], *options[at + 2:]]
+
+
+def written_before(words):
+    """The most that can be written before the text's fault, by the second program."""
+    try:
+        oracle.run(oracle.words().parse_args(["trace", "--stream", *words]))
+    except Fault as fault:
+        return fault.written
+    raise AssertionError(f"{words}: no fault")
+
+
+def faults(tester, folder):
+    """Each kind of fault in the first line, behind a few, and behind more than are read ahead, in both forms."""
+    path = Path(folder, "bad.trace")
+    few, many = b"0 W 0x0 1\n\n1 R 0x0\n0 R 0x8\n1 S 0x0 2 # x\n", b"0 R 0x0\n1 W 0x8 3\n" * AHEAD
+    for fault, text in rows(TOP / "examples/bad/traces.table"):
+        faulty(tester, path, of_printf(text), fault)
+    for number, (fault, text) in enumerate([*one_line_faults("traces.table"), ("line 1: 3 TooLong", b"#" * 257)]):
+        fault = "line 1: 4 BadCore" if text.split()[:1] == [b"trace"] else fault
+        cores = ["--cores", "2"] if number % 2 else []
+        faulty(tester, path, few + text + b"\n0 R 0x0\n", moved(fault, 5), *cores)
+        if number % 7 == 0:
+            # With as many cores as the trace has, rounds are made before the fault is read.
+            faulty(tester, path, many + text, moved(fault, 2 * AHEAD), "--cores", "2", least=AHEAD // 2)
+    for number, (fault, text) in enumerate(form_2_faults()):
+        faulty(tester, path, b"\ntrace 2\n63 A\n" + text + b"\n0 A\n", moved(fault, 2))
+        if number % 9 == 0:
+            faulty(tester, path, b"trace 2\n" + many + b"1 A\n" + text, moved(fault, 2 * AHEAD + 1))
+
+
+def cut_texts(tester, folder):
+    """A trace that is cut behind each byte."""
+    path = Path(folder, "cut.trace")
+    text = (TOP / "examples/traces/SWAP-LOCK.trace").read_bytes()
+    said, machine = {0: 0, 2: 0}, ["--cores", str(Trace(text).cores)]
+    for at in range(len(text)):
+        path.write_bytes(text[:at])
+        words = ["--records", *machine, str(path)]
+        plain = tester.run("trace", "--records", str(path))
+        said[plain[0]] += 1
+        if plain[0]:
+            faulty(tester, path, text[:at], plain[2].removeprefix("tardis: ").strip(), *machine)
+            continue
+        got = tester.stream(*words)
+        tester.expect(got == plain, f"cut behind byte {at}: {got}, wanted {plain}")
+    tester.covers(min(said.values()) > 20, f"cut texts: {said}")
+
+
+def cores(tester, folder):
+    """A step of a core that the machine hasn't is a fault of its line, also where the run is over by then."""
+    path, good = Path(folder, "core.trace"), b"0 R 0x0\n1 W 0x0 1\n" * 3
+    faulty(tester, path, good + b"2 R 0x0\n", "line 7: 4 BadCore", "--cores", "2")
+    faulty(tester, path, good + b"2 R 0x0\n0 X\n", "line 7: 4 BadCore", "--cores", "2")
+    faulty(tester, path, good + b"2 R 0x1\n", "line 7: 6 BadAddress", "--cores", "2")
+    faulty(tester, path, good + b"0 X\n2 R 0x0\n", "line 7: 5 BadOperation", "--cores", "2")
+    faulty(tester, path, b"1 R 0x0\n", "line 1: 4 BadCore", "--cores", "1")
+    faulty(tester, path, b"trace 2\n63 A\n", "line 2: 4 BadCore", "--cores", "63")
+    for over in ["--limit", "2"], ["--messages", "1"]:
+        for cores, behind, fault in (("2", b"2 R 0x0\n", "4 BadCore"), ("64", b"0 X\n", "5 BadOperation")):
+            text = good * AHEAD + behind
+            faulty(tester, path, text, f"line {6 * AHEAD + 1}: {fault}", "--cores", cores, *over)
+
+
+def odd_texts(tester, folder):
+    """Texts without a step, and those in which one core's lines come long before another's."""
+    path = Path(folder, "odd.trace")
+    texts = [b"", b"\n", b"#", b"# one\n \t\n#", b"trace 2", b"trace 2\n\n# two\n", b"\n" * 5 * AHEAD, b"trace 2\n5 A\n"]
+    first, last = b"0 R 0x0\n0 W 0x8 1\n" * 2 * AHEAD, b"3 S 0x8 4\n3 R 0x0\n" * 2 * AHEAD
+    texts += [first + last, last + first, b"3 R 0x0\n" + first, first + b"3 R 0x0", b"7 R 0x0\n"]
+    for text in texts:
+        path.write_bytes(text)
+        same(tester, str(path), ["--fair", "--limit", "1000000"], Trace(text).cores, lambda at: range(3))
+
+
+def pipes(tester, folder):
+    """Texts from pipes, of which one stays open while its first records come, and readers that leave early."""
+    text = b"0 R 0x0\n1 W 0x0 1\n" * 8000
+    plain = tester.run("trace", "--records", "/dev/stdin", text=text)
+    tester.covers(plain[1].count("\n") == 16000, f"records of a pipe: {shown(plain)}")
+    got = tester.stream("--records", "--cores", "2", "/dev/stdin", text=text)
+    tester.expect(got == plain, f"records by a pipe: {shown(got)}")
+    pipe = Path(folder, "pipe")
+    os.mkfifo(pipe)
+    with subprocess.Popen(["sh", "-c", f"yes '0 R 0x0' | head -n 20000 > {pipe}"]) as writer:
+        got = tester.stream("--cores", "1", str(pipe))
+        writer.wait()
+    wanted = tester.run("trace", "/dev/stdin", text=b"0 R 0x0\n" * 20000)
+    tester.expect(got == wanted, f"a named pipe: {shown(got)}, wanted {shown(wanted)}")
+    stays_open(tester, text, plain)
+    for words, out in ((["--records"], "0 0 R 0x0 0 0 0\n"), (["--records", "--fair"], "0 0 R 0x0 0 0 0\n")):
+        leaves_early(tester, words, out)
+    for words in ["--records"], [], ["--json"]:
+        with open("/dev/full", "wb") as full:
+            done = subprocess.run([tester.program, "trace", "--stream", *words, "/dev/stdin"], input=b"0 R 0x0\n",
+                                  stdout=full, stderr=subprocess.PIPE, timeout=PATIENCE)
+        got = tester.came((done.returncode, "", done.stderr.decode()))
+        tester.expect(got == (4, "", "tardis: write failed\n"), f"a full device, {words}: {got}")
+
+
+def opened(tester, *words, stdin=subprocess.PIPE):
+    return subprocess.Popen([tester.program, "trace", "--stream", *words, "/dev/stdin"], stdin=stdin,
+                            stdout=subprocess.PIPE, stderr=subprocess.PIPE)
+
+
+def stays_open(tester, text, plain):
+    """Of a pipe that stays open the first records come before its end, and a fault as soon as it is read. What is
+    refused before the text is read waits for no byte of it."""
+    with opened(tester, "--records", "--cores", "2") as run:
+        writer, has_come = run.stdin, threading.Event()
+        run.stdin = None
+
+        def write():
+            writer.write(text)  # while records are read, so that neither pipe stays full
+            writer.flush()
+            has_come.wait(PATIENCE)
+            writer.close()
+
+        threading.Thread(target=write, daemon=True).start()
+        came = bool(select.select([run.stdout], [], [], PATIENCE)[0])
+        has_come.set()
+        out, error = run.communicate(timeout=PATIENCE)
+    got = tester.came((run.returncode, out.decode(), error.decode()))
+    tester.expect(came and got == plain, f"a pipe that stays open: {came} {shown(got)}")
+    for words, bytes_of, wanted in (([], b"0 R 0x0\n0 X\n", (2, "", "tardis: line 2: 5 BadOperation\n")),
+                                    (["--lease", "0"], b"", (3, "", "tardis: bad configuration\n"))):
+        with opened(tester, *words) as run:
+            run.stdin.write(bytes_of)
+            run.stdin.flush()
+            out = run.stdout.read().decode()  # to its end, while the text has none
+            got = tester.came((run.wait(PATIENCE), out, run.stderr.read().decode()))
+            run.stdin.close()
+        tester.expect(got == wanted, f"{bytes_of} of a pipe that stays open: {got}, wanted {wanted}")
+
+
+def leaves_early(tester, words, first):
+    """An endless text, of whose records one is taken."""
+    with subprocess.Popen(["yes", "0 R 0x0"], stdout=subprocess.PIPE) as text:
+        with opened(tester, "--cores", "1", *words, stdin=text.stdout) as run:
+            out = run.stdout.readline().decode()
+            run.stdout.close()
+            got = tester.came((run.wait(PATIENCE), out, run.stderr.read().decode()))
+        text.stdout.close()
+        text.kill()
+    tester.expect(got == (4, first, "tardis: write failed\n"), f"a reader that takes one line, {words}: {got}")
+
+
+def measured(tester, make, *words):
+    """The answer on what a shell command makes, and the most memory that it took, in MB."""
+    with subprocess.Popen(["sh", "-c", make], stdout=subprocess.PIPE) as maker, tempfile.TemporaryFile() as out:
+        run = subprocess.Popen([tester.program, "trace", *words, "/dev/stdin"], stdin=maker.stdout, stdout=out,
+                               stderr=subprocess.PIPE)
+        maker.stdout.close()
+        error = run.stderr.read().decode()
+        _, status, used = os.wait4(run.pid, 0)
+        run.returncode = os.waitstatus_to_exitcode(status)
+        run.stderr.close()
+        out.seek(0)
+        return (run.returncode, out.read().decode(), error), used.ru_maxrss / 1024
+
+
+def loads(count):
+    """The report on `count` loads of 0x0 by core 0."""
+    zeros = "".join(f"{name} 0\n" for name in ("stores", "swaps", "renewals", "upgrades", "flushes", "write-backs",
+                                              "stale-hits"))
+    return f"cores 1\nissued {count}\ncompleted {count}\nend all-done\nloads {count}\n{zeros}order legal\nword 0x0 0\n"
+
+
+def memory(tester, folder):
+    """A text takes no more memory than one of a tenth of its lines."""
+    lines = r"0 R 0x0\n1 W 0x8 1\n2 S 0x10 2\n3 R 0x0"
+    peaks = []
+    for count in (200000, 2000000):
+        make = f"yes \"$(printf '{lines}')\" | head -n {count}"
+        answer, peak = measured(tester, make, "--stream", "--cores", "4", *NO_LIMIT)
+        got = tester.came(answer)
+        tester.expect(got[0] == 0 and got[2] == "" and f"\ncompleted {count}\nend all-done\n" in got[1] and
+                      got[1].endswith("word 0x0 0\nword 0x8 1\nword 0x10 2\n"), f"{count} lines: {got}")
+        peaks.append(peak)
+    tester.covers(peaks[1] < peaks[0] + 4, f"2,000,000 lines take {peaks[1]:.0f} MB, a tenth of them {peaks[0]:.0f}")
+
+
+def long(tester, folder):
+    """More lines than `trace` takes."""
+    count = 20000000
+    answer, peak = measured(tester, f"yes '0 R 0x0' | head -n {count}", "--stream", "--cores", "1", *NO_LIMIT)
+    got = tester.came(answer)
+    tester.expect(got == (0, loads(count), ""), f"{count} lines: {got}")
+    tester.covers(peak < 64, f"{count} lines take {peak:.0f} MB")
+
+
+PARTS = {part.__name__: part for part in (examples, faults, cut_texts, cores, odd_texts, pipes, memory, at_random)}
+
+
+def tried(tester, parts):
+    with tempfile.TemporaryDirectory() as folder:
+        for name in parts:
+            (PARTS | {"long": long})[name](tester, folder)
+
+
+def main():
+    options = argparse.ArgumentParser(description=__doc__, formatter_class=argparse.RawDescriptionHelpFormatter)
+    options.add_argument("PROGRAM")
+    options.add_argument("PART", nargs="*", default=list(PARTS))
+    options.add_argument("--traces", type=int, default=500, metavar="N")
+    options.add_argument("--seed", type=int, default=1, metavar="N")
+    options.add_argument("--self-test", action="store_true")
+    given = options.parse_args()
+    tester = Streams(os.path.abspath(given.PROGRAM))
+    tester.given = given
+    os.chdir(TOP)
+    if not given.self_test:
+        tried(tester, given.PART)
+    for what, spoil in SPOILERS.items() if given.self_test else ():
+        tester.spoil, before = spoil, tester.tried
+        tried(tester, given.PART)
+        print(f"another {what}: {tester.tried - before} comparisons")
+    print(f"{tester.tried} tried, {tester.wrong} wrong")
+    return int(tester.wrong > 0)
+
+
+if __name__ == "__main__":
+    sys.exit(main())

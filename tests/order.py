@@ -23,7 +23,7 @@ from pathlib import Path
 sys.path.insert(0, str(Path(__file__).resolve().parent.parent))
 from reference import tso  # noqa: E402
 from reference.traces import read_records  # noqa: E402
-from tests.listed_orders import drawn_history, has_buffered_order, has_listed_order  # noqa: E402
+from tests.listed_orders import drawn_history, has_buffered_order, has_listed_order, keeps_time  # noqa: E402
 from tests.order_facts import facts_hold, set_holds  # noqa: E402
 from tests.texts import TOP, Tester  # noqa: E402
 from tools.mesi import Machine  # noqa: E402
@@ -63,8 +63,14 @@ class Orders(Tester):
         opening = settings.get("opening", {})
         if found.order is not None:
             self.confirms(operations, found.order, settings.get("model", "sc"), opening)
-        elif settings.get("model") != "tso" and not settings.get("real_time"):
-            self.expect(facts_hold(operations, found.lines, opening), f"facts: {found.lines} of {text_of(operations)}")
+            if settings.get("real_time"):
+                self.expect(keeps_time(operations, found.order), f"real time: {found.order} of {text_of(operations)}")
+            for order in (found.order, found.order[::-1], sorted(found.order)):
+                self.expect(witness.keeps_real_time(operations, order) == keeps_time(operations, order),
+                            f"whether {order} keeps real time: {text_of(operations)}")
+        else:
+            self.expect(facts_hold(operations, found.lines, **settings),
+                        f"{settings}, facts: {found.lines} of {text_of(operations)}")
 
     def confirms(self, operations, order, model="sc", opening=()):
         texts = witness.texts(operations, order, dict(opening), model == "tso")
@@ -303,7 +309,11 @@ def settings(tester):
                       f"{words} {text!r}: {status} {out} {error}")
         if "tso" in words:
             tester.expect(all(line.endswith(tso.NOT_PROVED) for line in out.splitlines()), f"{out}: not marked")
-    opening = tester.folder / "opening"
+
+
+def openings(tester):
+    """What memory opens with changes the answer; what can't be asked, and who checks where the program isn't built."""
+    history, opening = tester.folder / "opened.history", tester.folder / "opening"
     for first, text, wanted in (("0x0 5\n", "0 R 0x0 5\n1 W 0x0 1\n1 R 0x8 0\n", "consistent: proved"),
                                 ("M[1] := 5 # a comment\n", "0: M[1] == 5\n1: M[1] := 1\n", "consistent: proved"),
                                 ("0x0 5\n", "0 R 0x0 0\n", "not consistent"), ("0x0 0\n", "0 R 0x0 0\n", "consistent")):
@@ -356,7 +366,7 @@ TOLD = [
     ("0: M[0] := 1 @ 0:\n1: M[0] == 0 @ 11:12\n", ["--real-time"], ["consistent: proved by tardis check"]),
     ("0: M[0] := 1 @ 0:10\n1: M[0] == 0 @ :12\n", ["--real-time"], ["consistent: proved by tardis check"]),
     ("0 W 0x0 1\n0 R 0x0 0\n", ["--model", "tso"], [
-        f"  1: line 2 sees line 1, its own core's store before it {tso.NOT_PROVED}",
+        f"  1: line 2 sees line 1, its core's last write of the word before it {tso.NOT_PROVED}",
         f"  2: line 2 didn't receive the opening value: line 1 had overwritten it, by 1 {tso.NOT_PROVED}"]),
     # Each of three cores received what the others write behind that: no ring, since two of them may be meant.
     ("0 R 0x0 1\n0 W 0x0 1\n1 R 0x0 1\n1 W 0x0 1\n2 R 0x0 1\n2 W 0x0 1\n", [], [
@@ -634,8 +644,8 @@ def main():
         tester = Orders(os.environ["TARDIS"], folder)
         draws(tester, given.histories, given.seed)
         if not given.drawn:
-            for part in (printed, unfinished, texts, settings, confirmations, told, orders_of_buffers, drawn_orders,
-                         branches, numbers, kept, directories, examples):
+            for part in (printed, unfinished, texts, settings, openings, confirmations, told, orders_of_buffers,
+                         drawn_orders, branches, numbers, kept, directories, examples):
                 part(tester)
             sizes(tester, given.large)
     print(f"{tester.tried} tried, {tester.wrong} wrong")

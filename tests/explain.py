@@ -309,8 +309,6 @@ def faults(tester):
     for table, names in (("traces.table", ["text.trace"]), ("records.table", ["none.trace", "text.records"])):
         for fault, text in rows(TOP / "examples/bad" / table):
             tester.tells(told_fault(fault), *[b""] * (len(names) - 1), of_printf(text), names=names)
-
-
     for fault, text in rows(TOP / "examples/bad/openings.table"):
         path = Path(tester.folder, "text.opening")
         path.write_bytes(of_printf(text))
@@ -326,8 +324,8 @@ def causes(tester):
     for name, text, wanted in (("a.trace", gzip.compress(b"0 R 0x0\n" * 99, mtime=0), "It is compressed by gzip"),
                                ("a.litmus", gzip.compress(PLAIN.encode(), mtime=0), "It is compressed by gzip"),
                                ("a.trace", "0 R 0x0\n".encode("utf-16"), "It is in UTF-16"),
-                               ("a.trace", b"#\n" * 16_777_217, "It has more lines than are read: `head -n 16777216 FILE` is its beginning. "
-                                "`tardis trace --stream FILE` runs all."),
+                               ("a.trace", b"#\n" * 16_777_217, "It has more lines than are read: `head -n 16777216 "
+                                "FILE` is its beginning. `tardis trace --stream FILE` runs all."),
                                ("a.trace", b"0 R 0x0 #" + b"." * 260, "A comment that is too long.")):
         tester.tells([f"{name}, line ", f"often meant: {wanted}"], text, names=[name])
     tester.tells(["7 BadValue: RECEIVED: ", "64 bits: what the operation received"], b"", b"0 0 R 0x0 x 0 0\n",

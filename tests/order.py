@@ -28,8 +28,8 @@ from tests.order_facts import facts_hold, set_holds  # noqa: E402
 from tests.texts import TOP, Tester  # noqa: E402
 from tools.mesi import Machine  # noqa: E402
 from tools.number import numbered  # noqa: E402
-from tools.order import confirmed  # noqa: E402
-from tools.orders import layers, least, reasons, search, solver, witness  # noqa: E402
+from tools.order import confirmed, timed  # noqa: E402
+from tools.orders import find, layers, least, reasons, search, solver, witness  # noqa: E402
 from tools.orders.answer import answer  # noqa: E402
 from tools.orders.forced import Forced, NoOrder, TimeUp  # noqa: E402
 from tools.orders.history import read_history  # noqa: E402
@@ -198,7 +198,21 @@ def printed(tester):
         tester.expect(found == wanted and type(found) is type(wanted), f"z3 prints {text!r}: {found}")
     asked = (tester.folder / "z3.asked").read_text().splitlines()
     tester.expect([asked[0], *asked[-2:]] == [solver.LOGIC, "(check-sat)", "(get-model)"], f"z3 is asked: {asked}")
+    believed(tester)
     os.environ["PATH"] = usual
+
+
+def believed(tester):
+    """Where the search has had its time, and layers don't fit, z3's word counts, and else the search goes on. Here z3
+    lies about four stores of four words."""
+    problem = Problem(read_history(b"".join(b"%d W %d 1\n" % (core, core) for core in range(4))))
+    usual, find.FIRST_SECONDS = find.FIRST_SECONDS, -1
+    for text, wanted in (("unsat\n", None), ("sat\n((define-fun t2 () Int (- 1)))\n", [2, 0, 1, 3]),
+                         ("unknown\n", [0, 1, 2, 3])):
+        (tester.folder / "z3.printed").write_text(text)
+        order = find.find(problem, Forced(problem), time.monotonic() + SECONDS)
+        tester.expect(order == wanted, f"z3 prints {text!r}, and the order is {order}")
+    find.FIRST_SECONDS = usual
 
 
 def unfinished(tester):
@@ -260,6 +274,7 @@ BAD = [
     ("0 0 W 0x0 1 0 0\n0 0 R 0x0 1 0 1\n", "line 2: core 0 has this place twice"),
     ("0 0 W 0x0 1 0 0\n0 1 R 0x0 1 0\n", "line 2: behind `R` stands an address and a value, and here `0x0`"),
     ("0 0 W 0x0 1 0 0\n0 1 R 0x0 1 0 x\n", "line 2: `0 1 R 0x0 1 0 x` is no record"),
+    ("0 0 W 0x0 1 0 0\n0 1 F @ 5 0 1\n", "line 2: `0 1 F @ 5 0 1` is no record"),
     ("64: sync\n", "line 1: the core 64 is greater than 63"), ("0: M[0] := x\n", "line 1: `M[0] := x` is no operation"),
 ]
 BUFFERS = "0: M[0] := 1\n0:{} M[1] == 0\n1: M[1] := 1\n1:{} M[0] == 0\n"
@@ -339,22 +354,35 @@ def openings(tester):
 
 
 def confirmations(tester):
-    """Only the checker's word counts: an order with a wrong value, or without an operation, isn't reported as found."""
+    """Only the checker's word counts: an order with a wrong value, or without an operation, isn't reported as found. Nor
+    is one that doesn't keep real time, where that is asked for."""
     trace, records = tester.folder / "c.trace", tester.folder / "c.records"
     trace.write_text("0 W 0x0 1\n1 R 0x0\n")
     for model in ("sc", "tso"):
         for text, is_good in (("0 0 W 0x0 1 0 0\n1 0 R 0x0 1 0 1\n", True),
                               ("0 0 W 0x0 1 0 0\n1 0 R 0x0 0 0 1\n", False), ("0 0 W 0x0 1 0 0\n", False), ("", False)):
             records.write_text(text)
-            try:
-                with contextlib.redirect_stderr(io.StringIO()) as error:
-                    said = confirmed(argparse.Namespace(model=model), {"trace": trace, "records": records})
-            except SystemExit as ended:
-                said = ended.code
-            tester.expect(said != 2 if is_good else said == 2 and error.getvalue().count("\n") == 1,
-                          f"{model}, {text!r}: {said}")
+            said = said_by(confirmed, argparse.Namespace(model=model), {"trace": trace, "records": records})
+            tester.expect((said == REFUSED) != is_good, f"{model}, {text!r}: {said}")
+    late = read_history(b"0 W 0x0 1 @ 0 10\n1 R 0x0 0 @ 11 12\n1 F @ 10\n0 F\n")
+    for order, is_good in (([0, 1, 2, 3], False), ([1, 0], False), ([0, 3, 2, 1], True), ([2, 0, 1], True)):
+        said = said_by(timed, late, order)
+        tester.expect((said == REFUSED) != is_good, f"{order}: {said}")
 
 
+REFUSED = 2, 1  # the status, and the lines of standard error
+
+
+def said_by(function, *given):
+    """What a function returns, or how it ends the script."""
+    try:
+        with contextlib.redirect_stderr(io.StringIO()) as error:
+            return function(*given)
+    except SystemExit as ended:
+        return ended.code, error.getvalue().count("\n")
+
+
+TIMED = "consistent: proved by tardis check; that it keeps real time isn't proved"
 # Each with its options, and lines of the answer, by hand. A fence has times as others have, and a half of them says
 # nothing of the other half.
 TOLD = [
@@ -362,9 +390,9 @@ TOLD = [
         "  1: line 1 before line 2: it ended before the other started",
         "  2: line 2 before line 3: program order of core 1",
         "  3: line 3 before line 1: line 3 received the word's opening value"]),
-    ("0: M[0] := 1 @ 0:10\n1: sync @ 20:30\n1: M[0] == 1\n", ["--real-time"], ["consistent: proved by tardis check"]),
-    ("0: M[0] := 1 @ 0:\n1: M[0] == 0 @ 11:12\n", ["--real-time"], ["consistent: proved by tardis check"]),
-    ("0: M[0] := 1 @ 0:10\n1: M[0] == 0 @ :12\n", ["--real-time"], ["consistent: proved by tardis check"]),
+    ("0: M[0] := 1 @ 0:10\n1: sync @ 20:30\n1: M[0] == 1\n", ["--real-time"], [TIMED]),
+    ("0: M[0] := 1 @ 0:\n1: M[0] == 0 @ 11:12\n", ["--real-time"], [TIMED]),
+    ("0: M[0] := 1 @ 0:10\n1: M[0] == 0 @ :12\n", ["--real-time"], [TIMED]),
     ("0 W 0x0 1\n0 R 0x0 0\n", ["--model", "tso"], [
         f"  1: line 2 sees line 1, its core's last write of the word before it {tso.NOT_PROVED}",
         f"  2: line 2 didn't receive the opening value: line 1 had overwritten it, by 1 {tso.NOT_PROVED}"]),

@@ -426,6 +426,11 @@ def others(tester):
     tester.tells(["wrong value 101", "Another order of the 61 records around it, lines 72 to 132, explains"],
                  b"0 S 0x0 1\n" + b"0 R 0x0\n" * 160 + b"1 W 0x0 2\n",
                  "\n".join(["0 0 S 0x0 1 9 0 0", *lines[1:]]).encode(), opening=str(opening))
+    opening.write_text("0x0 9\n0x8 7\n")  # one of the 61 has what 0x8 opens with
+    tester.tells(["wrong value 101", "Another order of the 61 records around it, lines 72 to 132, explains"],
+                 b"0 S 0x0 1\n" + b"0 R 0x0\n" * 109 + b"0 R 0x8\n" + b"0 R 0x0\n" * 50 + b"1 W 0x0 2\n",
+                 "\n".join(["0 0 S 0x0 1 9 0 0", *lines[1:111], "0 110 R 0x8 7 0 111", *lines[112:]]).encode(),
+                 opening=str(opening))
     many, start = [f"0 {k} R 0x0 0 0 {k + (k == 29999)}" for k in range(30000)], time.process_time()
     tester.tells(["bad number 29999", "No number stands twice"], b"0 R 0x0\n" * 30000, "\n".join(many).encode())
     tester.expect(time.process_time() - start < 20, "30,000 records take too long")

@@ -391,6 +391,11 @@ TOLD = [
         "  2: line 2 before line 3: program order of core 1",
         "  3: line 3 before line 1: line 3 received the word's opening value"]),
     ("0: M[0] := 1 @ 0:10\n1: sync @ 20:30\n1: M[0] == 1\n", ["--real-time"], [TIMED]),
+    ("0: M[0] := 1\n0: sync @ 0:10\n1: M[0] == 0 @ 11:12\n", ["--real-time"], [
+        "  1: line 1 before line 2: program order of core 0",
+        "  2: line 2 before line 3: it ended before the other started",
+        "  3: line 3 before line 1: line 3 received the word's opening value"]),
+    ("0: M[0] := 1\n0: sync @ 0:10\n1: M[0] == 0 @ 10:12\n", ["--real-time"], [TIMED]),
     ("0: M[0] := 1 @ 0:\n1: M[0] == 0 @ 11:12\n", ["--real-time"], [TIMED]),
     ("0: M[0] := 1 @ 0:10\n1: M[0] == 0 @ :12\n", ["--real-time"], [TIMED]),
     ("0 W 0x0 1\n0 R 0x0 0\n", ["--model", "tso"], [

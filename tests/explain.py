@@ -85,6 +85,10 @@ EQUAL = [("0 W 0x0 1\n0 W 0x8 1\n1 R 0x0\n1 R 0x8\n1 R 0x0\n",
           "0 0 W 0x0 1 0 0\n1 0 R 0x0 1 0 1\n0 1 W 0x0 2 0 2\n0 2 W 0x0 1 0 3\n0 3 W 0x0 3 0 4\n1 1 R 0x0 1 0 5\n", [
               "wrong value 5", "Core 1 received a value that 1 later write had replaced, as when an invalidation",
               "It hadn't touched the word since line 2.", "another order explains these records"]),
+         # The records stand against core 1's program order, by which its load follows its store.
+         ("0 R 0x0\n1 W 0x0 5\n1 R 0x0\n", "0 0 R 0x0 5 0 0\n1 1 R 0x0 0 0 1\n1 0 W 0x0 5 0 2\n", [
+             "wrong value 0", "5 is what line 3: 1 0 W 0x0 5 0 2 wrote; it comes later in the order.",
+             "no order explains these records"]),
          # What stands behind a record in the text, such as its line in a history, is shown with it, but in no sentence.
          ("0 W 0x0 1\n1 R 0x0\n", "0 0 W 0x0 1 0 0 # line 7\n1 0 R 0x0 5 0 1 #line 9\ta \r\n", [
              "records, line 2: 1 0 R 0x0 5 0 1 # line 9\\ta\n", "  line 1: 0 0 W 0x0 1 0 0 wrote that\n",

@@ -401,6 +401,13 @@ TOLD = [
     ("0 W 0x0 1\n0 R 0x0 0\n", ["--model", "tso"], [
         f"  1: line 2 sees line 1, its core's last write of the word before it {tso.NOT_PROVED}",
         f"  2: line 2 didn't receive the opening value: line 1 had overwritten it, by 1 {tso.NOT_PROVED}"]),
+    # Line 1 comes before line 8 by the other cores. Lines 11 and 8 are joined sooner, but that's what is to be shown.
+    ("0 W 0x0 1\n0 W 0x8 1\n2 R 0x8 1\n2 W 0x10 1\n3 R 0x10 1\n3 W 0x18 1\n4 R 0x18 1\n4 W 0x0 2\n4 W 0x20 1\n"
+     "1 R 0x20 1\n1 R 0x0 1\n", [], [
+        "  3: line 10 before line 11: program order of core 1", "  4: line 1 before line 2: program order of core 0",
+        "  9: line 6 before line 7: line 7 received what line 6 wrote",
+        "  11: line 11 before line 8: line 11 received what line 1 wrote, before line 8 overwrote it, "
+        "by 4, 5, 6, 7, 8, 9, 10"]),
     # Each of three cores received what the others write behind that: no ring, since two of them may be meant.
     ("0 R 0x0 1\n0 W 0x0 1\n1 R 0x0 1\n1 W 0x0 1\n2 R 0x0 1\n2 W 0x0 1\n", [], [
         "not consistent: no order of these 3 operations gets to the last one of core 0, 1 or 2, and none can be left "

@@ -354,8 +354,8 @@ def openings(tester):
 
 
 def confirmations(tester):
-    """Only the checker's word counts: an order with a wrong value, or without an operation, isn't reported as found. Nor
-    is one that doesn't keep real time, where that is asked for."""
+    """Only the checker's word counts: an order with a wrong value, or without an operation, isn't reported as found.
+    Nor is one that doesn't keep real time, where that is asked for."""
     trace, records = tester.folder / "c.trace", tester.folder / "c.records"
     trace.write_text("0 W 0x0 1\n1 R 0x0\n")
     for model in ("sc", "tso"):
@@ -401,7 +401,7 @@ TOLD = [
     ("0 W 0x0 1\n0 R 0x0 0\n", ["--model", "tso"], [
         f"  1: line 2 sees line 1, its core's last write of the word before it {tso.NOT_PROVED}",
         f"  2: line 2 didn't receive the opening value: line 1 had overwritten it, by 1 {tso.NOT_PROVED}"]),
-    # Line 1 comes before line 8 by the other cores. By lines 11 and 8 it is nearer, but those are what is to be shown.
+    # Line 1 comes before line 8 by the other cores. It is nearer by lines 11 and 8, but that is to be shown.
     ("0 W 0x0 1\n0 W 0x8 1\n2 R 0x8 1\n2 W 0x10 1\n3 R 0x10 1\n3 W 0x18 1\n4 R 0x18 1\n4 W 0x0 2\n4 W 0x20 1\n"
      "1 R 0x20 1\n1 R 0x0 1\n", [], [
         "  3: line 10 before line 11: program order of core 1", "  4: line 1 before line 2: program order of core 0",

@@ -80,6 +80,15 @@ EQUAL = [("0 W 0x0 1\n0 W 0x8 1\n1 R 0x0\n1 R 0x8\n1 R 0x0\n",
           "0 0 W 0x0 1 0 0\n0 1 W 0x0 2 0 1\n0 2 W 0x0 1 0 2\n0 3 W 0x0 3 0 3\n1 0 R 0x0 1 0 4\n", [
               "wrong value 4", "Core 1 received a value that 1 later write had replaced, as when an invalidation",
               "It hadn't touched the word before.", "another order explains these records"]),
+         # It had received that value before, but from an earlier write of it.
+         ("0 W 0x0 1\n1 R 0x0\n0 W 0x0 2\n0 W 0x0 1\n0 W 0x0 3\n1 R 0x0\n",
+          "0 0 W 0x0 1 0 0\n1 0 R 0x0 1 0 1\n0 1 W 0x0 2 0 2\n0 2 W 0x0 1 0 3\n0 3 W 0x0 3 0 4\n1 1 R 0x0 1 0 5\n", [
+              "wrong value 5", "Core 1 received a value that 1 later write had replaced, as when an invalidation",
+              "It hadn't touched the word since line 2.", "another order explains these records"]),
+         # The records stand against core 1's program order, by which its load follows its store.
+         ("0 R 0x0\n1 W 0x0 5\n1 R 0x0\n", "0 0 R 0x0 5 0 0\n1 1 R 0x0 0 0 1\n1 0 W 0x0 5 0 2\n", [
+             "wrong value 0", "5 is what line 3: 1 0 W 0x0 5 0 2 wrote; it comes later in the order.",
+             "no order explains these records"]),
          # What stands behind a record in the text, such as its line in a history, is shown with it, but in no sentence.
          ("0 W 0x0 1\n1 R 0x0\n", "0 0 W 0x0 1 0 0 # line 7\n1 0 R 0x0 5 0 1 #line 9\ta \r\n", [
              "records, line 2: 1 0 R 0x0 5 0 1 # line 9\\ta\n", "  line 1: 0 0 W 0x0 1 0 0 wrote that\n",
@@ -309,8 +318,6 @@ def faults(tester):
     for table, names in (("traces.table", ["text.trace"]), ("records.table", ["none.trace", "text.records"])):
         for fault, text in rows(TOP / "examples/bad" / table):
             tester.tells(told_fault(fault), *[b""] * (len(names) - 1), of_printf(text), names=names)
-
-
     for fault, text in rows(TOP / "examples/bad/openings.table"):
         path = Path(tester.folder, "text.opening")
         path.write_bytes(of_printf(text))
@@ -326,8 +333,8 @@ def causes(tester):
     for name, text, wanted in (("a.trace", gzip.compress(b"0 R 0x0\n" * 99, mtime=0), "It is compressed by gzip"),
                                ("a.litmus", gzip.compress(PLAIN.encode(), mtime=0), "It is compressed by gzip"),
                                ("a.trace", "0 R 0x0\n".encode("utf-16"), "It is in UTF-16"),
-                               ("a.trace", b"#\n" * 16_777_217, "It has more lines than are read: `head -n 16777216 FILE` is its beginning. "
-                                "`tardis trace --stream FILE` runs all."),
+                               ("a.trace", b"#\n" * 16_777_217, "It has more lines than are read: `head -n 16777216 "
+                                "FILE` is its beginning. `tardis trace --stream FILE` runs all."),
                                ("a.trace", b"0 R 0x0 #" + b"." * 260, "A comment that is too long.")):
         tester.tells([f"{name}, line ", f"often meant: {wanted}"], text, names=[name])
     tester.tells(["7 BadValue: RECEIVED: ", "64 bits: what the operation received"], b"", b"0 0 R 0x0 x 0 0\n",
@@ -428,6 +435,11 @@ def others(tester):
     tester.tells(["wrong value 101", "Another order of the 61 records around it, lines 72 to 132, explains"],
                  b"0 S 0x0 1\n" + b"0 R 0x0\n" * 160 + b"1 W 0x0 2\n",
                  "\n".join(["0 0 S 0x0 1 9 0 0", *lines[1:]]).encode(), opening=str(opening))
+    opening.write_text("0x0 9\n0x8 7\n")  # one of the 61 has what 0x8 opens with
+    tester.tells(["wrong value 101", "Another order of the 61 records around it, lines 72 to 132, explains"],
+                 b"0 S 0x0 1\n" + b"0 R 0x0\n" * 109 + b"0 R 0x8\n" + b"0 R 0x0\n" * 50 + b"1 W 0x0 2\n",
+                 "\n".join(["0 0 S 0x0 1 9 0 0", *lines[1:111], "0 110 R 0x8 7 0 111", *lines[112:]]).encode(),
+                 opening=str(opening))
     many, start = [f"0 {k} R 0x0 0 0 {k + (k == 29999)}" for k in range(30000)], time.process_time()
     tester.tells(["bad number 29999", "No number stands twice"], b"0 R 0x0\n" * 30000, "\n".join(many).encode())
     tester.expect(time.process_time() - start < 20, "30,000 records take too long")

@@ -1,5 +1,6 @@
 """Small histories, drawn, and whether listing all orders finds one: for tests/order.py."""
 from decimal import Decimal
+from itertools import combinations
 
 from tools.orders.history import Operation
 
@@ -38,6 +39,12 @@ def has_listed_order(operations, real_time=False, ends=(), opening=()):
                 return True
         return False
     return goes_on((0,) * len(cores), dict(opening), frozenset())
+
+
+def keeps_time(operations, order):
+    """No operation of an order comes behind one that started after its end: each pair is looked at."""
+    return all(None in (one.start, other.end) or one.start <= other.end
+               for one, other in combinations([operations[node] for node in order], 2))
 
 
 def has_buffered_order(operations, opening=()):

@@ -23,13 +23,13 @@ from pathlib import Path
 sys.path.insert(0, str(Path(__file__).resolve().parent.parent))
 from reference import tso  # noqa: E402
 from reference.traces import read_records  # noqa: E402
-from tests.listed_orders import drawn_history, has_buffered_order, has_listed_order  # noqa: E402
+from tests.listed_orders import drawn_history, has_buffered_order, has_listed_order, keeps_time  # noqa: E402
 from tests.order_facts import facts_hold, set_holds  # noqa: E402
 from tests.texts import TOP, Tester  # noqa: E402
 from tools.mesi import Machine  # noqa: E402
 from tools.number import numbered  # noqa: E402
-from tools.order import confirmed  # noqa: E402
-from tools.orders import layers, least, reasons, search, solver, witness  # noqa: E402
+from tools.order import confirmed, timed  # noqa: E402
+from tools.orders import find, layers, least, reasons, search, solver, witness  # noqa: E402
 from tools.orders.answer import answer  # noqa: E402
 from tools.orders.forced import Forced, NoOrder, TimeUp  # noqa: E402
 from tools.orders.history import read_history  # noqa: E402
@@ -63,8 +63,14 @@ class Orders(Tester):
         opening = settings.get("opening", {})
         if found.order is not None:
             self.confirms(operations, found.order, settings.get("model", "sc"), opening)
-        elif settings.get("model") != "tso" and not settings.get("real_time"):
-            self.expect(facts_hold(operations, found.lines, opening), f"facts: {found.lines} of {text_of(operations)}")
+            if settings.get("real_time"):
+                self.expect(keeps_time(operations, found.order), f"real time: {found.order} of {text_of(operations)}")
+            for order in (found.order, found.order[::-1], sorted(found.order)):
+                self.expect(witness.keeps_real_time(operations, order) == keeps_time(operations, order),
+                            f"whether {order} keeps real time: {text_of(operations)}")
+        else:
+            self.expect(facts_hold(operations, found.lines, **settings),
+                        f"{settings}, facts: {found.lines} of {text_of(operations)}")
 
     def confirms(self, operations, order, model="sc", opening=()):
         texts = witness.texts(operations, order, dict(opening), model == "tso")
@@ -192,7 +198,21 @@ def printed(tester):
         tester.expect(found == wanted and type(found) is type(wanted), f"z3 prints {text!r}: {found}")
     asked = (tester.folder / "z3.asked").read_text().splitlines()
     tester.expect([asked[0], *asked[-2:]] == [solver.LOGIC, "(check-sat)", "(get-model)"], f"z3 is asked: {asked}")
+    believed(tester)
     os.environ["PATH"] = usual
+
+
+def believed(tester):
+    """Where the search has had its time, and layers don't fit, z3's word counts, and else the search goes on. Here z3
+    lies about four stores of four words."""
+    problem = Problem(read_history(b"".join(b"%d W %d 1\n" % (core, core) for core in range(4))))
+    usual, find.FIRST_SECONDS = find.FIRST_SECONDS, -1
+    for text, wanted in (("unsat\n", None), ("sat\n((define-fun t2 () Int (- 1)))\n", [2, 0, 1, 3]),
+                         ("unknown\n", [0, 1, 2, 3])):
+        (tester.folder / "z3.printed").write_text(text)
+        order = find.find(problem, Forced(problem), time.monotonic() + SECONDS)
+        tester.expect(order == wanted, f"z3 prints {text!r}, and the order is {order}")
+    find.FIRST_SECONDS = usual
 
 
 def unfinished(tester):
@@ -254,6 +274,7 @@ BAD = [
     ("0 0 W 0x0 1 0 0\n0 0 R 0x0 1 0 1\n", "line 2: core 0 has this place twice"),
     ("0 0 W 0x0 1 0 0\n0 1 R 0x0 1 0\n", "line 2: behind `R` stands an address and a value, and here `0x0`"),
     ("0 0 W 0x0 1 0 0\n0 1 R 0x0 1 0 x\n", "line 2: `0 1 R 0x0 1 0 x` is no record"),
+    ("0 0 W 0x0 1 0 0\n0 1 F @ 5 0 1\n", "line 2: `0 1 F @ 5 0 1` is no record"),
     ("64: sync\n", "line 1: the core 64 is greater than 63"), ("0: M[0] := x\n", "line 1: `M[0] := x` is no operation"),
 ]
 BUFFERS = "0: M[0] := 1\n0:{} M[1] == 0\n1: M[1] := 1\n1:{} M[0] == 0\n"
@@ -303,7 +324,11 @@ def settings(tester):
                       f"{words} {text!r}: {status} {out} {error}")
         if "tso" in words:
             tester.expect(all(line.endswith(tso.NOT_PROVED) for line in out.splitlines()), f"{out}: not marked")
-    opening = tester.folder / "opening"
+
+
+def openings(tester):
+    """What memory opens with changes the answer; what can't be asked, and who checks where the program isn't built."""
+    history, opening = tester.folder / "opened.history", tester.folder / "opening"
     for first, text, wanted in (("0x0 5\n", "0 R 0x0 5\n1 W 0x0 1\n1 R 0x8 0\n", "consistent: proved"),
                                 ("M[1] := 5 # a comment\n", "0: M[1] == 5\n1: M[1] := 1\n", "consistent: proved"),
                                 ("0x0 5\n", "0 R 0x0 0\n", "not consistent"), ("0x0 0\n", "0 R 0x0 0\n", "consistent")):
@@ -329,22 +354,35 @@ def settings(tester):
 
 
 def confirmations(tester):
-    """Only the checker's word counts: an order with a wrong value, or without an operation, isn't reported as found."""
+    """Only the checker's word counts: an order with a wrong value, or without an operation, isn't reported as found.
+    Nor is one that doesn't keep real time, where that is asked for."""
     trace, records = tester.folder / "c.trace", tester.folder / "c.records"
     trace.write_text("0 W 0x0 1\n1 R 0x0\n")
     for model in ("sc", "tso"):
         for text, is_good in (("0 0 W 0x0 1 0 0\n1 0 R 0x0 1 0 1\n", True),
                               ("0 0 W 0x0 1 0 0\n1 0 R 0x0 0 0 1\n", False), ("0 0 W 0x0 1 0 0\n", False), ("", False)):
             records.write_text(text)
-            try:
-                with contextlib.redirect_stderr(io.StringIO()) as error:
-                    said = confirmed(argparse.Namespace(model=model), {"trace": trace, "records": records})
-            except SystemExit as ended:
-                said = ended.code
-            tester.expect(said != 2 if is_good else said == 2 and error.getvalue().count("\n") == 1,
-                          f"{model}, {text!r}: {said}")
+            said = said_by(confirmed, argparse.Namespace(model=model), {"trace": trace, "records": records})
+            tester.expect((said == REFUSED) != is_good, f"{model}, {text!r}: {said}")
+    late = read_history(b"0 W 0x0 1 @ 0 10\n1 R 0x0 0 @ 11 12\n1 F @ 10\n0 F\n")
+    for order, is_good in (([0, 1, 2, 3], False), ([1, 0], False), ([0, 3, 2, 1], True), ([2, 0, 1], True)):
+        said = said_by(timed, late, order)
+        tester.expect((said == REFUSED) != is_good, f"{order}: {said}")
 
 
+REFUSED = 2, 1  # the status, and the lines of standard error
+
+
+def said_by(function, *given):
+    """What a function returns, or how it ends the script."""
+    try:
+        with contextlib.redirect_stderr(io.StringIO()) as error:
+            return function(*given)
+    except SystemExit as ended:
+        return ended.code, error.getvalue().count("\n")
+
+
+TIMED = "consistent: proved by tardis check; that it keeps real time isn't proved"
 # Each with its options, and lines of the answer, by hand. A fence has times as others have, and a half of them says
 # nothing of the other half.
 TOLD = [
@@ -352,12 +390,24 @@ TOLD = [
         "  1: line 1 before line 2: it ended before the other started",
         "  2: line 2 before line 3: program order of core 1",
         "  3: line 3 before line 1: line 3 received the word's opening value"]),
-    ("0: M[0] := 1 @ 0:10\n1: sync @ 20:30\n1: M[0] == 1\n", ["--real-time"], ["consistent: proved by tardis check"]),
-    ("0: M[0] := 1 @ 0:\n1: M[0] == 0 @ 11:12\n", ["--real-time"], ["consistent: proved by tardis check"]),
-    ("0: M[0] := 1 @ 0:10\n1: M[0] == 0 @ :12\n", ["--real-time"], ["consistent: proved by tardis check"]),
+    ("0: M[0] := 1 @ 0:10\n1: sync @ 20:30\n1: M[0] == 1\n", ["--real-time"], [TIMED]),
+    ("0: M[0] := 1\n0: sync @ 0:10\n1: M[0] == 0 @ 11:12\n", ["--real-time"], [
+        "  1: line 1 before line 2: program order of core 0",
+        "  2: line 2 before line 3: it ended before the other started",
+        "  3: line 3 before line 1: line 3 received the word's opening value"]),
+    ("0: M[0] := 1\n0: sync @ 0:10\n1: M[0] == 0 @ 10:12\n", ["--real-time"], [TIMED]),
+    ("0: M[0] := 1 @ 0:\n1: M[0] == 0 @ 11:12\n", ["--real-time"], [TIMED]),
+    ("0: M[0] := 1 @ 0:10\n1: M[0] == 0 @ :12\n", ["--real-time"], [TIMED]),
     ("0 W 0x0 1\n0 R 0x0 0\n", ["--model", "tso"], [
-        f"  1: line 2 sees line 1, its own core's store before it {tso.NOT_PROVED}",
+        f"  1: line 2 sees line 1, its core's last write of the word before it {tso.NOT_PROVED}",
         f"  2: line 2 didn't receive the opening value: line 1 had overwritten it, by 1 {tso.NOT_PROVED}"]),
+    # Line 1 comes before line 8 by the other cores. It is nearer by lines 11 and 8, but that is to be shown.
+    ("0 W 0x0 1\n0 W 0x8 1\n2 R 0x8 1\n2 W 0x10 1\n3 R 0x10 1\n3 W 0x18 1\n4 R 0x18 1\n4 W 0x0 2\n4 W 0x20 1\n"
+     "1 R 0x20 1\n1 R 0x0 1\n", [], [
+        "  3: line 10 before line 11: program order of core 1", "  4: line 1 before line 2: program order of core 0",
+        "  9: line 6 before line 7: line 7 received what line 6 wrote",
+        "  11: line 11 before line 8: line 11 received what line 1 wrote, before line 8 overwrote it, "
+        "by 4, 5, 6, 7, 8, 9, 10"]),
     # Each of three cores received what the others write behind that: no ring, since two of them may be meant.
     ("0 R 0x0 1\n0 W 0x0 1\n1 R 0x0 1\n1 W 0x0 1\n2 R 0x0 1\n2 W 0x0 1\n", [], [
         "not consistent: no order of these 3 operations gets to the last one of core 0, 1 or 2, and none can be left "
@@ -634,8 +684,8 @@ def main():
         tester = Orders(os.environ["TARDIS"], folder)
         draws(tester, given.histories, given.seed)
         if not given.drawn:
-            for part in (printed, unfinished, texts, settings, confirmations, told, orders_of_buffers, drawn_orders,
-                         branches, numbers, kept, directories, examples):
+            for part in (printed, unfinished, texts, settings, openings, confirmations, told, orders_of_buffers,
+                         drawn_orders, branches, numbers, kept, directories, examples):
                 part(tester)
             sizes(tester, given.large)
     print(f"{tester.tried} tried, {tester.wrong} wrong")

@@ -15,6 +15,7 @@ numbers (docs/TEXTS.md), which don't count then. The first line printed is one o
 Nobody needs to trust the search: the checker confirms an order, and facts that a person can check show that there is
 none. Only a set of operations without such facts is the search's own word. Where the program isn't built,
 reference/oracle.py checks the order, which isn't proved; the line says so. Under --model tso reference/tso.py does.
+Only this script checks that an order keeps real time.
 
 The status is 0 if the history is consistent, 1 if it isn't, 2 if the text or a file is refused, in one line on standard
 error, and 3 if the answer isn't known.
@@ -79,6 +80,13 @@ def confirmed(options, paths):
     return program.checked_by()
 
 
+def timed(operations, order):
+    """That the order keeps real time, of which `check` knows nothing; the script ends if it doesn't."""
+    if not witness.keeps_real_time(operations, order):
+        program.fail("the order found doesn't keep real time")
+    return "; that it keeps real time isn't proved"
+
+
 def marked(options, lines):
     """Under total store order, each line says that nothing of it is proved."""
     return [f"{line} {tso.NOT_PROVED}" for line in lines] if options.model == "tso" else list(lines)
@@ -97,7 +105,8 @@ def main(given):
     texts = witness.texts(operations, found.order, opening, options.model == "tso")
     paths = witness.write_all(options.out, f"{Path(options.HISTORY).stem}.order", texts,
                               (options.HISTORY, options.opening))
-    print("\n".join(marked(options, [f"consistent: {confirmed(options, paths)}", *map(str, paths.values())])))
+    said = confirmed(options, paths) + (timed(operations, found.order) if options.real_time else "")
+    print("\n".join(marked(options, [f"consistent: {said}", *map(str, paths.values())])))
     return 0
 
 

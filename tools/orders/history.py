@@ -134,11 +134,10 @@ def record_operation(line, text):
 def placed_operation(line, text, places):
     """`1 0 R 0x8 5 3 17`, a record: its place is kept, its time and its number aren't."""
     fields = text.split()
-    if len(fields) < 6 or not all(re.fullmatch("[0-9]+", field) for field in (*fields[:2], *fields[-2:])):
+    numbers = [*fields[:2], *fields[-2:]]
+    if len(fields) < 6 or "@" in text or not all(re.fullmatch("[0-9]+", field) for field in numbers):
         raise Fault(line, f"`{text}` is no record: core, place, operation, time and number")
     operation = record_operation(line, " ".join([fields[0], *fields[2:-2]]))
-    if operation.kind == FENCE:
-        raise Fault(line, "a fence has no record")
     places[line] = int(fields[1])
     return operation
 

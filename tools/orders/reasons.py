@@ -122,8 +122,8 @@ class Proof:
     def seen_by(self, write, read, level):
         """That a write comes before a read, or is one of its core's own before it."""
         if write == self.problem.own[read]:
-            return [self.state(("own", read), f"line {self.line(read)} sees line {self.line(write)}, its own core's "
-                                              "store before it")]
+            return [self.state(("own", read), f"line {self.line(read)} sees line {self.line(write)}, its core's last "
+                                              "write of the word before it")]
         return self.between(write, read, level)
 
     def source_of(self, read, level):
@@ -170,8 +170,7 @@ def lines_of_ring(problem, forced, ring):
 
 def lines_of_read(problem, forced, read):
     operation = problem.operations[read]
-    dropped = forced.dropped[read] if forced else {}
-    if not dropped:
+    if not forced.dropped[read]:
         yield f"not consistent: {operation.told()}, and nothing wrote that there"
         return
     yield f"not consistent: {operation.told()}, and each write of that value is ruled out:"

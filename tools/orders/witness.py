@@ -51,6 +51,17 @@ def record_lines(operations, words, order):
         yield f"{said} # line {operation.line}"
 
 
+def keeps_real_time(operations, order):
+    """Whether each operation of an order ended no sooner than all before it there started."""
+    latest = float("-inf")  # the greatest start so far
+    for node in order:
+        start, end = operations[node].start, operations[node].end
+        if end is not None and end < latest:
+            return False
+        latest = latest if start is None else max(latest, start)
+    return True
+
+
 def texts(operations, order, opening, with_fences):
     """The lines of an order's trace and records, and of its opening if that isn't zeros, by what they are."""
     words = words_of(operations)

@@ -30,7 +30,8 @@ STEPS = [("turn", "event", "core 0", "bank"),
          ("2", "DramLd", "0: -", "Loading"), ("3", "DramLdRep", "0: -", "S 0..0 {0}"),
          ("4", "ExReq, core 0", "0: -", "E of core 0"),
          ("5", "ExRep, core 0, wts 0, rts 0", "0: E 0..0 {0}", "E of core 0"),
-         ("6", "core 0: store", "1: E 1..1 {1}", "E of core 0"), ("7", "core 0: Advance", "2: E 1..1 {1}", "E of core 0")]
+         ("6", "core 0: store", "1: E 1..1 {1}", "E of core 0"),
+         ("7", "core 0: Advance", "2: E 1..1 {1}", "E of core 0")]
 # A store at time 2 before a load at time 1 of what was there before, and a swap.
 RECORDS = "0 0 W 0x8 7 2 0\n1 0 R 0x8 0 1 1\n2 0 S 0x10 5 3 3 2\n"
 TITLES = ["core 0: store of 0x8, writes 7; time 2, number 0",

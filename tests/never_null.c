@@ -20,18 +20,18 @@
     }
 
 NEVER_NULL(tardis_c_litmus,
-           (const uint8_t *text, size_t a, const struct tardis_options *options, uint8_t *out, size_t size, size_t *len),
-           (text, a, options, out, size, len), text, options, out, len)
+           (const uint8_t *text, size_t a, const struct tardis_options *options, uint8_t *out, size_t size, size_t *n),
+           (text, a, options, out, size, n), text, options, out, n)
 NEVER_NULL(tardis_c_trace,
-           (const uint8_t *text, size_t a, const struct tardis_options *options, uint8_t *out, size_t size, size_t *len),
-           (text, a, options, out, size, len), text, options, out, len)
+           (const uint8_t *text, size_t a, const struct tardis_options *options, uint8_t *out, size_t size, size_t *n),
+           (text, a, options, out, size, n), text, options, out, n)
 NEVER_NULL(tardis_c_check,
-           (const uint8_t *trace, size_t a, const uint8_t *records, size_t b, uint8_t *out, size_t size, size_t *len),
-           (trace, a, records, b, out, size, len), trace, records, out, len)
+           (const uint8_t *trace, size_t a, const uint8_t *records, size_t b, uint8_t *out, size_t size, size_t *n),
+           (trace, a, records, b, out, size, n), trace, records, out, n)
 NEVER_NULL(tardis_c_check_opened,
            (const uint8_t *opening, size_t a, const uint8_t *trace, size_t b, const uint8_t *records, size_t c,
-            uint32_t complete, uint32_t json, uint8_t *out, size_t size, size_t *len),
-           (opening, a, trace, b, records, c, complete, json, out, size, len), opening, trace, records, out, len)
+            uint32_t complete, uint32_t json, uint8_t *out, size_t size, size_t *n),
+           (opening, a, trace, b, records, c, complete, json, out, size, n), opening, trace, records, out, n)
 NEVER_NULL(tardis_c_check_arrays,
            (const struct tardis_operation *operations, size_t a, const struct tardis_record *records, size_t b,
             struct tardis_told *told),

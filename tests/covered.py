@@ -51,9 +51,9 @@ class Watched(Room):
         (self.notes / "sitecustomize.py").write_text(STARTS)
         (self.notes / "settings").write_text(SETTINGS.format(self.notes, ", ".join(f"*/{name}/*" for name in FOLDERS)))
 
-    def asked(self):
-        """The gate's commands that are asked."""
-        return self.scripts(LEFT_OUT)
+    def asked(self, by):
+        """The gate's commands that are asked: those that have this."""
+        return [script for script in self.scripts(LEFT_OUT) if re.search(by, script)]
 
     def own(self, file):
         """The path of a file here, if it is one of the folders, or a copy of it."""
@@ -142,6 +142,7 @@ def parsed():
     parser = argparse.ArgumentParser(description=__doc__, formatter_class=argparse.RawDescriptionHelpFormatter)
     for name in PROGRAMS:
         parser.add_argument(name)
+    parser.add_argument("--by", default="", metavar="REGEX", help="only by scripts whose command has this (all)")
     parser.add_argument("--kept", type=Path, default=Path("mutants.kept"), metavar="FILE", help="(mutants.kept)")
     return parser.parse_args()
 
@@ -150,7 +151,7 @@ def main():
     options, arcs = is_there() and parsed(), {}
     with tempfile.TemporaryDirectory() as folder:
         room, kept = Watched(f"{folder}/room", options), Kept(options.kept)
-        told = list(watched(room, room.asked(), kept))
+        told = list(watched(room, room.asked(options.by), kept))
         for _, _, of in told:
             for file, pairs in of.items():
                 arcs.setdefault(file, set()).update(map(tuple, pairs))

@@ -281,6 +281,7 @@ def parsed():
     parser.add_argument("--sample", type=int, default=1000, metavar="N", help="how many mutants (1000)")
     parser.add_argument("--seed", type=int, default=1, metavar="N", help="what draws them (1)")
     parser.add_argument("--only", default="", metavar="FILE", help="only of files whose path has these letters")
+    parser.add_argument("--by", default="", metavar="REGEX", help="only by scripts whose command has this (all)")
     parser.add_argument("--jobs", type=int, default=os.cpu_count(), metavar="N", help="how many at a time")
     parser.add_argument("--kept", type=Path, default=Path("mutants.kept"), metavar="FILE", help="(mutants.kept)")
     return parser.parse_args()
@@ -300,7 +301,7 @@ def main():
     with tempfile.TemporaryDirectory() as folder:
         rooms = [Tools(f"{folder}/{number}", options) for number in range(options.jobs)]
         reached = [(script, seconds, {file: {abs(line) for ends in arcs for line in ends} for file, arcs in of.items()})
-                   for script, seconds, of in covered.watched(rooms[0], rooms[0].asked(), kept)]
+                   for script, seconds, of in covered.watched(rooms[0], rooms[0].asked(options.by), kept)]
         places = [key for key in rooms[0].sites() if options.only in key[1]]
         drawn = random.Random(options.seed).sample(places, min(options.sample, len(places)))
         for key in drawn:

@@ -226,6 +226,8 @@ def self_test():
         yield f"what a change is called: {came}"
     if excused("# a\nb.py | c | d => (c & d) | e\n") != {("b.py", "c | d => (c & d)")}:
         yield "the table is read in another way"
+    if covered.excused("# a\nb.py | c | d | e\n") != {("b.py", "c | d")}:
+        yield "the table of branches is read in another way"
     yield from self_test_of_lines()
     with tempfile.TemporaryDirectory() as folder:
         yield from self_test_of_rooms(folder)
@@ -253,6 +255,9 @@ def self_test_of_lines():
 def self_test_of_rooms(folder):
     room = Tools(folder, argparse.Namespace(PROGRAM=__file__, EVENTS=__file__, SEATS=__file__))
     own, script = "reference/given.py", "tools/merge.py --self-test"
+    copies = [room.own(f"/a/tools/b/{name}") for name in (own, "tools/order.py", "tests/covered.py", "tools/none.py")]
+    if copies != [own, "tools/order.py", None, None]:
+        yield f"copies of files: {copies}"
     before = (room.folder / own).read_text(encoding="utf-8")
     other = before.replace("def tool(main)", "def tool(niam)")  # as long
     time_of_file = "import os\nraise SystemExit(int(os.stat(__file__).st_mtime))"  # it is the fourth text

@@ -299,6 +299,10 @@ def self_test():
         came = [kind_of(change.told) for _, change in module_text.changes(function)]
         if sorted(came) != sorted(wanted):
             yield f"{line}: {came}"
+    [function] = functions(module_text.cleaned(FUNCTION.format("  %r1 = udiv i64 %a0, %a1"), bool))
+    divided = [[line for line in change.made(7) if "udiv" in line] for _, change in module_text.changes(function)]
+    if divided != [["  %m7.a = udiv i64 %a0, %a1"], ["  %r1 = udiv i64 %m7.a, %m7.b"]]:
+        yield f"what is divided: {divided}"
     [function] = functions(module_text.cleaned(FUNCTION.format(
         "  %r1 = load i64, ptr %a0, align 8, !noundef !1\n  %r2 = and i64 %r1, 7\n  %r3 = icmp eq i64 %r2, 0\n"
         "  %r4 = zext i1 %r3 to i8\n  call void @\"rattle-llvm-checks::Alignment\"(i8 %r4)"), bool))

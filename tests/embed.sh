@@ -38,10 +38,12 @@ library="$crate/out/libtardis_c.a $kit/c/liblibc_c.a"
 
 # The numbers, as C and as C++; a check of two files; the program's commands; a history in Rust.
 memory='-Wl,--wrap=malloc,--wrap=realloc'
+never_null=$(sed -n 's/^NEVER_NULL(\(.*\),$/-Wl,--wrap=\1/p' "$top/tests/never_null.c")
 strict="-O1 -Wall -Wextra -Werror -I$crate"
 # shellcheck disable=SC2086
 {
-    gcc -std=c11 -pedantic $strict $memory -DFEW -o "$work/numbers_c" "$embed/numbers.c" $library &&
+    gcc -std=c11 -pedantic $strict $memory $never_null -DFEW -o "$work/numbers_c" "$embed/numbers.c" \
+        "$top/tests/never_null.c" $library &&
     g++ -x c++ -std=c++11 -pedantic $strict $memory -o "$work/numbers_cpp" "$embed/numbers.c" -x none $library &&
     gcc -std=c11 -pedantic $strict -o "$work/check" "$embed/check.c" $library &&
     gcc -std=c11 -pedantic $strict -o "$work/directory" "$embed/directory.c" $library &&

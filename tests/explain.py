@@ -353,7 +353,7 @@ def malformed(tester):
     """Tests as newcomers mistyped them: the fault by both programs, and a hint that hits."""
     listed = [line.split("|") for line in (TOP / "tests/malformed.table").read_text().splitlines() if line[0] != "#"]
     names = sorted(path.stem for path in (TOP / "tests/malformed").glob("*.litmus"))
-    tester.expect(names == [name for name, *_ in listed] and len(names) == 20, f"tests/malformed: {names}")
+    tester.expect(names == [name for name, *_ in listed] and len(names) == 22, f"tests/malformed: {names}")
     for name, fault, words in listed:
         text = (TOP / f"tests/malformed/{name}.litmus").read_bytes()
         tester.expect((fault_of(text) or "") == fault, f"{name}: {fault_of(text)}, wanted {fault}")
@@ -443,6 +443,12 @@ def others(tester):
     many, start = [f"0 {k} R 0x0 0 0 {k + (k == 29999)}" for k in range(30000)], time.process_time()
     tester.tells(["bad number 29999", "No number stands twice"], b"0 R 0x0\n" * 30000, "\n".join(many).encode())
     tester.expect(time.process_time() - start < 20, "30,000 records take too long")
+    kept, os.environ["TARDIS"] = os.environ["TARDIS"], str(Path(tester.folder, "program"))
+    Path(os.environ["TARDIS"]).write_text("#!/bin/sh\necho maybe\n")
+    Path(os.environ["TARDIS"]).chmod(0o755)
+    ran = tester.run(*traces)
+    tester.expect(ran == (2, "", f"explain.py: {os.environ['TARDIS']} answers no verdict\n"), f"no verdict: {ran}")
+    os.environ["TARDIS"] = kept
     status, out, error = tester.run("--help")
     tester.expect((status, error) == (0, "") and "TRACE RECORDS" in out, f"--help: {status} {error}")
 

@@ -4,8 +4,8 @@
 Help comes on standard output, with status 0, and no tool writes a file of the repository. A reader that goes away ends
 a tool without a word. For a missing file and one of another kind, each tool writes one line and ends with status 2;
 reference/oracle.py ends with status 4 for a missing one. The script also tries tools/page.py in copies of the
-repository: who plays, if the proved player isn't built, is built, or is older than a source. The last line is
-`N tried, M wrong`.
+repository: who plays, if the proved player isn't built, is built, or is older than a source; and what ./tardis and
+./tardis --unproved hand on. The last line is `N tried, M wrong`.
 """
 import os
 import shutil
@@ -99,6 +99,40 @@ def page_player(what, top, wanted, lines):
         yield f"page.py, {what}: status {got.returncode}, {got.stderr[-160:]!r}, wanted {wanted}"
 
 
+# What stands for the program, and for the kit's command that runs it without a proof: each says its words.
+PROGRAM = "#!/bin/sh\nprintf '[%s]' \"$@\"\necho 'tardis: read failed' >&2\nexit 3\n"
+KIT = (PROGRAM.replace("exit 3", "printf '%s\\n' 'checked: ended 1' 'run=ended status=1 proved=no' "
+                       "'races: not looked for, here' 'ended by hand' >&2\nexit 4"))
+
+
+def launched():
+    """Faults in what ./tardis hands on: each word whole, a file's name from the root where the program runs elsewhere,
+    both outputs, but for what the kit says of a run, and the status."""
+    with tempfile.TemporaryDirectory() as folder:
+        top = Path(folder).resolve()
+        texts = {"crates/tardis/out/tardis": PROGRAM, "maintain/kit.py": KIT, "bin/rt": "#!/bin/sh\nexit 9\n"}
+        for name, text in texts.items():
+            (top / name).parent.mkdir(parents=True, exist_ok=True)
+            (top / name).write_text(text)
+            (top / name).chmod(0o755)
+        shutil.copy(TOP / "maintain/program.sh", top / "maintain")
+        shutil.copy(TOP / "tardis", top)
+        (top / "crates.txt").write_text("tardis:\n")
+        (top / "a  b.litmus").write_text("")
+        words = ["litmus", "--lease", "3", "a  b.litmus", "", "none of  it"]
+        path = f"PATH={top / 'bin'}:{os.environ['PATH']}"
+        for more, names, status, said in (
+                ([], words, 3, "tardis: read failed\n"),
+                (["--unproved"], ["try", "--", *words[:3], str(top / "a  b.litmus"), *words[4:]], 4,
+                 "tardis: read failed\nended by hand\n")):
+            got = ended(["env", path, top / "tardis", *more, *words], cwd=top, text=True, stdin=subprocess.DEVNULL)
+            own = "".join(line for line in got.stderr.splitlines(True) if "nothing is proved" not in line
+                          and "or two, longer" not in line)
+            wanted = "".join(f"[{name}]" for name in names)
+            if (got.returncode, got.stdout, own) != (status, wanted, said) or (own == got.stderr) == bool(more):
+                yield f"./tardis {more}: status {got.returncode}, {got.stdout!r} {got.stderr!r}"
+
+
 def main():
     tools = sorted(path for folder in (*FOLDERS, "tools/record", "examples/traces/record")
                    for path in (TOP / folder).iterdir()
@@ -117,7 +151,8 @@ def main():
             wrong.append(f"{words.format(path)}: status {got.returncode}, {got.stderr[-160:]!r}")
     wrong += pipes()
     wrong += page_players()
-    print("\n".join([*wrong, f"{len(tools) + 2 * len(READERS) + len(PIPED) + 7} tried, {len(wrong)} wrong"]))
+    wrong += launched()
+    print("\n".join([*wrong, f"{len(tools) + 2 * len(READERS) + len(PIPED) + 9} tried, {len(wrong)} wrong"]))
     return int(bool(wrong))
 
 

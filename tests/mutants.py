@@ -7,14 +7,15 @@ tests/mutants.py --binary [options] changes the compiled code, and asks the gate
 A mutant is a file of tools/, reference/ or python/ with one change: a comparison turned round or off by one, another
 operator, `and` for `or`, no `not`, a number one more, a test always true or always false, a statement or the bound of a
 slice left out, two arguments exchanged, None returned, a comprehension without its condition. The scripts that .ci/run
-lists try it in a copy of what is committed, those first that name the file. It is refused where one fails, or takes ten
-times as long as without it. PROGRAM, EVENTS and SEATS are the built programs. With --named only scripts that name the
-file try it: then more survive, in a fraction of the time.
+lists try it in a copy of what is committed: those that come by its lines (tests/covered.py says which, by Debian's
+python3-coverage), the quickest first. It is refused where one fails. A process of a mutant that takes ten seconds more
+than three times as long as the script without it is stopped, and so is one that takes 8 GB. PROGRAM, EVENTS and SEATS
+are the built programs.
 
 What was tried is kept in a file, so a run that was interrupted goes on. After another commit what survived is tried
-again, and what was refused only where its own file changed. The survivors are printed, each with its place, and at the
-end how many were refused. A row of tests/mutants.table, `FILE | BEFORE => AFTER | REASON`, says why one may survive.
-Which mutants are tried depends on the seed and on what is committed.
+again, and what was refused only where its own file changed. The survivors are printed, and those that no script comes
+by, each with its place, and at the end how many were refused. A row of tests/mutants.table, `FILE | BEFORE => AFTER |
+REASON`, says why one may survive. Which mutants are tried depends on the seed and on what is committed.
 """
 import argparse
 import ast
@@ -23,10 +24,8 @@ import os
 import queue
 import random
 import re
-import shlex
 import sys
 import tempfile
-import time
 from collections import Counter
 from concurrent.futures import ThreadPoolExecutor
 from hashlib import sha256
@@ -34,15 +33,11 @@ from pathlib import Path
 
 TOP = Path(__file__).resolve().parent.parent
 sys.path.insert(0, str(TOP))
-from tests import binary_mutants, source_mutants  # noqa: E402
-from tests.rooms import Kept, Room  # noqa: E402
+from tests import binary_mutants, covered, source_mutants  # noqa: E402
+from tests.covered import FOLDERS, PROGRAMS  # noqa: E402
+from tests.rooms import Kept  # noqa: E402
 
 TABLE = TOP / "tests/mutants.table"
-PROGRAMS = ("PROGRAM", "EVENTS", "SEATS")
-FOLDERS = ("tools", "reference", "python")
-# Scripts that try no Python that users run, or need a library.
-LEFT_OUT = re.compile(r"costs|refusals|slurm|embed|recursion|sentences|documents|literals|memory|grammar|header|reached"
-                      r"|mutants")
 OTHERS = {ast.Lt: ast.LtE, ast.LtE: ast.Lt, ast.Gt: ast.GtE, ast.GtE: ast.Gt, ast.Eq: ast.NotEq, ast.NotEq: ast.Eq,
           ast.In: ast.NotIn, ast.NotIn: ast.In, ast.Is: ast.IsNot, ast.IsNot: ast.Is, ast.And: ast.Or, ast.Or: ast.And,
           ast.Add: ast.Sub, ast.Sub: ast.Add, ast.Mult: ast.Add, ast.FloorDiv: ast.Mult, ast.Mod: ast.FloorDiv,
@@ -123,11 +118,11 @@ def excused(table):
     return {(file, rest.rpartition(" | ")[0]) for file, rest in rows}
 
 
-class Tools(Room):
+class Tools(covered.Watched):
     """A room in which files of Python are changed."""
 
     def __init__(self, folder, options):
-        super().__init__(folder, {"tardis": options.PROGRAM, "events": options.EVENTS, "seats": options.SEATS})
+        super().__init__(folder, options)
         self.written = 0
 
     def sites(self):
@@ -136,13 +131,6 @@ class Tools(Room):
             text, file = path.read_text(encoding="utf-8"), str(path.relative_to(self.folder))
             key = "mutant", file, sha256(text.encode()).hexdigest()
             yield from ((*key, index) for index, _ in enumerate(changes(ast.parse(text))))
-
-    def asked(self):
-        """The gate's commands that are asked."""
-        return self.scripts(LEFT_OUT)
-
-    def names(self, script, file):
-        return Path(file).stem in (self.folder / shlex.split(script)[0]).read_text(encoding="utf-8")
 
     def refused_by(self, file, text, times):
         """The first script that doesn't pass with this text of the file, and why; None if all do."""
@@ -153,7 +141,8 @@ class Tools(Room):
         os.utime(place, (self.written, self.written))  # Python takes what it compiled before for a file of equal time
         try:
             for script in sorted(times, key=times.get):
-                why = self.fails(script, 20 + 10 * times[script])
+                why = self.fails(f"ulimit -t {max(1, round(10 + 3 * times[script]))}; {covered.LIMITS} {script}",
+                                 60 + 10 * times[script])
                 if why:
                     return f"{script}: {why}"
             return None
@@ -162,48 +151,51 @@ class Tools(Room):
             os.utime(place, (was, was))
 
 
-def timed(room, scripts, kept):
-    """Those of the scripts that pass without a change, with the seconds that each takes."""
-    for script in scripts:
-        if ("seconds", script) not in kept.told:
-            began = time.monotonic()
-            why = room.fails(script, 1200)
-            kept.tell(("seconds", script), None if why else time.monotonic() - began)
-            if why:
-                print(f"left out: {script}: {why} without a change", file=sys.stderr)
-    return {script: kept.told["seconds", script] for script in scripts if kept.told["seconds", script]}
+def lines_of(tree, line):
+    """The lines of the innermost statement at this line; of one with a body, those before it."""
+    lines = line, line
+    for part in ast.walk(tree):
+        if isinstance(part, ast.stmt) and part.lineno <= line <= part.end_lineno:
+            body = getattr(part, "body", None)
+            last = body[0].lineno - 1 if body and body[0].lineno > part.lineno else part.end_lineno
+            lines = part.lineno, max(part.lineno, last)
+    return range(lines[0], lines[1] + 1)
 
 
-def tried(room, file, index, kept, named):
-    """What became of a mutant, by the scripts that name the file, and then by the others."""
-    text, _, _ = mutant((room.folder / file).read_text(encoding="utf-8"), index)
-    if text is None:
-        return "the same"
-    first = [script for script in room.asked() if room.names(script, file)]
-    others = [] if named else [script for script in room.asked() if script not in first]
-    return next(filter(None, (room.refused_by(file, text, timed(room, of, kept)) for of in (first, others))), None)
+def comes_by(reached, file, text, line):
+    """The scripts that come by the statement at this line, with the seconds that each takes."""
+    lines = lines_of(ast.parse(text), line)
+    return {script: seconds for script, seconds, met in reached if not met.get(file, set()).isdisjoint(lines)}
 
 
-def works(room, wanted, kept, named):
+def tried(room, file, index, reached):
+    """What became of a mutant, by the scripts that come by its statement."""
+    before = (room.folder / file).read_text(encoding="utf-8")
+    text, line, _ = mutant(before, index)
+    return "the same" if text is None else room.refused_by(file, text, comes_by(reached, file, before, line))
+
+
+def works(room, wanted, kept, reached):
     """Tries mutants until none is left."""
     while True:
         try:
             key = wanted.get_nowait()
         except queue.Empty:
             return
-        kept.tell(key, tried(room, key[1], key[3], kept, named))
+        kept.tell(key, tried(room, key[1], key[3], reached))
 
 
-def judged(room, drawn, kept):
+def judged(room, drawn, kept, reached):
     """Prints the mutants that survived without a reason; how many did what."""
     rows, told = excused(TABLE.read_text(encoding="utf-8")), Counter()
     for key in drawn:
         said, file = kept.told[key], key[1]
-        _, line, change = mutant((room.folder / file).read_text(encoding="utf-8"), key[3])
+        text = (room.folder / file).read_text(encoding="utf-8")
+        _, line, change = mutant(text, key[3])
         kind = "the same" if said == "the same" else "refused" if said else "excused"
         if said is None and (file, change) not in rows:
-            kind = "left"
-            print(f"survives: {file}:{line}: {change}")
+            kind = "left" if comes_by(reached, file, text, line) else "missed"
+            print(f"{'survives' if kind == 'left' else 'no script comes by'}: {file}:{line}: {change}")
         told[kind] += 1
         told["slow"] += kind == "refused" and said.endswith(" seconds")
     return told
@@ -234,6 +226,9 @@ def self_test():
         yield f"what a change is called: {came}"
     if excused("# a\nb.py | c | d => (c & d) | e\n") != {("b.py", "c | d => (c & d)")}:
         yield "the table is read in another way"
+    if covered.excused("# a\nb.py | c | d | e\n") != {("b.py", "c | d")}:
+        yield "the table of branches is read in another way"
+    yield from self_test_of_lines()
     with tempfile.TemporaryDirectory() as folder:
         yield from self_test_of_rooms(folder)
         yield from self_test_of_files(Path(folder, "kept"))
@@ -241,14 +236,34 @@ def self_test():
     yield from binary_mutants.self_test()
 
 
+# Of some lines of a text those of their statement, by hand.
+STATEMENTS = ("a = (1,\n     2)\ndef f(b,\n      c):\n    if b:\n        return c\n"
+              "    for d in (c,\n              b):\n        pass\n")
+LINES = {1: [1, 2], 2: [1, 2], 3: [3, 4], 4: [3, 4], 5: [5], 6: [6], 7: [7, 8], 8: [7, 8], 9: [9]}
+
+
+def self_test_of_lines():
+    for line, wanted in LINES.items():
+        came = list(lines_of(ast.parse(STATEMENTS), line))
+        if came != wanted:
+            yield f"the statement of line {line}: {came}"
+    reached = [("a", 3, {"f.py": {1, 4}}), ("b", 1, {"f.py": {8}, "g.py": {5}}), ("c", 2, {"g.py": {7}})]
+    if comes_by(reached, "f.py", STATEMENTS, 7) != {"b": 1} or comes_by(reached, "g.py", STATEMENTS, 8) != {"c": 2}:
+        yield "who comes by a statement"
+
+
 def self_test_of_rooms(folder):
     room = Tools(folder, argparse.Namespace(PROGRAM=__file__, EVENTS=__file__, SEATS=__file__))
     own, script = "reference/given.py", "tools/merge.py --self-test"
+    copies = [room.own(f"/a/tools/b/{name}") for name in (own, "tools/order.py", "tests/covered.py", "tools/none.py")]
+    if copies != [own, "tools/order.py", None, None]:
+        yield f"copies of files: {copies}"
     before = (room.folder / own).read_text(encoding="utf-8")
     other = before.replace("def tool(main)", "def tool(niam)")  # as long
     time_of_file = "import os\nraise SystemExit(int(os.stat(__file__).st_mtime))"  # it is the fourth text
     for text, seconds, why in ((before, 100, None), (other, 100, "status 1"), (before, 100, None),
-                               (time_of_file, 100, "status 4"), ("while True:\n    pass", -1.9, "1 seconds")):
+                               (time_of_file, 100, "status 4"), ("while True:\n    pass", -3, "status 137"),
+                               ("import time\ntime.sleep(99)", -5.9, "1 seconds")):
         came = room.refused_by(own, text, {script: seconds})
         if came != (why and f"{script}: {why}") or (room.folder / own).read_text(encoding="utf-8") != before:
             yield f"{own}, {text[:60]!r}: {came}"
@@ -271,7 +286,7 @@ def parsed():
     parser.add_argument("--sample", type=int, default=1000, metavar="N", help="how many mutants (1000)")
     parser.add_argument("--seed", type=int, default=1, metavar="N", help="what draws them (1)")
     parser.add_argument("--only", default="", metavar="FILE", help="only of files whose path has these letters")
-    parser.add_argument("--named", action="store_true", help="only by scripts that name the file")
+    parser.add_argument("--by", default="", metavar="REGEX", help="only by scripts whose command has this (all)")
     parser.add_argument("--jobs", type=int, default=os.cpu_count(), metavar="N", help="how many at a time")
     parser.add_argument("--kept", type=Path, default=Path("mutants.kept"), metavar="FILE", help="(mutants.kept)")
     return parser.parse_args()
@@ -286,25 +301,24 @@ def main():
         wrong = list(self_test())
         print("\n".join([*wrong, f"{len(wrong)} wrong"]))
         return int(bool(wrong))
-    options = parsed()
-    kept, wanted = Kept(options.kept, options.named), queue.Queue()
+    options = covered.is_there() and parsed()
+    kept, wanted = Kept(options.kept), queue.Queue()
     with tempfile.TemporaryDirectory() as folder:
-        rooms = []
-        for number in range(options.jobs):
-            rooms.append(Tools(f"{folder}/{number}", options))
+        rooms = [Tools(f"{folder}/{number}", options) for number in range(options.jobs)]
+        reached = [(script, seconds, {file: {abs(line) for ends in arcs for line in ends} for file, arcs in of.items()})
+                   for script, seconds, of in covered.watched(rooms[0], rooms[0].asked(options.by), kept)]
         places = [key for key in rooms[0].sites() if options.only in key[1]]
         drawn = random.Random(options.seed).sample(places, min(options.sample, len(places)))
         for key in drawn:
             if key not in kept.told:
                 wanted.put(key)
         with ThreadPoolExecutor(options.jobs) as pool:
-            list(pool.map(lambda room: works(room, wanted, kept, options.named), rooms))
-        told = judged(rooms[0], drawn, kept)
-    how = f"seed {options.seed}{', by scripts that name the file' * options.named}"
-    print(f"{len(drawn) - told['the same']} mutants of {len(places)}, {how}: "
+            list(pool.map(lambda room: works(room, wanted, kept, reached), rooms))
+        told = judged(rooms[0], drawn, kept, reached)
+    print(f"{len(drawn) - told['the same']} mutants of {len(places)}, seed {options.seed}, by {len(reached)} scripts: "
           f"{told['refused']} refused, {told['slow']} of them by their time, {told['excused']} in tests/mutants.table, "
-          f"{told['left']} survive")
-    return int(told["left"] > 0)
+          f"{told['missed']} that no script comes by, {told['left']} survive")
+    return int(told["left"] + told["missed"] > 0)
 
 
 if __name__ == "__main__":

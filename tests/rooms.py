@@ -57,9 +57,9 @@ class Kept:
     """What was tried, in a file of a line each: how long the scripts take, and what became of each mutant. A line has
     the commit's tree, what was tried, and None where a script failed without a change or a mutant survived."""
 
-    def __init__(self, path, named=False):
+    def __init__(self, path):
         self.path, self.lock = path, threading.Lock()
-        self.tree = committed("rev-parse", "HEAD^{tree}").decode().strip() + " named" * named
+        self.tree = committed("rev-parse", "HEAD^{tree}").decode().strip()
         lines = map(json.loads, path.read_text(encoding="utf-8").splitlines() if path.exists() else ())
         self.told = {tuple(key): said for tree, key, said in lines if tree == self.tree or said is not None}
 

@@ -105,6 +105,18 @@ def bad_reports(tester):
     tester.expect(f"\nrenewals {2 ** 128 - 1}\n" in got[1], f"no sum goes on beyond 2^128 - 1: {got}")
 
 
+def a_report_in_place(tester, folder):
+    """A report is never half there: what another name leads to stays as it was, and none of its files is left over."""
+    before, report = Path(folder, "before"), Path(folder, "000001.report")
+    before.write_text("the report before\n")
+    os.link(before, report)
+    put_parts(tester, folder, only=1)
+    told = before.read_text()
+    tester.expect(told == "the report before\n", f"a report was written in place: {told[:40]}")
+    names = sorted(path.name for path in Path(folder).iterdir())
+    tester.expect(names == ["000001.json", "000001.report", "before"], f"{names}")
+
+
 def git(*words):
     return subprocess.run(["git", *words], capture_output=True, text=True, check=False).stdout
 
@@ -298,6 +310,7 @@ def main(program):
     parts_of_many(tester)
     for part in (lambda folder: made(tester, program, folder), lambda folder: refusals(tester, folder),
                  lambda folder: joins_and_refusals(tester, folder, program),
+                 lambda folder: a_report_in_place(tester, folder),
                  lambda folder: with_parallel(tester, folder, program),
                  lambda folder: up_to_a_million(tester, folder), lambda folder: an_ended_program(tester, folder)):
         with tempfile.TemporaryDirectory() as folder:

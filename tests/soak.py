@@ -11,8 +11,8 @@ each a share of the time:
     players   events and calls of seats: the players answer what the second program's parts do.
 
 Case N of a part depends on the seed and N alone; --first N begins with it. A difference ends the part with status 1;
-its text, records and command stay in the folder of --kept. The last line of a part says how much it tried, without a
-difference.
+its text, records and command stay in the folder of --kept. So does a command that takes 20 minutes of processor time,
+or three hours. The last line of a part says how much it tried, without a difference.
 """
 import argparse
 import random
@@ -29,6 +29,7 @@ from reference.traces import Trace, read_records  # noqa: E402
 from tests import ends, fair, texts  # noqa: E402
 
 CORES, WORKERS, BANKS = 64, 16, 8
+SECONDS, PATIENCE = 1200, 10800  # of a command: of processor time, and by the clock, since a soak may wait for others
 
 
 class Difference(Exception):
@@ -40,8 +41,8 @@ class Difference(Exception):
 
 
 def ran(words, text):
-    done = subprocess.run([str(word) for word in words], input=text, capture_output=True, timeout=texts.PATIENCE,
-                          check=False)
+    limited = ["sh", "-c", f'ulimit -t {SECONDS}; exec "$@"', "sh", *map(str, words)]
+    done = subprocess.run(limited, input=text, capture_output=True, timeout=PATIENCE, check=False)
     return done.returncode, done.stdout, done.stderr
 
 

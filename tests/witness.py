@@ -139,6 +139,23 @@ def stalled(tester):
     tester.expect((status, error) == (0, "") and good, f"stalled: {status} {out} {error}")
 
 
+# A program that has no memory for a report: nothing on standard output, with the status of runs that aren't all done.
+NO_MEMORY = "#!/bin/sh\necho 'tardis: no memory' >&2\nexit 1\n"
+
+
+def no_memory(tester):
+    """What the program says is said, in one line."""
+    kept = os.environ["TARDIS"]
+    with tempfile.TemporaryDirectory() as folder:
+        program = Path(folder, "program")
+        program.write_text(NO_MEMORY)
+        program.chmod(0o755)
+        os.environ["TARDIS"] = str(program)
+        got = tester.run("--seeds", "5", SB)
+    os.environ["TARDIS"] = kept
+    tester.expect(got == (2, "", f"witness.py: {SB}: no memory\n"), f"no memory: {got}")
+
+
 def main(program):
     os.environ["TARDIS"] = os.path.abspath(program)
     os.chdir(TOP)
@@ -149,6 +166,7 @@ def main(program):
     a_dash(tester)
     beyond_a_million(tester)
     stalled(tester)
+    no_memory(tester)
     print(f"{tester.tried} tried, {tester.wrong} wrong")
     return int(tester.wrong > 0)
 

@@ -212,8 +212,6 @@ def explained_run(words):
         oracle.refuse(options)
         if getattr(options, "schedule", None) == "threads":
             fail("runs by threads can't be made again: docs/SCHEDULES.md (Threads) says what to try at their limit")
-        if options.command == "check":
-            fail("a run of litmus or trace is wanted")
         text = text_of(options.FILE)
         read = oracle.read_trace(options.FILE) if options.command == "trace" else oracle.read_litmus(options.FILE)
     except (Fault, LitmusFault) as fault:

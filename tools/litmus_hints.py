@@ -89,7 +89,7 @@ def of_block(text, number, line):
     """What a line in which the initial block can't go on may mean."""
     if re.match(r"[ \t]*P0\b", line):
         return "The initial block has no `}` before the table."
-    if re.search(r"\{.*\{|\[\d+\]", line):
+    if re.search(r"\{.*\{", line):
         return "Arrays have no counterpart here: each word is a location of its own."
     block = text.split("\n")[:number]
     if re.search(r"(^|[;{])\s*[A-Za-z_]\w*\s*=\s*&?[A-Za-z_]", line) and any("{" in one for one in block):

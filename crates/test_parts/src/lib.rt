@@ -2,6 +2,8 @@
 //! Then cases that no machine brings a part or a history to, and the numbers of errors.
 #![tactic(auto)]
 
+#[cfg(test)]
+mod arenas;
 pub mod clerks;
 #[cfg(test)]
 mod drops;

@@ -75,6 +75,14 @@ def prove(kit, jobs):
     return status
 
 
+def link_or_copy(source, target):
+    """A second name of the file, or a copy where it lies on another device."""
+    try:
+        os.link(source, target)
+    except OSError:
+        shutil.copy2(source, target)
+
+
 def link(kit, tree):
     """Takes the libraries of another clone whose crates have the same files here, as all crates below them have."""
     crate, here = kit["rtlib"].Crate, kit["rtlib"].root_above(os.getcwd())
@@ -85,7 +93,7 @@ def link(kit, tree):
         stamp = crate(mine, here, {}).stamp()
         if stamp == crate(theirs, tree, {}).stamp():
             shutil.rmtree(f"{mine}/out/rlib", ignore_errors=True)
-            shutil.copytree(f"{theirs}/out/rlib", f"{mine}/out/rlib", copy_function=os.link)
+            shutil.copytree(f"{theirs}/out/rlib", f"{mine}/out/rlib", copy_function=link_or_copy)
             Path(mine, "out/rlib/stamp").unlink(missing_ok=True)
             Path(mine, "out/rlib/stamp").write_text(stamp)
 

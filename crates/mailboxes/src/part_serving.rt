@@ -73,6 +73,7 @@ pub(crate) fn post(is_core: bool, outbox: &mut Outbox, message: &Message) -> Opt
 }
 
 // Sends what a part sends, if anything, and answers what it did.
+#[inline(always)]
 fn answered(is_core: bool, outbox: &mut Outbox, reaction: &Reaction) -> Answer<Message>
     requires { (places : ℕ) × IsTrue (finds_places is_core outbox.old places (sent_in reaction.now)) }
     ensures answer { result ≡ (reaction_answer is_core outbox.old reaction.now).0 }

@@ -21,6 +21,7 @@ impl Mailbox {
     /// Puts the oldest message of the outbox whose link has a free slot, into the first one that is found free; false
     /// if there is no such message. A link whose four slots were found full is passed over for younger messages, so
     /// messages of one link go out in their order, and no slot is looked at twice.
+    #[inline(always)]
     pub fn put(&mut self, machine: &Machine, outbox: &mut Queue<Message>) -> bool
         requires seat { IsAt machine.now self.old }
         requires stands { Stands machine.now self.old }

@@ -61,6 +61,7 @@ fn is_due(fair: bool, moved: Result<Turn, Refusal>) -> bool
 }
 
 // If that is due, evicts the line that makes room for the oldest held request that waits for room, if there is one.
+#[inline(always)]
 fn make_room(machine: &Machine, seat: &mut BankSeat, is_due: bool)
     requires { IsBankSeat machine.now seat.old }
     ensures seat { IsBankSeat machine.now seat.new }

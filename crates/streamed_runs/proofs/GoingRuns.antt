@@ -288,7 +288,7 @@ module _ (laws : Laws) (taken more : List (ℕ × (ℕ × Step))) (s : StreamSta
 
     one_in_each : length one_behind ≡ cores
     one_in_each =
-        let rest = length-replicate (cores - 1) [] in let some = some_core s.machine.config going.good in
+        let rest = length-replicate {A = List Step} (cores - 1) [] in let some = some_core s.machine.config going.good in
         omega (arith, rest, some)
 
     goes_behind : at_end ≡ false → end_before one_behind end ≡ TurnsUsed →

@@ -99,11 +99,7 @@ fn open_operations(system: &System<ToldHistory>) -> u32
 
 // A machine with this set-up over zeros. For a run by a seed it keeps its lines in rising order from the start, since
 // each piece of such a run would put them in order anew (`run_on`).
-fn opened(
-    alloc: Global,
-    config: Config,
-    policy: Policy,
-) -> Result<System<ToldHistory>, AllocError>
+fn opened(alloc: Global, config: Config, policy: Policy) -> Result<System<ToldHistory>, AllocError>
     requires { is_good config ≡ true }
     ensures { IfOk result (λ system. system ≡ at_start config empty) }
 {

@@ -17,8 +17,8 @@ trap 'rm -rf "$work"' EXIT
 
 cc -O2 -o "$work/steps" "$top/bench/steps.c"
 
-# run NAME FILE WORDS..: a run, with its report in NAME.report and a line of its costs in NAME.costs. A run that isn't all
-# done ends the script.
+# run NAME FILE WORDS..: a run, with its report in NAME.report and a line of its costs in NAME.costs. A run that isn't
+# all done ends the script.
 run() {
     name=$1 file=$2
     shift 2
@@ -68,8 +68,9 @@ for operations in "$@"; do
     fi
     told pipe trace --stream --fair through a pipe
     begins=$(date +%s%N)
-    { "$work/steps" "$operations" || :; } 2>"$work/left" |
-        { "$program" trace --stream --cores 16 --fair --records /dev/stdin || :; } 2>"$work/left" | head -n 1 >"$work/first"
+    { "$work/steps" "$operations" || :; } |
+        { "$program" trace --stream --cores 16 --fair --records /dev/stdin 2>"$work/left" || :; } |
+        head -n 1 >"$work/first"
     ends=$(date +%s%N)
     echo "$operations operations, first record after $(((ends - begins) / 1000000)) ms"
 done

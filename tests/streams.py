@@ -2,10 +2,10 @@
 """Tries `tardis trace --stream`: tests/streams.py PROGRAM [PART ..] [--traces N] [--seed N] [--self-test]
 
 What it writes must be what `trace` writes, byte for byte: of the examples, and of random traces on random machines,
-some longer than what is read ahead. By rounds it must with as many cores as the trace has, with more, and by default; by
-a seed with as many as the trace has, and with more it must be what the second program writes. So must its JSON and its
-report without words. If a line is at fault, standard error says which. What was written before must be a beginning of
-the records of the lines before it, and no more than the second program can write (docs/STREAMS.md).
+some longer than what is read ahead. By rounds that is so with as many cores as the trace has, with more, and by default.
+By a seed it is so with as many as the trace has; with more it must be what the second program writes. So must its JSON
+and its report without words. If a line is at fault, standard error says which. What was written before must be a
+beginning of the records of the lines before it, and no more than the second program can write (docs/STREAMS.md).
 
 Pipes are tried that stay open or are long, and readers that leave early. The parts are examples, faults, cut_texts,
 cores, odd_texts, pipes, memory and at_random, and long, a text of 20,000,000 lines, which is tried only if it is named.
@@ -78,8 +78,8 @@ def numbers_of_cores(cores):
 
 
 def same(tester, path, options, cores, choices):
-    """What is streamed is what `trace` writes: each form, with these numbers of cores, and by a seed with as many as the
-    trace has. Answers the report."""
+    """What is streamed is what `trace` writes: each form, with these numbers of cores, and by a seed with as many as
+    the trace has. Answers the report."""
     plain = {tuple(form): tester.run("trace", *form, *options, path) for form in FORMS}
     wanted = [(form, plain[tuple(form)]) for form in FORMS]
     wanted += [(form, without_words(plain[tuple(form[1:])])) for form in WITHOUT_WORDS]

@@ -1,10 +1,12 @@
 #!/bin/bash
 # Measures `trace --stream` against `trace`: bench/streams.sh [PROGRAM [OPERATIONS ..]]
-# The traces have 1,000,000 and 10,000,000 operations, or as many as are named, of 16 cores on 65,536 words: six loads to
-# three stores and a swap, drawn by a fixed formula. Each trace is run by fair rounds from a file, by `trace` and by
-# `trace --stream`, and by `trace --stream` through a pipe while it is made. For each: the least of three times by the
-# clock and of the processor, and the least peak of memory. Reports must be the same. More operations than `trace` reads
-# lines are only run through the pipe, and once. The load of the machine stands before and after.
+# The traces have 1,000,000 and 10,000,000 operations, or as many as are named (bench/steps.c): of 16 cores on 65,536
+# words, six loads to three stores and a swap. Each trace is run by fair rounds from a file, by `trace` and by
+# `trace --stream`, and by `trace --stream` through a pipe while it is made; and from the file by a seed, by both. For
+# each: the least of three times by the clock and of the processor, the operations in a second of the first, and the
+# least peak of memory. Reports must be the same. More operations than `trace` reads lines are only run through the
+# pipe, and once. Then comes the time to the first record out of the pipe. The load of the machine stands before and
+# after.
 set -euo pipefail
 top=$(cd "$(dirname "$0")/.." && pwd)
 program=${1:-$top/crates/tardis/out/tardis}
@@ -13,27 +15,14 @@ program=${1:-$top/crates/tardis/out/tardis}
 work=$(mktemp -d)
 trap 'rm -rf "$work"' EXIT
 
-# text OPERATIONS: the trace.
-text() {
-    awk -v operations="$1" 'BEGIN {
-        x = 1
-        for (i = 1; i <= operations; i++) {
-            x = x * 16807 % 2147483647
-            core = x % 16
-            x = x * 16807 % 2147483647
-            word = int(x / 16) % 65536
-            if (i % 10 < 6) printf "%d R 0x%x\n", core, 8 * word
-            else printf "%d %s 0x%x %d\n", core, i % 10 < 9 ? "W" : "S", 8 * word, i
-        }
-    }'
-}
+cc -O2 -o "$work/steps" "$top/bench/steps.c"
 
-# run NAME FILE WORDS..: a run, with its report in NAME.report and a line of its costs in NAME.costs. A run that isn't all
-# done ends the script.
+# run NAME FILE WORDS..: a run, with its report in NAME.report and a line of its costs in NAME.costs. A run that isn't
+# all done ends the script.
 run() {
     name=$1 file=$2
     shift 2
-    /usr/bin/time -a -o "$work/$name.costs" -f '%e %U %M' "$program" trace "$@" --fair --limit 4294967295 "$file" \
+    /usr/bin/time -a -o "$work/$name.costs" -f '%e %U %M' "$program" trace "$@" --limit 4294967295 "$file" \
         >"$work/$name.report"
 }
 
@@ -41,10 +30,13 @@ run() {
 told() {
     name=$1
     shift
-    awk -v what="$*" '
+    awk -v what="$operations operations, $*" -v operations="$operations" '
         function least(old, new) { return old == "" || new < old ? new : old }
         { clock = least(clock, $1); processor = least(processor, $2); memory = least(memory, $3) }
-        END { printf "%s: %.2f s, %.2f s of processor, %.1f MB\n", what, clock, processor, memory / 1024 }
+        END {
+            printf "%s: %.2f s, %.2f s of processor, %.0f a second, %.1f MB\n", what, clock, processor,
+                operations / (clock > 0 ? clock : 0.01), memory / 1024
+        }
     ' "$work/$name.costs"
 }
 
@@ -56,19 +48,30 @@ load
 for operations in "$@"; do
     rm -f "$work"/*.costs
     if [ "$operations" -gt 16777216 ]; then
-        text "$operations" | run pipe /dev/stdin --stream --cores 16
+        "$work/steps" "$operations" | run pipe /dev/stdin --stream --cores 16 --fair
     else
-        text "$operations" >"$work/text"
+        "$work/steps" "$operations" >"$work/text"
         for _ in 1 2 3; do
-            run whole "$work/text"
-            run stream "$work/text" --stream --cores 16
-            text "$operations" | run pipe /dev/stdin --stream --cores 16
+            run whole "$work/text" --fair
+            run stream "$work/text" --stream --cores 16 --fair
+            "$work/steps" "$operations" | run pipe /dev/stdin --stream --cores 16 --fair
+            run seed "$work/text" --schedule seed
+            run streamed-seed "$work/text" --stream --cores 16 --schedule seed
         done
         cmp "$work/whole.report" "$work/stream.report"
         cmp "$work/whole.report" "$work/pipe.report"
-        told whole "$operations operations, trace"
-        told stream "$operations operations, trace --stream"
+        cmp "$work/seed.report" "$work/streamed-seed.report"
+        told whole trace --fair
+        told stream trace --stream --fair
+        told seed trace --schedule seed
+        told streamed-seed trace --stream --schedule seed
     fi
-    told pipe "$operations operations, trace --stream through a pipe"
+    told pipe trace --stream --fair through a pipe
+    begins=$(date +%s%N)
+    { "$work/steps" "$operations" || :; } |
+        { "$program" trace --stream --cores 16 --fair --records /dev/stdin 2>"$work/left" || :; } |
+        head -n 1 >"$work/first"
+    ends=$(date +%s%N)
+    echo "$operations operations, first record after $(((ends - begins) / 1000000)) ms"
 done
 load

@@ -8,7 +8,7 @@ words, with status 2.
     reference/oracle.py litmus [--schedule seed --seed N] [--runs N] [--fair] [--lease N] .. [--json] FILE
     reference/oracle.py ends [--states N] [--orders] [--json] FILE
     reference/oracle.py trace [--records | [--counts [--every N]] [--json]] [--schedule seed --seed N] [--fair] .. FILE
-    reference/oracle.py trace --stream [--cores N] [--no-words] [--records | --json] .. FILE
+    reference/oracle.py trace --stream [--cores N] [--no-words] [--records | --json] [--schedule seed ..] .. FILE
     reference/oracle.py check [--complete] [--opening FILE] [--json] TRACE RECORDS
     reference/oracle.py --rows <ROWS
     reference/oracle.py --self-test
@@ -156,9 +156,9 @@ def refuse_json(options):
 
 
 def refuse_stream(options):
-    """A trace that is read as it runs goes by rounds, and isn't counted; only there the cores must be named."""
-    if options.command == "trace" and options.stream and (options.schedule != "round" or options.counts):
-        raise Refused(3, f"error: '--stream' needs '--schedule round', and no '--counts'{MORE}")
+    """A trace that is read as it runs isn't run by threads, and isn't counted; only there the cores must be named."""
+    if options.command == "trace" and options.stream and (options.schedule == "threads" or options.counts):
+        raise Refused(3, f"error: '--stream' needs '--schedule round' or '--schedule seed', and no '--counts'{MORE}")
     if options.command == "trace" and not options.stream and (options.cores or options.no_words):
         raise Refused(3, f"error: '--cores' and '--no-words' need '--stream'{MORE}")
 

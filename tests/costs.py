@@ -59,6 +59,8 @@ def decided(first, sign):
 TEXTS = {
     "{loads}": lambda count: "trace 2\n" + "".join(f"0 R 0x{8 * (at % 64):x}\n" for at in range(count)),
     "{swaps}": lambda count: "trace 2\n" + "".join(f"{at % 64} S 0x0 {at}\n" for at in range(count)),
+    "{mixed}": lambda count: "".join(f"{at % 16} R 0x{56 * at % 8192:x}\n" if at % 3 else
+                                     f"{at % 16} W 0x{56 * at % 8192:x} {at}\n" for at in range(count)),
     "{words}": lambda count: "trace 2\n" + "".join(f"{at % 64} R 0x{8 * at:x}\n" for at in range(count)),
     "{records}": lambda count: "".join(f"0 {at} R 0x{8 * (at % 64):x} 0 0 {at} #{100 * 'x'}\n" for at in range(count)),
     "{rows}": opening,

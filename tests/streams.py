@@ -1,8 +1,9 @@
 #!/usr/bin/env python3
 """Tries `tardis trace --stream`: tests/streams.py PROGRAM [PART ..] [--traces N] [--seed N] [--self-test]
 
-What it writes must be what `trace` writes, byte for byte, with as many cores as the trace has, with more, and by
-default: of the examples, and of random traces on random machines, some longer than what is read ahead. So must its JSON
+What it writes must be what `trace` writes, byte for byte: of the examples, and of random traces on random machines,
+some longer than what is read ahead. By rounds that is so with as many cores as the trace has, with more, and by default.
+By a seed it is so with as many as the trace has; with more it must be what the second program writes. So must its JSON
 and its report without words. If a line is at fault, standard error says which. What was written before must be a
 beginning of the records of the lines before it, and no more than the second program can write (docs/STREAMS.md).
 
@@ -77,16 +78,26 @@ def numbers_of_cores(cores):
 
 
 def same(tester, path, options, cores, choices):
-    """What is streamed is what `trace` writes: each form, with these numbers of cores. Answers the report."""
+    """What is streamed is what `trace` writes: each form, with these numbers of cores, and by a seed with as many as
+    the trace has. Answers the report."""
     plain = {tuple(form): tester.run("trace", *form, *options, path) for form in FORMS}
     wanted = [(form, plain[tuple(form)]) for form in FORMS]
     wanted += [(form, without_words(plain[tuple(form[1:])])) for form in WITHOUT_WORDS]
     for at, (form, answer) in enumerate(wanted):
-        for choice in choices(at):
+        for choice in [0] if is_seeded(options) else choices(at):
             words = [*form, *numbers_of_cores(cores)[choice], *options, path]
             got = tester.stream(*words)
             tester.expect(got == answer, f"{words}: {shown(got)}, wanted {shown(answer)}")
     return plain[()][1]
+
+
+def is_seeded(options):
+    return "seed" in options
+
+
+def by_seed(options, seed):
+    """The same options, but that a seed has the run."""
+    return [*(word for word in options if word != "--fair"), "--schedule", "seed", "--seed", str(seed)]
 
 
 def shown(answer):
@@ -96,14 +107,16 @@ def shown(answer):
 
 
 def examples(tester, folder):
-    """All examples that run by rounds, in each form and with each number of cores."""
-    seen = 0
-    for path in sorted((TOP / "examples/traces").glob("*.trace")):
-        options = options_of(path)
-        if "--schedule" not in options:
-            seen += 1
-            same(tester, str(path), options, Trace(path.read_bytes()).cores, lambda at: range(3))
-    tester.covers(seen > 30, f"only {seen} examples")
+    """All examples, as they are run, in each form and with each number of cores; those by rounds also by a seed."""
+    seen = {False: 0, True: 0}
+    for number, path in enumerate(sorted((TOP / "examples/traces").glob("*.trace"))):
+        options, cores = options_of(path), Trace(path.read_bytes()).cores
+        if "threads" not in options:
+            seen[is_seeded(options)] += 1
+            same(tester, str(path), options, cores, lambda at: range(3))
+            if not is_seeded(options):
+                same(tester, str(path), by_seed(options, number), cores, lambda at: range(3))
+    tester.covers(seen[False] > 30 and seen[True] > 10, f"only {seen} examples")
 
 
 def drawn_trace(draw, is_long):
@@ -137,20 +150,35 @@ def drawn_options(draw, is_long):
 def at_random(tester, folder):
     """Random traces on random machines. Every fifth is longer than what is read ahead."""
     traces, draw, path = tester.given.traces, random.Random(tester.given.seed), Path(folder, "a.trace")
-    ends, far, stale = set(), 0, 0
+    met = {False: Met(), True: Met()}
     for number in range(traces):
         is_long = number % 5 == 0
         text, options = drawn_trace(draw, is_long), drawn_options(draw, is_long)
+        seeded = by_seed(options, draw.choice([number, draw.randrange(2 ** 64)]))
+        seeded[seeded.index("--limit") + 1] = str(draw.choice([100000, 1000000] if is_long else [9, 200, 9000, 9000]))
         path.write_text(text)
-        report = same(tester, str(path), options, Trace(text.encode()).cores, lambda at: [(number + at) % 3])
-        told = dict(line.split(" ", 1) for line in report.splitlines())
-        ends.add(told["end"])
-        far, stale = far + (int(told["completed"]) > 2 * AHEAD), stale + (told["stale-hits"] != "0")
-        if number % 10 == 1:
-            words = [*options, "--cores", "16", str(path)]
-            second(tester, [["--records"], ["--no-words"], ["--json"]][number // 10 % 3] + words)
-    tester.covers(ends == {"all-done", "stalled", "limit", "exhausted"} and far > traces / 40 and stale > traces / 40,
-                  f"random runs end {ends}, {far} are long, {stale} have stale hits")
+        for words in options, seeded:
+            report = same(tester, str(path), words, Trace(text.encode()).cores, lambda at: [(number + at) % 3])
+            met[is_seeded(words)].add(dict(line.split(" ", 1) for line in report.splitlines()))
+            if number % 10 == 1:
+                form = [["--records"], ["--no-words"], ["--json"]][number // 10 % 3]
+                second(tester, [*form, *words, "--cores", "16", str(path)])
+    ends = {"all-done", "limit", "exhausted"}
+    for some, ends in (met[False], ends | {"stalled"}), (met[True], ends):
+        tester.covers(some.ends == ends and some.far > traces / 40 and some.stale > traces / 40,
+                      f"random runs end {some.ends}, {some.far} are long, {some.stale} have stale hits")
+
+
+class Met:
+    """How random runs ended, how many went far beyond what is read ahead, and how many had stale hits."""
+
+    def __init__(self):
+        self.ends, self.far, self.stale = set(), 0, 0
+
+    def add(self, told):
+        self.ends.add(told["end"])
+        self.far += int(told["completed"]) > 2 * AHEAD
+        self.stale += told["stale-hits"] != "0"
 
 
 def second(tester, words):
@@ -169,6 +197,8 @@ def faulty(tester, path, text, fault, *options, least=0):
     before.write_bytes(b"".join(part + b"\n" for part in text.split(b"\n")[:line - 1]))
     whole = tester.run("trace", "--records", *without_cores(options), str(before))[1]
     known = whole if len(text) > AHEAD else written_before(["--records", *options, str(path)])
+    if is_seeded(options) and cores_in(options) != Trace(before.read_bytes()).cores:
+        whole = known  # `trace` draws among fewer cores
     said = f"tardis: {fault}\n"
     status, out, error = tester.stream("--records", *options, str(path))
     good = (status, error) == (2, said) and whole.startswith(out) and known.startswith(out) and out[-1:] in ("", "\n")
@@ -178,6 +208,10 @@ def faulty(tester, path, text, fault, *options, least=0):
     for form in [], ["--json"], ["--no-words"]:
         got = tester.stream(*form, *options, str(path))
         tester.expect(got == (2, "", said), f"{text[-80:]!r} {form} {options}: {shown(got)}, wanted {said}")
+
+
+def cores_in(options):
+    return int(options[options.index("--cores") + 1])
 
 
 def without_cores(options):
@@ -202,11 +236,13 @@ def faults(tester, folder):
         faulty(tester, path, of_printf(text), fault)
     for number, (fault, text) in enumerate([*one_line_faults("traces.table"), ("line 1: 3 TooLong", b"#" * 257)]):
         fault = "line 1: 4 BadCore" if text.split()[:1] == [b"trace"] else fault
-        cores = ["--cores", "2"] if number % 2 else []
+        seed = by_seed([], number)
+        cores = ["--cores", "2", *(seed if number % 4 == 1 else [])] if number % 2 else []
         faulty(tester, path, few + text + b"\n0 R 0x0\n", moved(fault, 5), *cores)
         if number % 7 == 0:
-            # With as many cores as the trace has, rounds are made before the fault is read.
-            faulty(tester, path, many + text, moved(fault, 2 * AHEAD), "--cores", "2", least=AHEAD // 2)
+            # With as many cores as the trace has, turns are made before the fault is read.
+            cores = ["--cores", "2", *(seed if number % 14 else [])]
+            faulty(tester, path, many + text, moved(fault, 2 * AHEAD), *cores, least=AHEAD // 2)
     for number, (fault, text) in enumerate(form_2_faults()):
         faulty(tester, path, b"\ntrace 2\n63 A\n" + text + b"\n0 A\n", moved(fault, 2))
         if number % 9 == 0:
@@ -214,21 +250,23 @@ def faults(tester, folder):
 
 
 def cut_texts(tester, folder):
-    """A trace that is cut behind each byte."""
+    """A trace that is cut behind each byte, by rounds and by seeds."""
     path = Path(folder, "cut.trace")
     text = (TOP / "examples/traces/SWAP-LOCK.trace").read_bytes()
-    said, machine = {0: 0, 2: 0}, ["--cores", str(Trace(text).cores)]
+    said, cores = {0: 0, 2: 0}, Trace(text).cores
     for at in range(len(text)):
         path.write_bytes(text[:at])
-        words = ["--records", *machine, str(path)]
-        plain = tester.run("trace", "--records", str(path))
-        said[plain[0]] += 1
-        if plain[0]:
-            faulty(tester, path, text[:at], plain[2].removeprefix("tardis: ").strip(), *machine)
-            continue
-        got = tester.stream(*words)
-        tester.expect(got == plain, f"cut behind byte {at}: {got}, wanted {plain}")
-    tester.covers(min(said.values()) > 20, f"cut texts: {said}")
+        for policy in [], by_seed([], at):
+            plain = tester.run("trace", "--records", *policy, str(path))
+            said[plain[0]] += 1
+            if plain[0]:
+                fault = plain[2].removeprefix("tardis: ").strip()
+                faulty(tester, path, text[:at], fault, "--cores", str(cores), *policy)
+                continue
+            given = str(Trace(text[:at]).cores if policy else cores)
+            got = tester.stream("--records", "--cores", given, *policy, str(path))
+            tester.expect(got == plain, f"cut behind byte {at}, {policy}: {got}, wanted {plain}")
+    tester.covers(min(said.values()) > 40, f"cut texts: {said}")
 
 
 def cores(tester, folder):
@@ -254,16 +292,19 @@ def odd_texts(tester, folder):
     texts += [first + last, last + first, b"3 R 0x0\n" + first, first + b"3 R 0x0", b"7 R 0x0\n"]
     for text in texts:
         path.write_bytes(text)
-        same(tester, str(path), ["--fair", "--limit", "1000000"], Trace(text).cores, lambda at: range(3))
+        for options in ["--fair", "--limit", "1000000"], by_seed(["--limit", "1000000"], 5):
+            same(tester, str(path), options, Trace(text).cores, lambda at: range(3))
 
 
 def pipes(tester, folder):
     """Texts from pipes, of which one stays open while its first records come, and readers that leave early."""
     text = b"0 R 0x0\n1 W 0x0 1\n" * 8000
-    plain = tester.run("trace", "--records", "/dev/stdin", text=text)
-    tester.covers(plain[1].count("\n") == 16000, f"records of a pipe: {shown(plain)}")
-    got = tester.stream("--records", "--cores", "2", "/dev/stdin", text=text)
-    tester.expect(got == plain, f"records by a pipe: {shown(got)}")
+    for policy in [], by_seed(NO_LIMIT, 7):
+        plain = tester.run("trace", "--records", *policy, "/dev/stdin", text=text)
+        tester.covers(plain[1].count("\n") == 16000, f"records of a pipe: {shown(plain)}")
+        got = tester.stream("--records", "--cores", "2", *policy, "/dev/stdin", text=text)
+        tester.expect(got == plain, f"records by a pipe, {policy}: {shown(got)}")
+        stays_open(tester, text, plain, policy)
     pipe = Path(folder, "pipe")
     os.mkfifo(pipe)
     with subprocess.Popen(["sh", "-c", f"yes '0 R 0x0' | head -n 20000 > {pipe}"]) as writer:
@@ -271,9 +312,8 @@ def pipes(tester, folder):
         writer.wait()
     wanted = tester.run("trace", "/dev/stdin", text=b"0 R 0x0\n" * 20000)
     tester.expect(got == wanted, f"a named pipe: {shown(got)}, wanted {shown(wanted)}")
-    stays_open(tester, text, plain)
-    for words, out in ((["--records"], "0 0 R 0x0 0 0 0\n"), (["--records", "--fair"], "0 0 R 0x0 0 0 0\n")):
-        leaves_early(tester, words, out)
+    for words in ["--records"], ["--records", "--fair"], by_seed(["--records"], 2):
+        leaves_early(tester, words, tester.run("trace", *words, "/dev/stdin", text=b"0 R 0x0\n")[1])
     for words in ["--records"], [], ["--json"]:
         with open("/dev/full", "wb") as full:
             done = subprocess.run([tester.program, "trace", "--stream", *words, "/dev/stdin"], input=b"0 R 0x0\n",
@@ -287,10 +327,10 @@ def opened(tester, *words, stdin=subprocess.PIPE):
                             stdout=subprocess.PIPE, stderr=subprocess.PIPE)
 
 
-def stays_open(tester, text, plain):
+def stays_open(tester, text, plain, policy):
     """Of a pipe that stays open the first records come before its end, and a fault as soon as it is read. What is
     refused before the text is read waits for no byte of it."""
-    with opened(tester, "--records", "--cores", "2") as run:
+    with opened(tester, "--records", "--cores", "2", *policy) as run:
         writer, has_come = run.stdin, threading.Event()
         run.stdin = None
 
@@ -305,7 +345,7 @@ def stays_open(tester, text, plain):
         has_come.set()
         out, error = run.communicate(timeout=PATIENCE)
     got = tester.came((run.returncode, out.decode(), error.decode()))
-    tester.expect(came and got == plain, f"a pipe that stays open: {came} {shown(got)}")
+    tester.expect(came and got == plain, f"a pipe that stays open, {policy}: {came} {shown(got)}")
     for words, bytes_of, wanted in (([], b"0 R 0x0\n0 X\n", (2, "", "tardis: line 2: 5 BadOperation\n")),
                                     (["--lease", "0"], b"", (3, "", "tardis: bad configuration\n"))):
         with opened(tester, *words) as run:
@@ -353,15 +393,17 @@ def loads(count):
 def memory(tester, folder):
     """A text takes no more memory than one of a tenth of its lines."""
     lines = r"0 R 0x0\n1 W 0x8 1\n2 S 0x10 2\n3 R 0x0"
-    peaks = []
-    for count in (200000, 2000000):
-        make = f"yes \"$(printf '{lines}')\" | head -n {count}"
-        answer, peak = measured(tester, make, "--stream", "--cores", "4", *NO_LIMIT)
-        got = tester.came(answer)
-        tester.expect(got[0] == 0 and got[2] == "" and f"\ncompleted {count}\nend all-done\n" in got[1] and
-                      got[1].endswith("word 0x0 0\nword 0x8 1\nword 0x10 2\n"), f"{count} lines: {got}")
-        peaks.append(peak)
-    tester.covers(peaks[1] < peaks[0] + 4, f"2,000,000 lines take {peaks[1]:.0f} MB, a tenth of them {peaks[0]:.0f}")
+    for policy, counts in ([], (200000, 2000000)), (by_seed([], 9), (40000, 400000)):
+        peaks = []
+        for count in counts:
+            make = f"yes \"$(printf '{lines}')\" | head -n {count}"
+            answer, peak = measured(tester, make, "--stream", "--cores", "4", *policy, *NO_LIMIT)
+            got = tester.came(answer)
+            tester.expect(got[0] == 0 and got[2] == "" and f"\ncompleted {count}\nend all-done\n" in got[1] and
+                          got[1].endswith("word 0x0 0\nword 0x8 1\nword 0x10 2\n"), f"{count} lines, {policy}: {got}")
+            peaks.append(peak)
+        tester.covers(peaks[1] < peaks[0] + 4,
+                      f"{counts[1]} lines take {peaks[1]:.0f} MB, a tenth of them {peaks[0]:.0f}, {policy}")
 
 
 def long(tester, folder):

@@ -72,7 +72,8 @@ conflict_text Counts =
     codes "error: '--counts' needs '--schedule round' or '--schedule seed', and no '--records'\n\n" ++ more_text
 conflict_text Every = codes "error: '--every' needs '--counts'\n\n" ++ more_text
 conflict_text Json = codes "error: '--json' cannot be used with '--records'\n\n" ++ more_text
-conflict_text StreamConflict = codes "error: '--stream' needs '--schedule round', and no '--counts'\n\n" ++ more_text
+conflict_text StreamConflict =
+    codes "error: '--stream' needs '--schedule round' or '--schedule seed', and no '--counts'\n\n" ++ more_text
 conflict_text Cores = codes "error: '--cores' and '--no-words' need '--stream'\n\n" ++ more_text
 
 -- clap's rules find a fault of this kind in the words

@@ -186,17 +186,9 @@ rows_in_vain options = is_some options.every && not options.counts
 abbrev pub json_in_vain : TraceOptions → Bool
 json_in_vain options = options.json && options.records
 
--- rounds, fair or not, can be run as their trace is read
-abbrev pub can_stream : Schedule → Bool
-can_stream Round = true
-can_stream FairRound = true
-can_stream Seed = false
-can_stream Threads = false
-can_stream FairThreads = false
-
--- the trace is to be read as the run goes, but by a schedule that can't, or with counts
+-- the trace is to be read as the run goes, but by threads, or with counts
 abbrev pub stream_in_vain : Asked → Bool
-stream_in_vain asked = asked.stream && (asked.trace.counts || not (can_stream asked.trace.run.schedule))
+stream_in_vain asked = asked.stream && (asked.trace.counts || is_shared asked.trace.run.schedule)
 
 -- a number of cores is asked for, or no words, but the trace is read before it runs
 abbrev pub cores_in_vain : Asked → Bool

@@ -76,9 +76,10 @@ const JSON: &str = "Writes a JSON object in place of lines";
 const TRACE_JSON: &str = "Writes a JSON object in place of lines; not with --records";
 
 const STREAM: &str =
-    "Reads the trace as the run goes, without a limit of lines; not by schedule seed or threads, nor with --counts";
+    "Reads the trace as the run goes, without a limit of lines; not by schedule threads, nor with --counts";
 
-const CORES: &str = "How many cores the machine of a stream has, 1 to 64; by default 64";
+const CORES: &str =
+    "How many cores the machine of a stream has, 1 to 64; by default 64; schedule seed draws among these";
 
 const NO_WORDS: &str = "Leaves the words out of a stream's report";
 

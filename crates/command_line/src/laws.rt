@@ -1,6 +1,6 @@
 //! Laws of options. The functions do nothing: their contracts are the laws.
 ghost use Rattle.std.specs.Borrow.{Bor};
-ghost use Rattle.std.specs.Prelude.{◌≡◌, List, ◌≤◌, String, codes, true};
+ghost use Rattle.std.specs.Prelude.{◌≡◌, List, ◌≤◌, String, codes, false};
 ghost use Rattle.std.specs.declared.alloc.Global.{Global};
 ghost use Rattle.clap.specs.Words.{Row, Text};
 ghost use Rattle.run_options.specs.declared.options.EndsOptions.{EndsOptions};
@@ -10,7 +10,7 @@ ghost use Rattle.run_options.specs.declared.options.TraceOptions.{TraceOptions};
 ghost use Rattle.run_options.specs.declared.options.StreamOptions.{StreamOptions};
 ghost use Rattle.command_line.specs.Job.{GivesJob, words_number};
 ghost use Rattle.command_line.specs.Options.{EveryIsInRange, GivesNumber, GivesSome, RunIsInRange, TellsAsked};
-ghost use Rattle.command_line.specs.Options.{TellsEnds, TellsLitmus, TellsRun, TellsTrace, can_stream, stream_of};
+ghost use Rattle.command_line.specs.Options.{TellsEnds, TellsLitmus, TellsRun, TellsTrace, is_shared, stream_of};
 ghost use Rattle.command_line.specs.declared.options.Asked.{Asked};
 ghost use Rattle.command_line.specs.declared.words.Job.TheVariants.{Stream};
 ghost use Rattle.command_line.specs.declared.words.WordsError.TheVariants.{NoMemory, Refused};
@@ -48,10 +48,10 @@ pub fn numbers_in_range_are_taken()
         GivesNumber rows (codes "cores") 1 64 (stream_of asked).cores }
 {}
 
-/// A trace that is read as the run goes is run by rounds, fair or not.
-pub fn streams_are_by_rounds()
+/// A trace that is read as the run goes is run by rounds, fair or not, or by a seed: no threads drive it.
+pub fn streams_follow_policies()
     ensures { (command : Text) (rows : List Row) (options : StreamOptions) (file : Bor Text) →
-        GivesJob command rows (Stream options file) → can_stream options.run.schedule ≡ true }
+        GivesJob command rows (Stream options file) → is_shared options.run.schedule ≡ false }
 {}
 
 /// Refused words have the number 1, and lack of memory the number 2.

@@ -4,7 +4,7 @@ ghost use Rattle.std.specs.Prelude.{◌≡◌, IfSome, None, option_map};
 ghost use Rattle.clap.specs.Words.{found_of, rows_of};
 ghost use Rattle.command_line.specs.Options.{HasPath, HasWord, HasAnyNumber, IsFlag, HasNumber, IsOrder};
 ghost use Rattle.command_line.specs.Options.{IsSchedule, MayHaveNumber, TellsAsked, TellsCheck, TellsEnds};
-ghost use Rattle.command_line.specs.Options.{TellsLitmus, TellsMachine, TellsRun, TellsTrace, can_stream};
+ghost use Rattle.command_line.specs.Options.{TellsLitmus, TellsMachine, TellsRun, TellsTrace, is_shared};
 ghost use Rattle.command_line.specs.Options.{cores_in_vain, counts_in_vain, fairly, json_in_vain, rows_in_vain};
 ghost use Rattle.command_line.specs.Options.{stream_in_vain, stream_of};
 
@@ -218,15 +218,18 @@ pub(crate) fn check_options(matches: &ArgMatches<'_>) -> CheckOptions
     }
 }
 
+/// Whether threads drive a run of this schedule.
+fn is_shared(schedule: Schedule) -> bool
+    ensures { result ≡ is_shared schedule }
+{
+    matches!(schedule, Schedule::Threads | Schedule::FairThreads)
+}
+
 /// Whether counts are asked for in vain: of a run by threads, or next to records.
 pub(crate) fn counts_in_vain(options: &TraceOptions) -> bool
     ensures { result ≡ counts_in_vain options.now }
 {
-    let is_shared = matches!(
-        options.run.schedule,
-        Schedule::Threads | Schedule::FairThreads
-    );
-    options.counts && (options.records || is_shared)
+    options.counts && (options.records || is_shared(options.run.schedule))
 }
 
 /// Whether rows of counts are asked for in vain: without counts.
@@ -243,18 +246,11 @@ pub(crate) fn json_in_vain(options: &TraceOptions) -> bool
     options.json && options.records
 }
 
-/// Whether a trace can be read as a run of this schedule goes.
-fn can_stream(schedule: Schedule) -> bool
-    ensures { result ≡ can_stream schedule }
-{
-    matches!(schedule, Schedule::Round | Schedule::FairRound)
-}
-
-/// Whether it is asked in vain to read the trace as the run goes: by a schedule that can't, or next to counts.
+/// Whether it is asked in vain to read the trace as the run goes: by threads, or next to counts.
 pub(crate) fn stream_in_vain(asked: &Asked) -> bool
     ensures { result ≡ stream_in_vain asked.now }
 {
-    asked.stream && (asked.trace.counts || !can_stream(asked.trace.run.schedule))
+    asked.stream && (asked.trace.counts || is_shared(asked.trace.run.schedule))
 }
 
 /// Whether a number of cores, or no words, are asked for in vain: of a trace that is read before it runs.

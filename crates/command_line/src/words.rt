@@ -25,7 +25,7 @@ pub enum Job<'a> {
     /// To run the trace of the file that has this path.
     Trace(TraceOptions, &'a str),
     /// To run the trace of the file that has this path, and to read it as the run goes. Its schedule is round, fair or
-    /// not.
+    /// not, or seed.
     Stream(StreamOptions, &'a str),
     /// To check the records of the file at the last path against the trace of the file before it, over the opening of
     /// the first file, if one is named.
@@ -37,8 +37,8 @@ pub enum Job<'a> {
 pub enum WordsError {
     /// The command line doesn't take the words, or they ask for help, or for what can't be had together: a fair
     /// schedule that is seed, counts of a run by threads or next to records, rows of counts without counts, JSON next
-    /// to records, a stream by seeds or threads or with counts, or cores or no words of no stream. This is the text to
-    /// show, in whole lines.
+    /// to records, a stream by threads or with counts, or cores or no words of no stream. This is the text to show, in
+    /// whole lines.
     Refused(String),
     /// Allocation failed.
     NoMemory,
@@ -77,7 +77,7 @@ enum Conflict {
     Every,
     /// JSON next to records.
     Json,
-    /// A trace that is read as the run goes by seeds or threads, or with counts.
+    /// A trace that is read as the run goes by threads, or with counts.
     Stream,
     /// A number of cores, or no words, of a trace that is read before it runs.
     Cores,
@@ -102,7 +102,7 @@ fn conflict_text(why: Conflict) -> &'static str
             "error: '--json' cannot be used with '--records'\n\nFor more information, try '--help'.\n"
         }
         Conflict::Stream => {
-            "error: '--stream' needs '--schedule round', and no '--counts'\n\n\
+            "error: '--stream' needs '--schedule round' or '--schedule seed', and no '--counts'\n\n\
             For more information, try '--help'.\n"
         }
         Conflict::Cores => {

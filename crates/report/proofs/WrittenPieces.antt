@@ -90,7 +90,7 @@ module _ (laws : Laws) (options : StreamOptions) (known : Bytes) (good : is_good
       let run = run_so_far r.taken s r.going in record {
         config = s.machine.config;
         set_up = r.config;
-        policy = s.policy;
+        policy = s.pace.policy;
         driver = r.driver;
         events = run.0;
         programs = run.1;
@@ -142,12 +142,12 @@ module _ (laws : Laws) (options : StreamOptions) (known : Bytes) (good : is_good
   led = record {
     config = s.machine.config;
     set_up = r.config;
-    policy = s.policy;
+    policy = s.pace.policy;
     driver = r.driver;
     events = r.ended.events;
     programs = r.ended.programs;
     leads = r.ended.leads;
-    ended = subst (λ n. EndsBy true step_acts s.policy n (at_start s.machine.config empty)
+    ended = subst (λ n. EndsBy true step_acts s.pace.policy n (at_start s.machine.config empty)
         (lanes_for s.machine.config.cores (unnumbered r.taken)) r.ended.events s.machine r.ended.programs s.end) r.limit
         r.ended.ended;
     few = r.ended.few;

@@ -38,7 +38,7 @@ pub record IsRunning (options : StreamOptions) (known : Option (List ℕ)) (run 
   pub going : IsGoing taken run
   pub all_read : run.at_end ≡ true → IsAllRead known now run.ahead.stream
   pub config : run.machine.config ≡ stream_config options
-  pub driver : driver_of options.run ≡ ByPolicy run.policy
+  pub driver : driver_of options.run ≡ ByPolicy run.pace.policy
   pub limit : run.limit ≡ limit_of options.run
   pub names : run.ahead.names ≡ (options.words && not options.records)
 
@@ -50,7 +50,7 @@ pub record HasRun (options : StreamOptions) (known : Option (List ℕ)) (run : S
   pub ended : HasEnded taken run
   pub at_end : IfSome known (λ bytes. AtEnd now)
   pub config : run.machine.config ≡ stream_config options
-  pub driver : driver_of options.run ≡ ByPolicy run.policy
+  pub driver : driver_of options.run ≡ ByPolicy run.pace.policy
   pub limit : run.limit ≡ limit_of options.run
   pub names : run.ahead.names ≡ (options.words && not options.records)
 

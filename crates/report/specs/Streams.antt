@@ -9,12 +9,9 @@ use Rattle.programs.specs.declared.ends.End.{End}
 use Rattle.programs.specs.declared.steps.Step.{Step}
 use Rattle.report_lines.specs.declared.layout.Layout.{Layout}
 use Rattle.report_lines.specs.Layouts.{closing}
-use Rattle.run_options.specs.declared.options.RunOptions.{RunOptions}
 use Rattle.run_options.specs.declared.options.StreamOptions.{StreamOptions}
 use Rattle.run_results.specs.declared.results.RunError.{RunError}
 use Rattle.run_results.specs.declared.results.RunError.TheVariants.{BadConfig, NoMemory, Trace}
-use Rattle.schedules.specs.declared.policy.Policy.{Policy}
-use Rattle.streamed_runs.specs.StreamStates.{AreRounds}
 use Rattle.trace_lines.specs.declared.errors.Kind.TheVariants.{BadCore}
 use Rattle.trace_lines.specs.declared.errors.TraceError.{TraceError}
 use Rattle.trace_reader.specs.Filling.{unnumbered}
@@ -25,7 +22,6 @@ use Rattle.trace_reader.specs.Streams.{StepsTold, steps_told}
 use Rattle.trace_texts.specs.Records.{records_text}
 use Rattle.trace_texts.specs.Reports.{trace_text}
 use Rattle.worker_driver.specs.SetUp.{config_of, driver_of, limit_of}
-use Rattle.worker_driver.specs.declared.set_up.Driver.TheVariants.{ByPolicy}
 use Rattle.report.specs.Layouts.{layout_of}
 use Rattle.report.specs.Reports.{TellsRecords}
 use Rattle.report.specs.Runs.{IsTraceRun, is_all_done, trace_end_of, whole_report}
@@ -37,10 +33,6 @@ IsReadWhole known taken = IfSome known (λ bytes. steps_told bytes ≡ (taken, N
 
 abbrev pub IsReadSoFar : Option (List ℕ) → List (ℕ × (ℕ × Step)) → Type 0
 IsReadSoFar known taken = IfSome known (λ bytes. (later : StepsTold) × (steps_told bytes ≡ behind taken later))
-
--- rounds drive the run, fair or not
-abbrev pub FollowsRounds : RunOptions → Type 0
-FollowsRounds options = (policy : Policy) × (driver_of options ≡ ByPolicy policy) × AreRounds policy
 
 -- the machine that the options ask for
 abbrev pub stream_config : StreamOptions → Config

@@ -2,13 +2,11 @@
 ghost use Rattle.std.specs.Prelude.{◌≡◌, ◌≢◌, [], IfErr, IfOk, IfSome, IsErrOf, OnOk, true};
 ghost use Rattle.byte_streams.specs.Device.{AtEnd};
 ghost use Rattle.machine_table.specs.SetUp.{is_good};
-ghost use Rattle.streamed_runs.specs.StreamStates.{AreRounds};
-ghost use Rattle.worker_driver.specs.SetUp.{driver_of};
+ghost use Rattle.worker_driver.specs.SetUp.{FollowsPolicy, driver_of};
 ghost use Rattle.worker_driver.specs.declared.set_up.Driver.TheVariants.{ByPolicy};
 ghost use Rattle.report.specs.Answers.{FailuresAreCounted, IsCutOff, IsReported};
 ghost use Rattle.report.specs.StreamParts.{IsRunning, IsStopped};
-ghost use Rattle.report.specs.Streams.{FollowsRounds, HasNoStream, IsBegun, IsStreamReport, IsStreamText};
-ghost use Rattle.report.specs.Streams.{stream_config};
+ghost use Rattle.report.specs.Streams.{HasNoStream, IsBegun, IsStreamReport, IsStreamText, stream_config};
 
 use crate::reports::is_all_done;
 use crate::stream_parts::{
@@ -26,8 +24,8 @@ use streamed_runs::StreamedRun;
 use trace_reader::StepQueue;
 use worker_driver::{Driver, driver_of, limit_of};
 
-/// Runs a trace by rounds over a memory of zeros while it reads the trace from the source, and writes the report of the
-/// run, or each record when its operation has completed. It keeps neither the trace nor the history: its memory is that
+/// Runs a trace by rounds or by a seed over a memory of zeros while it reads the trace from the source, and writes the
+/// report of the run, or each record when its operation has completed. It keeps neither the trace nor the history: its memory is that
 /// of the machine, of the steps that were read ahead, of a time for each word that was written, and of the words that
 /// the trace names, if the report is to have them. What goes out reports a legal history, however the run ends.
 ///
@@ -41,7 +39,7 @@ pub fn run_stream<S: Source, K: Sink>(
     sink: &mut K,
     options: &StreamOptions,
 ) -> Result<Done, RunError>
-    requires { FollowsRounds options.now.run }
+    requires { FollowsPolicy options.now.run }
     ensures reported { IfOk result (λ done.
         IsReported (IsStreamReport options.now (S.remaining source.old) done.all_done)
         (K.contents sink.old) (K.contents sink.new)) }
@@ -86,7 +84,6 @@ fn told<S: Source, K: Sink>(
     requires good { is_good config ≡ true }
     requires config { config ≡ stream_config options.now }
     requires policy { driver_of options.now.run ≡ ByPolicy policy }
-    requires rounds { AreRounds policy }
     ensures reported { IfOk result (λ done.
         IsReported (IsStreamReport options.now (S.remaining source.old) done.all_done)
         (K.contents sink.old) (K.contents sink.new)) }

@@ -17,12 +17,13 @@ use Rattle.programs.specs.declared.ends.End.TheVariants.{AllDone, Stalled, Turns
 use Rattle.programs.specs.declared.steps.Step.{Step}
 use Rattle.schedules.specs.declared.policy.Policy.{Policy}
 use Rattle.schedules.specs.LongerLists.{end_before, joined, step_acts}
+use Rattle.schedules.specs.Paces.{Paced, paced}
 use Rattle.schedules.specs.Policies.{EndsBy}
 use Rattle.trace_reader.specs.Filling.{AheadState, HasTaken, unnumbered}
 use Rattle.trace_reader.specs.Steps.{cores_of, lane, named, ops_of, steps_of}
 use Rattle.trace_reader.proofs.Lemmas.{cores-append}
 use Rattle.streamed_runs.specs.declared.summary.Summary.{Summary}
-use Rattle.streamed_runs.specs.StreamStates.{AreRounds, HasEnded, IsGoing, MayFollow, StreamState, end_with, lanes_for}
+use Rattle.streamed_runs.specs.StreamStates.{HasEnded, IsGoing, MayFollow, StreamState, end_with, lanes_for}
 use Rattle.streamed_runs.specs.Summaries.{summary_of}
 use Rattle.streamed_runs.proofs.GoingRuns.{met_all, words_all}
 use Rattle.streamed_runs.proofs.JoinedLanes.{ends_here, ends_later, lane_of, lanes_count, lanes_joined, no_steps}
@@ -33,7 +34,7 @@ module _ (begins : (keeps : Bool) (policy : Policy) (m : Machine) (behind : List
     ((core : ℕ) → open_op m core ≡ None) → length behind ≡ m.config.cores →
     let lists = joined (replicate m.config.cores []) behind in
     EndsBy keeps step_acts policy 0 m lists [] m lists (end_before behind AllDone)) (config : Config) (idle : (core : ℕ) → open_op (at_start config empty) core ≡ None)
-    (good : is_good config ≡ true) (policy : Policy) (rounds : AreRounds policy) (limit : ℕ)
+    (good : is_good config ≡ true) (policy : Policy) (limit : ℕ)
     (ahead : AheadState) (queues : ahead.queues ≡ replicate config.cores []) (met : ahead.met ≡ 0)
     (words : ahead.words ≡ empty) where
   no_words : (names : Bool) → named names empty [] ≡ empty
@@ -60,7 +61,7 @@ module _ (begins : (keeps : Bool) (policy : Policy) (m : Machine) (behind : List
   first : let none = summary_of [] in IsGoing [] (record {
     machine = at_start config empty;
     ahead = ahead;
-    policy = policy;
+    pace = paced policy 0;
     limit = limit;
     left = limit;
     end = AllDone;
@@ -70,12 +71,12 @@ module _ (begins : (keeps : Bool) (policy : Policy) (m : Machine) (behind : List
     stale = none.stale;
     latest = none.latest;
   })
-  first = record {
+  first = let none : 0 ≡ limit - limit = omega arith in record {
     events = [];
     leads = refl;
     ended = λ more many follows. first_stands more many;
     within = omega arith;
-    goes = inr (refl, inl refl);
+    goes = inr (refl, inl refl, ap (paced policy) none);
     idle = λ is core. ap (λ (lanes : List (List Step)). lane lanes core) queues ∙ nothing_in config.cores core;
     few = omega arith;
     met = met;
@@ -85,14 +86,13 @@ module _ (begins : (keeps : Bool) (policy : Policy) (m : Machine) (behind : List
     stale = refl;
     latest = refl;
     good = good;
-    policy = rounds;
   }
 
-  pub is_first : (m : Machine) (summary : Summary) (done : List Record) → m ≡ at_start config empty →
-      summary ≡ summary_of [] → done ≡ [] → IsGoing [] (record {
+  pub is_first : (m : Machine) (pace : Paced) (summary : Summary) (done : List Record) → m ≡ at_start config empty →
+      pace ≡ paced policy 0 → summary ≡ summary_of [] → done ≡ [] → IsGoing [] (record {
         machine = m;
         ahead = ahead;
-        policy = policy;
+        pace = pace;
         limit = limit;
         left = limit;
         end = AllDone;
@@ -102,12 +102,12 @@ module _ (begins : (keeps : Bool) (policy : Policy) (m : Machine) (behind : List
         stale = summary.stale;
         latest = summary.latest;
       })
-  is_first m summary done opened none no_records = rw (opened, none, no_records) first
+  is_first m pace summary done opened begins none no_records = rw (opened, begins, none, no_records) first
 
 -- So far, the run is that of the text that was read, as if no more were to come.
 pub run_so_far : (taken : List (ℕ × (ℕ × Step))) (s : StreamState) → IsGoing taken s →
     (events : List Event) × (programs : List (List Step))
-    × EndsBy true step_acts s.policy (s.limit - s.left) (at_start s.machine.config empty)
+    × EndsBy true step_acts s.pace.policy (s.limit - s.left) (at_start s.machine.config empty)
     (lanes_for s.machine.config.cores (unnumbered taken)) events s.machine programs s.end
     × (s.machine ≡ after_all (at_start s.machine.config empty) events)
 run_so_far taken s going =
@@ -115,9 +115,9 @@ run_so_far taken s going =
     let nothing = replicate cores [] in (
       going.events,
       joined s.ahead.queues nothing,
-      subst (λ (end : End). EndsBy true step_acts s.policy (s.limit - s.left) (at_start s.machine.config empty) lanes
+      subst (λ (end : End). EndsBy true step_acts s.pace.policy (s.limit - s.left) (at_start s.machine.config empty) lanes
           going.events s.machine (joined s.ahead.queues nothing) end) (ends_here cores s.end)
-          (subst (λ (all : List (List Step)). EndsBy true step_acts s.policy (s.limit - s.left)
+          (subst (λ (all : List (List Step)). EndsBy true step_acts s.pace.policy (s.limit - s.left)
           (at_start s.machine.config empty) all going.events s.machine (joined s.ahead.queues nothing)
           (end_before nothing s.end)) (nothing_behind lanes cores (lanes_count cores (unnumbered taken)))
           (going.ended nothing (length-replicate cores []) (nothing_follows s.at_end cores))),
@@ -142,12 +142,12 @@ module _ (taken more : List (ℕ × (ℕ × Step))) (s : StreamState) (going : I
         events = going.events;
         programs = joined s.ahead.queues rest;
         leads = going.leads;
-        ended = subst (λ (n : ℕ). EndsBy true step_acts s.policy n (at_start s.machine.config empty)
+        ended = subst (λ (n : ℕ). EndsBy true step_acts s.pace.policy n (at_start s.machine.config empty)
             (lanes_for cores (unnumbered (taken ++ more))) going.events s.machine (joined s.ahead.queues rest) end) all
-            (subst (λ (e : End). EndsBy true step_acts s.policy (s.limit - s.left) (at_start s.machine.config empty)
+            (subst (λ (e : End). EndsBy true step_acts s.pace.policy (s.limit - s.left) (at_start s.machine.config empty)
             (lanes_for cores (unnumbered (taken ++ more))) going.events s.machine (joined s.ahead.queues rest) e)
             (sym is)
-            (subst (λ (lanes : List (List Step)). EndsBy true step_acts s.policy (s.limit - s.left)
+            (subst (λ (lanes : List (List Step)). EndsBy true step_acts s.pace.policy (s.limit - s.left)
             (at_start s.machine.config empty) lanes going.events s.machine (joined s.ahead.queues rest)
             (end_before rest s.end)) (sym (lanes_joined cores taken more))
             (going.ended rest (lanes_count cores (unnumbered more)) follows)));

@@ -1,8 +1,8 @@
 -- A run goes on as that of the whole text does, while its steps are read.
 use Rattle.std.proofs.Common.{◌≡◌, ◌≢◌, ◌⊎◌, ℕ, ◌+◌, ◌-◌, ◌^◌, ◌<◌, ◌≤◌, Bool, true, false, List, [], ◌∷◌, ◌++◌}
-use Rattle.std.proofs.Common.{length, get_or, inl, inr, refl, sym, ap, ap₂, ◌∙◌, subst, arith, append-nil}
+use Rattle.std.proofs.Common.{length, get_or, inl, inr, refl, sym, ap, ap₂, ◌∙◌, ◌↔◌, subst, arith, append-nil, replicate}
 use Rattle.std.proofs.lemmas.Bool.{cases_lt}
-use Rattle.std.proofs.lemmas.List.{get_or_past}
+use Rattle.std.proofs.lemmas.List.{get_or_past, length-replicate}
 use Rattle.std.specs.FinMap.{empty}
 use Rattle.physiological_order.specs.declared.operation.Record.{Record}
 use Rattle.physiological_order.specs.StaleHits.{RisesByNumber}
@@ -16,22 +16,25 @@ use Rattle.machine_table.specs.SetUp.{is_good}
 use Rattle.programs.specs.declared.ends.End.{End}
 use Rattle.programs.specs.declared.ends.End.TheVariants.{AllDone, Stalled, TurnsUsed, Exhausted, NoMemory}
 use Rattle.programs.specs.declared.steps.Step.{Step}
+use Rattle.programs.specs.declared.steps.Step.TheVariants.{Advance}
 use Rattle.schedules.specs.declared.policy.Policy.{Policy}
-use Rattle.schedules.specs.declared.policy.Policy.TheVariants.{Rounds, FairRounds, Seed}
 use Rattle.schedules.specs.LongerLists.{GoesOnBy, IsAhead, end_before, joined, step_acts}
+use Rattle.schedules.specs.Paces.{GoesOnFrom, GoesOnIn, Paced, gone, paced}
 use Rattle.schedules.specs.Policies.{EndsBy}
 use Rattle.trace_reader.specs.Filling.{AheadState, HasTaken, unnumbered}
 use Rattle.trace_reader.specs.Steps.{cores_of, lane, named}
 use Rattle.trace_reader.proofs.Lemmas.{cores-append, named-append}
 use Rattle.streamed_runs.specs.declared.summary.Summary.{Summary}
 use Rattle.streamed_runs.specs.Pieces.{IsPiece}
-use Rattle.streamed_runs.specs.StreamStates.{AreRounds, IsGoing, MayFollow, StreamState, lanes_for, turns_left}
+use Rattle.streamed_runs.specs.StreamStates.{IsGoing, MayFollow, StreamState, lanes_for, turns_left}
 use Rattle.streamed_runs.specs.Summaries.{all_counted, summary_of}
 use Rattle.streamed_runs.proofs.CountedRecords.{counted_all}
 use Rattle.streamed_runs.proofs.JoinedLanes.{ends_later, ends_now, ends_so, lane_joined, lanes_count, lanes_joined}
 use Rattle.streamed_runs.proofs.JoinedLanes.{length_joined, queues_joined}
+use Rattle.streamed_runs.proofs.MadePieces.{some_core}
 
--- what is cited of the laws of schedules, `lists_are_filled_between_turns` (joins, fills) and `runs_go_on` (further)
+-- what is cited of the laws of schedules, `lists_are_filled_between_turns` (joins, fills), `runs_go_on` (begins, further)
+-- and `pieces_go_by_turns` (turns, sum, used)
 pub record Laws : Type 0 where
   pub joins : (lists moved behind : List (List Step)) →
       joined (joined lists moved) behind ≡ joined lists (joined moved behind)
@@ -42,29 +45,34 @@ pub record Laws : Type 0 where
       GoesOnBy keeps step_acts policy turns limit between lists more after left end →
       EndsBy keeps step_acts policy (turns + limit) m whole (events ++ more) after (joined left behind)
       (end_before behind end)
+  pub begins : (keeps : Bool) (policy : Policy) (limit : ℕ) (m after : Machine) (programs left : List (List Step))
+      (events : List Event) (end : End) → GoesOnBy keeps step_acts policy 0 limit m programs events after left end
+      ↔ EndsBy keeps step_acts policy limit m programs events after left end
   pub further : (keeps : Bool) (policy : Policy) (made limit more : ℕ) (m after : Machine)
       (programs left : List (List Step)) (events : List Event) (end : End) →
       GoesOnBy keeps step_acts policy made limit m programs events after left end → end ≢ TurnsUsed → limit ≤ more →
       GoesOnBy keeps step_acts policy made more m programs events after left end
-
--- a round is as the first one was
-by_rounds : (policy : Policy) → AreRounds policy → (turns limit : ℕ) (m after : Machine) (queues left : List (List Step))
-    (events : List Event) (end : End) → EndsBy true step_acts policy limit m queues events after left end →
-    GoesOnBy true step_acts policy turns limit m queues events after left end
-by_rounds Rounds are turns limit m after queues left events end ended = ended
-by_rounds FairRounds are turns limit m after queues left events end ended = ended
-by_rounds (Seed seed) are turns limit m after queues left events end ended = absurd are
+  pub turns : (keeps : Bool) (pace : Paced) (turns limit : ℕ) (m after : Machine) (programs left : List (List Step))
+      (events : List Event) (end : End) →
+      GoesOnIn keeps step_acts pace turns limit m programs events after left end → (turns ≤ limit)
+      × (end ≡ TurnsUsed → turns ≡ limit)
+      × GoesOnFrom keeps step_acts pace turns m programs events after left end
+      × GoesOnFrom keeps step_acts pace limit m programs events after left end
+  pub sum : (policy : Policy) (made turns : ℕ) → gone turns (paced policy made) ≡ paced policy (made + turns)
+  pub used : (keeps : Bool) (pace : Paced) (turns limit : ℕ) (m after : Machine) (lists behind left : List (List Step))
+      (events : List Event) (end : End) → length lists ≡ m.config.cores → length behind ≡ m.config.cores →
+      IsAhead limit lists behind → GoesOnIn keeps step_acts pace turns limit m lists events after left end →
+      end_before behind end ≡ TurnsUsed → turns ≡ limit
 
 -- a run that is over is one of any more turns
-with_more_turns : (laws : Laws) (policy : Policy) → AreRounds policy → (limit more : ℕ) (m after : Machine)
-    (queues left : List (List Step)) (events : List Event) (end : End) → end ≢ TurnsUsed → limit ≤ more →
+with_more_turns : (laws : Laws) (policy : Policy) (limit more : ℕ) (m after : Machine) (queues left : List (List Step))
+    (events : List Event) (end : End) → end ≢ TurnsUsed → limit ≤ more →
     EndsBy true step_acts policy limit m queues events after left end →
     EndsBy true step_acts policy more m queues events after left end
-with_more_turns laws Rounds are limit more m after queues left events end other within ended =
-    laws.further true Rounds 0 limit more m after queues left events end ended other within
-with_more_turns laws FairRounds are limit more m after queues left events end other within ended =
-    laws.further true FairRounds 0 limit more m after queues left events end ended other within
-with_more_turns laws (Seed seed) are limit more m after queues left events end other within ended = absurd are
+with_more_turns laws policy limit more m after queues left events end other within ended =
+    (laws.begins true policy more m after queues left events end).0
+    (laws.further true policy 0 limit more m after queues left events end
+    ((laws.begins true policy limit m after queues left events end).1 ended) other within)
 
 all_both : (m : Machine) (events more : List Event) → after_all m (events ++ more) ≡ after_all (after_all m events) more
 all_both m [] more = refl
@@ -109,7 +117,6 @@ stays_over taken s going done =
       stale = going.stale;
       latest = going.latest;
       good = going.good;
-      policy = going.policy;
     })
 
 -- steps were read ahead of a run that isn't over
@@ -129,7 +136,7 @@ module _ (laws : Laws) (taken more : List (ℕ × (ℕ × Step))) (s : StreamSta
   abbrev made : ℕ
   made = s.limit - s.left
 
-  isn't_over : (s.at_end ≡ false) × ((s.end ≡ AllDone) ⊎ (s.end ≡ TurnsUsed))
+  isn't_over : (s.at_end ≡ false) × ((s.end ≡ AllDone) ⊎ (s.end ≡ TurnsUsed)) × (s.pace ≡ paced s.pace.policy made)
   isn't_over = elim going.goes [ inl none ↦ absurd (omega (arith, none, on)) | inr goes ↦ goes ]
 
   as_many : length ahead.queues ≡ cores
@@ -140,7 +147,7 @@ module _ (laws : Laws) (taken more : List (ℕ × (ℕ × Step))) (s : StreamSta
 
   -- the same run, with what was read where it stands now
   same_run : (later : List (List Step)) → length later ≡ cores →
-      EndsBy true step_acts s.policy made (at_start s.machine.config empty) (joined (lanes_for cores told) later)
+      EndsBy true step_acts s.pace.policy made (at_start s.machine.config empty) (joined (lanes_for cores told) later)
       going.events s.machine (joined ahead.queues later) (end_before (joined fresh later) s.end)
   same_run later many =
       let old = lanes_for cores (unnumbered taken) in
@@ -149,9 +156,9 @@ module _ (laws : Laws) (taken more : List (ℕ × (ℕ × Step))) (s : StreamSta
       let queues = sym (laws.joins s.ahead.queues fresh later)
       ∙ ap (λ (lanes : List (List Step)). joined lanes later)
       (sym (queues_joined cores s.ahead.queues ahead.queues more one_each filled.queued)) in
-      subst (λ (lanes : List (List Step)). EndsBy true step_acts s.policy made (at_start s.machine.config empty)
+      subst (λ (lanes : List (List Step)). EndsBy true step_acts s.pace.policy made (at_start s.machine.config empty)
       lanes going.events s.machine (joined ahead.queues later) (end_before (joined fresh later) s.end)) all
-      (subst (λ (lanes : List (List Step)). EndsBy true step_acts s.policy made (at_start s.machine.config empty)
+      (subst (λ (lanes : List (List Step)). EndsBy true step_acts s.pace.policy made (at_start s.machine.config empty)
       (joined old (joined fresh later)) going.events s.machine lanes (end_before (joined fresh later) s.end)) queues
       (going.ended (joined fresh later)
       (length_joined fresh later (fresh_count later many) ∙ lanes_count cores (unnumbered more))
@@ -182,7 +189,7 @@ module _ (laws : Laws) (taken more : List (ℕ × (ℕ × Step))) (s : StreamSta
     not_used : AllDone ≢ TurnsUsed
     not_used is = absurd cc
 
-    last_stands : Stands s.machine.config s.policy (s.limit - 0) at_end told going.events s.machine ahead.queues s.end
+    last_stands : Stands s.machine.config s.pace.policy (s.limit - 0) at_end told going.events s.machine ahead.queues s.end
     last_stands later many follows =
         let nothing = subst (λ (b : Bool). MayFollow b later) whole follows in
         let now = ends_now later nothing in
@@ -191,10 +198,10 @@ module _ (laws : Laws) (taken more : List (ℕ × (ℕ × Step))) (s : StreamSta
         ∙ ap₂ (λ (xs ys : List Step). xs ++ ys) (sym (fresh_lane done core) ∙ none core) (nothing core)) in
         let end = ap (λ (e : End). end_before (joined fresh later) e) done ∙ both ∙ sym now
         ∙ ap (λ (e : End). end_before later e) (sym done) in
-        with_more_turns laws s.policy going.policy made (s.limit - 0) _ _ _ _ _ _
+        with_more_turns laws s.pace.policy made (s.limit - 0) _ _ _ _ _ _
         (λ used. not_used (sym (ap (λ (e : End). end_before later e) done ∙ now) ∙ used))
         (omega arith)
-        (subst (λ (e : End). EndsBy true step_acts s.policy made (at_start s.machine.config empty)
+        (subst (λ (e : End). EndsBy true step_acts s.pace.policy made (at_start s.machine.config empty)
         (joined (lanes_for cores told) later) going.events s.machine (joined ahead.queues later) e) end
         (same_run later many))
 
@@ -215,7 +222,6 @@ module _ (laws : Laws) (taken more : List (ℕ × (ℕ × Step))) (s : StreamSta
       stale = going.stale;
       latest = going.latest;
       good = going.good;
-      policy = going.policy;
     }
 
   -- ---- a piece is made of what was read
@@ -223,8 +229,8 @@ module _ (laws : Laws) (taken more : List (ℕ × (ℕ × Step))) (s : StreamSta
   module _ (turns : ℕ) (within : turns ≤ s.left) (whole : at_end ≡ true → turns ≡ s.left)
       (some : s.end ≡ AllDone → (core : ℕ) × (lane ahead.queues core ≢ []))
       (enough : at_end ≡ false → (core : ℕ) → core < cores → turns ≤ length (lane ahead.queues core))
-      (after : Machine) (queues : List (List Step)) (end : End) (done : List Record)
-      (piece : IsPiece s.policy turns s.machine ahead.queues after queues end done) where
+      (next : Paced) (after : Machine) (queues : List (List Step)) (end : End) (done : List Record)
+      (piece : IsPiece turns s.pace s.machine ahead.queues next after queues end done) where
     used : (later : List (List Step)) → length later ≡ cores → end_before (joined fresh later) s.end ≡ TurnsUsed
     used later many = elim isn't_over.1 [
       | inl all ↦ let found = some all in
@@ -251,16 +257,18 @@ module _ (laws : Laws) (taken more : List (ℕ × (ℕ × Step))) (s : StreamSta
         by_end true is below = inl (subst (λ (b : Bool). MayFollow b later) is follows core)
         by_end false is below = inr (enough is core below)
 
-    piece_stands : Stands s.machine.config s.policy (made + turns) at_end told (going.events ++ piece.events) after
+    piece_stands : Stands s.machine.config s.pace.policy (made + turns) at_end told (going.events ++ piece.events) after
         queues end
     piece_stands later many follows =
-        laws.fills true s.policy made turns (at_start s.machine.config empty) s.machine after
+        laws.fills true s.pace.policy made turns (at_start s.machine.config empty) s.machine after
         (joined (lanes_for cores told) later) ahead.queues later queues going.events piece.events end as_many many
         (is_ahead later many follows)
-        (subst (λ (e : End). EndsBy true step_acts s.policy made (at_start s.machine.config empty)
+        (subst (λ (e : End). EndsBy true step_acts s.pace.policy made (at_start s.machine.config empty)
         (joined (lanes_for cores told) later) going.events s.machine (joined ahead.queues later) e)
         (used later many) (same_run later many))
-        (by_rounds s.policy going.policy made turns s.machine after ahead.queues queues piece.events end piece.ended)
+        (subst (λ (pace : Paced). GoesOnFrom true step_acts pace turns s.machine ahead.queues piece.events after queues
+        end) isn't_over.2
+        (laws.turns true s.pace piece.begun turns s.machine after ahead.queues queues piece.events end piece.ended).3)
 
     -- the turns that are left: none where the run is over
     abbrev left : ℕ
@@ -274,26 +282,50 @@ module _ (laws : Laws) (taken more : List (ℕ × (ℕ × Step))) (s : StreamSta
     counted Exhausted = inr (refl, λ is. absurd cc, λ is. absurd cc)
     counted NoMemory = inr (refl, λ is. absurd cc, λ is. absurd cc)
 
-    goes : (b : Bool) → at_end ≡ b → (e : End) →
-        (turns_left s.left turns e ≡ 0) ⊎ ((at_end ≡ false) × ((e ≡ AllDone) ⊎ (e ≡ TurnsUsed)))
-    goes true is AllDone = let all = whole is in inl (omega (arith, all))
-    goes true is TurnsUsed = let all = whole is in inl (omega (arith, all))
-    goes false is AllDone = inr (is, inl refl)
-    goes false is TurnsUsed = inr (is, inr refl)
-    goes b is Stalled = inl refl
-    goes b is Exhausted = inl refl
-    goes b is NoMemory = inl refl
+    -- Where more is to come, the piece began as many turns as it might, whatever that is: a step of the first core.
+    abbrev one_behind : List (List Step)
+    one_behind = (Advance ∷ []) ∷ replicate (cores - 1) []
 
-    left_stands : Stands s.machine.config s.policy (s.limit - left) at_end told (going.events ++ piece.events) after
+    one_in_each : length one_behind ≡ cores
+    one_in_each =
+        let rest = length-replicate {A = List Step} (cores - 1) [] in let some = some_core s.machine.config going.good in
+        omega (arith, rest, some)
+
+    goes_behind : at_end ≡ false → end_before one_behind end ≡ TurnsUsed →
+        gone piece.begun s.pace ≡ paced s.pace.policy (s.limit - (s.left - turns))
+    goes_behind more is =
+        let all = laws.used true s.pace piece.begun turns s.machine after ahead.queues one_behind queues piece.events end
+        as_many one_in_each
+        (is_ahead one_behind one_in_each (subst (λ (b : Bool). MayFollow b one_behind) (sym more) tt)) piece.ended is in
+        let under = going.within in
+        ap₂ gone all isn't_over.2 ∙ laws.sum s.pace.policy made turns
+        ∙ ap (paced s.pace.policy) (omega (arith, within, under))
+
+    goes : (b : Bool) → at_end ≡ b → (e : End) → end ≡ e →
+        (turns_left s.left turns e ≡ 0) ⊎ ((at_end ≡ false) × ((e ≡ AllDone) ⊎ (e ≡ TurnsUsed))
+        × (gone piece.begun s.pace ≡ paced s.pace.policy (s.limit - turns_left s.left turns e)))
+    goes true is AllDone done = let all = whole is in inl (omega (arith, all))
+    goes true is TurnsUsed done = let all = whole is in inl (omega (arith, all))
+    goes false is AllDone done = inr (
+      is,
+      inl refl,
+      goes_behind is (ap (end_before one_behind) done ∙ ends_later one_behind 0 (λ none. absurd cc)),
+    )
+    goes false is TurnsUsed done = inr (is, inr refl, goes_behind is (ap (end_before one_behind) done))
+    goes b is Stalled done = inl refl
+    goes b is Exhausted done = inl refl
+    goes b is NoMemory done = inl refl
+
+    left_stands : Stands s.machine.config s.pace.policy (s.limit - left) at_end told (going.events ++ piece.events) after
         queues end
     left_stands later many follows = elim (counted end) [
       | inl rest ↦ let under = going.within in
           let turns_made : made + turns ≡ s.limit - left = omega (arith, rest, within, under) in
-          subst (λ (n : ℕ). EndsBy true step_acts s.policy n (at_start s.machine.config empty)
+          subst (λ (n : ℕ). EndsBy true step_acts s.pace.policy n (at_start s.machine.config empty)
           (joined (lanes_for cores told) later) (going.events ++ piece.events) after (joined queues later)
           (end_before later end)) turns_made (piece_stands later many follows)
       | inr over ↦ let none = over.0 in let under = going.within in
-          with_more_turns laws s.policy going.policy (made + turns) (s.limit - left) _ _ _ _ _ _
+          with_more_turns laws s.pace.policy (made + turns) (s.limit - left) _ _ _ _ _ _
           (λ is. over.2 (sym (ends_so later end over.1) ∙ is)) (omega (arith, none, within, under))
           (piece_stands later many follows)
     ]
@@ -311,10 +343,12 @@ module _ (laws : Laws) (taken more : List (ℕ × (ℕ × Step))) (s : StreamSta
           (subst (λ (records : List Record). length records < 2 ^ 64) piece.added piece.few)
           ∙ ap summary_of (sym piece.added)
 
-      pub is_further : IsGoing (taken ++ more) (record {
+      -- the run behind the piece, at a pace
+      abbrev behind_it : Paced → StreamState
+      behind_it pace = record {
         machine = after;
         ahead = record ahead { queues = queues };
-        policy = s.policy;
+        pace = pace;
         limit = s.limit;
         left = left;
         end = end;
@@ -323,19 +357,21 @@ module _ (laws : Laws) (taken more : List (ℕ × (ℕ × Step))) (s : StreamSta
         kinds = summary.kinds;
         stale = summary.stale;
         latest = summary.latest;
-      })
-      is_further = record {
+      }
+
+      pub is_further : IsGoing (taken ++ more) (behind_it next)
+      is_further = subst (λ (pace : Paced). IsGoing (taken ++ more) (behind_it pace)) (sym piece.paced) (record {
         events = going.events ++ piece.events;
         leads = piece.leads ∙ ap (λ (m : Machine). after_all m piece.events) going.leads
             ∙ sym (all_both (at_start s.machine.config empty) going.events piece.events)
             ∙ ap (λ (c : Config). after_all (at_start c empty) (going.events ++ piece.events)) (sym piece.config);
-        ended = subst (λ (c : Config). Stands c s.policy (s.limit - left) at_end told (going.events ++ piece.events)
+        ended = subst (λ (c : Config). Stands c s.pace.policy (s.limit - left) at_end told (going.events ++ piece.events)
             after queues end) (sym piece.config) left_stands;
         within = let under = going.within in elim (counted end) [
           | inl rest ↦ omega (arith, rest, under)
           | inr over ↦ let none = over.0 in omega (arith, none)
         ];
-        goes = goes at_end refl end;
+        goes = goes at_end refl end refl;
         idle = piece.idle;
         few = subst (λ (c : Config). cores_of told ≤ c.cores) (sym piece.config) no_more;
         met = met;
@@ -345,8 +381,7 @@ module _ (laws : Laws) (taken more : List (ℕ × (ℕ × Step))) (s : StreamSta
         stale = ap (λ (sum : Summary). sum.stale) summed;
         latest = ap (λ (sum : Summary). sum.latest) summed;
         good = subst (λ (c : Config). is_good c ≡ true) (sym piece.config) going.good;
-        policy = going.policy;
-      }
+      })
 
 -- a piece takes turns
 pub takes_turns : (left turns : ℕ) (end : End) → 0 < turns → turns ≤ left → turns_left left turns end < left

@@ -12,8 +12,8 @@ use Rattle.machine_table.specs.SetUp.{is_good, is_within}
 use Rattle.programs.specs.declared.ends.End.{End}
 use Rattle.programs.specs.declared.steps.Step.{Step}
 use Rattle.programs.specs.Acts.{next_in}
-use Rattle.schedules.specs.declared.policy.Policy.{Policy}
 use Rattle.schedules.specs.LongerLists.{step_acts}
+use Rattle.schedules.specs.Paces.{Paced}
 use Rattle.trace_reader.specs.Steps.{lane}
 use Rattle.streamed_runs.specs.Pieces.{IsPiece}
 
@@ -40,15 +40,16 @@ refilled old new same =
     ap (λ (rest : List (List Step)). take (length old) (new ++ rest)) (drop_all (length new) old (omega (arith, same)))
     ∙ ap (take (length old)) (append-nil new) ∙ take_all (length old) new (omega (arith, same))
 
-module _ {policy : Policy} {turns : ℕ} {m : Machine} {lent : List (List Step)} {after : Machine}
-    {left : List (List Step)} {end : End} {done : List Record} (piece : IsPiece policy turns m lent after left end done)
+module _ {turns : ℕ} {pace : Paced} {m : Machine} {lent : List (List Step)} {next : Paced} {after : Machine}
+    {left : List (List Step)} {end : End} {done : List Record}
+    (piece : IsPiece turns pace m lent next after left end done)
     (queues : List (List Step)) (is : lent ≡ queues) (as_many : length left ≡ length lent) where
   -- the queues that were lent stand where they were
-  pub put_back : IsPiece policy turns m queues after (refill (length queues) queues left) end done
+  pub put_back : IsPiece turns pace m queues next after (refill (length queues) queues left) end done
   put_back =
-      subst (λ (rest : List (List Step)). IsPiece policy turns m queues after rest end done)
+      subst (λ (rest : List (List Step)). IsPiece turns pace m queues next after rest end done)
       (sym (refilled queues left (as_many ∙ ap length is)))
-      (subst (λ (before : List (List Step)). IsPiece policy turns m before after left end done) is piece)
+      (subst (λ (before : List (List Step)). IsPiece turns pace m before next after left end done) is piece)
 
   -- what is true of each run stays so
   pub stays_sound : is_good m.config ≡ true → length queues ≡ m.config.cores →

@@ -9,16 +9,18 @@ use Rattle.machine_table.specs.Runs.{after_all}
 use Rattle.programs.specs.declared.ends.End.{End}
 use Rattle.programs.specs.declared.ends.End.TheVariants.{AllDone}
 use Rattle.programs.specs.declared.steps.Step.{Step}
-use Rattle.schedules.specs.declared.policy.Policy.{Policy}
 use Rattle.schedules.specs.LongerLists.{step_acts}
-use Rattle.schedules.specs.Policies.{EndsBy}
+use Rattle.schedules.specs.Paces.{GoesOnIn, Paced, gone}
 use Rattle.trace_reader.specs.Steps.{lane}
 
--- at most so many turns by the policy lead from a machine and queues to others and an end, and add these records
-pub record IsPiece (policy : Policy) (turns : ℕ) (m : Machine) (queues : List (List Step)) (after : Machine)
+-- at most so many turns lead from a pace, a machine and queues to others and an end, and add these records; `begun` of
+-- them began
+pub record IsPiece (turns : ℕ) (pace : Paced) (m : Machine) (queues : List (List Step)) (next : Paced) (after : Machine)
     (left : List (List Step)) (end : End) (done : List Record) : Type 0 where
+  pub begun : ℕ
   pub events : List Event
-  pub ended : EndsBy true step_acts policy turns m queues events after left end
+  pub ended : GoesOnIn true step_acts pace begun turns m queues events after left end
+  pub paced : next ≡ gone begun pace
   pub leads : after ≡ after_all m events
   pub config : after.config ≡ m.config
   pub added : after.records ≡ m.records ++ done

@@ -14,9 +14,8 @@ use Rattle.machine_theorem.specs.Coherence.{coherent}
 use Rattle.programs.specs.declared.ends.End.{End}
 use Rattle.programs.specs.declared.ends.End.TheVariants.{AllDone, TurnsUsed}
 use Rattle.programs.specs.declared.steps.Step.{Step}
-use Rattle.schedules.specs.declared.policy.Policy.{Policy}
-use Rattle.schedules.specs.declared.policy.Policy.TheVariants.{Rounds, FairRounds, Seed}
 use Rattle.schedules.specs.LongerLists.{end_before, joined, step_acts}
+use Rattle.schedules.specs.Paces.{Paced, paced}
 use Rattle.schedules.specs.Policies.{EndsBy}
 use Rattle.byte_streams.specs.Device.{AtEnd}
 use Rattle.trace_reader.specs.declared.step_streams.StepStream.{StepStream}
@@ -30,7 +29,7 @@ use Rattle.streamed_runs.specs.Summaries.{latest_behind}
 pub record StreamState : Type 0 where
   pub machine : Machine
   pub ahead : AheadState
-  pub policy : Policy
+  pub pace : Paced
   pub limit : ℕ
   -- how many more turns may be made, and how the run ends if none is made
   pub left : ℕ
@@ -50,12 +49,6 @@ abbrev pub lanes_for : ℕ → List (ℕ × Step) → List (List Step)
 lanes_for zero steps = []
 lanes_for (suc n) steps = lanes_for n steps ++ steps_of n steps ∷ []
 
--- rounds, fair or not
-abbrev pub AreRounds : Policy → Type 0
-AreRounds Rounds = Unit {0}
-AreRounds FairRounds = Unit {0}
-AreRounds (Seed seed) = ⊥
-
 -- nothing more is to come where the text is at its end
 abbrev pub MayFollow : (at_end : Bool) → List (List Step) → Type 0
 MayFollow true more = (core : ℕ) → lane more core ≡ []
@@ -68,12 +61,13 @@ pub record IsGoing (taken : List (ℕ × (ℕ × Step))) (s : StreamState) : Typ
   pub events : List Event
   pub leads : s.machine ≡ after_all (at_start s.machine.config empty) events
   pub ended : (more : List (List Step)) → length more ≡ s.machine.config.cores → MayFollow s.at_end more →
-      EndsBy true step_acts s.policy (s.limit - s.left) (at_start s.machine.config empty)
+      EndsBy true step_acts s.pace.policy (s.limit - s.left) (at_start s.machine.config empty)
       (joined (lanes_for s.machine.config.cores (unnumbered taken)) more) events s.machine
       (joined s.ahead.queues more) (end_before more s.end)
   pub within : s.left ≤ s.limit
-  -- the run is over, or there is more to read, and it has only used its turns so far
-  pub goes : (s.left ≡ 0) ⊎ ((s.at_end ≡ false) × ((s.end ≡ AllDone) ⊎ (s.end ≡ TurnsUsed)))
+  -- the run is over, or there is more to read, and it goes on behind the turns that it used so far
+  pub goes : (s.left ≡ 0) ⊎ ((s.at_end ≡ false) × ((s.end ≡ AllDone) ⊎ (s.end ≡ TurnsUsed))
+      × (s.pace ≡ paced s.pace.policy (s.limit - s.left)))
   pub idle : s.end ≡ AllDone → (core : ℕ) → lane s.ahead.queues core ≡ []
   pub few : cores_of (unnumbered taken) ≤ s.machine.config.cores
   pub met : s.ahead.met ≡ cores_of (unnumbered taken)
@@ -83,7 +77,6 @@ pub record IsGoing (taken : List (ℕ × (ℕ × Step))) (s : StreamState) : Typ
   pub stale : s.stale ≡ stale_count s.machine.records
   pub latest : s.latest ≡ latest_behind empty s.machine.records
   pub good : is_good s.machine.config ≡ true
-  pub policy : AreRounds s.policy
 
 -- no turn is left, or none of those that are left would change anything
 abbrev pub IsOver : StreamState → Type 0
@@ -105,7 +98,7 @@ pub record HasEnded (taken : List (ℕ × (ℕ × Step))) (s : StreamState) : Ty
   pub events : List Event
   pub programs : List (List Step)
   pub leads : s.machine ≡ after_all (at_start s.machine.config empty) events
-  pub ended : EndsBy true step_acts s.policy s.limit (at_start s.machine.config empty)
+  pub ended : EndsBy true step_acts s.pace.policy s.limit (at_start s.machine.config empty)
       (lanes_for s.machine.config.cores (unnumbered taken)) events s.machine programs s.end
   pub few : cores_of (unnumbered taken) ≤ s.machine.config.cores
   pub met : s.ahead.met ≡ cores_of (unnumbered taken)
@@ -118,7 +111,7 @@ pub record HasEnded (taken : List (ℕ × (ℕ × Step))) (s : StreamState) : Ty
 -- what stays of a run, whatever it does: how the machine was set up, what the run was asked for
 pub record IsSameRun (old new : StreamState) : Type 0 where
   pub config : new.machine.config ≡ old.machine.config
-  pub policy : new.policy ≡ old.policy
+  pub policy : new.pace.policy ≡ old.pace.policy
   pub limit : new.limit ≡ old.limit
   pub names : new.ahead.names ≡ old.ahead.names
 

@@ -7,7 +7,7 @@ use crate::completed::Completed;
 use interleaving_core::{System, ToldHistory};
 use physiological_order::Record;
 use programs::End;
-use schedules::{Policy, run_watched};
+use schedules::{Pace, run_on};
 use std::alloc::Global;
 use trace_reader::StepQueue;
 
@@ -55,22 +55,23 @@ pub(crate) fn turns_ahead(left: u32, steps: usize, has_more: bool) -> u32
     }
 }
 
-// Makes a piece of a run: at most so many turns, of steps that were read ahead. The records of what completes are kept
-// in the memory of this list, which is empty; with the end, they are the result.
+// Makes a piece of a run: at most so many turns, of steps that were read ahead, from where the pace stands. The records
+// of what completes are kept in the memory of this list, which is empty; with the end, they are the result.
 pub(crate) fn make_piece(
     alloc: Global,
     system: &mut System<ToldHistory>,
     queues: &mut [StepQueue],
     records: Vec<Record>,
-    policy: Policy,
+    pace: &mut Pace,
     turns: u32,
 ) -> (End, Vec<Record>)
     requires one_each { length queues.old ≡ system.old.config.cores }
     requires none { records.items ≡ [] }
-    ensures { IsPiece policy turns system.old queues.old system.new queues.new result.0 result.1.items }
+    ensures { IsPiece turns pace.old system.old queues.old pace.new system.new queues.new
+        result.0 result.1.items }
 {
     let watcher = Completed { records };
-    let (end, watcher) = run_watched(alloc, system, queues, watcher, policy, turns);
+    let (end, watcher) = run_on(alloc, system, queues, watcher, pace, turns);
     // What is always true of a machine: its records rise by number, and can be counted.
     system.records_are_legal();
     let _completed = system.completed();

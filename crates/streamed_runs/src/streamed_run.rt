@@ -2,13 +2,14 @@
 ghost use Rattle.std.specs.Prelude.{◌≡◌, ◌⊎◌, ◌++◌, ◌≤◌, ◌<◌, [], ℕ, List, length, nat_lt, true, Option, Some, Ok};
 ghost use Rattle.std.specs.Prelude.{IfErr, IfOk, IfSome, OnOk, false};
 ghost use Rattle.byte_streams.specs.Device.{AtEnd};
+ghost use Rattle.std.specs.FinMap.{empty};
+ghost use Rattle.machine_table.specs.Opening.{at_start};
 ghost use Rattle.machine_table.specs.SetUp.{is_good};
 ghost use Rattle.programs.specs.declared.steps.Step.{Step};
 ghost use Rattle.trace_reader.specs.Filling.{Stops, unnumbered};
 ghost use Rattle.trace_reader.specs.Steps.{cores_of};
 ghost use Rattle.trace_reader.specs.Streams.{coming, steps_told, where_known, OnlyFault, Yields};
-ghost use Rattle.streamed_runs.specs.StreamStates.{AreRounds, HasEnded, IsAllRead, IsGoing};
-ghost use Rattle.streamed_runs.specs.StreamStates.{IsOver, IsSameRun};
+ghost use Rattle.streamed_runs.specs.StreamStates.{HasEnded, IsAllRead, IsGoing, IsOver, IsSameRun};
 ghost use Rattle.streamed_runs.specs.StreamStates.{issued_below, opens_below, values_in};
 
 use crate::piece::{end_with, is_done, make_piece, turns_ahead, turns_left};
@@ -17,8 +18,10 @@ use interleaving_core::{Config, System, ToldHistory};
 use machine_table::Counts;
 use physiological_order::{Memory, Op, Record, WordAddr};
 use programs::End;
-use schedules::Policy;
-use schedules::laws::{lists_are_filled_between_turns, nothing_is_done_at_first, runs_go_on};
+use schedules::laws::{
+    lists_are_filled_between_turns, nothing_is_done_at_first, pieces_go_by_turns, runs_go_on,
+};
+use schedules::{Pace, Policy};
 use std::alloc::{AllocError, Global};
 use std::marker::Model;
 use std::mem;
@@ -40,7 +43,7 @@ pub struct StreamedRun {
     alloc: Global,
     system: System<ToldHistory>,
     ahead: ReadAhead,
-    policy: Policy,
+    pace: Pace,
     limit: u32,
     left: u32,
     end: End,
@@ -65,7 +68,7 @@ impl Model for StreamedRun {
     ghost view = { λ a. record {
       machine = a.system;
       ahead = a.ahead;
-      policy = a.policy;
+      pace = a.pace;
       limit = a.limit;
       left = a.left;
       end = a.end;
@@ -94,9 +97,24 @@ fn open_operations(system: &System<ToldHistory>) -> u32
     count
 }
 
+// A machine with this set-up over zeros. For a run by a seed it keeps its lines in rising order from the start, since
+// each piece of such a run would put them in order anew (`run_on`).
+fn opened(alloc: Global, config: Config, policy: Policy) -> Result<System<ToldHistory>, AllocError>
+    requires { is_good config ≡ true }
+    ensures { IfOk result (λ system. system ≡ at_start config empty) }
+{
+    let Ok(mut system) = System::without_history(alloc, config, Memory::new(alloc)) else {
+        return Err(AllocError);
+    };
+    if let Policy::Seed(_) = policy {
+        system.keep_order()?;
+    }
+    Ok(system)
+}
+
 impl StreamedRun {
-    /// A run that has made no turn, of a machine with this set-up over zeros. It may make `limit` turns by the policy,
-    /// which is one of rounds. Whether the words that steps name are to be known is `names`.
+    /// A run that has made no turn, of a machine with this set-up over zeros. It may make `limit` turns by the policy.
+    /// Whether the words that steps name are to be known is `names`.
     pub fn new(
         alloc: Global,
         config: Config,
@@ -105,9 +123,8 @@ impl StreamedRun {
         names: bool,
     ) -> Result<StreamedRun, AllocError>
         requires good { is_good config ≡ true }
-        requires rounds { AreRounds policy }
         ensures going { IfOk result (IsGoing []) }
-        ensures given { IfOk result (λ run. (run.machine.config ≡ config) × (run.policy ≡ policy)
+        ensures given { IfOk result (λ run. (run.machine.config ≡ config) × (run.pace.policy ≡ policy)
             × (run.limit ≡ limit) × (run.ahead.names ≡ names)) }
         ensures none { IfOk result (λ run. (run.machine.records ≡ []) × (run.done ≡ [])
             × (run.at_end ≡ false)) }
@@ -115,15 +132,13 @@ impl StreamedRun {
             coming run.ahead.stream (Some bytes) ≡ Some (steps_told bytes)) }
     {
         nothing_is_done_at_first();
-        let Ok(system) = System::without_history(alloc, config, Memory::new(alloc)) else {
-            return Err(AllocError);
-        };
+        let system = opened(alloc, config, policy)?;
         let ahead = ReadAhead::new(alloc, config.cores, names)?;
         Ok(StreamedRun {
             alloc,
             system,
             ahead,
-            policy,
+            pace: Pace::new(policy),
             limit,
             left: limit,
             end: End::AllDone,
@@ -165,6 +180,7 @@ impl StreamedRun {
     {
         lists_are_filled_between_turns();
         runs_go_on::<StepQueue>();
+        pieces_go_by_turns::<StepQueue>();
         self.done.clear();
         if self.left == 0 {
             return Ok(false);
@@ -188,7 +204,7 @@ impl StreamedRun {
             &mut self.system,
             queues,
             records,
-            self.policy,
+            &mut self.pace,
             turns,
         );
         self.done = done;

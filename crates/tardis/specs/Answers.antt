@@ -32,8 +32,9 @@ use Rattle.programs.specs.declared.steps.Step.{Step}
 use Rattle.report.specs.Openings.{HasNoOpening, IsOpened}
 use Rattle.report.specs.Refusals.{IsRead}
 use Rattle.report.specs.Reports.{HasNoTraceReport, IsTraceReport}
-use Rattle.report.specs.Streams.{FollowsRounds, HasNoStream, IsBegun, IsStreamReport, IsStreamText}
+use Rattle.report.specs.Streams.{HasNoStream, IsBegun, IsStreamReport, IsStreamText}
 use Rattle.report.specs.Verdicts.{HasNoVerdict, IsCheckReport, ReadsCounted, WritesCounted}
+use Rattle.worker_driver.specs.SetUp.{FollowsPolicy}
 
 -- what went out is a beginning of the text, and all of it if no write failed
 abbrev pub TextGoesOut : Option (List ℕ) → Option (List ℕ) → ℕ → ℕ → List ℕ → Type 0
@@ -180,9 +181,9 @@ abbrev pub OpensNamed : {F : Type 0} → (List ℕ → Result F DeviceError → 
 OpensNamed opens None opened = opened ≡ None
 OpensNamed {F} opens (Some name) opened = (file : Result F DeviceError) × opens name.now file × (opened ≡ Some file)
 
--- a trace that is run as it is read is run by rounds
+-- no threads drive a trace that is run as it is read
 abbrev pub CanBeDone : Job → Type 0
-CanBeDone (StreamJob options name) = FollowsRounds options.run
+CanBeDone (StreamJob options name) = FollowsPolicy options.run
 CanBeDone job = Unit {0}
 
 -- the job was done on the files that have its names, given what opening each name may answer

@@ -12,7 +12,7 @@ ghost use Rattle.tardis.specs.Answers.{Does, TextGoesOut, bad_words, came_text, 
 use crate::files::Files;
 use crate::jobs::run_job;
 use byte_streams::{Sink, write_all};
-use command_line::laws::streams_are_by_rounds;
+use command_line::laws::streams_follow_policies;
 use command_line::{WordsError, read_words};
 use run_results::{Done, ErrorLine, RunError, error_line, exit_status};
 use std::alloc::Global;
@@ -40,7 +40,7 @@ pub fn answer<R: Threads + Sync, F: Files, K: Sink, E: Sink>(
         × TextGoesOut (E.contents errors.old) (E.contents errors.new)
         (E.failures errors.old) (E.failures errors.new) (came_text came)) }
 {
-    streams_are_by_rounds();
+    streams_follow_policies();
     match read_words(alloc, words) {
         Ok(job) => {
             let came = run_job(rt, alloc, files, &job, out);

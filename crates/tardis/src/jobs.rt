@@ -1,9 +1,9 @@
 //! The jobs that words ask for, each done on its files.
 
 ghost use Rattle.physiological_order.specs.Order.{flat};
-ghost use Rattle.report.specs.Streams.{FollowsRounds};
 ghost use Rattle.tardis.specs.Answers.{CanBeDone, Checks, ChecksOver, Does, ListsEndsOf, OnFile, OnFiles, OnOpening};
 ghost use Rattle.tardis.specs.Answers.{OpensNamed, RunsLitmus, RunsOn, RunsStream, RunsTrace, devices};
+ghost use Rattle.worker_driver.specs.SetUp.{FollowsPolicy};
 
 use crate::files::Files;
 use byte_streams::{DeviceError, Sink, Source};
@@ -145,7 +145,7 @@ fn stream_of<S: Source + Drop, K: Sink>(
     options: &StreamOptions,
     out: &mut K,
 ) -> Result<Done, RunError>
-    requires { FollowsRounds options.now.run }
+    requires { FollowsPolicy options.now.run }
     ensures { OnFile (devices S.remaining S.failures K.contents K.failures)
         (RunsStream (devices S.remaining S.failures K.contents K.failures) options.now) opened
         out.old out.new result }
@@ -162,7 +162,7 @@ fn stream_on<S: Source + Drop, K: Sink>(
     options: &StreamOptions,
     out: &mut K,
 ) -> Result<Done, RunError>
-    requires { FollowsRounds options.now.run }
+    requires { FollowsPolicy options.now.run }
     ensures { (left : S) × RunsOn (devices S.remaining S.failures K.contents K.failures)
         (RunsStream (devices S.remaining S.failures K.contents K.failures) options.now) file left
         out.old out.new result }

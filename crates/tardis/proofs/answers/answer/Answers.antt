@@ -5,7 +5,7 @@ use Rattle.tardis.proofs.answers.answer.Goals as goal
 pub run_job-came-requires : goal.run_job-came-requires
 run_job-came-requires g c = (
   c.type_bounds.sync-R,
-  can_be_done (map (λ w. w.now) c.args.words.now) c.streams_are_by_rounds.ensures c.in-Ok.job c.in-Ok.ensures.job,
+  can_be_done (map (λ w. w.now) c.args.words.now) c.streams_follow_policies.ensures c.in-Ok.job c.in-Ok.ensures.job,
 )
 
 pub returns-in-Ok : goal.returns-in-Ok

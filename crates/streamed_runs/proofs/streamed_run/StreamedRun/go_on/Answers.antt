@@ -19,7 +19,15 @@ returns-then-self-eq0-clause-went g c = λ taken going. (
 pub returns-then-is_done-clause-went : goal.returns-then-is_done-clause-went
 returns-then-is_done-clause-went g c = λ taken going.
     let read = c.fill.ensures.filled in let law = c.lists_are_filled_between_turns.ensures in
-    let laws : Laws = record { joins = law.filled; fills = law.goes_on; further = c.runs_go_on.ensures.further } in
+    let on = c.runs_go_on.ensures in let by = c.pieces_go_by_turns.ensures in let laws : Laws = record {
+      joins = law.filled;
+      fills = law.goes_on;
+      begins = on.begins;
+      further = on.further;
+      turns = by.turns;
+      sum = by.sum;
+      used = by.used;
+    } in
     let done = c.is_done.ensures.yes c.if-is_done.true in (
       read.0,
       subst (λ (s : StreamState). Yields (coming s.ahead.stream (g.S.Source.remaining c.args.source.now))
@@ -45,7 +53,15 @@ invariant_of-self-2 g c =
 pub returns-clause-went : goal.returns-clause-went
 returns-clause-went g c = λ taken going.
     let read = c.fill.ensures.filled in let law = c.lists_are_filled_between_turns.ensures in
-    let laws : Laws = record { joins = law.filled; fills = law.goes_on; further = c.runs_go_on.ensures.further } in
+    let on = c.runs_go_on.ensures in let by = c.pieces_go_by_turns.ensures in let laws : Laws = record {
+      joins = law.filled;
+      fills = law.goes_on;
+      begins = on.begins;
+      further = on.further;
+      turns = by.turns;
+      sum = by.sum;
+      used = by.used;
+    } in
     let many = read.2.queued.0 ∙ c.self.invariant.1 in let queues = c.fill.new.self.queues in
     let cores = some_core c.self.inside.system.config c.self.invariant.0 in let turns = c.turns_ahead-turns.ensures in
     let any : 0 < length queues = omega (arith, many, cores) in (
@@ -62,7 +78,7 @@ returns-clause-went g c = λ taken going.
           (c.is_done.ensures.not c.if-is_done.false all))
           (λ is core below. let most = turns.ahead (turned c.in_ok-has_more.has_more false is) in
           let least = c.shortest-2.ensures.least core (omega (arith, below, many)) in omega (arith, most, least))
-          c.make_piece-end.new.system (refill (length queues) queues c.make_piece-end.new.queues)
+          c.make_piece-end.new.pace c.make_piece-end.new.system (refill (length queues) queues c.make_piece-end.new.queues)
           c.make_piece-end.result.0 c.make_piece-end.result.1.items
           (put_back c.make_piece-end.ensures queues c.queues-queues.ensures.value c.make_piece-end.auto.queues)
           c.add.new.self (c.in-Ok.ensures ∙ ap (all_counted c.self.inside.summary) c.deref.ensures.value)),

@@ -1,42 +1,36 @@
 -- What calls of a machine do: `old` is the machine that the handle had before the call, `new` the one after it.
-use Rattle.std.specs.Prelude.{◌≡◌, ◌≢◌, ◌⊎◌, ◌+◌, ℕ, true, false, List, ◌++◌, drop, take, length, map, min, nat_le, nat_lt}
-use Rattle.std.specs.Prelude.{Option, Some, None, MatchOption, if◌then◌else◌, option_map, slice_get}
-use Rattle.ranked_lines.specs.Rising.{sorted}
-use Rattle.network.specs.declared.message.Message.{Message}
+use Rattle.std.specs.Prelude.{◌≡◌, ◌≢◌, ◌⊎◌, ℕ, true, false, List, length, nat_lt}
+use Rattle.std.specs.Prelude.{Option, Some, None, MatchOption, if◌then◌else◌, option_map}
 use Rattle.network.specs.NumberedMessages.{at_number}
 use Rattle.machine_table.specs.declared.event.Answer.{Answer}
 use Rattle.machine_table.specs.declared.event.Event.{Event}
 use Rattle.machine_table.specs.declared.event.Event.TheVariants.{Issue}
-use Rattle.machine_table.specs.Machine.{Machine, open_op}
+use Rattle.machine_table.specs.Machine.{Machine}
 use Rattle.machine_table.specs.Opening.{at_start}
 use Rattle.machine_table.specs.SetUp.{is_good}
-use Rattle.interleaving_core.specs.LookUps.{make_room, victim}
 use Rattle.interleaving_core.specs.StepAnswers.{Stepped}
 use Rattle.worker_driver.specs.SetUp.{config_of}
 use Rattle.tardis_c.specs.Arrays.{HaveNone}
 use Rattle.tardis_c.specs.Lacks.{HasSome}
 use Rattle.tardis_c.specs.Options.{run_options}
 use Rattle.tardis_c.specs.Plain.{op_of, operation_fault, word_fault, words_of}
-use Rattle.tardis_c.specs.SystemParts.{answer_of, capped, flag, message_of, open_of, place_of, plain_record, victim_of}
+use Rattle.tardis_c.specs.SystemParts.{answer_of, capped, flag, message_of}
 use Rattle.tardis_c.specs.declared.options.PlainOptions.{PlainOptions}
 use Rattle.tardis_c.specs.declared.plain.PlainOperation.{PlainOperation}
-use Rattle.tardis_c.specs.declared.plain.PlainRecord.{PlainRecord}
 use Rattle.tardis_c.specs.declared.plain.PlainWord.{PlainWord}
 use Rattle.tardis_c.specs.declared.system_looks.Totals.{Totals}
-use Rattle.tardis_c.specs.declared.system_parts.Place.{Place}
 use Rattle.tardis_c.specs.declared.system_parts.PlainAnswer.{PlainAnswer}
 use Rattle.tardis_c.specs.declared.system_parts.PlainMessage.{PlainMessage}
-use Rattle.tardis_c.specs.declared.system_parts.PlainOpen.{PlainOpen}
 
--- without a machine 13, and nothing changes
+-- without a machine 16, and nothing changes
 abbrev pub Asked : {Out : Type 0} → (old new : Option Machine) → (before after : Out) → (number : ℕ) →
     (Machine → Type 0) → Type 0
 Asked old new before after number Does =
-    MatchOption old ((new ≡ None) × (after ≡ before) × (number ≡ 13)) Does
+    MatchOption old ((new ≡ None) × (after ≡ before) × (number ≡ 16)) Does
 
--- 15 if there is nothing to tell, and then what was told stays
+-- 18 if there is nothing to tell, and then what was told stays
 abbrev pub told : {Out : Type 0} → Out → Option Out → Out × ℕ
-told before None = (before, 15)
+told before None = (before, 18)
 told before (Some out) = (out, 0)
 
 -- the machine stays; what there is to tell is told, and the number is 0
@@ -69,10 +63,10 @@ Opens new number cores options opening =
     ⊎ ((new ≡ None) × (number ≡ 3) × HaveNone word_fault opening
     × (is_good (config_of (run_options options).machine cores) ≡ true))
 
--- a machine that is there already stays: 14
+-- a machine that is there already stays: 17
 abbrev pub OpensUnless : (old new : Option Machine) → (number cores : ℕ) → PlainOptions → List PlainWord → Type 0
 OpensUnless old new number cores options opening = MatchOption old (Opens new number cores options opening)
-    (λ machine. (new ≡ Some machine) × (number ≡ 14))
+    (λ machine. (new ≡ Some machine) × (number ≡ 17))
 
 -- what a machine has counted
 abbrev pub totals_of : Machine → Totals
@@ -93,8 +87,3 @@ message_at m number = option_map (message_of number) (at_number number m.mail.me
 -- what a core that is there has, and what a bank has
 abbrev pub if_below : {X : Type 0} → (number count : ℕ) → X → Option X
 if_below number count x = if nat_lt number count then Some x else None
-
--- the records from an index on, as many as the buffer has room for, are written over its front
-abbrev pub records_from : Machine → (from : ℕ) → List PlainRecord → List PlainRecord
-records_from m from before = map plain_record (take (length before) (drop from m.records))
-    ++ drop (length (take (length before) (drop from m.records))) before

@@ -1,15 +1,18 @@
 //! What a caller in C looks up in its machine.
-ghost use Rattle.std.specs.Prelude.{◌≡◌, ◌/◌, Some, length};
+ghost use Rattle.std.specs.Prelude.{◌≡◌, ◌/◌, Some, length, map, option_map, slice_get};
 ghost use Rattle.machine_table.specs.Machine.{open_op};
 ghost use Rattle.machine_theorem.specs.Coherence.{coherent, owners};
 ghost use Rattle.interleaving_core.specs.LookUps.{make_room, victim};
-ghost use Rattle.tardis_c.specs.SystemParts.{open_of, place_of, victim_of};
+ghost use Rattle.tardis_c.specs.SystemParts.{open_of, place_of, plain_record, victim_of};
 ghost use Rattle.tardis_c.specs.Systems.{Tells, if_below, message_at, told, totals_of};
 
-use crate::system_parts::{Place, PlainMessage, PlainOpen, capped, message_of, open_of, place_of, victim_of};
+use crate::plain::PlainRecord;
+use crate::system_parts::{
+    Place, PlainMessage, PlainOpen, capped, message_of, open_of, place_of, plain_record, victim_of,
+};
 use held_machine::{Handle, put_back, take_out};
 use interleaving_core::{LineNo, MsgNo, System};
-use physiological_order::WordAddr;
+use physiological_order::{Op, WordAddr};
 use std::alloc::Global;
 
 /// What a machine has counted so far, as `tardis.h` has it.
@@ -45,6 +48,16 @@ fn totals_of(system: &System) -> Totals
     }
 }
 
+// The number of the message at an index of those in flight.
+fn number_at(system: &System, index: u32) -> Option<u64>
+    ensures { result ≡ slice_get (map (λ x. x.0) system.now.mail.messages) index }
+{
+    match system.message(index) {
+        None => None,
+        Some(number) => Some(number.0),
+    }
+}
+
 // The message in flight of a number.
 fn message_at(system: &System, number: u64) -> Option<PlainMessage>
     ensures { result ≡ message_at system.now number }
@@ -52,6 +65,18 @@ fn message_at(system: &System, number: u64) -> Option<PlainMessage>
     match system.look(MsgNo(number)) {
         None => None,
         Some(message) => Some(message_of(number, message)),
+    }
+}
+
+// The record of the operation that completed as this one.
+fn record_at(system: &System, number: usize) -> Option<PlainRecord>
+    ensures { result ≡ option_map plain_record (slice_get system.now.records number) }
+{
+    // The check finds what a record holds only where the function names its type.
+    let _inside: Option<Op> = None;
+    match system.records().get(number) {
+        None => None,
+        Some(done) => Some(plain_record(done)),
     }
 }
 
@@ -75,12 +100,12 @@ fn victim(system: &System, core: u32, line: u64) -> Option<Place>
     Some(victim_of(system.victim(core, LineNo(line))))
 }
 
-// Writes what there is to tell: 0, or 15 if there is nothing.
+// Writes what there is to tell: 0, or 18 if there is nothing.
 fn tell<T: Copy>(found: Option<T>, out: &mut T) -> u32
     ensures { (out.new, result) ≡ told out.old found }
 {
     match found {
-        None => 15,
+        None => 18,
         Some(value) => {
             *out = value;
             0
@@ -90,19 +115,61 @@ fn tell<T: Copy>(found: Option<T>, out: &mut T) -> u32
 
 /// What the machine has counted.
 #[unsafe(no_mangle)]
-pub extern "C" fn tardis_c_system_totals(alloc: Global, machine: &mut Handle, out: &mut Totals) -> u32
+pub extern "C" fn tardis_c_system_totals(
+    alloc: Global,
+    machine: &mut Handle,
+    out: &mut Totals,
+) -> u32
     ensures { Tells machine.old.owner.held machine.new.owner.held out.old out.new result
         (λ m. Some (totals_of m)) }
 {
     let Some(system) = take_out(alloc, machine) else {
-        return 13;
+        return 16;
     };
     *out = totals_of(&system);
     put_back(machine, system);
     0
 }
 
-/// The message in flight of a number; 15 if there is none.
+/// The number of the message at an index of those in flight, in the order of sending; 18 past the last one.
+#[unsafe(no_mangle)]
+pub extern "C" fn tardis_c_system_message_number(
+    alloc: Global,
+    machine: &mut Handle,
+    index: u32,
+    out: &mut u64,
+) -> u32
+    ensures { Tells machine.old.owner.held machine.new.owner.held out.old out.new result
+        (λ m. slice_get (map (λ x. x.0) m.mail.messages) index) }
+{
+    let Some(system) = take_out(alloc, machine) else {
+        return 16;
+    };
+    let found = number_at(&system, index);
+    put_back(machine, system);
+    tell(found, out)
+}
+
+/// The record of the operation that completed as this one, counted from 0; 18 if there is none yet.
+#[unsafe(no_mangle)]
+pub extern "C" fn tardis_c_system_record(
+    alloc: Global,
+    machine: &mut Handle,
+    number: usize,
+    out: &mut PlainRecord,
+) -> u32
+    ensures { Tells machine.old.owner.held machine.new.owner.held out.old out.new result
+        (λ m. option_map plain_record (slice_get m.records number)) }
+{
+    let Some(system) = take_out(alloc, machine) else {
+        return 16;
+    };
+    let found = record_at(&system, number);
+    put_back(machine, system);
+    tell(found, out)
+}
+
+/// The message in flight of a number; 18 if there is none.
 #[unsafe(no_mangle)]
 pub extern "C" fn tardis_c_system_message(
     alloc: Global,
@@ -114,14 +181,14 @@ pub extern "C" fn tardis_c_system_message(
         (λ m. message_at m number) }
 {
     let Some(system) = take_out(alloc, machine) else {
-        return 13;
+        return 16;
     };
     let found = message_at(&system, number);
     put_back(machine, system);
     tell(found, out)
 }
 
-/// A core's open operation; 15 if there is no such core.
+/// A core's open operation; 18 if there is no such core.
 #[unsafe(no_mangle)]
 pub extern "C" fn tardis_c_system_open_operation(
     alloc: Global,
@@ -133,14 +200,14 @@ pub extern "C" fn tardis_c_system_open_operation(
         (λ m. if_below core (length m.cores) (open_of core (open_op m core))) }
 {
     let Some(system) = take_out(alloc, machine) else {
-        return 13;
+        return 16;
     };
     let found = opened(&system, core);
     put_back(machine, system);
     tell(found, out)
 }
 
-/// The copy to evict from a core's cache to make a place for a line, if there is none; 15 if there is no such core.
+/// The copy to evict from a core's cache to make a place for a line, if there is none; 18 if there is no such core.
 #[unsafe(no_mangle)]
 pub extern "C" fn tardis_c_system_victim(
     alloc: Global,
@@ -153,7 +220,7 @@ pub extern "C" fn tardis_c_system_victim(
         (λ m. if_below core (length m.cores) (victim_of (victim m core line))) }
 {
     let Some(system) = take_out(alloc, machine) else {
-        return 13;
+        return 16;
     };
     let found = victim(&system, core, line);
     put_back(machine, system);
@@ -172,7 +239,7 @@ pub extern "C" fn tardis_c_system_make_room(
         (λ m. Some (place_of (make_room m number))) }
 {
     let Some(system) = take_out(alloc, machine) else {
-        return 13;
+        return 16;
     };
     *out = place_of(system.make_room(MsgNo(number)));
     put_back(machine, system);
@@ -181,12 +248,17 @@ pub extern "C" fn tardis_c_system_make_room(
 
 /// How many own a line: at most one does.
 #[unsafe(no_mangle)]
-pub extern "C" fn tardis_c_system_owners(alloc: Global, machine: &mut Handle, line: u64, out: &mut u64) -> u32
+pub extern "C" fn tardis_c_system_owners(
+    alloc: Global,
+    machine: &mut Handle,
+    line: u64,
+    out: &mut u64,
+) -> u32
     ensures { Tells machine.old.owner.held machine.new.owner.held out.old out.new result
         (λ m. Some (owners m line)) }
 {
     let Some(system) = take_out(alloc, machine) else {
-        return 13;
+        return 16;
     };
     *out = u64::from(system.owners(LineNo(line)));
     put_back(machine, system);
@@ -195,12 +267,17 @@ pub extern "C" fn tardis_c_system_owners(alloc: Global, machine: &mut Handle, li
 
 /// The coherent value of the word that a byte address lies in.
 #[unsafe(no_mangle)]
-pub extern "C" fn tardis_c_system_value(alloc: Global, machine: &mut Handle, address: u64, out: &mut u64) -> u32
+pub extern "C" fn tardis_c_system_value(
+    alloc: Global,
+    machine: &mut Handle,
+    address: u64,
+    out: &mut u64,
+) -> u32
     ensures { Tells machine.old.owner.held machine.new.owner.held out.old out.new result
         (λ m. Some (coherent m (address / 8))) }
 {
     let Some(system) = take_out(alloc, machine) else {
-        return 13;
+        return 16;
     };
     *out = system.coherent(WordAddr::at(address / 8));
     put_back(machine, system);

@@ -179,8 +179,14 @@ pub(crate) fn answer_of(answer: &Answer) -> PlainAnswer
 
 // What a line in a message says.
 fn timed(kind: u64, line: &TimedLine) -> Carried
-    ensures { result ≡ record { kind = kind; pts = 0; version = None; wts = line.now.wts; rts =
-        line.now.rts } }
+    ensures { result ≡ record {
+      kind = kind;
+      pts = 0;
+      version = None;
+      wts = line.now.wts;
+      rts =
+          line.now.rts;
+    } }
 {
     Carried {
         kind,

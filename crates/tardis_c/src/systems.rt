@@ -28,7 +28,13 @@ fn made(alloc: Global, config: Config, memory: Memory) -> Result<Box<System>, Al
 }
 
 // Opens a machine in a handle that has none.
-fn open(alloc: Global, machine: &mut Handle, cores: u32, options: &PlainOptions, opening: &[PlainWord]) -> u32
+fn open(
+    alloc: Global,
+    machine: &mut Handle,
+    cores: u32,
+    options: &PlainOptions,
+    opening: &[PlainWord],
+) -> u32
     requires { machine.old.owner.held ≡ None }
     ensures { Opens machine.new.owner.held result cores options.now opening.now }
 {
@@ -51,7 +57,7 @@ fn open(alloc: Global, machine: &mut Handle, cores: u32, options: &PlainOptions,
 }
 
 /// Opens a machine with so many cores, built as the options say, over a memory that opens with these words and 0
-/// elsewhere. 0; 14 if the handle has a machine already; 12 if a word has a fault, else 6 if a value of the
+/// elsewhere. 0; 17 if the handle has a machine already; 12 if a word has a fault, else 6 if a value of the
 /// configuration is out of its range, and 3 if an allocation failed. The handle stays as it was if that isn't 0.
 #[unsafe(no_mangle)]
 pub extern "C" fn tardis_c_system_open(
@@ -66,17 +72,17 @@ pub extern "C" fn tardis_c_system_open(
 {
     if let Some(system) = take_out(alloc, machine) {
         put_back(machine, system);
-        return 14;
+        return 17;
     }
     open(alloc, machine, cores, options, opening)
 }
 
-// One event, and its answer: 0, or 13 without a machine.
+// One event, and its answer: 0, or 16 without a machine.
 fn step(alloc: Global, machine: &mut Handle, event: Event, answer: &mut PlainAnswer) -> u32
     ensures { Steps machine.old.owner.held machine.new.owner.held answer.old answer.new result event }
 {
     let Some(mut system) = take_out(alloc, machine) else {
-        return 13;
+        return 16;
     };
     let came = system.step(event);
     *answer = answer_of(&came);
@@ -84,7 +90,7 @@ fn step(alloc: Global, machine: &mut Handle, event: Event, answer: &mut PlainAns
     0
 }
 
-/// A core is given its next operation. 10 if that has a fault, which then isn't looked for in the machine; 13 without a
+/// A core is given its next operation. 10 if that has a fault, which then isn't looked for in the machine; 16 without a
 /// machine. Nothing changes then.
 #[unsafe(no_mangle)]
 pub extern "C" fn tardis_c_system_issue(
@@ -99,7 +105,12 @@ pub extern "C" fn tardis_c_system_issue(
     if operation.fault() != 0 {
         return 10;
     }
-    step(alloc, machine, Event::Issue(operation.core, op_of(operation)), answer)
+    step(
+        alloc,
+        machine,
+        Event::Issue(operation.core, op_of(operation)),
+        answer,
+    )
 }
 
 /// A core tries to complete its open operation, or sends the request that it needs.
@@ -142,7 +153,12 @@ pub extern "C" fn tardis_c_system_evict_copy(
     ensures { Steps machine.old.owner.held machine.new.owner.held answer.old answer.new result
         (EvictCache core line) }
 {
-    step(alloc, machine, Event::EvictCache(core, LineNo(line)), answer)
+    step(
+        alloc,
+        machine,
+        Event::EvictCache(core, LineNo(line)),
+        answer,
+    )
 }
 
 /// A bank evicts a line, or asks its owner to return it.

@@ -3,7 +3,7 @@
 
 DRIVER is tests/systems.c, built. Each machine is drawn: its cores, options and opening words. So is each call: events
 of cores, banks and messages that are there or not, and each look-up that the library has. The answers must be those of
-the second program (docs/EVENTS.md), but for the words that a message carries. 40 machines take 150 events each.
+the second program (docs/EVENTS.md), but for the words that a message carries. 300 machines take 150 events each.
 """
 import random
 import re
@@ -14,7 +14,7 @@ from pathlib import Path
 sys.path.insert(0, str(Path(__file__).resolve().parent.parent))
 from reference.machine_texts import MachinePlayer  # noqa: E402
 
-MACHINES, EVENTS = 40, 150
+MACHINES, EVENTS = 300, 150
 OPTIONS = ("lease", "time", "banks", "sets", "ways", "bank-sets", "bank-ways", "line-words", "messages", "private-write")
 
 

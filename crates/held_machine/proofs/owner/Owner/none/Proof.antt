@@ -1,77 +1,43 @@
--- `none` makes an owner of nothing: a null pointer.
-use Rattle.std.specs.Prelude.{None}
-use mathlib.Core.Path.{refl, sym, subst}
-use mathlib.Core.List.{List, [], ◌∷◌, ◌++◌}
-use seplogic.Ra.Ura.{Ura}
-use mir.Syntax.{w64}
-use mir.Val.{Val, vint, vstruct, vcons, vnil}
-use base.Logic.{SProp, ent, emp, id⊢}
-use base.Fml.{ftrue, fsep}
-use prog.Memory.{Memory}
-use prog.Routine.{Routine}
-use prog.Wp.{WpFn, Tables}
-use types.Logic.{Logic}
-use contract.Monad.{Fun}
-use contract.Running.{tables, tables_of}
-use sound.WpLaws.{WpFn-mono}
-use types.Kit.{Item, ‵, raw, ◌⊛◌, ◌$◌, ◌∵◌, !, qed, by, move, drop, use1, join, split, fsplit, fjoin, fpack, feq_i, suffices, done}
-use types.Part.{agg}
-use types.Run.{lit, no_more, and_then, returns, enter}
-use types.ByLocal.{alloc_all, pass_all, free_all, look_at, get, sets}
-use denote.Exit.{yes}
-use denote.RattleType.{Valss}
-use denote.RawPtr.{null_ptr, RawPtr, ptr_val}
-use denote.Signature.{type_at, plain}
-use denote.Steps.{nothing}
-use denote.Struct.Struct.{within}
-use denote.Struct.Owning.{shape, to}
-use denote.Triple.Spec.{triple_of}
-use denote.Triple.Table.{entered}
-use denote.Triple.Walked.{says, Stays, stay_dropped, walk_of, ends_at, Goes-dropped, walk_Meets}
-use lib.Dec.{lit<}
-use mir.Val.{has_ty}
-use Rattle.core.proofs.alloc.Calls.{α, handle_tells}
-use Rattle.std_alloc.proofs.ResultValues.{and_tt}
-use Rattle.std_heap.specs.contracts.Global as Heap
-use Rattle.std_alloc.proofs.BoxSteps.Form.{P}
+-- `none` makes the owner of nothing: a null pointer beside the handle to the allocator.
+use Rattle.held_machine.proofs.Steps.{◌≡◌, None, List, [], ◌∷◌, ◌++◌, refl, sym, subst, lit<, w64, proved_at, leaves, Val}
+use Rattle.held_machine.proofs.Steps.{vint, vstruct, vcons, vnil, has_ty, ent, emp, id⊢, ftrue, fsep, fact, fact_i, tables}
+use Rattle.held_machine.proofs.Steps.{WpFn, Item, ⋆, ‵, raw, ◌⊛◌, ◌$◌, ◌∵◌, !, qed, by, move, keep, drop, use0, use1, split}
+use Rattle.held_machine.proofs.Steps.{fsplit, fjoin, fpack, feq_i, agg, lit, no_more, and_then, returns, enter, alloc_all}
+use Rattle.held_machine.proofs.Steps.{pass_all, free_all, look_at, get, sets, yes, Valss, RawPtr, null_ptr, ptr_val, plain}
+use Rattle.held_machine.proofs.Steps.{nothing, shape, to, within, Stays, stay_dropped, walk_of, Goes-dropped, α}
+use Rattle.held_machine.proofs.Steps.{handle_tells, P, and_tt}
 use Rattle.held_machine.proofs.AsBox.{E}
-use Rattle.held_machine.specs.contracts.owner.Owner as Owner
-use Rattle.held_machine.specs.contracts.owner.Owner.none as F
-use Rattle.held_machine.specs.contracts.owner.Owner.none.Key.{name as #self}
-use Rattle.held_machine.proofs.owner.Owner.none.Statement as stated
+use Rattle.std_heap.specs.contracts.Global as heap
+use Rattle.held_machine.specs.contracts.owner.Owner as owner
+use Rattle.held_machine.specs.contracts.owner.Owner.none as f
+use Rattle.held_machine.proofs.owner.Owner.none.Statement.{statement}
 use Rattle.held_machine.proofs.owner.Owner.none.Code as code
 
-abbrev stayed : Stays (F.ended).signature.params (F.ended).kept
-stayed = (stay_dropped (plain (λ _. Heap.the_row)) yes, tt)
+abbrev stayed : Stays f.ended.signature.params f.ended.kept
+stayed = (stay_dropped (plain (λ _. heap.the_row)) yes, tt)
 
-module _ {M : Type 1} {𝓤 : Ura M} (𝓛 : Logic 𝓤) (at_mem : Memory → SProp 𝓤) (run : Routine → Fun 𝓤) (𝓣 : Tables 𝓤 𝓛.H) where
-  open 𝓛 use {H}
-
-  walk : (z : (walk_of 𝓛 F.ended stayed (F.clauses 𝓛 at_mem run)).Ghost)
-      → ent 𝓤 ((walk_of 𝓛 F.ended stayed (F.clauses 𝓛 at_mem run)).pre z) (WpFn 𝓤 H 𝓣.C 𝓣.Λ code.function (z.0.4.0 ++ []) ((walk_of 𝓛 F.ended stayed (F.clauses 𝓛 at_mem run)).post z))
-  walk z =
-      let Post = (walk_of 𝓛 F.ended stayed (F.clauses 𝓛 at_mem run)).post z in
-      let alloc = z.0.3.0 in
-      let To = type_at (F.signature).result tt in
-      let made : To.Denot = record { at = null_ptr; alloc = alloc; held = None } in
-      qed 𝓛 ((‵ ftrue ⊛ ‵ (fsep ((P E).own_val alloc z.0.4.0) ftrue)) ∷ raw (emp 𝓤) ∷ []) ∵ split ! $ drop ! $ fsplit ! $
-      handle_tells E.al ! alloc z.0.4.0 (λ hv ea fa. move ! (1 ∷ 2 ∷ []) $ drop ! $ drop ! $
-      let w = vstruct (vcons (vint w64 0) (vcons hv vnil)) in
-      let Γ : List (Item 𝓤) = ‵ ((P E).own_val alloc (hv ∷ [])) ∷ [] in
-      by ! (subst (λ (us : List Val). ent 𝓤 (types.Kit.⋆ 𝓛 Γ) (WpFn 𝓤 H 𝓣.C 𝓣.Λ code.function (us ++ []) Post)) (sym ea)
-      (qed 𝓛 Γ ∵ enter ! 𝓣.C 𝓣.Λ code.function (hv ∷ []) _ $ alloc_all ! (λ ls. pass_all ! refl (fa, tt) $
-      sets ! (agg ! (and_then ! (lit ! tt) (and_then ! (get ! refl) (no_more !)))) refl (and_tt (has_ty (α E.al) hv) fa.0, (record { fits = lit< tt }, (fa.1, tt))) $ returns ! (look_at ! 0 refl) $ free_all ! refl $
-      nothing ! $ move ! (1 ∷ 0 ∷ []) $ fjoin ! $ feq_i ! (List Val) (vint w64 0 ∷ []) (ptr_val null_ptr ∷ []) refl $ fjoin ! $
-      feq_i ! (List Val) (w ∷ []) (w ∷ []) refl $ fjoin ! $
-      fpack ! (Valss (RawPtr ∷ (Heap.the_field).row ∷ [])) (within (shape Owner.the_type) (to Owner.the_type made) (w ∷ [])) (vint w64 0 ∷ [], (hv ∷ [], tt)) $
-      nothing ! $ move ! (1 ∷ 0 ∷ []) $ fjoin ! $ use1 𝓛 (‵ (To.own_val made (w ∷ []))) (id⊢ 𝓤 _) $
-      suffices ! _ (ends_at 𝓛 F.ended stayed (F.clauses 𝓛 at_mem run) z w made (tt, tt) (tt, tt)) $ says ! refl $
-      nothing ! $ nothing ! $ fjoin ! $ join ! $ nothing ! $ join ! $ done !))))
-
-pub none_spec : {M : Type 1} → stated.statement M
-unfolding tables_of
+pub none_spec : {M : Type 1} → statement M
 none_spec 𝓤 𝓛 𝓜 𝓡 wired =
-    let 𝓣 : Tables 𝓤 𝓛.H = tables_of 𝓤 𝓛.H 𝓜 (tables 𝓤 𝓛.H 𝓜 𝓡 𝓡.env) in
-    entered 𝓤 𝓛.H (triple_of 𝓛 F.signature (F.spec 𝓛 𝓜.mem 𝓡.returns)) 𝓣.C 𝓣.Λ #self code.function (code.unfolded 𝓤 𝓛.H 𝓜 𝓡 wired)
-    (walk_Meets 𝓛 F.ended stayed (Goes-dropped 𝓛 0 (plain (λ _. Heap.the_row)) yes (λ κs x f. refl), tt) (F.clauses 𝓛 𝓜.mem 𝓡.returns) (WpFn 𝓤 𝓛.H 𝓣.C 𝓣.Λ code.function) (WpFn-mono 𝓤 𝓛.H 𝓛.laws 𝓣 code.function)
-    (walk 𝓛 𝓜.mem 𝓡.returns 𝓣))
+    let c = f.clauses 𝓛 𝓜.mem 𝓡.returns in let 𝓣 = tables 𝓤 𝓛.H 𝓜 𝓡 𝓡.env in let fn = code.function in
+    proved_at 𝓛 f.ended stayed c 𝓜 𝓡 (Goes-dropped 𝓛 0 (plain (λ _. heap.the_row)) yes (λ κs x w. refl), tt)
+    f.Key.name fn (code.unfolded 𝓤 𝓛.H 𝓜 𝓡 wired) (λ z are.
+    let Post = (walk_of 𝓛 f.ended stayed c).post z in let alloc = z.0.3.0 in
+    let To = owner.the_row in let made : To.Denot = record { at = null_ptr; alloc = alloc; held = None } in
+    qed 𝓛 ((‵ ftrue ⊛ ‵ (fsep ((P E).own_val alloc z.0.4.0) ftrue)) ∷ raw (emp 𝓤) ∷ []) ∵ split ! $ drop ! $ fsplit ! $
+    handle_tells E.al ! alloc z.0.4.0 (λ hv is fits. keep ! (0 ∷ []) $
+    let null = vint w64 0 in let w = vstruct (vcons null (vcons hv vnil)) in
+    let Γ : List (Item 𝓤) = ‵ ((P E).own_val alloc (hv ∷ [])) ∷ [] in
+    by ! (subst (λ (us : List Val). ent 𝓤 (⋆ 𝓛 Γ) (WpFn 𝓤 𝓛.H 𝓣.C 𝓣.Λ fn (us ++ []) Post)) (sym is)
+    (qed 𝓛 Γ ∵ enter ! 𝓣.C 𝓣.Λ fn (hv ∷ []) Post $ alloc_all ! (λ l. pass_all ! refl (fits, tt) $
+    sets ! (agg ! (and_then ! (lit ! tt) (and_then ! (get ! refl) (no_more !)))) refl
+    (and_tt (has_ty (α E.al) hv) fits.0, (record { fits = lit< tt }, (fits.1, tt))) $
+    returns ! (look_at ! 0 refl) $ free_all ! refl $
+    -- [the handle], with which the fields are whole
+    nothing ! $ move ! (1 ∷ 0 ∷ []) $ fjoin ! $ feq_i ! (List Val) (null ∷ []) (ptr_val null_ptr ∷ []) refl $ fjoin ! $
+    feq_i ! (List Val) (w ∷ []) (w ∷ []) refl $ fjoin ! $
+    fpack ! (Valss (RawPtr ∷ heap.the_field.row ∷ [])) (within (shape owner.the_type) (to owner.the_type made) (w ∷ []))
+    (null ∷ [], (hv ∷ [], tt)) $
+    nothing ! $ move ! (1 ∷ 0 ∷ []) $ fjoin ! $ use1 𝓛 (‵ (To.own_val made (w ∷ []))) (id⊢ 𝓤 _) $
+    use0 𝓛 (raw (fact 𝓤 (made.held ≡ None))) (fact_i 𝓤 (made.held ≡ None) (emp 𝓤) refl) $
+    nothing ! $ nothing ! $ fjoin ! $ nothing ! $ move ! (0 ∷ 1 ∷ 3 ∷ 2 ∷ []) $
+    by ! (leaves 𝓛 f.ended stayed c z w made (tt, tt) (tt, tt)))))))

@@ -1,5 +1,5 @@
-/* Plays calls of docs/EVENTS.md on a machine of tardis.h, for tests/systems.py: systems CORES OPTION.. opens it,
-   with the options in the order of struct tardis_options and then, in pairs, words and their values. Each line of
+/* Plays calls of docs/EVENTS.md on a machine of tardis.h, for tests/systems.py: systems CORES OPTION.. opens it, with the
+   first ten options in the order of struct tardis_options and then, in pairs, words and their values. Each line of
    standard input is a call, and its answer one line; that of a message lacks its words. */
 #include "tardis.h"
 
@@ -45,8 +45,8 @@ static void event(const char *line) {
     uint64_t number, value = 0;
     char kind;
     if (sscanf(line, "issue %u %c 0x%" SCNx64 " %" SCNu64, &seat, &kind, &number, &value) >= 3) {
-        const struct tardis_operation operation = {seat, kind == 'R' ? TARDIS_LOAD : kind == 'W' ? TARDIS_STORE : TARDIS_SWAP,
-                                                   number, value};
+        const uint32_t kinds = kind == 'R' ? TARDIS_LOAD : kind == 'W' ? TARDIS_STORE : TARDIS_SWAP;
+        const struct tardis_operation operation = {seat, kinds, number, value};
         put_answer(tardis_system_issue(&machine, &operation, &answer), &answer);
     } else if (sscanf(line, "attempt %u", &seat) == 1) {
         put_answer(tardis_system_attempt(&machine, seat, &answer), &answer);
@@ -74,8 +74,8 @@ static void put_place(int number, const struct tardis_place *place, const char *
 }
 
 static void put_message(const struct tardis_message *message) {
-    static const char *const kinds[] = {"ShReq", "ExReq", "ShRep", "ExRep", "RenewRep", "UpgradeRep", "FlushReq", "WbReq",
-                                        "FlushRep", "WbRep", "DramLd", "DramLdRep", "DramSt", "DramStRep"};
+    static const char *const kinds[] = {"ShReq", "ExReq", "ShRep", "ExRep", "RenewRep", "UpgradeRep", "FlushReq",
+                                        "WbReq", "FlushRep", "WbRep", "DramLd", "DramLdRep", "DramSt", "DramStRep"};
     static const char *const ends[] = {"core", "bank", "dram"};
     const uint64_t kind = message->kind;
     printf("%s %s %" PRIu64 " > %s %" PRIu64 " 0x%" PRIx64, kinds[kind], ends[message->from_kind], message->from,
@@ -85,7 +85,8 @@ static void put_message(const struct tardis_message *message) {
     else if (kind <= TARDIS_EX_REQ) fputs(" version none", stdout);
     if (kind == TARDIS_SH_REP || kind == TARDIS_EX_REP || kind == TARDIS_FLUSH_REP || kind == TARDIS_WB_REP)
         printf(" wts %" PRIu64, message->wts);
-    if (kind >= TARDIS_SH_REP && kind <= TARDIS_WB_REP && kind != TARDIS_FLUSH_REQ) printf(" rts %" PRIu64, message->rts);
+    if (kind >= TARDIS_SH_REP && kind <= TARDIS_WB_REP && kind != TARDIS_FLUSH_REQ)
+        printf(" rts %" PRIu64, message->rts);
     puts("");
 }
 

@@ -15,7 +15,8 @@ sys.path.insert(0, str(Path(__file__).resolve().parent.parent))
 from reference.machine_texts import MachinePlayer  # noqa: E402
 
 MACHINES, EVENTS = 300, 150
-OPTIONS = ("lease", "time", "banks", "sets", "ways", "bank-sets", "bank-ways", "line-words", "messages", "private-write")
+OPTIONS = ("lease", "time", "banks", "sets", "ways", "bank-sets", "bank-ways", "line-words", "messages",
+           "private-write")
 
 
 def machine_of(draw):

@@ -143,8 +143,8 @@ struct tardis_lack {
     uint64_t place; /* in the core's program order, from 0 on */
 };
 
-/* A machine that the caller drives. Begin with one of all zeros, as `struct tardis_system system = {0}`, open it, and end
-   it with tardis_system_close. What it holds is the library's: don't change it, and don't use a copy of it. */
+/* A machine that the caller drives. Begin with one of all zeros, as `struct tardis_system system = {0}`, open it, and
+   end it with tardis_system_close. What it holds is the library's: don't change it, and don't use a copy of it. */
 struct tardis_system {
     void *machine;
     uint64_t is_open;
@@ -571,7 +571,8 @@ static inline int tardis_system_victim(struct tardis_system *system, uint32_t co
     return system && place ? (int)tardis_c_system_victim(system, core, line, place) : TARDIS_NULL;
 }
 
-/* The bank and the line to evict so that a message, a request that is held, finds room; nothing if that is of no use. */
+/* The bank and the line to evict so that a message, a request that is held, finds room; nothing if that is of no
+   use. */
 static inline int tardis_system_make_room(struct tardis_system *system, uint64_t number, struct tardis_place *place) {
     return system && place ? (int)tardis_c_system_make_room(system, number, place) : TARDIS_NULL;
 }

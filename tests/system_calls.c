@@ -72,7 +72,8 @@ static void all_answer(struct tardis_system *of, int wanted) {
     MUST(tardis_system_message(of, 0, &message) == wanted && tardis_system_record(of, 0, &done) == wanted);
     MUST(tardis_system_open_operation(of, 0, &opened) == wanted && tardis_system_victim(of, 0, 0, &place) == wanted);
     MUST(tardis_system_make_room(of, 0, &place) == wanted && tardis_system_owners(of, 0, &number) == wanted);
-    MUST(tardis_system_value(of, 8, &number) == wanted);
+    MUST(tardis_system_value(of, 8, &number) == wanted && tardis_system_copy(of, 0, 0, &number) == wanted);
+    MUST(tardis_system_entry(of, 0, 0, &number) == wanted);
     MUST(is_filled());
 }
 
@@ -98,6 +99,8 @@ static void nulls(void) {
     MUST(tardis_system_victim(&machine, 0, 0, NULL) == TARDIS_NULL);
     MUST(tardis_system_make_room(&machine, 0, NULL) == TARDIS_NULL);
     MUST(tardis_system_owners(&machine, 0, NULL) == TARDIS_NULL);
+    MUST(tardis_system_copy(&machine, 0, 0, NULL) == TARDIS_NULL);
+    MUST(tardis_system_entry(&machine, 0, 0, NULL) == TARDIS_NULL);
     MUST(tardis_system_value(&machine, 0, NULL) == TARDIS_NULL && is_filled());
     MUST(tardis_system_open_operation(&machine, 1, &opened) == TARDIS_DONE && opened.state == 0);
     tardis_system_close(&machine);
@@ -184,7 +187,19 @@ static void faults(void) {
     MUST(tardis_system_message(&machine, 0, &message) == TARDIS_NO_SUCH);
     MUST(tardis_system_record(&machine, 1, &done) == TARDIS_NO_SUCH);
     MUST(tardis_system_open_operation(&machine, 2, &opened) == TARDIS_NO_SUCH);
-    MUST(tardis_system_victim(&machine, 2, 0, &place) == TARDIS_NO_SUCH && is_filled());
+    MUST(tardis_system_victim(&machine, 2, 0, &place) == TARDIS_NO_SUCH);
+    MUST(tardis_system_copy(&machine, 1, 1, &number) == TARDIS_NO_SUCH);
+    MUST(tardis_system_copy(&machine, 2, 0, &number) == TARDIS_NO_SUCH);
+    MUST(tardis_system_entry(&machine, 0, 1, &number) == TARDIS_NO_SUCH);
+    MUST(tardis_system_entry(&machine, 1, 0, &number) == TARDIS_NO_SUCH);
+    refused_at = growths + 1;
+    MUST(tardis_system_copy(&machine, 1, 0, &number) == TARDIS_NO_MEMORY);
+    refused_at = growths + 1;
+    MUST(tardis_system_entry(&machine, 0, 0, &number) == TARDIS_NO_MEMORY && is_filled());
+    refused_at = 0;
+    MUST(tardis_system_copy(&machine, 1, 0, &number) == TARDIS_DONE && number == 1);
+    fill();
+    MUST(tardis_system_entry(&machine, 0, 0, &number) == TARDIS_DONE && number == 1);
     wrong = load;
     wrong.core = 2;
     MUST(tardis_system_issue(&machine, &wrong, &answer) == TARDIS_DONE && answer.kind == TARDIS_REFUSED);

@@ -1,5 +1,5 @@
-/* Plays calls of docs/EVENTS.md on a machine of tardis.h, for tests/systems.py: systems CORES OPTION.. opens it, with the
-   first ten options in the order of struct tardis_options and then, in pairs, words and their values. Each line of
+/* Plays calls of docs/EVENTS.md on a machine of tardis.h, for tests/systems.py: systems CORES OPTION.. opens it, with
+   the first ten options in the order of struct tardis_options and then, in pairs, words and their values. Each line of
    standard input is a call, and its answer one line; that of a message lacks its words. */
 #include "tardis.h"
 
@@ -111,6 +111,17 @@ static void flight(void) {
     puts(index ? "" : "none");
 }
 
+/* The lines of a core's copies, or of a bank's entries. */
+static void lines(const char *name, uint32_t seat) {
+    int (*const look_up)(struct tardis_system *, uint32_t, size_t, uint64_t *) =
+        *name == 'c' ? tardis_system_copy : tardis_system_entry;
+    uint64_t line;
+    size_t index = 0;
+    while (look_up(&machine, seat, index, &line) == TARDIS_DONE)
+        printf(index++ ? " 0x%" PRIx64 : "0x%" PRIx64, line * line_bytes);
+    puts(index ? "" : "none");
+}
+
 static void totals(const char *line) {
     struct tardis_totals all;
     must(tardis_system_totals(&machine, &all), TARDIS_DONE);
@@ -136,6 +147,8 @@ static int look(const char *line) {
         else puts("none");
     } else if (sscanf(line, "open %u", &core) == 1) {
         put_open(core);
+    } else if (sscanf(line, "copies %u", &core) == 1 || sscanf(line, "entries %u", &core) == 1) {
+        lines(line, core);
     } else if (sscanf(line, "victim %u 0x%" SCNx64, &core, &number) == 2) {
         put_place(tardis_system_victim(&machine, core, line_of(number), &place), &place, "");
     } else if (sscanf(line, "room m%" SCNu64, &number) == 1) {

@@ -284,6 +284,8 @@ uint32_t tardis_c_system_message_number(struct tardis_system *system, uint32_t i
 uint32_t tardis_c_system_message(struct tardis_system *system, uint64_t number, struct tardis_message *message);
 uint32_t tardis_c_system_record(struct tardis_system *system, size_t number, struct tardis_record *record);
 uint32_t tardis_c_system_open_operation(struct tardis_system *system, uint32_t core, struct tardis_open *operation);
+uint32_t tardis_c_system_copy(struct tardis_system *system, uint32_t core, size_t index, uint64_t *line);
+uint32_t tardis_c_system_entry(struct tardis_system *system, uint32_t bank, size_t index, uint64_t *line);
 uint32_t tardis_c_system_victim(struct tardis_system *system, uint32_t core, uint64_t line,
                                 struct tardis_place *place);
 uint32_t tardis_c_system_make_room(struct tardis_system *system, uint64_t number, struct tardis_place *place);
@@ -562,6 +564,17 @@ static inline int tardis_system_record(struct tardis_system *system, size_t numb
 static inline int tardis_system_open_operation(struct tardis_system *system, uint32_t core,
                                                struct tardis_open *operation) {
     return system && operation ? (int)tardis_c_system_open_operation(system, core, operation) : TARDIS_NULL;
+}
+
+/* The line at an index of a core's copies, in rising order; TARDIS_NO_SUCH past the last one, or if there is no such
+   core, and TARDIS_NO_MEMORY. Each call sorts all of the core's lines. */
+static inline int tardis_system_copy(struct tardis_system *system, uint32_t core, size_t index, uint64_t *line) {
+    return system && line ? (int)tardis_c_system_copy(system, core, index, line) : TARDIS_NULL;
+}
+
+/* The line at an index of those that a bank has Shared or Exclusive, in the same way. */
+static inline int tardis_system_entry(struct tardis_system *system, uint32_t bank, size_t index, uint64_t *line) {
+    return system && line ? (int)tardis_c_system_entry(system, bank, index, line) : TARDIS_NULL;
 }
 
 /* The copy to evict from a core's cache to make a place for a line, if there is none; TARDIS_NO_SUCH if there is no

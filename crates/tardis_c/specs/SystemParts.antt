@@ -6,14 +6,15 @@ use Rattle.physiological_order.specs.declared.operation.Op.TheVariants.{Load, St
 use Rattle.physiological_order.specs.declared.operation.Record.{Record}
 use Rattle.network.specs.declared.message.Body.{Body}
 use Rattle.network.specs.declared.message.Body.TheVariants.{ShReq, ExReq, ShRep, ExRep, RenewRep, UpgradeRep, FlushReq}
-use Rattle.network.specs.declared.message.Body.TheVariants.{WbReq, FlushRep, WbRep, DramLd, DramLdRep, DramSt, DramStRep}
+use Rattle.network.specs.declared.message.Body.TheVariants.{WbReq, FlushRep, WbRep, DramLd, DramLdRep, DramSt}
+use Rattle.network.specs.declared.message.Body.TheVariants.{DramStRep}
 use Rattle.network.specs.declared.message.Message.{Message}
 use Rattle.network.specs.declared.message.Node.{Node}
 use Rattle.network.specs.declared.message.Node.TheVariants.{Core, Bank, Dram}
 use Rattle.machine_table.specs.declared.event.Answer.{Answer}
-use Rattle.machine_table.specs.declared.event.Answer.TheVariants.{Issued, Completed, Requested, Waiting, Idle, Delivered}
-use Rattle.machine_table.specs.declared.event.Answer.TheVariants.{Dropped, Held, Started, Evicted, Recalled, Advanced}
-use Rattle.machine_table.specs.declared.event.Answer.TheVariants.{Refused}
+use Rattle.machine_table.specs.declared.event.Answer.TheVariants.{Issued, Completed, Requested, Waiting, Idle}
+use Rattle.machine_table.specs.declared.event.Answer.TheVariants.{Delivered, Dropped, Held, Started, Evicted, Recalled}
+use Rattle.machine_table.specs.declared.event.Answer.TheVariants.{Advanced, Refused}
 use Rattle.machine_table.specs.RefusalNumbers.{number_of}
 use Rattle.tardis_c.specs.declared.system_parts.Place.{Place}
 use Rattle.tardis_c.specs.declared.system_parts.PlainAnswer.{PlainAnswer}

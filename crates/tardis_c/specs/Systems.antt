@@ -39,6 +39,11 @@ abbrev pub Tells : {Out : Type 0} → (old new : Option Machine) → (before aft
 Tells old new before after number look = Asked old new before after number (λ machine.
     (new ≡ Some machine) × ((after, number) ≡ told before (look machine)))
 
+-- the same of a line's number; or an allocation failed, 3, and what was told stays
+abbrev pub TellsLine : (old new : Option Machine) → (before after number : ℕ) → (Machine → Option ℕ) → Type 0
+TellsLine old new before after number look = Asked old new before after number (λ machine. (new ≡ Some machine)
+    × (((after, number) ≡ told before (look machine)) ⊎ ((after ≡ before) × (number ≡ 3))))
+
 -- one event, and its answer
 abbrev pub Steps : (old new : Option Machine) → (before after : PlainAnswer) → (number : ℕ) → Event → Type 0
 Steps old new before after number event = Asked old new before after number (λ machine.

@@ -1,10 +1,11 @@
 //! What a caller in C looks up in its machine.
-ghost use Rattle.std.specs.Prelude.{◌≡◌, ◌/◌, Some, length, map, option_map, slice_get};
+ghost use Rattle.std.specs.Prelude.{◌≡◌, ◌/◌, IfOk, MatchResult, Some, length, map, option_map, slice_get};
 ghost use Rattle.machine_table.specs.Machine.{open_op};
 ghost use Rattle.machine_theorem.specs.Coherence.{coherent, owners};
-ghost use Rattle.interleaving_core.specs.LookUps.{make_room, victim};
+ghost use Rattle.interleaving_core.specs.LookUps.{copies, entries, make_room, victim};
+ghost use Rattle.ranked_lines.specs.Rising.{sorted};
 ghost use Rattle.tardis_c.specs.SystemParts.{open_of, place_of, plain_record, victim_of};
-ghost use Rattle.tardis_c.specs.Systems.{Tells, if_below, message_at, told, totals_of};
+ghost use Rattle.tardis_c.specs.Systems.{Tells, TellsLine, if_below, message_at, told, totals_of};
 
 use crate::plain::PlainRecord;
 use crate::system_parts::{
@@ -13,7 +14,7 @@ use crate::system_parts::{
 use held_machine::{Handle, put_back, take_out};
 use interleaving_core::{LineNo, MsgNo, System};
 use physiological_order::{Op, WordAddr};
-use std::alloc::Global;
+use std::alloc::{AllocError, Global};
 
 /// What a machine has counted so far, as `tardis.h` has it.
 #[repr(C)]
@@ -98,6 +99,39 @@ fn victim(system: &System, core: u32, line: u64) -> Option<Place>
         return None;
     }
     Some(victim_of(system.victim(core, LineNo(line))))
+}
+
+// The line at an index of a core's copies.
+fn copy_at(system: &System, core: u32, index: usize) -> Result<Option<u64>, AllocError>
+    ensures { IfOk result (λ line. line ≡ slice_get (sorted (copies system.now core)) index) }
+{
+    let lines = system.copies(core)?;
+    match lines.get(index) {
+        None => Ok(None),
+        Some(line) => Ok(Some(line.0)),
+    }
+}
+
+// The line at an index of those that a bank has.
+fn entry_at(system: &System, bank: u32, index: usize) -> Result<Option<u64>, AllocError>
+    ensures { IfOk result (λ line. line ≡ slice_get (sorted (entries system.now bank)) index) }
+{
+    let lines = system.entries(bank)?;
+    match lines.get(index) {
+        None => Ok(None),
+        Some(line) => Ok(Some(line.0)),
+    }
+}
+
+// Writes a line that was found: 0, 18 if there is none, or 3 if an allocation failed.
+fn tell_line(found: Result<Option<u64>, AllocError>, out: &mut u64) -> u32
+    ensures { MatchResult found (λ line. (out.new, result) ≡ told out.old line)
+        (λ _. (out.new ≡ out.old) × (result ≡ 3)) }
+{
+    match found {
+        Ok(line) => tell(line, out),
+        Err(AllocError) => 3,
+    }
 }
 
 // Writes what there is to tell: 0, or 18 if there is nothing.
@@ -282,4 +316,45 @@ pub extern "C" fn tardis_c_system_value(
     *out = system.coherent(WordAddr::at(address / 8));
     put_back(machine, system);
     0
+}
+
+/// The number of the line at an index of a core's copies, in rising order; 18 past the last one, or if there is no such
+/// core, and 3 if an allocation failed.
+#[unsafe(no_mangle)]
+pub extern "C" fn tardis_c_system_copy(
+    alloc: Global,
+    machine: &mut Handle,
+    core: u32,
+    index: usize,
+    out: &mut u64,
+) -> u32
+    ensures { TellsLine machine.old.owner.held machine.new.owner.held out.old out.new result
+        (λ m. slice_get (sorted (copies m core)) index) }
+{
+    let Some(system) = take_out(alloc, machine) else {
+        return 16;
+    };
+    let found = copy_at(&system, core, index);
+    put_back(machine, system);
+    tell_line(found, out)
+}
+
+/// The number of the line at an index of those that a bank has Shared or Exclusive, in the same way.
+#[unsafe(no_mangle)]
+pub extern "C" fn tardis_c_system_entry(
+    alloc: Global,
+    machine: &mut Handle,
+    bank: u32,
+    index: usize,
+    out: &mut u64,
+) -> u32
+    ensures { TellsLine machine.old.owner.held machine.new.owner.held out.old out.new result
+        (λ m. slice_get (sorted (entries m bank)) index) }
+{
+    let Some(system) = take_out(alloc, machine) else {
+        return 16;
+    };
+    let found = entry_at(&system, bank, index);
+    put_back(machine, system);
+    tell_line(found, out)
 }

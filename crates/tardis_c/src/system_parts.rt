@@ -25,8 +25,8 @@ pub struct PlainAnswer {
 #[derive(Clone, Copy)]
 pub struct PlainMessage {
     pub number: u64,
-    /// 0 ShReq, 1 ExReq, 2 ShRep, 3 ExRep, 4 RenewRep, 5 UpgradeRep, 6 FlushReq, 7 WbReq, 8 FlushRep, 9 WbRep, 10 DramLd,
-    /// 11 DramLdRep, 12 DramSt, 13 DramStRep.
+    /// 0 ShReq, 1 ExReq, 2 ShRep, 3 ExRep, 4 RenewRep, 5 UpgradeRep, 6 FlushReq, 7 WbReq, 8 FlushRep, 9 WbRep, 10
+    /// DramLd, 11 DramLdRep, 12 DramSt, 13 DramStRep.
     pub kind: u64,
     /// 0 a core, 1 a bank, 2 a DRAM.
     pub from_kind: u64,

@@ -1,6 +1,7 @@
 //! A machine that a caller in C drives: it is opened, takes events, and is closed.
 ghost use Rattle.std.specs.Prelude.{◌≡◌, true, None, IfOk};
-ghost use Rattle.machine_table.specs.declared.event.Event.TheVariants.{Advance, Attempt, Deliver, EvictBank, EvictCache};
+ghost use Rattle.machine_table.specs.declared.event.Event.TheVariants.{Advance, Attempt, Deliver, EvictBank};
+ghost use Rattle.machine_table.specs.declared.event.Event.TheVariants.{EvictCache};
 ghost use Rattle.machine_table.specs.Opening.{at_start};
 ghost use Rattle.machine_table.specs.SetUp.{is_good};
 ghost use Rattle.tardis_c.specs.Systems.{Issues, Opens, OpensUnless, Steps};
@@ -56,8 +57,8 @@ fn open(
     }
 }
 
-/// Opens a machine with so many cores, built as the options say, over a memory that opens with these words and 0
-/// elsewhere. 0; 17 if the handle has a machine already; 12 if a word has a fault, else 6 if a value of the
+/// Opens a machine with this number of cores, built as the options say, over a memory that opens with these words and
+/// 0 elsewhere. 0; 17 if the handle has a machine already; 12 if a word has a fault, else 6 if a value of the
 /// configuration is out of its range, and 3 if an allocation failed. The handle stays as it was if that isn't 0.
 #[unsafe(no_mangle)]
 pub extern "C" fn tardis_c_system_open(

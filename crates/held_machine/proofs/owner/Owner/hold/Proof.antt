@@ -1,10 +1,10 @@
 -- `hold` moves what the parts own to the owner: the pointer, cast, and the handle to the allocator.
-use Rattle.held_machine.proofs.Steps.{◌≡◌, Some, List, [], ◌∷◌, ◌++◌, refl, sym, subst, proved_at, leaves, Val, ent, emp}
-use Rattle.held_machine.proofs.Steps.{id⊢, ftrue, fsep, fact, fact_i, tables, WpFn, Item, ⋆, ‵, raw, ◌⊛◌, ◌$◌, ◌∵◌, !, qed, by}
-use Rattle.held_machine.proofs.Steps.{keep, drop, use0, use1, split, fsplit, fjoin, whole, sub, agg, stop, fld, of_opd}
-use Rattle.held_machine.proofs.Steps.{no_more, and_then, returns, enter, alloc_all, pass_all, free_all, look_at, get, get_in}
-use Rattle.held_machine.proofs.Steps.{sets, yes, nothing, Stays, stay_dropped, walk_of, Goes-dropped, D, B, word, box_typed}
-use Rattle.held_machine.proofs.Steps.{box_out, box_in, move}
+use Rattle.held_machine.proofs.Steps.{◌≡◌, Some, List, [], ◌∷◌, ◌++◌, refl, sym, subst, proved_at, leaves, Val, ent}
+use Rattle.held_machine.proofs.Steps.{emp, id⊢, ftrue, fsep, fact, fact_i, tables, WpFn, Item, ⋆, ‵, raw, ◌⊛◌, ◌$◌}
+use Rattle.held_machine.proofs.Steps.{◌∵◌, !, qed, by, keep, drop, use0, use1, split, fsplit, fjoin, whole, sub, agg}
+use Rattle.held_machine.proofs.Steps.{stop, fld, of_opd, no_more, and_then, returns, enter, alloc_all, pass_all}
+use Rattle.held_machine.proofs.Steps.{free_all, look_at, get, get_in, sets, yes, nothing, Stays, stay_dropped}
+use Rattle.held_machine.proofs.Steps.{walk_of, Goes-dropped, D, B, word, box_typed, box_out, box_in, move}
 use Rattle.held_machine.proofs.AsBox.{E, FromParts}
 use Rattle.held_machine.specs.contracts.owner.Owner.{the_row as To}
 use Rattle.held_machine.specs.contracts.owner.Owner.hold as f
@@ -24,7 +24,8 @@ hold_spec 𝓤 𝓛 𝓜 𝓡 wired =
     let made : To.Denot = record { at = parts.ptr; alloc = parts.alloc; held = Some parts.value } in
     qed 𝓛 ((‵ ftrue ⊛ ‵ (fsep ((B E).own_val box z.0.4.0) ftrue)) ∷ raw (emp 𝓤) ∷ []) ∵ split ! $ drop ! $ fsplit ! $
     box_out E ! box z.0.4.0 (λ b o hv at is fits. box_in E ! box b o parts.value at refl $ keep ! (0 ∷ []) $
-    let w = word E hv b o in let Γ : List (Item 𝓤) = ‵ (To.own_val made (w ∷ [])) ∷ [] in use1 𝓛 (‵ (To.own_val made (w ∷ []))) (id⊢ 𝓤 _) $
+    let w = word E hv b o in let Γ : List (Item 𝓤) = ‵ (To.own_val made (w ∷ [])) ∷ [] in
+    use1 𝓛 (‵ (To.own_val made (w ∷ []))) (id⊢ 𝓤 _) $
     by ! (subst (λ (us : List Val). ent 𝓤 (⋆ 𝓛 Γ) (WpFn 𝓤 𝓛.H 𝓣.C 𝓣.Λ fn (us ++ []) Post)) (sym is)
     (qed 𝓛 Γ ∵ enter ! 𝓣.C 𝓣.Λ fn (w ∷ []) Post $ alloc_all ! (λ l. pass_all ! refl (box_typed E hv b o fits, tt) $
     sets ! (of_opd ! (get_in ! (fld ! refl (stop !)) (sub ! 0 refl (whole !)))) refl (tt, tt) $

@@ -1,10 +1,11 @@
 -- `into_parts` moves what an owner of a machine owns to the parts, as `hold` does the other way.
-use Rattle.held_machine.proofs.Steps.{◌≡◌, Option, Some, IsSome, List, [], ◌∷◌, ◌++◌, refl, sym, subst, proved_at, leaves}
-use Rattle.held_machine.proofs.Steps.{Val, ent, emp, id⊢, ftrue, fsep, fact, fact_i, tables, WpFn, Item, ⋆, ‵, raw, ◌⊛◌}
-use Rattle.held_machine.proofs.Steps.{◌$◌, ◌∵◌, !, qed, by, move, keep, drop, use0, use1, split, rewrite, fsplit, fjoin}
-use Rattle.held_machine.proofs.Steps.{whole, sub, agg, stop, fld, of_opd, no_more, and_then, returns, enter, alloc_all}
-use Rattle.held_machine.proofs.Steps.{pass_all, free_all, look_at, get, get_in, sets, yes, heard, nothing, Stays}
-use Rattle.held_machine.proofs.Steps.{stay_dropped, walk_of, Goes-dropped, X, D, B, word, box_typed, box_out, box_in}
+use Rattle.held_machine.proofs.Steps.{◌≡◌, Option, Some, IsSome, List, [], ◌∷◌, ◌++◌, refl, sym, subst, proved_at}
+use Rattle.held_machine.proofs.Steps.{leaves, Val, ent, emp, id⊢, ftrue, fsep, fact, fact_i, tables, WpFn, Item, ⋆, ‵}
+use Rattle.held_machine.proofs.Steps.{raw, ◌⊛◌, ◌$◌, ◌∵◌, !, qed, by, move, keep, drop, use0, use1, split, rewrite}
+use Rattle.held_machine.proofs.Steps.{fsplit, fjoin, whole, sub, agg, stop, fld, of_opd, no_more, and_then, returns}
+use Rattle.held_machine.proofs.Steps.{enter, alloc_all, pass_all, free_all, look_at, get, get_in, sets, yes, heard}
+use Rattle.held_machine.proofs.Steps.{nothing, Stays, stay_dropped, walk_of, Goes-dropped, X, D, B, word, box_typed}
+use Rattle.held_machine.proofs.Steps.{box_out, box_in}
 use Rattle.held_machine.proofs.AsBox.{E, FromOwner, ToParts}
 use Rattle.held_machine.proofs.Held.{held_value}
 use Rattle.held_machine.specs.Ownership.{owner_owns}

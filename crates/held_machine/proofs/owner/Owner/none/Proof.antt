@@ -1,11 +1,11 @@
 -- `none` makes the owner of nothing: a null pointer beside the handle to the allocator.
-use Rattle.held_machine.proofs.Steps.{◌≡◌, None, List, [], ◌∷◌, ◌++◌, refl, sym, subst, lit<, w64, proved_at, leaves, Val}
-use Rattle.held_machine.proofs.Steps.{vint, vstruct, vcons, vnil, has_ty, ent, emp, id⊢, ftrue, fsep, fact, fact_i, tables}
-use Rattle.held_machine.proofs.Steps.{WpFn, Item, ⋆, ‵, raw, ◌⊛◌, ◌$◌, ◌∵◌, !, qed, by, move, keep, drop, use0, use1, split}
-use Rattle.held_machine.proofs.Steps.{fsplit, fjoin, fpack, feq_i, agg, lit, no_more, and_then, returns, enter, alloc_all}
-use Rattle.held_machine.proofs.Steps.{pass_all, free_all, look_at, get, sets, yes, Valss, RawPtr, null_ptr, ptr_val, plain}
-use Rattle.held_machine.proofs.Steps.{nothing, shape, to, within, Stays, stay_dropped, walk_of, Goes-dropped, α}
-use Rattle.held_machine.proofs.Steps.{handle_tells, P, and_tt}
+use Rattle.held_machine.proofs.Steps.{◌≡◌, None, List, [], ◌∷◌, ◌++◌, refl, sym, subst, lit<, w64, proved_at, leaves}
+use Rattle.held_machine.proofs.Steps.{Val, vint, vstruct, vcons, vnil, has_ty, ent, emp, id⊢, ftrue, fsep, fact}
+use Rattle.held_machine.proofs.Steps.{fact_i, tables, WpFn, Item, ⋆, ‵, raw, ◌⊛◌, ◌$◌, ◌∵◌, !, qed, by, move, keep}
+use Rattle.held_machine.proofs.Steps.{drop, use0, use1, split, fsplit, fjoin, fpack, feq_i, agg, lit, no_more}
+use Rattle.held_machine.proofs.Steps.{and_then, returns, enter, alloc_all, pass_all, free_all, look_at, get, sets}
+use Rattle.held_machine.proofs.Steps.{yes, Valss, RawPtr, null_ptr, ptr_val, plain, nothing, shape, to, within, Stays}
+use Rattle.held_machine.proofs.Steps.{stay_dropped, walk_of, Goes-dropped, α, handle_tells, P, and_tt}
 use Rattle.held_machine.proofs.AsBox.{E}
 use Rattle.std_heap.specs.contracts.Global as heap
 use Rattle.held_machine.specs.contracts.owner.Owner as owner

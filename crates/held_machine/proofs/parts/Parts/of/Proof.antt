@@ -1,14 +1,14 @@
 -- `of` takes the pair of a pointer and a handle from `into_raw_with_allocator`, with what the box owned.
-use Rattle.held_machine.proofs.Steps.{◌≡◌, List, [], ◌∷◌, ◌++◌, refl, sym, ap, subst, ◌∙◌, proved_at, leaves, Fn, Args}
-use Rattle.held_machine.proofs.Steps.{a_type, dcons, dnil, inst_fn, bare, Val, vstruct, of_list, ent, emp, id⊢, never, fst∗}
-use Rattle.held_machine.proofs.Steps.{ftrue, fsep, flft, ◌⊑◌, fact, fact_i, tables, WpFn, framed, sem, Item, ⋆, ‵, raw, ◌⊛◌}
-use Rattle.held_machine.proofs.Steps.{some, later, ◌$◌, ◌∵◌, !, qed, by, move, drop, use0, use1, join, split, split3, pick}
-use Rattle.held_machine.proofs.Steps.{rewrite, fsplit, fjoin, fpick, feq_l, await, whole, sub, agg, stop, fld, of_opd}
-use Rattle.held_machine.proofs.Steps.{no_more, and_then, returns, enter, alloc_all, pass_all, free_all, look_at, get, get_in}
-use Rattle.held_machine.proofs.Steps.{sets, lands_as, no, bounded, Ptr, RawPtr, block_ptr, null_ptr, ptr_val, in_a_block}
-use Rattle.held_machine.proofs.Steps.{plain, heard, nothing, only, Tuple, calls_at, triple_of, Stays, stay_dropped, walk_of}
-use Rattle.held_machine.proofs.Steps.{token, handle_tells, Goes-blank, box_owns, Bx, D, R, P, B, τ, word, box_typed}
-use Rattle.held_machine.proofs.Steps.{box_out, box_in}
+use Rattle.held_machine.proofs.Steps.{◌≡◌, List, [], ◌∷◌, ◌++◌, refl, sym, ap, subst, ◌∙◌, proved_at, leaves, Fn}
+use Rattle.held_machine.proofs.Steps.{Args, a_type, dcons, dnil, inst_fn, bare, Val, vstruct, of_list, ent, emp, id⊢}
+use Rattle.held_machine.proofs.Steps.{never, fst∗, ftrue, fsep, flft, ◌⊑◌, fact, fact_i, tables, WpFn, framed, sem}
+use Rattle.held_machine.proofs.Steps.{Item, ⋆, ‵, raw, ◌⊛◌, some, later, ◌$◌, ◌∵◌, !, qed, by, move, drop, use0, use1}
+use Rattle.held_machine.proofs.Steps.{join, split, split3, pick, rewrite, fsplit, fjoin, fpick, feq_l, await, whole}
+use Rattle.held_machine.proofs.Steps.{sub, agg, stop, fld, of_opd, no_more, and_then, returns, enter, alloc_all}
+use Rattle.held_machine.proofs.Steps.{pass_all, free_all, look_at, get, get_in, sets, lands_as, no, bounded, Ptr}
+use Rattle.held_machine.proofs.Steps.{RawPtr, block_ptr, null_ptr, ptr_val, in_a_block, plain, heard, nothing, only}
+use Rattle.held_machine.proofs.Steps.{Tuple, calls_at, triple_of, Stays, stay_dropped, walk_of, token, handle_tells}
+use Rattle.held_machine.proofs.Steps.{Goes-blank, box_owns, Bx, D, R, P, B, τ, word, box_typed, box_out, box_in}
 use Rattle.std_alloc.specs.contracts.boxed.Box.into_raw_with_allocator as callee
 use Rattle.std_alloc.proofs.boxed.Box.into_raw_with_allocator.Met.{met}
 use Rattle.held_machine.specs.contracts.parts.Parts as parts
@@ -23,7 +23,8 @@ of_spec 𝓤 𝓛 𝓜 𝓡 wired Y Z LY LZ g d drops drops_value allocates free
     let 𝓣 = tables 𝓤 𝓛.H 𝓜 𝓡 𝓡.env in let fn : Fn = inst_fn types code.function in
     let Ended = f.ended Y Z g d drops drops_value in let c = f.clauses Y Z g d drops drops_value 𝓛 𝓜.mem 𝓡.returns in
     let From = plain (λ _. B E) in let stayed : Stays Ended.signature.params Ended.kept = (stay_dropped From no, tt) in
-    let G = triple_of 𝓛 (callee.signature Y Z g d drops drops_value) (callee.spec Y Z g d drops drops_value 𝓛 𝓜.mem 𝓡.returns) in
+    let G = triple_of 𝓛 (callee.signature Y Z g d drops drops_value)
+    (callee.spec Y Z g d drops drops_value 𝓛 𝓜.mem 𝓡.returns) in
     let known = met 𝓤 𝓛 𝓜 𝓡 (code.calls-std_alloc::boxed::Box::into_raw_with_allocator 𝓡.env wired) Y Z LY LZ g d drops
     drops_value allocates frees glue in
     proved_at 𝓛 Ended stayed c 𝓜 𝓡 (Goes-blank 𝓛 2 From no (λ κs x w. tt), tt)
@@ -49,7 +50,8 @@ of_spec 𝓤 𝓛 𝓜 𝓡 wired Y Z LY LZ g d drops drops_value allocates free
     in_a_block ! r.0 (λ p. box_owns (token E.al alloc) (R E) p value)
     (fst∗ 𝓤 (never 𝓤) (sem 𝓛 (token E.al alloc (bare (τ E)) null_ptr))) (λ b' o' at'.
     -- the pair in its parts: [the handle; nothing; the tokens; the value and the right to free it]
-    move ! (1 ∷ []) $ split ! $ move ! (1 ∷ []) $ fpick ! (λ vss. fsplit ! $ feq_l ! (λ pair. fsplit ! $ feq_l ! (λ pointer.
+    move ! (1 ∷ []) $ split ! $ move ! (1 ∷ []) $ fpick ! (λ vss. fsplit ! $ feq_l ! (λ pair. fsplit ! $
+    feq_l ! (λ pointer.
     fsplit ! $ rewrite ! 0 (λ (s : Z.Denot). ‵ (Z.own_val s vss.1.0)) its refl $
     handle_tells E.al ! alloc vss.1.0 (λ hv' is' fits'. let w' = word E hv' b' o' in
     let box : D E = record { ptr = block_ptr b' o'; alloc = alloc; value = value } in
@@ -62,7 +64,8 @@ of_spec 𝓤 𝓛 𝓜 𝓡 wired Y Z LY LZ g d drops drops_value allocates free
     sets ! (of_opd ! (get ! refl)) refl fits' $
     sets ! (agg ! (and_then ! (get ! refl) (and_then ! (get ! refl) (no_more !)))) refl (box_typed E hv' b' o' fits') $
     returns ! (look_at ! 0 refl) $ free_all ! refl $
-    move ! (3 ∷ []) $ fsplit ! $ box_in E ! box b' o' value refl refl $ use1 𝓛 (‵ (To.own_val made (w' ∷ []))) (id⊢ 𝓤 _) $
+    move ! (3 ∷ []) $ fsplit ! $ box_in E ! box b' o' value refl refl $
+    use1 𝓛 (‵ (To.own_val made (w' ∷ []))) (id⊢ 𝓤 _) $
     move ! (1 ∷ []) $ drop ! $
     -- [the parts; the tokens]
     use0 𝓛 (raw (fact 𝓤 (made.value ≡ value))) (fact_i 𝓤 (made.value ≡ value) (emp 𝓤) refl) $

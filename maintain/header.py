@@ -12,9 +12,10 @@ import sys
 from pathlib import Path
 
 TOP = Path(__file__).resolve().parent.parent
-NAMES = "options", "operation", "record", "told", "word", "found", "lack"  # what is handed over
-OF_CALLERS = {"history"}  # what no call of the library takes
-NOT_IN_RUST = {"told", "lack"}  # what history.rs does without
+OF_MACHINES = "answer", "message", "open", "place", "totals"
+NAMES = "options", "operation", "record", "told", "word", "found", "lack", *OF_MACHINES  # what is handed over
+HIDDEN = {"history", "system"}  # what no call of the library takes; what only the library looks into
+NOT_IN_RUST = {"told", "lack", *OF_MACHINES}  # what history.rs does without
 
 
 def fields(found):
@@ -55,7 +56,7 @@ def main():
               for side, has in (("the library", of_rust(library)), ("history.rs", of_rust(example)))
               for name in NAMES if not wanted.get(name) or has.get(name) != wanted[name]
               if not (side == "history.rs" and name in NOT_IN_RUST)]
-    if set(wanted) != {*NAMES, *OF_CALLERS}:
+    if set(wanted) != {*NAMES, *HIDDEN}:
         faults.append(f"header.py: tardis.h declares {sorted(wanted)}")
     sys.exit("\n".join([*faults, *versions(header)]) or None)
 

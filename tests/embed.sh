@@ -2,8 +2,8 @@
 # Builds callers of the static library of crates/tardis_c in C, C++ and Rust (examples/embed), and tries them:
 # tests/embed.sh [--build | --kept]. Each number that a call answers is met once, by hand; the examples are run, and
 # records checked, through the library, with the reports that the program must give, and at a cost that hardly grows
-# with the cores. Valgrind says nothing of any of them. Histories that grow are compared with the second program
-# (tests/histories.py). It needs gcc, g++, valgrind and the Rattle kit, whose C file for memory is linked; without rustc
+# with the cores. Valgrind says nothing of any of them. Histories that grow and machines that are driven are compared
+# with the second program (tests/histories.py, tests/systems.py). It needs gcc, g++, valgrind and the Rattle kit, whose C file for memory is linked; without rustc
 # it says so and leaves out the caller in Rust. At its end tests/installed.sh tries what is installed.
 #
 # With --build the library is proved and built first, with all below it. That takes two minutes where ./tardis is built,
@@ -51,10 +51,16 @@ strict="-O1 -Wall -Wextra -Werror -I$crate"
     g++ -std=c++17 -pedantic $strict -o "$work/history_cpp" "$embed/history.cpp" $library &&
     g++ -std=c++17 -pedantic $strict -o "$work/tardis" "$embed/tardis.cpp" $library &&
     g++ -std=c++17 -pedantic $strict -o "$work/views" "$embed/views.cpp" $library &&
-    g++ -std=c++17 -pedantic $strict -Wl,--wrap=tardis_c_trace -o "$work/reports" "$top/tests/reports.cpp" $library
+    g++ -std=c++17 -pedantic $strict -Wl,--wrap=tardis_c_trace -o "$work/reports" "$top/tests/reports.cpp" $library &&
+    gcc -std=c11 -pedantic $strict $memory -o "$work/system_calls" "$top/tests/system_calls.c" $library &&
+    g++ -x c++ -std=c++11 -pedantic $strict $memory -o "$work/system_calls_cpp" "$top/tests/system_calls.c" \
+        -x none $library &&
+    gcc -std=c11 -pedantic $strict -o "$work/systems" "$top/tests/systems.c" $library
 } || exit 1
 
 timeout 120 "$work/numbers_cpp" || exit 1
+timeout 120 "$work/system_calls_cpp" || exit 1
+timeout 600 "$top/tests/systems.py" "$work/systems" || exit 1
 
 # silent PROGRAM WORDS..: valgrind adds no word to what it says, and its status stays: nothing is read or written that
 # isn't the caller's, and nothing is left.
@@ -84,6 +90,8 @@ for each in history_c history_cpp; do
 done
 : >"$work/lines"
 silent numbers_c
+silent system_calls
+[ "$status" = 0 ] || exit 1
 silent reports
 silent directory 0
 silent directory 0 completion

@@ -1,11 +1,13 @@
 /* The checker and the runner of "Tardis, proved" for C and C++. crates/tardis_c/README.md of the repository says what
-   is proved of them and how to link them. tardis_machine.h drives the machine event by event. The numbers that calls
-   answer are the program's numbers of errors where it has them, and not its exit statuses.
+   is proved of them and how to link them. At the end is a machine that the caller drives, event by event; that of
+   tardis_machine.h is a process of its own, which takes lines. The numbers that calls answer are the program's numbers
+   of errors where it has them, and not its exit statuses.
 
    Texts are bytes with a length, and need no byte 0 at their end. A null pointer stands for nothing where the length is
    0, and is TARDIS_NULL elsewhere. What a call writes must not overlap anything else that it is given. No call keeps a
-   pointer, starts a thread or prints. Calls of several threads at a time don't touch each other. Memory comes from
-   malloc, realloc and free, and is given back before a call ends.
+   pointer, starts a thread or prints. Calls of several threads at a time don't touch each other, but one machine takes
+   one call at a time. Memory comes from malloc, realloc and free, and is given back before a call ends, or, of a
+   machine, when that is closed.
 
    Where a text goes out, *length says how long it is. It stands at the front of the buffer if all of it fits; otherwise
    the buffer stays as it is. It is a report, or on TARDIS_NO_MEMORY, TARDIS_BAD_TEST, TARDIS_BAD_LINE,
@@ -37,7 +39,10 @@ enum tardis_number {
     TARDIS_NULL = 9,         /* a pointer is null: nothing was done, and nothing is written */
     TARDIS_BAD_OPERATION = 10, /* an operation of an array has a fault */
     TARDIS_BAD_RECORD = 11,    /* a record of an array has a fault, and no operation has one */
-    TARDIS_BAD_OPENING = 12    /* the text is no opening; a word of an array has a fault */
+    TARDIS_BAD_OPENING = 12,   /* the text is no opening; a word of an array has a fault */
+    TARDIS_NO_SYSTEM = 16,     /* no machine is open: it never was, or is closed (13 to 15 are of tardis_machine.h) */
+    TARDIS_IS_OPEN = 17,       /* a machine is open already, and stays */
+    TARDIS_NO_SUCH = 18        /* there is no such core, message in flight or record */
 };
 
 /* The options of a run. Those named flags are set by any number but 0. */
@@ -138,6 +143,108 @@ struct tardis_lack {
     uint64_t place; /* in the core's program order, from 0 on */
 };
 
+/* A machine that the caller drives. Begin with one of all zeros, as `struct tardis_system system = {0}`, open it, and
+   end it with tardis_system_close. What it holds is the library's: don't change it, and don't use a copy of it. */
+struct tardis_system {
+    void *machine;
+    uint64_t is_open;
+};
+
+enum tardis_answer_kind {
+    TARDIS_ISSUED = 0,
+    TARDIS_COMPLETED = 1,  /* the open operation is completed, with a record */
+    TARDIS_REQUESTED = 2,  /* a request was sent */
+    TARDIS_WAITING = 3,    /* the request is out, and the copy doesn't serve the operation yet */
+    TARDIS_IDLE = 4,       /* no operation is open */
+    TARDIS_DELIVERED = 5,  /* the message is consumed, and answered if its kind is answered */
+    TARDIS_DROPPED = 6,    /* the message is consumed, and had no effect */
+    TARDIS_HELD = 7,       /* the message stays in flight, and nothing changed */
+    TARDIS_STARTED = 8,    /* the message stays in flight, and another was sent on its behalf */
+    TARDIS_EVICTED = 9,    /* the copy or the entry is gone, or a dirty line is on its way to DRAM */
+    TARDIS_RECALLED = 10,  /* the bank asks the owner to return the line, which stays */
+    TARDIS_ADVANCED = 11,
+    TARDIS_REFUSED = 12    /* nothing changed, but that TARDIS_EXHAUSTED stops the machine */
+};
+
+enum tardis_refusal {
+    TARDIS_NOT_REFUSED = 0,
+    TARDIS_BUSY = 1,            /* an operation is open; the entry is being loaded, recalled or stored */
+    TARDIS_TOO_MANY = 2,        /* the core was issued 4294967295 operations */
+    TARDIS_NOT_THERE = 3,       /* there is no such core, bank, message in flight, copy or entry */
+    TARDIS_NO_ROOM = 4,         /* the core has no place for a copy of the line: evict tardis_system_victim's */
+    TARDIS_PINNED = 5,          /* the open operation is on the line */
+    TARDIS_NETWORK_FULL = 6,    /* as many messages are in flight as can be, or numbers of messages are used up */
+    TARDIS_MEMORY_REFUSED = 7,  /* an allocation failed */
+    TARDIS_EXHAUSTED = 8,       /* a sum of times doesn't fit 64 bits: the machine is stopped */
+    TARDIS_STOPPED = 9          /* an earlier event was answered TARDIS_EXHAUSTED */
+};
+
+/* The answer to an event. */
+struct tardis_answer {
+    uint64_t kind;                  /* enum tardis_answer_kind */
+    uint64_t refusal;               /* enum tardis_refusal */
+    struct tardis_record completed; /* on TARDIS_COMPLETED, else zeros */
+};
+
+enum tardis_message_kind {
+    TARDIS_SH_REQ = 0,
+    TARDIS_EX_REQ = 1,
+    TARDIS_SH_REP = 2,
+    TARDIS_EX_REP = 3,
+    TARDIS_RENEW_REP = 4,
+    TARDIS_UPGRADE_REP = 5,
+    TARDIS_FLUSH_REQ = 6,
+    TARDIS_WB_REQ = 7,
+    TARDIS_FLUSH_REP = 8,
+    TARDIS_WB_REP = 9,
+    TARDIS_DRAM_LD = 10,
+    TARDIS_DRAM_LD_REP = 11,
+    TARDIS_DRAM_ST = 12,
+    TARDIS_DRAM_ST_REP = 13
+};
+
+enum tardis_end { TARDIS_CORE = 0, TARDIS_BANK = 1, TARDIS_DRAM = 2 };
+
+/* A message in flight. What its kind doesn't carry is 0; the words that it carries aren't shown. */
+struct tardis_message {
+    uint64_t number;
+    uint64_t kind;        /* enum tardis_message_kind */
+    uint64_t from_kind;   /* enum tardis_end */
+    uint64_t from;        /* the number of that core, or of that bank or the bank of that DRAM */
+    uint64_t to_kind;     /* enum tardis_end */
+    uint64_t to;
+    uint64_t line;        /* the line's number: the byte address of its first word, divided by 8 * line_words */
+    uint64_t pts;         /* the time of the core that asks to read, in ticks */
+    uint64_t has_version; /* 1 if the core that asks has a copy, */
+    uint64_t version;     /* which is of this version */
+    uint64_t wts;         /* the time of the line's last write */
+    uint64_t rts;         /* the time up to which the line may be read */
+};
+
+/* A core's open operation. */
+struct tardis_open {
+    uint64_t state; /* 0 there is none, 1 there is one, 2 there is one whose request is out */
+    struct tardis_operation operation;
+};
+
+/* What is to be evicted. */
+struct tardis_place {
+    uint64_t is_there; /* 1 if something is, else all is 0 */
+    uint64_t bank;     /* 0 where a core's copy is */
+    uint64_t line;     /* the line's number */
+};
+
+/* What a machine has counted. UINT64_MAX stands for more of the first four, too. */
+struct tardis_totals {
+    uint64_t renewals; /* sent */
+    uint64_t upgrades;
+    uint64_t flushes;
+    uint64_t write_backs;
+    uint64_t messages;   /* in flight */
+    uint64_t records;    /* completed operations */
+    uint64_t is_stopped; /* 1 if an event was answered TARDIS_EXHAUSTED */
+};
+
 /* The exports. A slice is a pointer, which is never null, and then how many items there are, below 2^63 bytes. */
 uint32_t tardis_c_version(void);
 void tardis_c_defaults(struct tardis_options *options);
@@ -160,6 +267,30 @@ uint32_t tardis_c_first_lack(const struct tardis_operation *operations, size_t o
 uint32_t tardis_c_word_fault(const struct tardis_word *word);
 uint32_t tardis_c_operation_fault(const struct tardis_operation *operation);
 uint32_t tardis_c_record_fault(const struct tardis_record *record);
+uint32_t tardis_c_system_open(struct tardis_system *system, uint32_t cores, const struct tardis_options *options,
+                              const struct tardis_word *opening, size_t opening_count);
+void tardis_c_system_close(struct tardis_system *system);
+uint32_t tardis_c_system_issue(struct tardis_system *system, const struct tardis_operation *operation,
+                               struct tardis_answer *answer);
+uint32_t tardis_c_system_attempt(struct tardis_system *system, uint32_t core, struct tardis_answer *answer);
+uint32_t tardis_c_system_deliver(struct tardis_system *system, uint64_t number, struct tardis_answer *answer);
+uint32_t tardis_c_system_evict_copy(struct tardis_system *system, uint32_t core, uint64_t line,
+                                    struct tardis_answer *answer);
+uint32_t tardis_c_system_evict_entry(struct tardis_system *system, uint32_t bank, uint64_t line,
+                                     struct tardis_answer *answer);
+uint32_t tardis_c_system_advance(struct tardis_system *system, uint32_t core, struct tardis_answer *answer);
+uint32_t tardis_c_system_totals(struct tardis_system *system, struct tardis_totals *totals);
+uint32_t tardis_c_system_message_number(struct tardis_system *system, uint32_t index, uint64_t *number);
+uint32_t tardis_c_system_message(struct tardis_system *system, uint64_t number, struct tardis_message *message);
+uint32_t tardis_c_system_record(struct tardis_system *system, size_t number, struct tardis_record *record);
+uint32_t tardis_c_system_open_operation(struct tardis_system *system, uint32_t core, struct tardis_open *operation);
+uint32_t tardis_c_system_copy(struct tardis_system *system, uint32_t core, size_t index, uint64_t *line);
+uint32_t tardis_c_system_entry(struct tardis_system *system, uint32_t bank, size_t index, uint64_t *line);
+uint32_t tardis_c_system_victim(struct tardis_system *system, uint32_t core, uint64_t line,
+                                struct tardis_place *place);
+uint32_t tardis_c_system_make_room(struct tardis_system *system, uint64_t number, struct tardis_place *place);
+uint32_t tardis_c_system_owners(struct tardis_system *system, uint64_t line, uint64_t *owners);
+uint32_t tardis_c_system_value(struct tardis_system *system, uint64_t address, uint64_t *value);
 
 /* What stands at no address: nothing is read there. */
 static uint64_t tardis_nothing;
@@ -345,6 +476,129 @@ static inline void tardis_history_free(struct tardis_history *history) {
     free(history->operations);
     free(history->records);
     *history = none;
+}
+
+/* Opens a machine with 1 to 64 cores, built as the options say (`lease` to `private_write`; the rest is of no effect),
+   over a memory that opens with these words, of which the later of two for one address counts. TARDIS_IS_OPEN;
+   TARDIS_BAD_OPENING if a word has a fault, else TARDIS_BAD_MACHINE if a number is out of its range, and
+   TARDIS_NO_MEMORY. Unless it answers TARDIS_DONE the structure stays as it was. */
+static inline int tardis_system_open(struct tardis_system *system, uint32_t cores,
+                                     const struct tardis_options *options, const struct tardis_word *opening,
+                                     size_t opening_count) {
+    if (!system || !options || tardis_is_null(opening, opening_count)) return TARDIS_NULL;
+    if (!opening) opening = (const struct tardis_word *)&tardis_nothing;
+    return (int)tardis_c_system_open(system, cores, options, opening, opening_count);
+}
+
+/* Gives the machine's memory back: none is open then. Where none is, it does nothing. */
+static inline void tardis_system_close(struct tardis_system *system) {
+    if (system) tardis_c_system_close(system);
+}
+
+/* Events. Each is TARDIS_DONE with its answer, which may be a refusal, or TARDIS_NO_SYSTEM. A line is named by its
+   number: the byte address of one of its words, divided by 8 * line_words. */
+
+/* A core is given its next operation, which is attempted later. TARDIS_BAD_OPERATION if that has a fault. */
+static inline int tardis_system_issue(struct tardis_system *system, const struct tardis_operation *operation,
+                                      struct tardis_answer *answer) {
+    if (!system || !operation || !answer) return TARDIS_NULL;
+    return (int)tardis_c_system_issue(system, operation, answer);
+}
+
+/* A core tries to complete its open operation, or sends the request that it needs. */
+static inline int tardis_system_attempt(struct tardis_system *system, uint32_t core, struct tardis_answer *answer) {
+    if (!system || !answer) return TARDIS_NULL;
+    return (int)tardis_c_system_attempt(system, core, answer);
+}
+
+/* The message in flight that has this number arrives. */
+static inline int tardis_system_deliver(struct tardis_system *system, uint64_t number, struct tardis_answer *answer) {
+    if (!system || !answer) return TARDIS_NULL;
+    return (int)tardis_c_system_deliver(system, number, answer);
+}
+
+/* A core gives up its copy of a line. */
+static inline int tardis_system_evict_copy(struct tardis_system *system, uint32_t core, uint64_t line,
+                                           struct tardis_answer *answer) {
+    if (!system || !answer) return TARDIS_NULL;
+    return (int)tardis_c_system_evict_copy(system, core, line, answer);
+}
+
+/* A bank gives up its entry of a line, or recalls the line first. */
+static inline int tardis_system_evict_entry(struct tardis_system *system, uint32_t bank, uint64_t line,
+                                            struct tardis_answer *answer) {
+    if (!system || !answer) return TARDIS_NULL;
+    return (int)tardis_c_system_evict_entry(system, bank, line, answer);
+}
+
+/* A core's time goes on by one tick. */
+static inline int tardis_system_advance(struct tardis_system *system, uint32_t core, struct tardis_answer *answer) {
+    if (!system || !answer) return TARDIS_NULL;
+    return (int)tardis_c_system_advance(system, core, answer);
+}
+
+/* Look-ups, which change nothing of the machine. Where one isn't TARDIS_DONE, what it would tell stays as it was. */
+
+/* What the machine has counted. */
+static inline int tardis_system_totals(struct tardis_system *system, struct tardis_totals *totals) {
+    return system && totals ? (int)tardis_c_system_totals(system, totals) : TARDIS_NULL;
+}
+
+/* The number of the message at an index of those in flight, in the order of sending; TARDIS_NO_SUCH past the last. */
+static inline int tardis_system_message_number(struct tardis_system *system, uint32_t index, uint64_t *number) {
+    return system && number ? (int)tardis_c_system_message_number(system, index, number) : TARDIS_NULL;
+}
+
+/* The message in flight that has a number; TARDIS_NO_SUCH if there is none. */
+static inline int tardis_system_message(struct tardis_system *system, uint64_t number,
+                                        struct tardis_message *message) {
+    return system && message ? (int)tardis_c_system_message(system, number, message) : TARDIS_NULL;
+}
+
+/* The record of the operation that completed as this one, from 0 on; TARDIS_NO_SUCH if there is none yet. */
+static inline int tardis_system_record(struct tardis_system *system, size_t number, struct tardis_record *record) {
+    return system && record ? (int)tardis_c_system_record(system, number, record) : TARDIS_NULL;
+}
+
+/* A core's open operation, if it has one; TARDIS_NO_SUCH if there is no such core. */
+static inline int tardis_system_open_operation(struct tardis_system *system, uint32_t core,
+                                               struct tardis_open *operation) {
+    return system && operation ? (int)tardis_c_system_open_operation(system, core, operation) : TARDIS_NULL;
+}
+
+/* The line at an index of a core's copies, in rising order; TARDIS_NO_SUCH past the last one, or if there is no such
+   core, and TARDIS_NO_MEMORY. Each call sorts all of the core's lines. */
+static inline int tardis_system_copy(struct tardis_system *system, uint32_t core, size_t index, uint64_t *line) {
+    return system && line ? (int)tardis_c_system_copy(system, core, index, line) : TARDIS_NULL;
+}
+
+/* The line at an index of those that a bank has Shared or Exclusive, in the same way. */
+static inline int tardis_system_entry(struct tardis_system *system, uint32_t bank, size_t index, uint64_t *line) {
+    return system && line ? (int)tardis_c_system_entry(system, bank, index, line) : TARDIS_NULL;
+}
+
+/* The copy to evict from a core's cache to make a place for a line, if there is none; TARDIS_NO_SUCH if there is no
+   such core. */
+static inline int tardis_system_victim(struct tardis_system *system, uint32_t core, uint64_t line,
+                                       struct tardis_place *place) {
+    return system && place ? (int)tardis_c_system_victim(system, core, line, place) : TARDIS_NULL;
+}
+
+/* The bank and the line to evict so that a message, a request that is held, finds room; nothing if that is of no
+   use. */
+static inline int tardis_system_make_room(struct tardis_system *system, uint64_t number, struct tardis_place *place) {
+    return system && place ? (int)tardis_c_system_make_room(system, number, place) : TARDIS_NULL;
+}
+
+/* How many own a line, 0 or 1: its Exclusive copy, or a grant or a return of it in flight. */
+static inline int tardis_system_owners(struct tardis_system *system, uint64_t line, uint64_t *owners) {
+    return system && owners ? (int)tardis_c_system_owners(system, line, owners) : TARDIS_NULL;
+}
+
+/* The value of the word at a byte address, where its line now is; of the word that the address lies in if it isn't a
+   multiple of 8. */
+static inline int tardis_system_value(struct tardis_system *system, uint64_t address, uint64_t *value) {
+    return system && value ? (int)tardis_c_system_value(system, address, value) : TARDIS_NULL;
 }
 
 #ifdef __cplusplus

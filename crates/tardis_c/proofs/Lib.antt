@@ -1,4 +1,5 @@
 mod CoreCounts
 mod LastWrites
 mod MetValues
+mod SystemSteps
 mod Told

@@ -4,4 +4,6 @@ pub mod Histories
 pub mod Lacks
 pub mod Options
 pub mod Plain
+pub mod SystemParts
+pub mod Systems
 pub mod Writes

@@ -66,8 +66,8 @@ fn history_on(
     Ok(verdict)
 }
 
-// The memory that opens with these words.
-fn memory_of(alloc: Global, opening: &[PlainWord]) -> Result<Memory, AllocError>
+/// The memory that opens with these words.
+pub(crate) fn memory_of(alloc: Global, opening: &[PlainWord]) -> Result<Memory, AllocError>
     ensures { IfOk result (λ memory. memory ≡ words_of opening.now) }
 {
     let mut memory = Memory::new(alloc);

@@ -8,5 +8,8 @@ mod histories;
 mod lacks;
 mod options;
 mod plain;
+mod system_looks;
+mod system_parts;
+mod systems;
 mod texts;
 mod version;

@@ -51,8 +51,8 @@ pub struct PlainOptions {
     pub every: u64,
 }
 
-// How the machine is built.
-fn machine_options(plain: &PlainOptions) -> MachineOptions
+/// How the machine is built.
+pub(crate) fn machine_options(plain: &PlainOptions) -> MachineOptions
     ensures { result ≡ (run_options plain.now).machine }
 {
     MachineOptions {

@@ -1,0 +1,132 @@
+-- What C has of answers, messages and what else a machine shows.
+use Rattle.std.specs.Prelude.{ℕ, ◌-◌, ◌*◌, ◌^◌, nat_lt, Bool, true, false, Option, Some, None, if◌then◌else◌}
+use Rattle.std.specs.Prelude.{is_some, unwrap_or}
+use Rattle.physiological_order.specs.declared.operation.Op.{Op}
+use Rattle.physiological_order.specs.declared.operation.Op.TheVariants.{Load, Store, Swap}
+use Rattle.physiological_order.specs.declared.operation.Record.{Record}
+use Rattle.network.specs.declared.message.Body.{Body}
+use Rattle.network.specs.declared.message.Body.TheVariants.{ShReq, ExReq, ShRep, ExRep, RenewRep, UpgradeRep, FlushReq}
+use Rattle.network.specs.declared.message.Body.TheVariants.{WbReq, FlushRep, WbRep, DramLd, DramLdRep, DramSt}
+use Rattle.network.specs.declared.message.Body.TheVariants.{DramStRep}
+use Rattle.network.specs.declared.message.Message.{Message}
+use Rattle.network.specs.declared.message.Node.{Node}
+use Rattle.network.specs.declared.message.Node.TheVariants.{Core, Bank, Dram}
+use Rattle.machine_table.specs.declared.event.Answer.{Answer}
+use Rattle.machine_table.specs.declared.event.Answer.TheVariants.{Issued, Completed, Requested, Waiting, Idle}
+use Rattle.machine_table.specs.declared.event.Answer.TheVariants.{Delivered, Dropped, Held, Started, Evicted, Recalled}
+use Rattle.machine_table.specs.declared.event.Answer.TheVariants.{Advanced, Refused}
+use Rattle.machine_table.specs.RefusalNumbers.{number_of}
+use Rattle.tardis_c.specs.declared.system_parts.Place.{Place}
+use Rattle.tardis_c.specs.declared.system_parts.PlainAnswer.{PlainAnswer}
+use Rattle.tardis_c.specs.declared.system_parts.PlainMessage.{PlainMessage}
+use Rattle.tardis_c.specs.declared.system_parts.PlainOpen.{PlainOpen}
+use Rattle.tardis_c.specs.declared.system_parts.Carried.{Carried}
+use Rattle.tardis_c.specs.declared.plain.PlainOperation.{PlainOperation}
+use Rattle.tardis_c.specs.declared.plain.PlainRecord.{PlainRecord}
+
+-- the greatest number of 64 bits in place of one past it
+abbrev pub capped : ℕ → ℕ
+capped count = if nat_lt count (2 ^ 64) then count else 2 ^ 64 - 1
+
+-- the byte address is eight times the word's; a load writes nothing
+abbrev pub plain_op : ℕ → Op → PlainOperation
+plain_op core (Load word) = record { core = core; kind = 0; address = word * 8; value = 0 }
+plain_op core (Store word value) = record { core = core; kind = 1; address = word * 8; value = value }
+plain_op core (Swap word value) = record { core = core; kind = 2; address = word * 8; value = value }
+
+-- a store received nothing: 0
+abbrev pub plain_record : Record → PlainRecord
+plain_record r = record {
+  operation = plain_op r.core r.op;
+  place = r.place;
+  received = unwrap_or r.received 0;
+  time = r.ts;
+  number = r.number;
+}
+
+-- an answer without a record: the record is zeros
+abbrev pub bare : (kind refusal : ℕ) → PlainAnswer
+bare kind refusal = record {
+  kind = kind;
+  refusal = refusal;
+  completed = record {
+    operation = record { core = 0; kind = 0; address = 0; value = 0 };
+    place = 0;
+    received = 0;
+    time = 0;
+    number = 0;
+  };
+}
+
+abbrev pub answer_of : Answer → PlainAnswer
+answer_of Issued = bare 0 0
+answer_of (Completed r) = record { kind = 1; refusal = 0; completed = plain_record r }
+answer_of Requested = bare 2 0
+answer_of Waiting = bare 3 0
+answer_of Idle = bare 4 0
+answer_of Delivered = bare 5 0
+answer_of Dropped = bare 6 0
+answer_of Held = bare 7 0
+answer_of Started = bare 8 0
+answer_of Evicted = bare 9 0
+answer_of Recalled = bare 10 0
+answer_of Advanced = bare 11 0
+answer_of (Refused refusal) = bare 12 (number_of refusal)
+
+-- the kind of a message, and the times that it carries; a line has those of its last write and of its lease's end
+abbrev pub said : Body → Carried
+said (ShReq pts version) = record { kind = 0; pts = pts; version = version; wts = 0; rts = 0 }
+said (ExReq version) = record { kind = 1; pts = 0; version = version; wts = 0; rts = 0 }
+said (ShRep line) = record { kind = 2; pts = 0; version = None; wts = line.wts; rts = line.rts }
+said (ExRep line) = record { kind = 3; pts = 0; version = None; wts = line.wts; rts = line.rts }
+said (RenewRep rts) = record { kind = 4; pts = 0; version = None; wts = 0; rts = rts }
+said (UpgradeRep rts) = record { kind = 5; pts = 0; version = None; wts = 0; rts = rts }
+said FlushReq = record { kind = 6; pts = 0; version = None; wts = 0; rts = 0 }
+said (WbReq rts) = record { kind = 7; pts = 0; version = None; wts = 0; rts = rts }
+said (FlushRep line) = record { kind = 8; pts = 0; version = None; wts = line.wts; rts = line.rts }
+said (WbRep line) = record { kind = 9; pts = 0; version = None; wts = line.wts; rts = line.rts }
+said DramLd = record { kind = 10; pts = 0; version = None; wts = 0; rts = 0 }
+said (DramLdRep words) = record { kind = 11; pts = 0; version = None; wts = 0; rts = 0 }
+said (DramSt words) = record { kind = 12; pts = 0; version = None; wts = 0; rts = 0 }
+said DramStRep = record { kind = 13; pts = 0; version = None; wts = 0; rts = 0 }
+
+-- what an end is, and its number
+abbrev pub end_of : Node → ℕ × ℕ
+end_of (Core number) = (0, number)
+end_of (Bank number) = (1, number)
+end_of (Dram number) = (2, number)
+
+abbrev pub flag : Bool → ℕ
+flag false = 0
+flag true = 1
+
+abbrev pub message_of : ℕ → Message → PlainMessage
+message_of number message = record {
+  number = number;
+  kind = (said message.body).kind;
+  from_kind = (end_of message.from).0;
+  from = (end_of message.from).1;
+  to_kind = (end_of message.to).0;
+  to = (end_of message.to).1;
+  line = message.line;
+  pts = (said message.body).pts;
+  has_version = flag (is_some (said message.body).version);
+  version = unwrap_or (said message.body).version 0;
+  wts = (said message.body).wts;
+  rts = (said message.body).rts;
+}
+
+-- 0 without an open operation, 2 if its request is out, 1 if it isn't
+abbrev pub open_of : ℕ → Option (Op × Bool) → PlainOpen
+open_of core None = record { state = 0; operation = record { core = 0; kind = 0; address = 0; value = 0 } }
+open_of core (Some x) = record { state = if x.1 then 2 else 1; operation = plain_op core x.0 }
+
+-- a line of a bank
+abbrev pub place_of : Option (ℕ × ℕ) → Place
+place_of None = record { is_there = 0; bank = 0; line = 0 }
+place_of (Some x) = record { is_there = 1; bank = x.0; line = x.1 }
+
+-- a line of a core's cache
+abbrev pub victim_of : Option ℕ → Place
+victim_of None = record { is_there = 0; bank = 0; line = 0 }
+victim_of (Some line) = record { is_there = 1; bank = 0; line = line }

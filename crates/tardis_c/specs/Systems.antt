@@ -1,0 +1,94 @@
+-- What calls of a machine do: `old` is the machine that the handle had before the call, `new` the one after it.
+use Rattle.std.specs.Prelude.{◌≡◌, ◌≢◌, ◌⊎◌, ℕ, true, false, List, length, nat_lt}
+use Rattle.std.specs.Prelude.{Option, Some, None, MatchOption, if◌then◌else◌, option_map}
+use Rattle.network.specs.NumberedMessages.{at_number}
+use Rattle.machine_table.specs.declared.event.Answer.{Answer}
+use Rattle.machine_table.specs.declared.event.Event.{Event}
+use Rattle.machine_table.specs.declared.event.Event.TheVariants.{Issue}
+use Rattle.machine_table.specs.Machine.{Machine}
+use Rattle.machine_table.specs.Opening.{at_start}
+use Rattle.machine_table.specs.SetUp.{is_good}
+use Rattle.interleaving_core.specs.StepAnswers.{Stepped}
+use Rattle.worker_driver.specs.SetUp.{config_of}
+use Rattle.tardis_c.specs.Arrays.{HaveNone}
+use Rattle.tardis_c.specs.Lacks.{HasSome}
+use Rattle.tardis_c.specs.Options.{run_options}
+use Rattle.tardis_c.specs.Plain.{op_of, operation_fault, word_fault, words_of}
+use Rattle.tardis_c.specs.SystemParts.{answer_of, capped, flag, message_of}
+use Rattle.tardis_c.specs.declared.options.PlainOptions.{PlainOptions}
+use Rattle.tardis_c.specs.declared.plain.PlainOperation.{PlainOperation}
+use Rattle.tardis_c.specs.declared.plain.PlainWord.{PlainWord}
+use Rattle.tardis_c.specs.declared.system_looks.Totals.{Totals}
+use Rattle.tardis_c.specs.declared.system_parts.PlainAnswer.{PlainAnswer}
+use Rattle.tardis_c.specs.declared.system_parts.PlainMessage.{PlainMessage}
+
+-- without a machine 16, and nothing changes
+abbrev pub Asked : {Out : Type 0} → (old new : Option Machine) → (before after : Out) → (number : ℕ) →
+    (Machine → Type 0) → Type 0
+Asked old new before after number Does =
+    MatchOption old ((new ≡ None) × (after ≡ before) × (number ≡ 16)) Does
+
+-- 18 if there is nothing to tell, and then what was told stays
+abbrev pub told : {Out : Type 0} → Out → Option Out → Out × ℕ
+told before None = (before, 18)
+told before (Some out) = (out, 0)
+
+-- the machine stays; what there is to tell is told, and the number is 0
+abbrev pub Tells : {Out : Type 0} → (old new : Option Machine) → (before after : Out) → (number : ℕ) →
+    (Machine → Option Out) → Type 0
+Tells old new before after number look = Asked old new before after number (λ machine.
+    (new ≡ Some machine) × ((after, number) ≡ told before (look machine)))
+
+-- the same of a line's number; or an allocation failed, 3, and what was told stays
+abbrev pub TellsLine : (old new : Option Machine) → (before after number : ℕ) → (Machine → Option ℕ) → Type 0
+TellsLine old new before after number look = Asked old new before after number (λ machine. (new ≡ Some machine)
+    × (((after, number) ≡ told before (look machine)) ⊎ ((after ≡ before) × (number ≡ 3))))
+
+-- one event, and its answer
+abbrev pub Steps : (old new : Option Machine) → (before after : PlainAnswer) → (number : ℕ) → Event → Type 0
+Steps old new before after number event = Asked old new before after number (λ machine.
+    (answer : Answer) × (next : Machine) × Stepped machine event answer next × (new ≡ Some next)
+    × (after ≡ answer_of answer) × (number ≡ 0))
+
+-- an operation that has a fault is refused with 10
+pub record Issues (old new : Option Machine) (before after : PlainAnswer) (number : ℕ) (plain : PlainOperation) :
+    Type 0 where
+  pub right : operation_fault plain ≡ 0 → Steps old new before after number (Issue plain.core (op_of plain))
+  pub wrong : operation_fault plain ≢ 0 → (new ≡ old) × (after ≡ before) × (number ≡ 10)
+
+-- a machine as its options and its opening words say; or none: 12 if a word has a fault, else 6 if a value of the
+-- configuration is out of its range, else 3 if an allocation failed
+abbrev pub Opens : (new : Option Machine) → (number cores : ℕ) → PlainOptions → List PlainWord → Type 0
+Opens new number cores options opening =
+    ((new ≡ Some (at_start (config_of (run_options options).machine cores) (words_of opening))) × (number ≡ 0)
+    × HaveNone word_fault opening × (is_good (config_of (run_options options).machine cores) ≡ true))
+    ⊎ ((new ≡ None) × (number ≡ 12) × HasSome word_fault opening)
+    ⊎ ((new ≡ None) × (number ≡ 6) × HaveNone word_fault opening
+    × (is_good (config_of (run_options options).machine cores) ≡ false))
+    ⊎ ((new ≡ None) × (number ≡ 3) × HaveNone word_fault opening
+    × (is_good (config_of (run_options options).machine cores) ≡ true))
+
+-- a machine that is there already stays: 17
+abbrev pub OpensUnless : (old new : Option Machine) → (number cores : ℕ) → PlainOptions → List PlainWord → Type 0
+OpensUnless old new number cores options opening = MatchOption old (Opens new number cores options opening)
+    (λ machine. (new ≡ Some machine) × (number ≡ 17))
+
+-- what a machine has counted
+abbrev pub totals_of : Machine → Totals
+totals_of m = record {
+  renewals = capped m.mail.counts.renewals;
+  upgrades = capped m.mail.counts.upgrades;
+  flushes = capped m.mail.counts.flushes;
+  write_backs = capped m.mail.counts.write_backs;
+  messages = length m.mail.messages;
+  records = length m.records;
+  is_stopped = flag m.is_stopped;
+}
+
+-- the message in flight of a number
+abbrev pub message_at : Machine → ℕ → Option PlainMessage
+message_at m number = option_map (message_of number) (at_number number m.mail.messages)
+
+-- what a core that is there has, and what a bank has
+abbrev pub if_below : {X : Type 0} → (number count : ℕ) → X → Option X
+if_below number count x = if nat_lt number count then Some x else None

@@ -417,7 +417,8 @@ def refusals(tester):
         why = "no number" if wrong in ("", "1..", "x", "-1") else "is no range"
         tester.refused(why, f"--lease={wrong}", "alone.trace")
     tester.refused("rows are too many", "--lease", "1..2000", "--seed", "1..2000", "alone.trace")
-    tester.refused("some is none of no, yes, both", "--private-write", "some", "alone.trace")
+    tester.refused("--private-write: some is none of no, yes, both", "--private-write", "some", "alone.trace")
+    tester.refused("--fair: alone.trace is none of no, yes, both", "--fair", "alone.trace")
     tester.refused("has other columns", "--csv", "plot.csv", "--counts", "alone.trace")
     tester.refused("has other columns", "--csv", "line", "alone.trace")
     for words in (("--csv", "-"), ("--short", "-"), ("--plot", "lease:renewals", "--svg", "-")):

@@ -35,7 +35,7 @@ import re
 import shlex
 import sys
 import tempfile
-from argparse import Namespace
+from argparse import ArgumentTypeError, Namespace
 from concurrent.futures import ThreadPoolExecutor
 from contextlib import contextmanager
 from itertools import product
@@ -83,6 +83,17 @@ def values_of(text):
     return list(dict.fromkeys(map(str, found)))
 
 
+def choice(name):
+    """What takes the words of an option, so that a trace isn't taken for one of them."""
+    def take(text):
+        try:
+            words_of(text, CHOICES[name])
+        except Bad as cause:
+            raise ArgumentTypeError(cause) from None
+        return text
+    return take
+
+
 def words_of(text, choices):
     """The words of a list; `both` names them all."""
     found = list(choices) if text == "both" else text.split(",")
@@ -123,7 +134,8 @@ def with_lists(words, fixed=None):
         name: (choices[0], f"{', '.join(choices)}, or both") for name, choices in CHOICES.items()}
     for name, (usual, says) in told.items():
         if name not in (fixed or {}):
-            words.add_argument("--" + name, default=usual, metavar="LIST", help=says)
+            taken = choice(name) if name in CHOICES else str
+            words.add_argument("--" + name, type=taken, default=usual, metavar="LIST", help=says)
     words.set_defaults(**{name.replace("-", "_"): value for name, value in (fixed or {}).items()})
     return words
 

@@ -207,7 +207,7 @@ def refuse_others(words):
 
 
 def options_of(words):
-    """The options of a command line. What it lacks, or has too many of, is told in one line."""
+    """The options of a command line; or one line, on what it lacks or has too much of."""
     said = io.StringIO()
     try:
         with redirect_stderr(said):

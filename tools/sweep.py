@@ -430,9 +430,18 @@ def is_end(row):
     return row.get("at", AT_END) == AT_END
 
 
+def fails(row):
+    return bool(row["failed"])
+
+
+def why(row):
+    """Why a row has no run, with the trace."""
+    return row["failed"] if row["trace"] in row["failed"] else f"{row['trace']}: {row['failed']}"
+
+
 def is_cut(row):
     """Whether the row's run ended before all was done, and the row is of its end."""
-    return is_end(row) and not row["failed"] and row["end"] != "all-done"
+    return is_end(row) and not fails(row) and row["end"] != "all-done"
 
 
 def series(rows, x, y):
@@ -509,8 +518,10 @@ def main(given):
              "\n".join(picture(panels(shown, options, x, y), x, y, options.log)) + "\n")
     if options.short:
         save(options.short, short_table(shown, made.columns, options.columns))
-    failed, cut = sum(bool(row["failed"]) for row in rows), sum(map(is_cut, rows))
+    failed, cut = sum(map(fails, rows)), sum(map(is_cut, rows))
     print(f"{path}: {len(rows)} rows, {failed} failed, {cut} cut short")
+    if failed:
+        print(f"sweep.py: {next(map(why, filter(fails, rows)))}: delete the row to try again", file=sys.stderr)
     say_second("sweep.py", made.counted_by, options)
     return int(failed + cut > 0)
 

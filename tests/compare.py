@@ -35,6 +35,25 @@ BY_HAND = {
     "a load of eight words": ("0 R 0x0\n", "--line-words 8", f"completed 1 1 1; {LOAD}; flits 8 6 6"),
     "flits of 8 bytes, times of 2": ("0 R 0x0\n", "--flit 8 --time-bytes 2 --header 4",
                                      f"completed 1 1 1; {LOAD}; flits 3 3 3"),
+    # By flits of 8 bytes: one for the header, one for each word, and at Tardis one for each time. A renewal and its
+    # requests take 2, 3 and 3, and the line 4. A directory's copy serves the second load.
+    "a renewal": ("trace 2\n0 R 0x0\n0 A\n0 A\n0 A\n0 R 0x0\n", "--flit 8 --lease 2",
+                  "completed 2 2 2; hits 0 1 1; misses 2 1 1; ShReq 2 1 1; ShRep 1 1 0; ExRep 0 0 1; RenewRep 1 0 0; "
+                  "DramLd 1 1 1; DramLdRep 1 1 1; messages 4 2 2; flits 12 3 3"),
+    # 3 and 4, 2 and 2; without times 1 and 2, 1 and 1.
+    "an upgrade": ("0 R 0x0\n0 W 0x0 1\n", "--flit 8",
+                   "completed 2 2 2; hits 0 0 1; misses 2 2 1; ShReq 1 1 1; ExReq 1 1 0; ShRep 1 1 0; ExRep 0 0 1; "
+                   "UpgradeRep 1 1 0; DramLd 1 1 1; DramLdRep 1 1 1; messages 4 4 2; flits 11 5 3"),
+    # 2 and 4 for the store, 3 and 4 for the load, 2 and 4 for the recall; without times 1 and 2 for each.
+    "a recall that leaves a copy": (
+        "0 W 0x0 1\n1 R 0x0\n", "--flit 8",
+        "completed 2 2 2; misses 2 2 2; ShReq 1 1 1; ExReq 1 1 1; ShRep 1 1 1; ExRep 1 1 1; WbReq 1 1 1; WbRep 1 1 1; "
+        "DramLd 1 1 1; DramLdRep 1 1 1; messages 6 6 6; flits 19 9 9"),
+    # 2 and 4 for each store, 1 and 4 for the recall.
+    "a recall that leaves none": (
+        "0 W 0x0 1\n1 W 0x0 2\n", "--flit 8",
+        "completed 2 2 2; misses 2 2 2; ExReq 2 2 2; ExRep 2 2 2; FlushReq 1 1 1; FlushRep 1 1 1; "
+        "DramLd 1 1 1; DramLdRep 1 1 1; messages 6 6 6; flits 17 9 9"),
     # An Exclusive copy that MESI gave for a load takes the store.
     "a load and a store": (
         "0 R 0x0\n0 W 0x0 1\n", "--time-bytes 0", "completed 2 2 2; hits 0 0 1; misses 2 2 1; ShReq 1 1 1; "

@@ -152,6 +152,8 @@ NO_RUNS = [("check none b", "none: No such file or directory"), ("trace none", "
            ("trace --runs 3 none", "--runs is an option of litmus, and not of trace"),
            ("ends --lease=3 none", "--lease is an option of litmus and trace, and not of ends"),
            ("litmus --leese 3 none", "no command has the option --leese"),
+           ("", "required: command"), ("run none", "'run'"), ("trace", "required: FILE"), ("trace none two", ": two"),
+           ("trace --schedule draw none", "'draw'"), ("trace none --lease", "--lease: expected one argument"),
            ("trace --limit 0 examples/traces/PAST.trace", "'--limit <limit>': 0 is not in 1..=4294967295")]
 # Options out of range, each with its range; and texts of another kind.
 REFUSED = [("trace --lease 0 examples/traces/PAST.trace", ["bad configuration: --lease 0: 1 to 4294967296"]),
@@ -402,7 +404,7 @@ def runs(tester):
     tester.expect((ran.returncode, ran.stderr) == (2, b"explain.py: standard output: No space left on device\n"),
                   f"a full device: {ran.stderr}")
     for words, wanted in NO_RUNS:
-        status, out, error = tester.run("--", *words.split(" "))
+        status, out, error = tester.run("--", *words.split())
         tester.expect((status, out, error.count("\n")) == (2, "", 1) and wanted in error, f"{words}: {status} {error}")
 
 

@@ -24,8 +24,8 @@ GOOD = [
     ([" S 8,8\n", " L 8,1\n"], "--shared", ["0 W 0x8 1", "1 R 0x8"], ""),
     ([" S 8,8\n", " L 8,1\n"], "", ["0 W 0x8 1", "1 R 0x1000000000008"], ""),
     ([""], "", [], ""),
-    (["0,R,0x10\r\n63, W ,24,8,5\n\n1,S,0x8,,7\n1,W,0x7,2\n2,W,9,1,\n"], "--csv",
-     ["0 R 0x10", "63 W 0x18 5", "1 S 0x8 7", "1 W 0x0 1", "1 W 0x8 1", "2 W 0x8 2"], ""),
+    (["0,R,0x10\r\n63, W ,24,8,5\n\n1,S,0x8,,7\n1,W,0x7,2\n2,W,9,1,\n3,W,0,8,0\n"], "--csv",
+     ["0 R 0x10", "63 W 0x18 5", "1 S 0x8 7", "1 W 0x0 1", "1 W 0x8 1", "2 W 0x8 2", "3 W 0x0 0"], ""),
 ]
 WANTED, RANGES = "line 2: CORE,R|W|S,ADDRESS", "line 2: a core to 63"
 BAD = [("core,kind,address", WANTED), ("0,R", WANTED), ("0,R,8,8,5,5", WANTED), ("0,R,x", WANTED), ("64,R,8", RANGES),

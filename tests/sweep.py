@@ -50,8 +50,10 @@ class Sweeper(Tester):
         """The rows of the table, if the script says what it must."""
         got = self.run(*words)
         counted = f"{table}: {rows} rows, {failed} failed, {cut} cut short\n"
+        *told, why = got[2].splitlines(True) if failed else [got[2], ""]
         wanted = status, counted, f"{made} of {made} rows\n" if made else ""
-        self.expect(got == wanted, f"{words}: {got}, wanted {wanted}")
+        good = (*got[:2], "".join(told)) == wanted and why.endswith(": delete the row to try again\n" * (failed > 0))
+        self.expect(good, f"{words}: {got}, wanted {wanted}")
         with open(table, newline="", encoding="utf-8") as file:
             return list(csv.DictReader(file))
 
@@ -82,6 +84,8 @@ def by_hand(tester):
                            table="none.csv")
     said = [row["failed"] for row in missing]
     tester.expect("read failed" in said[0] and said[1].endswith("line 1: 4 BadCore"), f"no trace: {said}")
+    again = tester.run("--csv", "none.csv", "none.trace", "bad.trace")[2]
+    tester.expect(again == "sweep.py: none.trace: read failed: delete the row to try again\n", f"why: {again}")
 
 
 def advances(tester):
@@ -252,6 +256,18 @@ def cut_short(tester):
     tester.expect(crosses == ["M427.0 427.0l6 6m0 -6l-6 6"], f"a cut run: {crosses}")
     said = [text.text for text in root.iter(f"{SVG}text")][-1]
     tester.expect(said == "lease 1 (1 cut short: \N{MULTIPLICATION SIGN})", f"the cut run's label: {said}")
+    # A network that is too small cuts a run, too.
+    rows = tester.sweep("--csv", "small.csv", "--messages", "1,2", "alone.trace", status=1, made=2, rows=2, cut=1,
+                        table="small.csv")
+    tester.expect([row["end"] for row in rows] == ["stalled", "all-done"], f"a small network: {rows}")
+    # By round 7 two loads are issued and done, more than of the whole run: the plot has room for the cross, too.
+    tester.sweep("--csv", "seven.csv", "--plot", "issued:completed", "--limit", "7", "alone.trace", "loads.trace",
+                 status=1, made=2, rows=2, cut=1, table="seven.csv")
+    root = xml.parse("seven.svg").getroot()
+    points = [line.get("points") for line in root.iter(f"{SVG}polyline")]
+    crosses = [path.get("d") for path in root.iter(f"{SVG}path") if "l6 6" in path.get("d")]
+    tester.expect((points, crosses) == (["360.0,230.0", ""], ["M637.0 27.0l6 6m0 -6l-6 6"]),
+                  f"a cross behind the points: {points} {crosses}")
 
 
 def fair(tester):
@@ -355,6 +371,10 @@ def points(tester):
     tester.expect(Path("short.csv").read_text() == wanted, f"--every: {Path('short.csv').read_text()}")
     points_of = [line.get("points") for line in xml.parse("every.svg").getroot().iter(f"{SVG}polyline")]
     tester.expect(points_of == ["640.0,30.0"], f"the row is drawn, and the end has no number: {points_of}")
+    tester.sweep(*words, "--csv", "every.csv", "--every", "3", "--plot", "lease:hits", "loads.trace", rows=2,
+                 table="every.csv")
+    points_of = [line.get("points") for line in xml.parse("every.svg").getroot().iter(f"{SVG}polyline")]
+    tester.expect(points_of == ["640.0,30.0"], f"without `at`, the end alone is drawn: {points_of}")
     tester.sweep(*words, "--csv", "skip.csv", "--every", "1", "--skip", "2", "loads.trace", made=1, rows=3,
                  table="skip.csv")
     wanted = "at,completed,loads,hits,cold,events,end\n3,3,1,1,0,2,\n4,4,2,2,0,4,\nend,4,2,2,0,4,all-done\n"
@@ -365,6 +385,16 @@ def points(tester):
     tester.sweep(*words, "--csv", "skip.csv", "--every", "1", "--skip", "2", "loads.trace", made=1, rows=3,
                  table="skip.csv")
     tester.expect(table.read_text() == whole, f"a run that was half written: {table.read_text()}")
+    for skip, wanted in (("1", ("3", "3")), ("3", ("1", "1"))):
+        rows = tester.sweep("--csv", "skips.csv", *words[:3], "--skip", skip, "loads.trace", made=1, rows=1,
+                            table="skips.csv")
+        tester.expect((rows[-1]["loads"], rows[-1]["hits"]) == wanted, f"--skip {skip} of a table of others: {rows}")
+    # The stores are at the times 1 and 2. What is left out has no time taken off.
+    Path("twice.trace").write_text("0 W 0x0 1\n0 W 0x0 2\n")
+    rows = tester.sweep("--csv", "times.csv", *words[:3], "--skip", "1", "twice.trace", made=1, rows=1,
+                        table="times.csv")
+    tester.expect([(row["stores"], row["hits"], row["last-time"]) for row in rows] == [("1", "1", "2")],
+                  f"the last time behind --skip: {rows}")
     # A hit takes a round. By round 8 three loads are done; the store alone is one operation.
     rows = tester.sweep("--csv", "cut-3.csv", *words[:3], "--skip", "2", "--limit", "8,9", "loads.trace", "alone.trace",
                         status=1, made=4, rows=4, failed=2, cut=1, table="cut-3.csv")
@@ -417,7 +447,8 @@ def refusals(tester):
         why = "no number" if wrong in ("", "1..", "x", "-1") else "is no range"
         tester.refused(why, f"--lease={wrong}", "alone.trace")
     tester.refused("rows are too many", "--lease", "1..2000", "--seed", "1..2000", "alone.trace")
-    tester.refused("some is none of no, yes, both", "--private-write", "some", "alone.trace")
+    tester.refused("--private-write: some is none of no, yes, both", "--private-write", "some", "alone.trace")
+    tester.refused("--fair: alone.trace is none of no, yes, both", "--fair", "alone.trace")
     tester.refused("has other columns", "--csv", "plot.csv", "--counts", "alone.trace")
     tester.refused("has other columns", "--csv", "line", "alone.trace")
     for words in (("--csv", "-"), ("--short", "-"), ("--plot", "lease:renewals", "--svg", "-")):

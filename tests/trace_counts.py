@@ -59,6 +59,8 @@ SEEN = {
     "copies that are evicted": ["cold 2 evicted 1 returns 1", "held 4"],
     "a line that another core lost": ["cold 2", "cold 2", "held 8"],
     "a load that asks twice": ["cold 1", "held 2"],
+    "a swap of a Shared copy": ["cold 1 shared 1", "held 2"],
+    "a renewal of another word": ["cold 1 ended 1", "held 2"],
 }
 # More runs by hand, as those of tests/counts.py.
 OWN = {
@@ -87,7 +89,21 @@ OWN = {
         "0 R 0x0\n", "--schedule seed --seed 5 --lease 1", "all-done 16 16",
         "loads 1 1; misses 1 1; last-time 3 3; ShReq 2 2 2; ShRep 1 1 1; RenewRep 1 1 1; "
         "DramLd 1 0 1; DramLdRep 1 0 1"),
+    "a swap of a Shared copy": (
+        "0 R 0x0\n0 S 0x0 1\n", "", "all-done 9 20",
+        "loads 1 1; swaps 1 1; misses 2 2; last-time 11 11; ShReq 1 1 1; ShRep 1 1 1; ExReq 1 1 1; UpgradeRep 1 1 1; "
+        "DramLd 1 0 1; DramLdRep 1 0 1"),
+    # The copy's lease ends at 2. The load of its last word comes at 3.
+    "a renewal of another word": (
+        "trace 2\n0 R 0x0\n0 A\n0 A\n0 A\n0 R 0x38\n", "--lease 2 --line-words 8", "all-done 12 23",
+        "loads 2 2; misses 2 2; last-time 3 3; ShReq 2 2 2; ShRep 1 1 1; RenewRep 1 1 1; DramLd 1 0 1; "
+        "DramLdRep 1 0 1"),
 }
+# A core has place for two copies, and the bank for one line, which it recalls if the core owns it. So the load of 0x8
+# takes line 0x0 by a recall, and after the load of 0x10 that of 0x8 evicts it; the load of 0x18 has it recalled again.
+# The last loss is the cause: of the loads of 0x0 a recall, an eviction and a recall.
+LOSSES = ("0 W 0x0 1\n0 R 0x8\n0 R 0x0\n0 R 0x10\n0 R 0x8\n0 R 0x0\n0 W 0x0 2\n0 R 0x18\n0 R 0x0\n",
+          "--sets 1 --ways 2 --bank-sets 1 --bank-ways 1", "cold 4 evicted 2 recalled 2 shared 1")
 ZEROS, NONE = "evictions 0 returns 0 reloads 0 held", "dropped 0 time"
 # By hand, each with `--every`: what stands behind the report, row by row. The lines at the end are those of the last
 # row, where it has all that was done. A load of a line takes 14 events, a hit two and an upgrade six.
@@ -215,6 +231,11 @@ def by_hand(tester, folder):
         tester.expect(found.rows() == kept, f"{name}: {found.rows()}, wanted {kept}")
         tester.expect(found.seen() == [numbers_of(told.split()) for told in seen],
                       f"{name}: {found.seen()}, wanted {seen}")
+    text, options, wanted = LOSSES
+    path.write_text(text)
+    found = parted(tester.run("trace", "--counts", *options.split(), str(path))[1])[2].cores[0]
+    got = {cause: found[cause] for cause in CAUSES if found[cause]}
+    tester.expect(got == numbers_of(wanted.split()), f"losses of a line: {got}, wanted {wanted}")
 
 
 def in_rows(tester, folder):

@@ -1,7 +1,9 @@
 """Why a run didn't end, for tools/explain.py: its cores, lines and cause. The second program makes the run: by rounds
 up to its end, or until nothing was done for so long that nothing will be.
 """
+import io
 from collections import Counter, deque
+from contextlib import redirect_stderr
 from copy import deepcopy
 
 from reference import oracle
@@ -204,11 +206,23 @@ def refuse_others(words):
                  else f"no command has the option {option}")
 
 
+def options_of(words):
+    """The options of a command line; or one line, on what it lacks or has too much of."""
+    said = io.StringIO()
+    try:
+        with redirect_stderr(said):
+            return oracle.words().parse_args(words)
+    except SystemExit as ended:
+        if not ended.code:
+            raise
+    fail(said.getvalue().strip().rpartition("error: ")[2])
+
+
 def explained_run(words):
     """The lines that explain the first run of a command line that isn't all done, and whether there is one."""
     try:
         refuse_others(words)
-        options = oracle.words().parse_args(words)
+        options = options_of(words)
         oracle.refuse(options)
         if getattr(options, "schedule", None) == "threads":
             fail("runs by threads can't be made again: docs/SCHEDULES.md (Threads) says what to try at their limit")

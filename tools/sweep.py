@@ -35,7 +35,7 @@ import re
 import shlex
 import sys
 import tempfile
-from argparse import Namespace
+from argparse import ArgumentTypeError, Namespace
 from concurrent.futures import ThreadPoolExecutor
 from contextlib import contextmanager
 from itertools import product
@@ -83,6 +83,17 @@ def values_of(text):
     return list(dict.fromkeys(map(str, found)))
 
 
+def choice(name):
+    """What takes the words of an option, so that a trace isn't taken for one of them."""
+    def take(text):
+        try:
+            words_of(text, CHOICES[name])
+        except Bad as cause:
+            raise ArgumentTypeError(cause) from None
+        return text
+    return take
+
+
 def words_of(text, choices):
     """The words of a list; `both` names them all."""
     found = list(choices) if text == "both" else text.split(",")
@@ -123,7 +134,8 @@ def with_lists(words, fixed=None):
         name: (choices[0], f"{', '.join(choices)}, or both") for name, choices in CHOICES.items()}
     for name, (usual, says) in told.items():
         if name not in (fixed or {}):
-            words.add_argument("--" + name, default=usual, metavar="LIST", help=says)
+            taken = choice(name) if name in CHOICES else str
+            words.add_argument("--" + name, type=taken, default=usual, metavar="LIST", help=says)
     words.set_defaults(**{name.replace("-", "_"): value for name, value in (fixed or {}).items()})
     return words
 
@@ -418,9 +430,18 @@ def is_end(row):
     return row.get("at", AT_END) == AT_END
 
 
+def fails(row):
+    return bool(row["failed"])
+
+
+def why(row):
+    """Why a row has no run, with the trace."""
+    return row["failed"] if row["trace"] in row["failed"] else f"{row['trace']}: {row['failed']}"
+
+
 def is_cut(row):
     """Whether the row's run ended before all was done, and the row is of its end."""
-    return is_end(row) and not row["failed"] and row["end"] != "all-done"
+    return is_end(row) and not fails(row) and row["end"] != "all-done"
 
 
 def series(rows, x, y):
@@ -497,8 +518,10 @@ def main(given):
              "\n".join(picture(panels(shown, options, x, y), x, y, options.log)) + "\n")
     if options.short:
         save(options.short, short_table(shown, made.columns, options.columns))
-    failed, cut = sum(bool(row["failed"]) for row in rows), sum(map(is_cut, rows))
+    failed, cut = sum(map(fails, rows)), sum(map(is_cut, rows))
     print(f"{path}: {len(rows)} rows, {failed} failed, {cut} cut short")
+    if failed:
+        print(f"sweep.py: {next(map(why, filter(fails, rows)))}: delete the row to try again", file=sys.stderr)
     say_second("sweep.py", made.counted_by, options)
     return int(failed + cut > 0)
 

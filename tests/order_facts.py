@@ -99,7 +99,8 @@ def fact_holds(by_line, fact, cited):
         opened = by_line.opens(one) and not any(each.written == one.received and each.address == one.address and
                                                 each is not one for each in by_line.values())
         told = any(fact.startswith(f"line {one.line} received the opening value: no other") for fact in cited)
-        return numbers == [one.line] and (opened or told) and differs(by_line, other, one, rest)
+        return numbers == [one.line] and (opened or told) and one.line not in by_line.own and \
+            differs(by_line, other, one, rest)
     read = by_line[numbers[0]]
     if "whichever" in why:
         return whichever_holds(by_line, read, one, other, numbers[1:], rest, cited)

@@ -254,6 +254,7 @@ BAD = [
     ("0 0 W 0x0 1 0 0\n0 0 R 0x0 1 0 1\n", "line 2: core 0 has this place twice"),
     ("0 0 W 0x0 1 0 0\n0 1 R 0x0 1 0\n", "line 2: behind `R` stands an address and a value, and here `0x0`"),
     ("0 0 W 0x0 1 0 0\n0 1 R 0x0 1 0 x\n", "line 2: `0 1 R 0x0 1 0 x` is no record"),
+    ("0 0 W 0x0 1 0 0\n0 1 F @ 3 4 0 1\n", "line 2: a fence has no record"),
     ("64: sync\n", "line 1: the core 64 is greater than 63"), ("0: M[0] := x\n", "line 1: `M[0] := x` is no operation"),
 ]
 BUFFERS = "0: M[0] := 1\n0:{} M[1] == 0\n1: M[1] := 1\n1:{} M[0] == 0\n"

@@ -50,6 +50,10 @@ def by_hand(tester, folder):
     status, out, error = tester.run(str(path))
     wanted = "from_lackey.py: an access of 2 bytes at 0xffffffffffffffff: addresses have 64 bits\n"
     tester.expect((status, out, error) == (2, "", wanted), f"an address past 64 bits: {status} {out} {error}")
+    path.write_text(" S 8,8\n")
+    for count, wanted in ((64, (0, 65, "")), (65, (2, 0, "from_lackey.py: a trace has at most 64 cores\n"))):
+        status, out, error = tester.run(*[str(path)] * count)
+        tester.expect((status, out.count("\n"), error) == wanted, f"{count} files: {status} {out[:99]} {error}")
     status, _, error = tester.run("none")
     tester.expect((status, error) == (2, "from_lackey.py: none: No such file or directory\n"), f"none: {error}")
 

@@ -632,6 +632,17 @@ def counted(player, folder):
             yield f"{name}: jumps to {found}, wanted {wanted}"
 
 
+def great_times(player, folder):
+    """Times past 2^53, which JavaScript has no numbers for, are texts. A store at time T takes T + 1."""
+    path, time = folder / "great.html", 2 ** 64 - 16
+    written(player, ["--time", str(time), "examples/traces/FIRST-STORE.trace"], path)
+    data = data_of(path)
+    if data["records"] != [[0, "store", "0x0", "1", None, str(time + 1)]]:
+        yield f"great times: {data['records']}"
+    if great := re.findall(r"(?<![\w\"])\d{16,}(?!\w)", re.sub(r'"(?:[^"\\]|\\.)*"', '""', json.dumps(data))):
+        yield f"great times: numbers {great}"
+
+
 def refusals(player, folder):
     """What is answered in one line, and what the page says of a run that isn't all done."""
     (folder / "huge.trace").write_text("".join(f"{n % 8} W 0x0 {n}\n" for n in range(900)))
@@ -684,6 +695,7 @@ def main(given):
         faults += refusals(player, folder)
         faults += questions(player, folder)
         faults += counted(player, folder)
+        faults += great_times(player, folder)
         faults += [f"{name}: {data_of(pages[name])['how']}, wanted {how}" for name, how in HOWS.items()
                    if data_of(pages[name])["how"] != how]
         if installed():

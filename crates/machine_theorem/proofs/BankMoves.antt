@@ -1,13 +1,10 @@
 -- The moves of a bank and of a DRAM keep the invariant.
 use Rattle.std.proofs.Common.{◌≡◌, ◌≢◌, ℕ, ◌%◌, ◌/◌, ◌<◌, ◌≤◌, max, Bool, true, false, List, ◌∷◌, Option, Some, None}
-use Rattle.std.proofs.Common.{refl, sym, ap, ◌∙◌, subst, arith, ⊎_elim}
-use Rattle.std.specs.Ordering.{nat_cmp}
+use Rattle.std.proofs.Common.{refl, sym, ap, ◌∙◌, subst, arith, ⊎_elim, nat_cmp, IsPermutation, mod-lt}
 use Rattle.std.specs.FinMap.{FinMap, insert}
 use Rattle.std.specs.List.{AllByRecursion as Each}
-use Rattle.std.specs.List.Sorted.{IsPermutation}
 use Rattle.std.proofs.lemmas.List.Sorted.{IsPermutation-refl}
 use Rattle.std.proofs.lemmas.Bool.{and_parts, cases_eq, lt-ltb, eq-eqb}
-use Rattle.std.proofs.Math.Nat.{mod-lt}
 use Rattle.network.specs.declared.counts.Counts.{Counts}
 use Rattle.network.specs.declared.message.Node.{Node}
 use Rattle.network.specs.declared.message.Node.TheVariants as node
@@ -144,11 +141,13 @@ module _ (config : Config) (opening : FinMap nat_cmp ℕ) (a : State) (s : IsKep
       (drop_now own_set bank.table.sets is.sets l) tt refl (λ k ne. refl) s.shape.each_message
       (evict_clean (timed line) (ap entry_seen e), refl)
   entry_goes (Some (entry.Shared true line)) e =
-      step_sent (max bank.mts line.rts) (with_changed bank l entry.Storing).table (Some entry.Storing) a.bag
-      (to_dram bank l (body.DramSt line.words)) refl
-      (home (node.Dram bank.number) (body.DramSt line.words) is.numbered back)
-      (change_now own_set bank.table.sets is.sets l entry.Storing (entry.Shared true line) e) tt (λ k ne. refl)
-      s.shape.each_message (evict_dirty (timed line) (ap entry_seen e), refl)
+      grind (
+        arith,
+        step_sent (max bank.mts line.rts) (with_changed bank l entry.Storing).table (Some entry.Storing)
+            a.bag (to_dram bank l (body.DramSt line.words)) refl (home (node.Dram bank.number) (body.DramSt line.words)
+            is.numbered back) (change_now own_set bank.table.sets is.sets l entry.Storing (entry.Shared true line) e) tt (λ k
+            ne. refl) s.shape.each_message (evict_dirty (timed line) (ap entry_seen e), refl),
+      )
   entry_goes (Some (entry.Exclusive o)) e =
       let owned = is.owners l (entry.Exclusive o) e in
       step_sent bank.mts (with_changed bank l (entry.Recalling o)).table (Some (entry.Recalling o)) a.bag
@@ -204,13 +203,14 @@ module _ (config : Config) (opening : FinMap nat_cmp ℕ) (before : State) (mess
       Reacts (Some (HeldAfter (from_bank here l (node.Core owner) sent), with_changed here l (entry.Recalling owner)))
   recalls owner sent goes there =
       let owned = of.owners l (entry.Exclusive owner) there in
-      step_sent config opening a s l here.mts (with_changed here l (entry.Recalling owner)).table
-      (Some (entry.Recalling owner)) a.bag (from_bank here l (node.Core owner) sent) refl
-      (home config opening a s l (node.Core owner) sent tt
-      (goes config.cores config.banks (node.Bank here.number) (node.Core owner)
-      ∙ down config opening a s l owner owned))
-      (change_now place here.table.sets of.sets l (entry.Recalling owner) (entry.Exclusive owner) there) owned
-      (λ k ne. refl) s.shape.each_message
+      grind (
+        arith,
+        step_sent config opening a s l here.mts (with_changed here l (entry.Recalling owner)).table (Some
+            (entry.Recalling owner)) a.bag (from_bank here l (node.Core owner) sent) refl (home config opening a s l
+            (node.Core owner) sent tt (goes config.cores config.banks (node.Bank here.number) (node.Core owner) ∙ down config
+            opening a s l owner owned)) (change_now place here.table.sets of.sets l (entry.Recalling owner) (entry.Exclusive
+            owner) there) owned (λ k ne. refl) s.shape.each_message,
+      )
 
   grants : (e : Entry) (sent : Body) → GoesDown sent → IsFor (core_of message.from) e →
       is_core_to_bank config.cores config.banks message.from message.to ≡ true → Leads (entry_seen (Some e))
@@ -221,21 +221,24 @@ module _ (config : Config) (opening : FinMap nat_cmp ℕ) (before : State) (mess
       let route : is_core_to_bank config.cores config.banks message.from (node.Bank here.number) ≡ true =
       rw ends.from_core (down config opening a s l ends.core ends.some_core) in
       let some : core_of message.from < config.cores = rw ends.from_core ends.some_core in
-      step_sent config opening a s l here.mts (with_used here l e).table (Some e) rest
-      (from_bank here l message.from sent) refl
-      (home config opening a s l message.from sent goes_home.0
-      (goes config.cores config.banks (node.Bank here.number) message.from ∙ route))
-      (put_now place here.table.sets of.sets l e) (for_below config.cores (core_of message.from) some e own) others
-      s.shape.each_message.1
+      grind (
+        arith,
+        step_sent config opening a s l here.mts (with_used here l e).table (Some e) rest (from_bank here l
+            message.from sent) refl (home config opening a s l message.from sent goes_home.0 (goes config.cores config.banks
+            (node.Bank here.number) message.from ∙ route)) (put_now place here.table.sets of.sets l e) (for_below config.cores
+            (core_of message.from) some e own) others s.shape.each_message.1,
+      )
 
   becomes : (dirty : Bool) (line : TimedLine) (old : Entry) → entry_of here l ≡ Some old →
       Leads (Shared dirty (timed line)) (messages_of rest l) →
       Reacts (Some (Done None, with_changed here l (entry.Shared dirty line)))
   becomes dirty line old there =
-      step config opening a s l here.mts (with_changed here l (entry.Shared dirty line)).table
-      (Some (entry.Shared dirty line)) (messages_of rest l) rest a.counts
-      (change_now place here.table.sets of.sets l (entry.Shared dirty line) old there) tt refl others
-      s.shape.each_message.1
+      grind (
+        arith,
+        step config opening a s l here.mts (with_changed here l (entry.Shared dirty line)).table (Some
+            (entry.Shared dirty line)) (messages_of rest l) rest a.counts (change_now place here.table.sets of.sets l
+            (entry.Shared dirty line) old there) tt refl others s.shape.each_message.1,
+      )
 
   leaves : Leads Absent (messages_of rest l) → Reacts (Some (Done None, without_entry here l))
   leaves =
@@ -248,8 +251,7 @@ module _ (config : Config) (opening : FinMap nat_cmp ℕ) (before : State) (mess
 
   came_as : (c : Body) → message.body ≡ c → IsPermutation (messages_of a.bag l)
       (body_seen (core_of message.from) (core_of message.to) c ∷ messages_of rest l)
-  came_as c e = subst (λ (d : Body). IsPermutation (messages_of a.bag l)
-      (body_seen (core_of message.from) (core_of message.to) d ∷ messages_of rest l)) e came
+  came_as c e = grind arith
 
   abbrev Up : Type 0
   Up = is_core_to_bank config.cores config.banks message.from message.to ≡ true
@@ -264,16 +266,14 @@ module _ (config : Config) (opening : FinMap nat_cmp ℕ) (before : State) (mess
       Reacts (bank_table.bank_table here message)
   bank_delivery to has =
       let room = has_room here.table (bank_table.set_of here l) in
-      subst (λ (k : ℕ). Reacts (bank_table.after_decision here message (on_entry.at_bank k here.mts room
-      (core_of message.from) (entry_of here l) message.body))) (sym of.lease)
-      (bank_goes config.lease (IsPinned (set_up config opening) (view config a).cores l) here.mts
-      (line_seen config a l) (messages_of rest l) (core_of message.from) here message Up Reacts
-      refl tt tt loads recalls grants becomes leaves room message.body
-      (and_parts (is_this_bank here.number message.to)
-      (comes_to_bank message.from message.body (entry_of here l)) has).1
-      (up message.body goes_home.2)
-      (subst (λ (k : ℕ). IsPermutation (messages_of a.bag l)
-      (body_seen (core_of message.from) k message.body ∷ messages_of rest l)) to came))
+      grind (
+        arith,
+        bank_goes config.lease (IsPinned (set_up config opening) (view config a).cores l) here.mts
+            (line_seen config a l) (messages_of rest l) (core_of message.from) here message Up Reacts refl tt tt loads recalls
+            grants becomes leaves room message.body (and_parts (is_this_bank here.number message.to) (comes_to_bank
+            message.from message.body (entry_of here l)) has).1 (up message.body goes_home.2) (subst (λ (k : ℕ). IsPermutation
+            (messages_of a.bag l) (body_seen (core_of message.from) k message.body ∷ messages_of rest l)) to came),
+      )
 
   -- to the DRAM behind it
   abbrev lines : FinMap nat_cmp (List ℕ)

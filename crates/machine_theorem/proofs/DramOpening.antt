@@ -1,12 +1,10 @@
 -- A DRAM opens with the words of the opening memory, eight to a line.
-use Rattle.std.proofs.Common.{◌≡◌, ◌≢◌, ℕ, zero, suc, ◌+◌, ◌*◌, ◌/◌, ◌%◌, ◌<◌, ◌≤◌, Bool, true, cond, eqb, List}
-use Rattle.std.proofs.Common.{[], ◌∷◌, length, replicate, set, get_or, Option, Some, refl, sym, ap, ◌∙◌, arith}
-use Rattle.std.proofs.Common.{⊎_elim, inl, inr, get_or-set_same, get_or-set_other, length-set}
-use Rattle.std.specs.Prelude.{unwrap_or}
+use Rattle.std.proofs.Common.{◌≡◌, ◌≢◌, ℕ, zero, suc, ◌+◌, ◌*◌, ◌/◌, ◌%◌, ◌<◌, ◌≤◌, Bool, true, cond, eqb, List, []}
+use Rattle.std.proofs.Common.{◌∷◌, length, replicate, set, get_or, Option, Some, refl, sym, ap, ◌∙◌, arith, ⊎_elim, inl}
+use Rattle.std.proofs.Common.{inr, get_or-set_same, get_or-set_other, length-set, unwrap_or, mod-lt, div-add-mod'}
 use Rattle.std.specs.Ordering.{nat_cmp, eq_by_cmp}
 use Rattle.std.specs.FinMap.{FinMap, empty, find, get-empty}
 use Rattle.std.specs.Cmp.{unsigned_tied}
-use Rattle.std.proofs.Math.Nat.{mod-lt, div-add-mod'}
 use Rattle.std.proofs.lemmas.Bool.{cond_both, cases_eq, eq-eqb, ne_eqb, cond-true, cond-false}
 use Rattle.dram_mts.specs.Lines.{words_of}
 use Rattle.machine_table.specs.declared.config.Config.{Config}
@@ -71,10 +69,11 @@ module _ (c : Config) (bank : ℕ) where
     written : (lines : FinMap nat_cmp (List ℕ)) (a v : ℕ) → length (words_of lines (a / c.line_words)) ≡ 8 →
         word (with_word lines (a / c.line_words) (a % c.line_words) v) a ≡ v
     written lines a v long =
-        ap (λ ws. get_or ws (a % c.line_words) 0) (words-insert_same lines (a / c.line_words)
-        (set (words_of lines (a / c.line_words)) (a % c.line_words) v))
-        ∙ get_or-set_same (words_of lines (a / c.line_words)) (a % c.line_words) v 0 (let lt =
-        mod-lt a some in omega arith)
+        cc (
+          words-insert_same lines (a / c.line_words) (set (words_of lines (a / c.line_words)) (a % c.line_words) v),
+          get_or-set_same (words_of lines (a / c.line_words)) (a % c.line_words) v 0 (let lt = mod-lt a some in omega
+              arith),
+        )
 
     others : (lines : FinMap nat_cmp (List ℕ)) (a d v : ℕ) → a ≢ d →
         word (with_word lines (d / c.line_words) (d % c.line_words) v) a ≡ word lines a

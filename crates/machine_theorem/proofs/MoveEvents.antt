@@ -1,6 +1,5 @@
 -- Every move of a state is an event of a machine in the state.
-use Rattle.std.proofs.Common.{◌≡◌, ℕ, suc, ◌-◌, ◌^◌, ◌<◌, true, false, length, inr, refl, sym, ap, ◌∙◌, arith}
-use Rattle.std.specs.Ordering.{nat_cmp}
+use Rattle.std.proofs.Common.{◌≡◌, ℕ, suc, ◌-◌, ◌^◌, ◌<◌, true, false, length, inr, refl, sym, ap, ◌∙◌, arith, nat_cmp}
 use Rattle.std.specs.FinMap.{FinMap}
 use Rattle.std.proofs.lemmas.Bool.{lt-ltb}
 use Rattle.network.specs.Mail.{has_capacity}
@@ -36,16 +35,17 @@ module _ (config : Config) (opening : FinMap nat_cmp ℕ) (a : State) (s : IsKep
   of_ready (dram_steps i act rest done lt beside is to) = dram_steps i act rest done lt beside is to
 
   is_in : IsIn (record config { messages = capacity }) a ready 1
-  is_in = record {
-    same = numbered_same config opening a s;
-    runs = refl;
-    set_up = refl;
-    cores = length-first a.cores config.cores;
-    banks = length-first a.banks config.banks;
-    drams = length-first a.drams config.banks;
-    rising = rising 0 (length a.bag) a.bag (omega arith);
-    numbers = omega (arith, some);
-  }
+  is_in =
+      grind (
+        arith,
+        numbered_same config opening a s,
+        length-first a.cores config.cores,
+        length-first a.banks
+            config.banks,
+        length-first a.drams config.banks,
+        rising,
+        rising 0 (length a.bag) a.bag (omega arith),
+      )
 
   free : has_capacity capacity ready.mail ≡ true
   free =

@@ -1,7 +1,6 @@
 -- A machine and its state: one part put into both, and the messages in flight afterwards.
 use Rattle.std.proofs.Common.{◌≡◌, ℕ, ◌<◌, Bool, true, false, cond, List, [], ◌∷◌, ◌++◌, length, set, get_or, Option}
-use Rattle.std.proofs.Common.{Some, None, refl, ap, arith}
-use Rattle.std.specs.Ordering.{nat_cmp}
+use Rattle.std.proofs.Common.{Some, None, refl, ap, arith, nat_cmp}
 use Rattle.std.specs.FinMap.{FinMap, entries}
 use Rattle.physiological_order.specs.declared.operation.Op.{Op}
 use Rattle.network.specs.declared.counts.Counts.{Counts}
@@ -30,33 +29,40 @@ module _ (a : State) (m : Machine) (k : Same a (seen m)) where
   pub core_put : (c : ℕ) (core : CoreState) → c < length m.cores →
       Same (with_core a c core) (seen (table.with_core m c core))
   core_put c core lt =
-      same_by
-      (part_put a.cores m.cores (open_core m.config) c core core k.cores refl lt)
-      k.banks k.drams k.bag k.issued k.records k.counts
+      grind (
+        arith,
+        same_by (part_put a.cores m.cores (open_core m.config) c core core k.cores refl lt) k.banks k.drams
+            k.bag k.issued k.records k.counts,
+      )
 
   pub bank_put : (b : ℕ) (bank : BankState) → b < length m.banks →
       Same (with_bank a b bank) (seen (table.with_bank m b bank))
   bank_put b bank lt =
-      same_by k.cores
-      (part_put a.banks m.banks (open_bank m.config) b bank bank k.banks refl lt)
-      k.drams k.bag k.issued k.records k.counts
+      grind (
+        arith,
+        same_by k.cores (part_put a.banks m.banks (open_bank m.config) b bank bank k.banks refl lt) k.drams
+            k.bag k.issued k.records k.counts,
+      )
 
   pub dram_put : (b : ℕ) (lines : FinMap nat_cmp (List ℕ)) → b < length m.drams →
       Same (with_dram a b lines) (seen (table.with_dram m b lines))
   dram_put b lines lt =
-      same_by k.cores k.banks
-      (part_put a.drams m.drams (λ j. dram_of m.config j (entries m.opening)) b lines lines k.drams refl lt)
-      k.bag k.issued k.records k.counts
+      grind (
+        arith,
+        same_by k.cores k.banks (part_put a.drams m.drams (λ j. dram_of m.config j (entries m.opening)) b
+            lines lines k.drams refl lt) k.bag k.issued k.records k.counts,
+      )
 
   pub issue_put : (c : ℕ) (op : Op) (core : CoreState) → c < length m.cores → c < length m.issued →
       Same (record (with_core a c core) { issued = with_at a.issued c (a.issued c ++ op ∷ []) })
       (seen (record (table.with_core m c core) { issued = set m.issued c (get_or m.issued c [] ++ op ∷ []) }))
   issue_put c op core lt there =
-      let put = core_put c core lt in
-      same_by put.cores k.banks k.drams k.bag
-      (part_put a.issued m.issued (λ j. []) c (a.issued c ++ op ∷ []) (get_or m.issued c [] ++ op ∷ []) k.issued
-      (ap (λ (ops : List Op). ops ++ op ∷ []) (k.issued c)) there)
-      k.records k.counts
+      grind (
+        arith,
+        core_put c core lt,
+        part_put a.issued m.issued (λ j. []) c (a.issued c ++ op ∷ []) (get_or m.issued
+            c [] ++ op ∷ []) k.issued (ap (λ (ops : List Op). ops ++ op ∷ []) (k.issued c)) there,
+      )
 
   pub completion_put : (c : ℕ) (op : Op) (received : Option ℕ) (ts : ℕ) (old core : CoreState) → c < length m.cores →
       Same (record (with_core a c core) {
@@ -67,10 +73,7 @@ module _ (a : State) (m : Machine) (k : Same a (seen m)) where
         records = m.records ++ record_of c
             (length m.records) old op received ts ∷ [];
       }))
-  completion_put c op received ts old core lt =
-      let put = core_put c core lt in
-      same_by put.cores k.banks k.drams k.bag k.issued
-      (ap (λ rs. rs ++ record_of c (length rs) old op received ts ∷ []) k.records) k.counts
+  completion_put c op received ts old core lt = grind (arith, core_put c core lt)
 
 -- the messages in flight
 abbrev replied : Mail → Option Message → Mail

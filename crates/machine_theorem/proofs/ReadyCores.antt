@@ -1,13 +1,9 @@
 -- A core whose copy serves its open operation: its next attempt completes it, and no other event changes that. So it is
 -- once a reply has come.
-use Rattle.std.proofs.Common.{arith, ◌+◌}
-use Rattle.std.proofs.Common.{◌≡◌, ◌≢◌, ℕ, ◌-◌, ◌^◌, ◌<◌, Bool, true, false, ◌&&◌, cond, eqb, nat_lt, List, [], ◌∷◌}
-use Rattle.std.proofs.Common.{length}
-use Rattle.std.proofs.Common.{Option, Some, None, Ok, Err, ◌⊎◌, inl, inr, refl, sym, ap, ◌∙◌, subst, ⊎_elim, set}
-use Rattle.std.specs.Prelude.{option_map}
-use Rattle.std.specs.Ordering.{nat_cmp}
+use Rattle.std.proofs.Common.{arith, ◌+◌, ◌≡◌, ◌≢◌, ℕ, ◌-◌, ◌^◌, ◌<◌, Bool, true, false, ◌&&◌, cond, eqb, nat_lt, List}
+use Rattle.std.proofs.Common.{[], ◌∷◌, length, Option, Some, None, Ok, Err, ◌⊎◌, inl, inr, refl, sym, ap, ◌∙◌, subst}
+use Rattle.std.proofs.Common.{⊎_elim, set, option_map, nat_cmp, slice_get}
 use Rattle.std.specs.FinMap.{FinMap}
-use Rattle.std.specs.List.{slice_get}
 use Rattle.std.proofs.lemmas.Bool.{and_parts, cases_eq, cond_both, cond-false, eq-eqb, eqb-true}
 use Rattle.std.proofs.lemmas.Option.{get_or_from_slice_get, slice_get_within}
 use Rattle.physiological_order.specs.declared.operation.Op.{Op}
@@ -45,8 +41,7 @@ use Rattle.machine_table.specs.Runs.{after_all}
 use Rattle.machine_table.specs.SetUp.{is_good}
 use Rattle.machine_table.specs.Step as step
 use Rattle.machine_table.specs.Step.{Step, Tried, Completes, Does, Getting, Attempting, attempted, copy_evicted}
-use Rattle.machine_table.specs.Step.{reacted}
-use Rattle.machine_table.specs.Step.{core_step, record_of}
+use Rattle.machine_table.specs.Step.{reacted, core_step, record_of}
 use Rattle.machine_table.specs.Transition.{changed, deliver_to, gets, if_there, issued, on_event, refused, tried}
 use Rattle.machine_table.specs.Transition.{transition}
 use Rattle.machine_table.proofs.Lemmas.{core_acts, finds}
@@ -190,7 +185,8 @@ module _ (c : ℕ) (op : Op) where
         (off line unpinned))
 
     no_reply : (line : ℕ) (place : Bool) → (waits_for k.core line && place) ≡ true → ⊥
-    no_reply line place has = absurd (let z = (and_parts k.core.is_out _ (and_parts (waits_for k.core line) place has).0).0
+    no_reply line place has = absurd (let z = (and_parts k.core.is_out _
+        (and_parts (waits_for k.core line) place has).0).0
         in let w : true ≡ false = sym z ∙ k.quiet in cc)
 
     by_body : (line : ℕ) (b : Body) → comes_to_core k.core line b ≡ true → (pin : Bool) →
@@ -221,7 +217,8 @@ module _ (c : ℕ) (op : Op) where
         (cache.evicted k.core.cache line (pinned_line k.core) o)))
     evicts line None = tt
     evicts line (Some copy) = cond_both (is_pinned (pinned_line k.core) line) _ _
-        (λ r. Makes (copy_evicted (core_table.sent_back k.core line r))) (λ pinned. tt) (λ unpinned. without line unpinned)
+        (λ r. Makes (copy_evicted (core_table.sent_back k.core line r))) (λ pinned. tt)
+        (λ unpinned. without line unpinned)
 
     -- by whether it is this core that takes a step
     if_core : (d : ℕ) (does : CoreState → Answer × Machine) → (d ≢ c → (core : CoreState) → Stays (does core)) →

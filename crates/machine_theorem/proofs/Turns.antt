@@ -1,9 +1,7 @@
 -- What one core, one bank or one DRAM does to one line is a turn of the protocol by lines.
-use Rattle.std.proofs.Common.{◌≡◌, ◌≢◌, ℕ, ◌%◌, Bool, true, false, eqb, List, Option, Some, None, refl, sym, ap, ◌∙◌}
-use Rattle.std.proofs.Common.{subst}
-use Rattle.std.proofs.Common.{⊎_elim}
+use Rattle.std.proofs.Common.{arith, ◌≡◌, ◌≢◌, ℕ, ◌%◌, Bool, false, eqb, List, Option, Some, None, refl, sym, ap, ◌∙◌}
+use Rattle.std.proofs.Common.{subst, nat_cmp}
 use Rattle.std.proofs.lemmas.Bool.{cases_Bool}
-use Rattle.std.specs.Ordering.{nat_cmp}
 use Rattle.std.specs.FinMap.{FinMap}
 use Rattle.physiological_order.specs.declared.operation.Op.{Op}
 use Rattle.physiological_order.specs.declared.operation.Record.{Record}
@@ -24,26 +22,16 @@ use Rattle.machine_theorem.specs.View.{line_seen, view}
 -- machines that look alike are one
 pub machine_same : (m n : by_line.Machine) → ((l : ℕ) → m.lines l ≡ n.lines l) → ((c : ℕ) → m.cores c ≡ n.cores c) →
     ((b : ℕ) → m.mts b ≡ n.mts b) → ((c : ℕ) → m.issued c ≡ n.issued c) → m.records ≡ n.records → m ≡ n
-machine_same m n lines cores mts issued records =
-    λ i. record {
-      lines = λ l. lines l i;
-      cores = λ c. cores c i;
-      mts = λ b. mts b i;
-      issued =
-          λ c. issued c i;
-      records = records i;
-    }
+machine_same m n lines cores mts issued records = grind arith
 
 pub line_same : (x y : Line) → x.entry ≡ y.entry → ((c : ℕ) → x.copies c ≡ y.copies c) → x.messages ≡ y.messages →
     x.dram ≡ y.dram → x ≡ y
-line_same x y entry copies messages dram =
-    λ i. record { entry = entry i; copies = λ c. copies c i; messages = messages i; dram = dram i }
+line_same x y entry copies messages dram = grind arith
 
 -- what is seen of functions that are changed at one number
 pub seen_at : {X Y : Type 0} (see : X → Y) (f : ℕ → X) (i : ℕ) (x : X) (j : ℕ) →
     with_at (λ k. see (f k)) i (see x) j ≡ see (with_at f i x j)
-seen_at see f i x j =
-    ⊎_elim (λ (e : eqb j i ≡ true). rw e) (λ (e : eqb j i ≡ false). rw e) (cases_Bool (eqb j i))
+seen_at see f i x j = grind (arith, cases_Bool (eqb j i))
 
 -- and what is the same where the new part looks as the old one
 pub seen_alike : {X Y : Type 0} (see : X → Y) (f : ℕ → X) (i : ℕ) (x : X) → see x ≡ see (f i) → (j : ℕ) →
@@ -159,11 +147,13 @@ module _ (config : Config) (opening : FinMap nat_cmp ℕ) (a : State) where
         messages = front;
       }) → Reaches (kind_at l who) (view config (record a { cores = with_at a.cores c new; bag = bag }))
   core_move who c new l copy front bag same here others messages bags move =
-      line_turn who (record a { cores = with_at a.cores c new; bag = bag }) l (v.mts (l % config.banks)) _
-      (line_same _ _ refl (λ d. ap (λ o. with_at (line_seen config a l).copies c o d) here
-      ∙ seen_at (λ x. copy_in x l) a.cores c new d) messages refl)
-      (λ j ne. line_same _ _ refl (seen_alike (λ x. copy_in x j) a.cores c new (others j ne)) (bags j ne) refl)
-      (seen_alike core_seen a.cores c new same) (time_kept l) (λ d. refl) refl move
+      grind (
+        arith,
+        line_turn who (record a { cores = with_at a.cores c new; bag = bag }) l (v.mts (l % config.banks)) _
+            (line_same _ _ refl (λ d. ap (λ o. with_at (line_seen config a l).copies c o d) here ∙ seen_at (λ x. copy_in x l)
+            a.cores c new d) messages refl) (λ j ne. line_same _ _ refl (seen_alike (λ x. copy_in x j) a.cores c new (others j
+            ne)) (bags j ne) refl) (seen_alike core_seen a.cores c new same) (time_kept l) (λ d. refl) refl move,
+      )
 
   -- one that changes a bank
   pub bank_turn : (new : BankState) (l : ℕ) (o : by_line.Entry) (front : List by_line.Message) (bag : List Message) →
@@ -174,12 +164,14 @@ module _ (config : Config) (opening : FinMap nat_cmp ℕ) (a : State) where
       Reaches delivering (view config (record a { banks = with_at a.banks (l % config.banks) new; bag = bag }))
   bank_turn new l o front bag entry messages others bags move =
       let b = l % config.banks in
-      line_turn None (record a { banks = with_at a.banks b new; bag = bag }) l new.mts _
-      (line_same _ _ (entry ∙ ap (λ (x : BankState). entry_in x l) (sym (with_at_same a.banks b new))) (λ d. refl)
-      messages refl)
-      (λ j ne. line_same _ _ (seen_alike (λ x. entry_in x j) a.banks b new (ap entry_seen (others j ne))
-      (j % config.banks)) (λ d. refl) (bags j ne) refl)
-      (λ d. refl) (seen_at (λ (x : BankState). x.mts) a.banks b new) (λ d. refl) refl move
+      grind (
+        arith,
+        line_turn None (record a { banks = with_at a.banks b new; bag = bag }) l new.mts _ (line_same _ _
+            (entry ∙ ap (λ (x : BankState). entry_in x l) (sym (with_at_same a.banks b new))) (λ d. refl) messages refl) (λ j
+            ne. line_same _ _ (seen_alike (λ x. entry_in x j) a.banks b new (ap entry_seen (others j ne)) (j % config.banks))
+            (λ d. refl) (bags j ne) refl) (λ d. refl) (seen_at (λ (x : BankState). x.mts) a.banks b new) (λ d. refl) refl
+            move,
+      )
 
   -- one that changes a DRAM
   pub dram_turn : (new : FinMap nat_cmp (List ℕ)) (l : ℕ) (front : List by_line.Message) (bag : List Message) →
@@ -193,11 +185,13 @@ module _ (config : Config) (opening : FinMap nat_cmp ℕ) (a : State) where
       Reaches delivering (view config (record a { drams = with_at a.drams (l % config.banks) new; bag = bag }))
   dram_turn new l front bag messages others bags move =
       let b = l % config.banks in
-      line_turn None (record a { drams = with_at a.drams b new; bag = bag }) l (v.mts b) _
-      (line_same _ _ refl (λ d. refl) messages (ap (λ x. words_of x l) (sym (with_at_same a.drams b new))))
-      (λ j ne. line_same _ _ refl (λ d. refl) (bags j ne)
-      (seen_alike (λ x. words_of x j) a.drams b new (others j ne) (j % config.banks)))
-      (λ d. refl) (time_kept l) (λ d. refl) refl move
+      grind (
+        arith,
+        line_turn None (record a { drams = with_at a.drams b new; bag = bag }) l (v.mts b) _ (line_same _ _
+            refl (λ d. refl) messages (ap (λ x. words_of x l) (sym (with_at_same a.drams b new)))) (λ j ne. line_same _ _ refl
+            (λ d. refl) (bags j ne) (seen_alike (λ x. words_of x j) a.drams b new (others j ne) (j % config.banks))) (λ d.
+            refl) (time_kept l) (λ d. refl) refl move,
+      )
 
   -- one that changes messages alone
   pub bag_turn : (l : ℕ) (bag : List Message) →

@@ -141,13 +141,11 @@ module _ (config : Config) (opening : FinMap nat_cmp ℕ) (a : State) (s : IsKep
       (drop_now own_set bank.table.sets is.sets l) tt refl (λ k ne. refl) s.shape.each_message
       (evict_clean (timed line) (ap entry_seen e), refl)
   entry_goes (Some (entry.Shared true line)) e =
-      grind (
-        arith,
-        step_sent (max bank.mts line.rts) (with_changed bank l entry.Storing).table (Some entry.Storing)
-            a.bag (to_dram bank l (body.DramSt line.words)) refl (home (node.Dram bank.number) (body.DramSt line.words)
-            is.numbered back) (change_now own_set bank.table.sets is.sets l entry.Storing (entry.Shared true line) e) tt (λ k
-            ne. refl) s.shape.each_message (evict_dirty (timed line) (ap entry_seen e), refl),
-      )
+      step_sent (max bank.mts line.rts) (with_changed bank l entry.Storing).table (Some entry.Storing) a.bag
+      (to_dram bank l (body.DramSt line.words)) refl
+      (home (node.Dram bank.number) (body.DramSt line.words) is.numbered back)
+      (change_now own_set bank.table.sets is.sets l entry.Storing (entry.Shared true line) e) tt (λ k ne. refl)
+      s.shape.each_message (evict_dirty (timed line) (ap entry_seen e), refl)
   entry_goes (Some (entry.Exclusive o)) e =
       let owned = is.owners l (entry.Exclusive o) e in
       step_sent bank.mts (with_changed bank l (entry.Recalling o)).table (Some (entry.Recalling o)) a.bag
@@ -203,14 +201,13 @@ module _ (config : Config) (opening : FinMap nat_cmp ℕ) (before : State) (mess
       Reacts (Some (HeldAfter (from_bank here l (node.Core owner) sent), with_changed here l (entry.Recalling owner)))
   recalls owner sent goes there =
       let owned = of.owners l (entry.Exclusive owner) there in
-      grind (
-        arith,
-        step_sent config opening a s l here.mts (with_changed here l (entry.Recalling owner)).table (Some
-            (entry.Recalling owner)) a.bag (from_bank here l (node.Core owner) sent) refl (home config opening a s l
-            (node.Core owner) sent tt (goes config.cores config.banks (node.Bank here.number) (node.Core owner) ∙ down config
-            opening a s l owner owned)) (change_now place here.table.sets of.sets l (entry.Recalling owner) (entry.Exclusive
-            owner) there) owned (λ k ne. refl) s.shape.each_message,
-      )
+      step_sent config opening a s l here.mts (with_changed here l (entry.Recalling owner)).table
+      (Some (entry.Recalling owner)) a.bag (from_bank here l (node.Core owner) sent) refl
+      (home config opening a s l (node.Core owner) sent tt
+      (goes config.cores config.banks (node.Bank here.number) (node.Core owner)
+      ∙ down config opening a s l owner owned))
+      (change_now place here.table.sets of.sets l (entry.Recalling owner) (entry.Exclusive owner) there) owned
+      (λ k ne. refl) s.shape.each_message
 
   grants : (e : Entry) (sent : Body) → GoesDown sent → IsFor (core_of message.from) e →
       is_core_to_bank config.cores config.banks message.from message.to ≡ true → Leads (entry_seen (Some e))
@@ -221,24 +218,21 @@ module _ (config : Config) (opening : FinMap nat_cmp ℕ) (before : State) (mess
       let route : is_core_to_bank config.cores config.banks message.from (node.Bank here.number) ≡ true =
       rw ends.from_core (down config opening a s l ends.core ends.some_core) in
       let some : core_of message.from < config.cores = rw ends.from_core ends.some_core in
-      grind (
-        arith,
-        step_sent config opening a s l here.mts (with_used here l e).table (Some e) rest (from_bank here l
-            message.from sent) refl (home config opening a s l message.from sent goes_home.0 (goes config.cores config.banks
-            (node.Bank here.number) message.from ∙ route)) (put_now place here.table.sets of.sets l e) (for_below config.cores
-            (core_of message.from) some e own) others s.shape.each_message.1,
-      )
+      step_sent config opening a s l here.mts (with_used here l e).table (Some e) rest
+      (from_bank here l message.from sent) refl
+      (home config opening a s l message.from sent goes_home.0
+      (goes config.cores config.banks (node.Bank here.number) message.from ∙ route))
+      (put_now place here.table.sets of.sets l e) (for_below config.cores (core_of message.from) some e own) others
+      s.shape.each_message.1
 
   becomes : (dirty : Bool) (line : TimedLine) (old : Entry) → entry_of here l ≡ Some old →
       Leads (Shared dirty (timed line)) (messages_of rest l) →
       Reacts (Some (Done None, with_changed here l (entry.Shared dirty line)))
   becomes dirty line old there =
-      grind (
-        arith,
-        step config opening a s l here.mts (with_changed here l (entry.Shared dirty line)).table (Some
-            (entry.Shared dirty line)) (messages_of rest l) rest a.counts (change_now place here.table.sets of.sets l
-            (entry.Shared dirty line) old there) tt refl others s.shape.each_message.1,
-      )
+      step config opening a s l here.mts (with_changed here l (entry.Shared dirty line)).table
+      (Some (entry.Shared dirty line)) (messages_of rest l) rest a.counts
+      (change_now place here.table.sets of.sets l (entry.Shared dirty line) old there) tt refl others
+      s.shape.each_message.1
 
   leaves : Leads Absent (messages_of rest l) → Reacts (Some (Done None, without_entry here l))
   leaves =

@@ -158,13 +158,11 @@ module _ (cores : List CoreState) (line : ℕ) where
       granted_words cores line (first_message (is_ownership_of line) ms)
   granted_is [] = refl
   granted_is (x ∷ xs) =
-      grind (
-        arith,
-        granted_is xs,
-        granted_if (right.carries_ownership x.1.body) x (first_message (is_ownership_of line)
-            xs),
-        cases_Bool (eqb x.1.line line),
-      )
+      let rest = granted_is xs in
+      ⊎_elim (λ (e : eqb x.1.line line ≡ true). rw e (with_ownership x.1 (messages_of (bag_of xs) line)
+      (first_message (is_ownership_of line) xs) x.0 x.1.body rest
+      ∙ sym (granted_if (right.carries_ownership x.1.body) x (first_message (is_ownership_of line) xs))))
+      (λ (e : eqb x.1.line line ≡ false). rw e rest) (cases_Bool (eqb x.1.line line))
 
 -- words in a bank
 bank_is : (o : Option BankState) (line : ℕ) → by_line.entry_words (entry_at o line) ≡ bank_words o line
@@ -192,12 +190,11 @@ stored_is : (ms : List (ℕ × Message)) (line : ℕ) → by_line.stored_words (
     (first_message (is_store_of line) ms)
 stored_is [] line = refl
 stored_is (x ∷ xs) line =
-    grind (
-      arith,
-      stored_is xs line,
-      stored_if (right.is_dram_store x.1.body) x (first_message (is_store_of line) xs),
-      cases_Bool (eqb x.1.line line),
-    )
+    let rest = stored_is xs line in
+    ⊎_elim (λ (e : eqb x.1.line line ≡ true). rw e (with_store (core_of x.1.from) (core_of x.1.to)
+    (messages_of (bag_of xs) line) (first_message (is_store_of line) xs) x.1.body rest
+    ∙ sym (stored_if (right.is_dram_store x.1.body) x (first_message (is_store_of line) xs))))
+    (λ (e : eqb x.1.line line ≡ false). rw e rest) (cases_Bool (eqb x.1.line line))
 
 same_else : (o : Option (List ℕ)) (d : List ℕ) → by_line.or_else o d ≡ or_else o d
 same_else None d = refl

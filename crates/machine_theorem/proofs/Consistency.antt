@@ -1,5 +1,5 @@
 -- A state that keeps the invariant is consistent, and so is a machine.
-use Rattle.std.proofs.Common.{arith, ◌≡◌, ℕ, ◌/◌, ◌%◌, ◌≤◌, List, ◌∷◌, map, get_or, refl, sym, ap, ◌∙◌, subst, nat_cmp}
+use Rattle.std.proofs.Common.{◌≡◌, ℕ, ◌/◌, ◌%◌, ◌≤◌, List, ◌∷◌, map, get_or, refl, sym, ap, ◌∙◌, subst, nat_cmp, []}
 use Rattle.std.specs.FinMap.{FinMap}
 use Rattle.physiological_order.specs.declared.operation.Record.{Record}
 use Rattle.physiological_order.specs.Order.{flat, Arrangement, replay_end, of_core}
@@ -32,13 +32,12 @@ module _ (config : Config) (opening : FinMap nat_cmp ℕ) (a : State) (s : IsKep
   value_left : (arranged : List Record) → Arrangement a.records arranged → (word : ℕ) →
       coherent config opening a word ≡ replay_end (flat opening) (map (λ r. r.op) arranged) word
   value_left arranged is word =
-      cc (
-        coherent_is f s.shape.some_words (view config a) s.reached.reachable config.cores (λ core line past. ap (λ (c
-            : CoreState). copy_in c line) (s.shape.cores_beyond core past) ∙ no_copy config core line) word,
-        one_arrangement
-            a.records _ arranged (arrangement_of (flat opening) a.issued a.records (reachable_ok f s.shape.some_words (view
-            config a) s.reached.reachable).kept) is,
-      )
+      coherent_is f s.shape.some_words (view config a) s.reached.reachable config.cores
+      (λ core line past. ap (λ (c : CoreState). copy_in c line) (s.shape.cores_beyond core past)
+      ∙ no_copy config core line) word
+      ∙ ap (λ rs. replay_end (flat opening) (map (λ (r : Record). r.op) rs) word)
+      (one_arrangement a.records _ arranged (arrangement_of (flat opening) a.issued a.records
+      (reachable_ok f s.shape.some_words (view config a) s.reached.reachable).kept) is)
 
   -- the loads and stores in flight of a line, and the messages about a core and the line: one, if the core waits for it
   pub line_counts : (l : ℕ) → let ms = messages_of a.bag l in let e = entry_in (a.banks (l % config.banks)) l in
@@ -75,13 +74,10 @@ module _ (m : Machine) (s : Invariant m) where
   pub consistent : IsConsistent m
   consistent = record {
     legal = state.legal;
-    issued = λ core.
-        grind (
-          arith,
-          seen_listed (λ (c : CoreState). c.open_op) operation_of (λ c. refl) m.cores core (open_core
-              m.config core) refl,
-          issued_now m.config m.opening (seen m) s.kept core,
-        );
+    issued = λ core. subst (IsIssued (get_or m.issued core []) (of_core core m.records))
+        (seen_listed (λ (c : CoreState). c.open_op) operation_of (λ c. refl) m.cores core
+        (open_core m.config core) refl)
+        (issued_now m.config m.opening (seen m) s.kept core);
     one_owner = one_owner;
     coherent = λ arranged is word. values_of word ∙ state.coherent arranged is word;
     cases = messages_find_cases m s;

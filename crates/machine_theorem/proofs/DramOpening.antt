@@ -69,11 +69,10 @@ module _ (c : Config) (bank : ℕ) where
     written : (lines : FinMap nat_cmp (List ℕ)) (a v : ℕ) → length (words_of lines (a / c.line_words)) ≡ 8 →
         word (with_word lines (a / c.line_words) (a % c.line_words) v) a ≡ v
     written lines a v long =
-        cc (
-          words-insert_same lines (a / c.line_words) (set (words_of lines (a / c.line_words)) (a % c.line_words) v),
-          get_or-set_same (words_of lines (a / c.line_words)) (a % c.line_words) v 0 (let lt = mod-lt a some in omega
-              arith),
-        )
+        ap (λ ws. get_or ws (a % c.line_words) 0) (words-insert_same lines (a / c.line_words)
+        (set (words_of lines (a / c.line_words)) (a % c.line_words) v))
+        ∙ get_or-set_same (words_of lines (a / c.line_words)) (a % c.line_words) v 0 (let lt =
+        mod-lt a some in omega arith)
 
     others : (lines : FinMap nat_cmp (List ℕ)) (a d v : ℕ) → a ≢ d →
         word (with_word lines (d / c.line_words) (d % c.line_words) v) a ≡ word lines a

@@ -78,23 +78,15 @@ module _ (m : Machine) (s : Invariant m) where
         same = bag_put a m unchanged (rest n) (left m.mail n) (λ h. refl) refl;
       }
   step_goes n put puts here counts (step.Makes why consumes sends part) fits move =
-      grind (
-        arith,
-        cond_both (can_post m.config.messages m.mail consumes sends) (
-          why,
-          record (put part) {
-            mail = posted
-                m.mail n consumes sends;
-          },
-        ) (refused m refusal.NetworkFull) Goes (λ e. made_goes why _ fits (record {
-          to =
-              moves.with_answer (puts part) (cond consumes (rest n) a.bag) sends;
-          move = move _ refl;
-          same = posted_put (puts
-              part) (put part) (here part) a.bag (rest n) m.mail n (λ h. refl) (λ h. refl) (counts part) consumes sends;
-        })) (λ
-            e. unchanged),
-      )
+      cond_both (can_post m.config.messages m.mail consumes sends)
+      (why, record (put part) { mail = posted m.mail n consumes sends }) (refused m refusal.NetworkFull)
+      Goes
+      (λ e. made_goes why _ fits (record {
+        to = moves.with_answer (puts part) (cond consumes (rest n) a.bag) sends;
+        move = move _ refl;
+        same = posted_put (puts part) (put part) (here part) a.bag (rest n) m.mail n (λ h. refl) (λ h. refl)
+            (counts part) consumes sends;
+      })) (λ e. unchanged)
 
   -- a core that is there
   module _ (c : ℕ) (core : CoreState) (at : slice_get m.cores c ≡ Some core) where
@@ -126,30 +118,27 @@ module _ (m : Machine) (s : Invariant m) where
       })
   goes event o (outcome.core_steps c core act n done at given is fits) =
       let e = is_core c core at in
-      grind (
-        arith,
-        step_goes n (with_core m c) (moves.with_core a c) (λ part. core_put a m unchanged c part (listed c
-            core at)) (λ part. refl) done fits (λ after. core_steps c act (rest n) done (below c core at) (beside (node.Core
-            c) core_has_case (a.cores c) core e (message_of act) n given) (ap (λ x. core_step x act) e ∙ is)),
-      )
+      step_goes n (with_core m c) (moves.with_core a c) (λ part. core_put a m unchanged c part (listed c core at))
+      (λ part. refl) done fits
+      (λ after. core_steps c act (rest n) done (below c core at)
+      (beside (node.Core c) core_has_case (a.cores c) core e (message_of act) n given)
+      (ap (λ x. core_step x act) e ∙ is))
   goes event o (outcome.bank_steps b bank act n done at given is fits) =
       let e = get_or_from_slice_get m.banks b bank (open_bank m.config b) at in
       let listed = slice_get_within m.banks b bank at in
-      grind (
-        arith,
-        step_goes n (with_bank m b) (moves.with_bank a b) (λ part. bank_put a m unchanged b part listed) (λ
-            part. refl) done fits (λ after. bank_steps b act (rest n) done (let many = s.bank_count in omega arith) (beside
-            (node.Bank b) bank_has_case (a.banks b) bank e (message_of act) n given) (ap (λ x. bank_step x act) e ∙ is)),
-      )
+      step_goes n (with_bank m b) (moves.with_bank a b) (λ part. bank_put a m unchanged b part listed)
+      (λ part. refl) done fits
+      (λ after. bank_steps b act (rest n) done (let many = s.bank_count in omega arith)
+      (beside (node.Bank b) bank_has_case (a.banks b) bank e (message_of act) n given)
+      (ap (λ x. bank_step x act) e ∙ is))
   goes event o (outcome.dram_steps b lines act n done at given is fits) =
       let e = get_or_from_slice_get m.drams b lines (dram_of m.config b (entries m.opening)) at in
       let listed = slice_get_within m.drams b lines at in
-      grind (
-        arith,
-        step_goes n (with_dram m b) (moves.with_dram a b) (λ part. dram_put a m unchanged b part listed) (λ
-            part. refl) done fits (λ after. dram_steps b act (rest n) done (let many = s.dram_count in omega arith) (beside
-            (node.Dram b) dram_has_case (a.drams b) lines e (message_of act) n given) (ap (λ x. dram_step x act) e ∙ is)),
-      )
+      step_goes n (with_dram m b) (moves.with_dram a b) (λ part. dram_put a m unchanged b part listed)
+      (λ part. refl) done fits
+      (λ after. dram_steps b act (rest n) done (let many = s.dram_count in omega arith)
+      (beside (node.Dram b) dram_has_case (a.drams b) lines e (message_of act) n given)
+      (ap (λ x. dram_step x act) e ∙ is))
 
   pub transition_goes : (event : Event) → Goes (transition m event)
   transition_goes event = goes event _ (outcome.transition_outcome m event)

@@ -98,12 +98,11 @@ module _ (config : Config) (opening : FinMap nat_cmp ℕ) (a : State) (s : IsKep
         (subst (λ (k : ℕ). IsShared (copy_in (a.cores k) x.line)) (ap core_of to) h)
 
     core_end : (b : Body) → x.body ≡ b → c < config.cores → comes_to_core core x.line b ≡ true → Finds x.to
-    core_end b e below comes =
-        grind (
-          arith,
-          both _ _ (ap (is_this_core core.number) to ∙ eq-eqb c core.number (sym is.numbered)) (ap
-              (comes_to_core core x.line) e ∙ comes),
-        )
+    core_end b e below comes = subst Finds (sym to) (
+      below,
+      both _ _ (ap (is_this_core core.number) to ∙ eq-eqb c core.number (sym is.numbered))
+          (ap (comes_to_core core x.line) e ∙ comes),
+    )
 
   -- at a bank
   module _ (b : ℕ) (to : x.to ≡ node.Bank b) where
@@ -115,12 +114,11 @@ module _ (config : Config) (opening : FinMap nat_cmp ℕ) (a : State) (s : IsKep
 
     bank_end : (c : Body) → x.body ≡ c → b < config.banks → comes_to_bank x.from c (entry_of bank x.line) ≡ true →
         Finds x.to
-    bank_end c e below comes =
-        grind (
-          arith,
-          both _ _ (ap (is_this_bank bank.number) to ∙ eq-eqb b bank.number (sym (s.shape.each_bank
-              b).numbered)) (ap (λ k. comes_to_bank x.from k (entry_of bank x.line)) e ∙ comes),
-        )
+    bank_end c e below comes = subst Finds (sym to) (
+      below,
+      both _ _ (ap (is_this_bank bank.number) to ∙ eq-eqb b bank.number (sym (s.shape.each_bank b).numbered))
+          (ap (λ k. comes_to_bank x.from k (entry_of bank x.line)) e ∙ comes),
+    )
 
   abbrev Waits : Body → Type 0
   Waits b = HasCase (set_up config opening) (view config a) x.line (body_seen (core_of x.from) (core_of x.to) b)

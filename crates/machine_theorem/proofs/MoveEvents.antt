@@ -35,17 +35,16 @@ module _ (config : Config) (opening : FinMap nat_cmp ℕ) (a : State) (s : IsKep
   of_ready (dram_steps i act rest done lt beside is to) = dram_steps i act rest done lt beside is to
 
   is_in : IsIn (record config { messages = capacity }) a ready 1
-  is_in =
-      grind (
-        arith,
-        numbered_same config opening a s,
-        length-first a.cores config.cores,
-        length-first a.banks
-            config.banks,
-        length-first a.drams config.banks,
-        rising,
-        rising 0 (length a.bag) a.bag (omega arith),
-      )
+  is_in = record {
+    same = numbered_same config opening a s;
+    runs = refl;
+    set_up = refl;
+    cores = length-first a.cores config.cores;
+    banks = length-first a.banks config.banks;
+    drams = length-first a.drams config.banks;
+    rising = rising 0 (length a.bag) a.bag (omega arith);
+    numbers = omega (arith, some);
+  }
 
   free : has_capacity capacity ready.mail ≡ true
   free =

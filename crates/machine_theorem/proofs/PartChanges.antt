@@ -29,40 +29,33 @@ module _ (a : State) (m : Machine) (k : Same a (seen m)) where
   pub core_put : (c : ℕ) (core : CoreState) → c < length m.cores →
       Same (with_core a c core) (seen (table.with_core m c core))
   core_put c core lt =
-      grind (
-        arith,
-        same_by (part_put a.cores m.cores (open_core m.config) c core core k.cores refl lt) k.banks k.drams
-            k.bag k.issued k.records k.counts,
-      )
+      same_by
+      (part_put a.cores m.cores (open_core m.config) c core core k.cores refl lt)
+      k.banks k.drams k.bag k.issued k.records k.counts
 
   pub bank_put : (b : ℕ) (bank : BankState) → b < length m.banks →
       Same (with_bank a b bank) (seen (table.with_bank m b bank))
   bank_put b bank lt =
-      grind (
-        arith,
-        same_by k.cores (part_put a.banks m.banks (open_bank m.config) b bank bank k.banks refl lt) k.drams
-            k.bag k.issued k.records k.counts,
-      )
+      same_by k.cores
+      (part_put a.banks m.banks (open_bank m.config) b bank bank k.banks refl lt)
+      k.drams k.bag k.issued k.records k.counts
 
   pub dram_put : (b : ℕ) (lines : FinMap nat_cmp (List ℕ)) → b < length m.drams →
       Same (with_dram a b lines) (seen (table.with_dram m b lines))
   dram_put b lines lt =
-      grind (
-        arith,
-        same_by k.cores k.banks (part_put a.drams m.drams (λ j. dram_of m.config j (entries m.opening)) b
-            lines lines k.drams refl lt) k.bag k.issued k.records k.counts,
-      )
+      same_by k.cores k.banks
+      (part_put a.drams m.drams (λ j. dram_of m.config j (entries m.opening)) b lines lines k.drams refl lt)
+      k.bag k.issued k.records k.counts
 
   pub issue_put : (c : ℕ) (op : Op) (core : CoreState) → c < length m.cores → c < length m.issued →
       Same (record (with_core a c core) { issued = with_at a.issued c (a.issued c ++ op ∷ []) })
       (seen (record (table.with_core m c core) { issued = set m.issued c (get_or m.issued c [] ++ op ∷ []) }))
   issue_put c op core lt there =
-      grind (
-        arith,
-        core_put c core lt,
-        part_put a.issued m.issued (λ j. []) c (a.issued c ++ op ∷ []) (get_or m.issued
-            c [] ++ op ∷ []) k.issued (ap (λ (ops : List Op). ops ++ op ∷ []) (k.issued c)) there,
-      )
+      let put = core_put c core lt in
+      same_by put.cores k.banks k.drams k.bag
+      (part_put a.issued m.issued (λ j. []) c (a.issued c ++ op ∷ []) (get_or m.issued c [] ++ op ∷ []) k.issued
+      (ap (λ (ops : List Op). ops ++ op ∷ []) (k.issued c)) there)
+      k.records k.counts
 
   pub completion_put : (c : ℕ) (op : Op) (received : Option ℕ) (ts : ℕ) (old core : CoreState) → c < length m.cores →
       Same (record (with_core a c core) {

@@ -22,13 +22,9 @@ module _ (config : Config) (opening : FinMap nat_cmp ℕ) (a : State) (s : IsKep
   pub issued_count : (a.cores c).issued ≡ length (of_core c a.records) + length (listed (a.cores c).open_op)
   issued_count =
       let ops = map (λ (r : Record). r.op) (of_core c a.records) in
-      grind (
-        arith,
-        issued_now config opening a s c,
-        length-append ops (listed (a.cores c).open_op),
-        length-map (of_core
-            c a.records) (λ (r : Record). r.op),
-      )
+      (s.shape.each_core c).count ∙ ap length (issued_now config opening a s c).all
+      ∙ length-append ops (listed (a.cores c).open_op)
+      ∙ ap (λ n. n + length (listed (a.cores c).open_op)) (length-map (of_core c a.records) (λ (r : Record). r.op))
 
   pub next_place : (op : Op) (received : Option ℕ) (ts : ℕ) → (a.cores c).open_op ≡ Some op →
       (record_of c (length a.records) (a.cores c) op received ts).place ≡ length (of_core c a.records)

@@ -105,14 +105,12 @@ module _ {more : Bool} (m : Machine) (able : CanSend more m) where
         victim_for core.cache (address op / m.config.line_words) ≡ Some line →
         IsActive more (copy_evicted (core_table.evict core line)) → MovesOn m
     copy_moves op line opens full victim active =
-        grind (
-          arith,
-          by_event (event.EvictCache c line) (copy_leaves c line core op at opens (ap (λ (o : Answer ×
-              Machine). o.0) (happens (event.Attempt c) _ tries ∙ ap (tried m c core) full)) victim) (changed m (with_core m
-              c) None (copy_evicted (core_table.evict core line))) (finds m (λ x. changed m (with_core m c) None (copy_evicted
-              (core_table.evict x line))) at) (step_moves (with_core m c) None (copy_evicted (core_table.evict core line))
-              active),
-        )
+        by_event (event.EvictCache c line)
+        (copy_leaves c line core op at opens
+        (ap (λ (o : Answer × Machine). o.0) (happens (event.Attempt c) _ tries ∙ ap (tried m c core) full)) victim)
+        (changed m (with_core m c) None (copy_evicted (core_table.evict core line)))
+        (finds m (λ x. changed m (with_core m c) None (copy_evicted (core_table.evict x line))) at)
+        (step_moves (with_core m c) None (copy_evicted (core_table.evict core line)) active)
 
   module _ (n : ℕ) (x : Message) (number : at_number n m.mail.messages ≡ Some x) where
     -- a delivery to a part
@@ -126,11 +124,9 @@ module _ {more : Bool} (m : Machine) (able : CanSend more m) where
         (line : ℕ) → IsRequest x.body → bank_table.make_room bank x.line ≡ Some line →
         IsActive more (entry_evicted (bank_table.evict bank line)) → MovesOn m
     line_moves b bank to at held line request chosen active =
-        grind (
-          arith,
-          by_event (event.EvictBank b line) (line_leaves n b line x bank number to request at (ap (λ (o :
-              Answer × Machine). o.0) (happens (event.Deliver n) _ held)) chosen) (changed m (with_bank m b) None
-              (entry_evicted (bank_table.evict bank line))) (finds m (λ y. changed m (with_bank m b) None (entry_evicted
-              (bank_table.evict y line))) at) (step_moves (with_bank m b) None (entry_evicted (bank_table.evict bank line))
-              active),
-        )
+        by_event (event.EvictBank b line)
+        (line_leaves n b line x bank number to request at
+        (ap (λ (o : Answer × Machine). o.0) (happens (event.Deliver n) _ held)) chosen)
+        (changed m (with_bank m b) None (entry_evicted (bank_table.evict bank line)))
+        (finds m (λ y. changed m (with_bank m b) None (entry_evicted (bank_table.evict y line))) at)
+        (step_moves (with_bank m b) None (entry_evicted (bank_table.evict bank line)) active)

@@ -54,11 +54,9 @@ module _ {X : Type 0} where
   still_rising : (n low high : ℕ) (xs : List (ℕ × X)) → IsRising low xs high → IsRising low (without_number n xs) high
   still_rising n low high [] rising = rising
   still_rising n low high (y ∷ ys) rising =
-      grind (
-        arith,
-        cond_both (eqb y.0 n) ys (y ∷ without_number n ys) (λ zs. IsRising low zs high) (λ e. lower (y.0 +
-            1) low high ys rising.1 (omega (arith, rising.0))) (λ e. (rising.0, still_rising n (y.0 + 1) high ys rising.1)),
-      )
+      cond_both (eqb y.0 n) ys (y ∷ without_number n ys) (λ zs. IsRising low zs high)
+      (λ e. lower (y.0 + 1) low high ys rising.1 (omega (arith, rising.0)))
+      (λ e. (rising.0, still_rising n (y.0 + 1) high ys rising.1))
 
   rising_on : (low high : ℕ) (x : X) (xs : List (ℕ × X)) → IsRising low xs high →
       IsRising low (xs ++ (high, x) ∷ []) (high + 1)
@@ -222,11 +220,9 @@ module _ (config : Config) (a : State) (m : Machine) (k : ℕ) (i : IsIn config 
   step_led put puts same counts runs n rest others Drops b to room =
       rw to (bag_put a m i.same rest (left m.mail n) others i.same.counts, i.runs)
   step_led put puts same counts runs n rest others (Makes did consumes sends part) b to room =
-      grind (
-        arith,
-        can consumes sends rest (puts part) (rw to at room),
-        posted_put (puts part) (put part) (same part)
-            a.bag rest m.mail n i.same.bag others (counts part) consumes sends,
+      rw (to, can consumes sends rest (puts part) (rw to at room)) (
+        posted_put (puts part) (put part) (same part) a.bag rest m.mail n i.same.bag others (counts part) consumes
+            sends,
         runs part,
       )
 

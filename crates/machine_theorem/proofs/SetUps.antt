@@ -38,17 +38,10 @@ module _ (m : Machine) where
       (s : Step S) → HasAsMany m (changed m put n s).1
   changed_same put keeps n (step.Makes why consumes sends part) =
       let k = keeps part in
-      grind (
-        arith,
-        cond_both (can_post m.config.messages m.mail consumes sends) (
-          why,
-          record (put part) {
-            mail = posted
-                m.mail n consumes sends;
-          },
-        ) (refused m refusal.NetworkFull) (λ o. HasAsMany m o.1) (λ e. same _ k.config k.opening
-            k.cores k.banks k.drams k.issued) (λ e. same _ refl refl refl refl refl refl),
-      )
+      cond_both (can_post m.config.messages m.mail consumes sends)
+      (why, record (put part) { mail = posted m.mail n consumes sends }) (refused m refusal.NetworkFull)
+      (λ o. HasAsMany m o.1) (λ e. same _ k.config k.opening k.cores k.banks k.drams k.issued)
+      (λ e. same _ refl refl refl refl refl refl)
   changed_same put keeps n step.Exhausts = same _ refl refl refl refl refl refl
   changed_same put keeps n _ = same _ refl refl refl refl refl refl
 

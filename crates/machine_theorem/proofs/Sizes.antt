@@ -60,17 +60,12 @@ IsDistinct-put_in_place : {X : Type 0} (ps : List (ℕ × X)) (line : ℕ) (x : 
     IsDistinct (put_in_place ps line x)
 IsDistinct-put_in_place [] line x d = tt
 IsDistinct-put_in_place (p ∷ ps) line x d =
-    grind (
-      arith,
-      cond_both (eqb p.0 line) ((line, x) ∷ ps) (p ∷ put_in_place ps line x) IsDistinct (λ e. (
-        rw (eqb-true
-            p.0 line e) at d.0,
-        d.1,
-      )) (λ e. (
-        ap is_some (find-put_in_place_other ps line p.0 x (eqb-false p.0 line e)) ∙ d.0,
-        IsDistinct-put_in_place ps line x d.1,
-      )),
-    )
+    cond_both (eqb p.0 line) ((line, x) ∷ ps) (p ∷ put_in_place ps line x) IsDistinct
+    (λ e. (rw (eqb-true p.0 line e) at d.0, d.1))
+    (λ e. (
+      ap is_some (find-put_in_place_other ps line p.0 x (eqb-false p.0 line e)) ∙ d.0,
+      IsDistinct-put_in_place ps line x d.1,
+    ))
 
 module _ {X : Type 0} (n ways : ℕ) (some : 0 < n) (home : ℕ → ℕ) (table : Sets X) (fits : Fits n ways home table)
     (line : ℕ) where
@@ -129,12 +124,10 @@ module _ {X : Type 0} (n ways : ℕ) (some : 0 < n) (home : ℕ → ℕ) (table 
       (λ k n. find-put_in_place_other old line k x n)
 
   pub fits-drop : Fits n ways home (record table { sets = drop_line table.sets its_set line })
-  fits-drop =
-      grind (
-        arith,
-        rewritten (without old line) (let k = length-without_le old line in let m = fits.sizes its_set in
-            omega arith) (IsDistinct-without old line (fits.distinct its_set)) (λ k n. find-without_other old line k n),
-      )
+  fits-drop = rewritten (without old line)
+      (let k = length-without_le old line in let m = fits.sizes its_set in omega arith)
+      (IsDistinct-without old line (fits.distinct its_set))
+      (λ k n. find-without_other old line k n)
 
 -- what holds of the part that a step makes
 abbrev Made : {S : Type 0} → (S → Type 0) → Step S → Type 0
@@ -402,12 +395,10 @@ lines_within (p ∷ ps) qs d among =
 pub lines_fewer : {X Y : Type 0} (ps : List (ℕ × X)) (qs : List (ℕ × Y)) (h : ℕ) → IsDistinct ps →
     is_there qs h ≡ true → ((k : ℕ) → is_there ps k ≡ true → (is_there qs k ≡ true) × (k ≢ h)) → length ps < length qs
 lines_fewer ps qs h d there among =
-    omega (
-      arith,
-      length-without_there qs h there,
-      lines_within ps (without qs h) d (λ k i. ap is_some
-          (find-without_other qs h k (among k i).1) ∙ (among k i).0),
-    )
+    let fewer = length-without_there qs h there in
+    let le = lines_within ps (without qs h) d (λ k i.
+    ap is_some (find-without_other qs h k (among k i).1) ∙ (among k i).0) in
+    omega arith
 
 -- a line that is there, where there are any
 pub first_there : {X : Type 0} (ps : List (ℕ × X)) → 0 < length ps → (h : ℕ) × (is_there ps h ≡ true)

@@ -147,13 +147,11 @@ module _ (config : Config) (opening : FinMap nat_cmp ℕ) (a : State) where
         messages = front;
       }) → Reaches (kind_at l who) (view config (record a { cores = with_at a.cores c new; bag = bag }))
   core_move who c new l copy front bag same here others messages bags move =
-      grind (
-        arith,
-        line_turn who (record a { cores = with_at a.cores c new; bag = bag }) l (v.mts (l % config.banks)) _
-            (line_same _ _ refl (λ d. ap (λ o. with_at (line_seen config a l).copies c o d) here ∙ seen_at (λ x. copy_in x l)
-            a.cores c new d) messages refl) (λ j ne. line_same _ _ refl (seen_alike (λ x. copy_in x j) a.cores c new (others j
-            ne)) (bags j ne) refl) (seen_alike core_seen a.cores c new same) (time_kept l) (λ d. refl) refl move,
-      )
+      line_turn who (record a { cores = with_at a.cores c new; bag = bag }) l (v.mts (l % config.banks)) _
+      (line_same _ _ refl (λ d. ap (λ o. with_at (line_seen config a l).copies c o d) here
+      ∙ seen_at (λ x. copy_in x l) a.cores c new d) messages refl)
+      (λ j ne. line_same _ _ refl (seen_alike (λ x. copy_in x j) a.cores c new (others j ne)) (bags j ne) refl)
+      (seen_alike core_seen a.cores c new same) (time_kept l) (λ d. refl) refl move
 
   -- one that changes a bank
   pub bank_turn : (new : BankState) (l : ℕ) (o : by_line.Entry) (front : List by_line.Message) (bag : List Message) →
@@ -164,14 +162,12 @@ module _ (config : Config) (opening : FinMap nat_cmp ℕ) (a : State) where
       Reaches delivering (view config (record a { banks = with_at a.banks (l % config.banks) new; bag = bag }))
   bank_turn new l o front bag entry messages others bags move =
       let b = l % config.banks in
-      grind (
-        arith,
-        line_turn None (record a { banks = with_at a.banks b new; bag = bag }) l new.mts _ (line_same _ _
-            (entry ∙ ap (λ (x : BankState). entry_in x l) (sym (with_at_same a.banks b new))) (λ d. refl) messages refl) (λ j
-            ne. line_same _ _ (seen_alike (λ x. entry_in x j) a.banks b new (ap entry_seen (others j ne)) (j % config.banks))
-            (λ d. refl) (bags j ne) refl) (λ d. refl) (seen_at (λ (x : BankState). x.mts) a.banks b new) (λ d. refl) refl
-            move,
-      )
+      line_turn None (record a { banks = with_at a.banks b new; bag = bag }) l new.mts _
+      (line_same _ _ (entry ∙ ap (λ (x : BankState). entry_in x l) (sym (with_at_same a.banks b new))) (λ d. refl)
+      messages refl)
+      (λ j ne. line_same _ _ (seen_alike (λ x. entry_in x j) a.banks b new (ap entry_seen (others j ne))
+      (j % config.banks)) (λ d. refl) (bags j ne) refl)
+      (λ d. refl) (seen_at (λ (x : BankState). x.mts) a.banks b new) (λ d. refl) refl move
 
   -- one that changes a DRAM
   pub dram_turn : (new : FinMap nat_cmp (List ℕ)) (l : ℕ) (front : List by_line.Message) (bag : List Message) →
@@ -185,13 +181,11 @@ module _ (config : Config) (opening : FinMap nat_cmp ℕ) (a : State) where
       Reaches delivering (view config (record a { drams = with_at a.drams (l % config.banks) new; bag = bag }))
   dram_turn new l front bag messages others bags move =
       let b = l % config.banks in
-      grind (
-        arith,
-        line_turn None (record a { drams = with_at a.drams b new; bag = bag }) l (v.mts b) _ (line_same _ _
-            refl (λ d. refl) messages (ap (λ x. words_of x l) (sym (with_at_same a.drams b new)))) (λ j ne. line_same _ _ refl
-            (λ d. refl) (bags j ne) (seen_alike (λ x. words_of x j) a.drams b new (others j ne) (j % config.banks))) (λ d.
-            refl) (time_kept l) (λ d. refl) refl move,
-      )
+      line_turn None (record a { drams = with_at a.drams b new; bag = bag }) l (v.mts b) _
+      (line_same _ _ refl (λ d. refl) messages (ap (λ x. words_of x l) (sym (with_at_same a.drams b new))))
+      (λ j ne. line_same _ _ refl (λ d. refl) (bags j ne)
+      (seen_alike (λ x. words_of x j) a.drams b new (others j ne) (j % config.banks)))
+      (λ d. refl) (time_kept l) (λ d. refl) refl move
 
   -- one that changes messages alone
   pub bag_turn : (l : ℕ) (bag : List Message) →

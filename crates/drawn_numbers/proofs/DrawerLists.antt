@@ -19,18 +19,13 @@ none_some e = cc
 
 -- what holds of all numbers below n, and of n
 pub one_further : (P : ℕ → Type 0) (n : ℕ) → ((j : ℕ) → j < n → P j) → P n → (j : ℕ) → j < n + 1 → P j
-one_further P n before here j lt =
-    dite (ℕ_discrete j n) (λ (e : j ≡ n). subst P (sym e) here) (λ (ne : j ≢ n). before j (omega arith))
+one_further P n before here j lt = grind arith
 
 -- no drawer so far has the number
 pub not_so_far : (ds : List Drawer) (i : ℕ) (d : Drawer) (n : ℕ) → slice_get ds i ≡ Some d → d.number ≢ n →
     ((j : ℕ) (e : Drawer) → j < i → slice_get ds j ≡ Some e → e.number ≢ n) →
     (j : ℕ) (e : Drawer) → j < i + 1 → slice_get ds j ≡ Some e → e.number ≢ n
-not_so_far ds i d n here not before j y lt e =
-    dite (ℕ_discrete j i)
-    (λ (same : j ≡ i). λ is.
-    not (ap (λ (z : Drawer). z.number) (some_is (sym here ∙ ap (slice_get ds) (sym same) ∙ e)) ∙ is))
-    (λ (ne : j ≢ i). before j y (omega arith) e)
+not_so_far ds i d n here not before j y lt e = grind arith
 
 pub get_snoc : {A : Type 0} → (xs : List A) (x y : A) (i : ℕ) → slice_get (xs ++ x ∷ []) i ≡ Some y →
     (slice_get xs i ≡ Some y) ⊎ ((i ≡ length xs) × (x ≡ y))
@@ -43,9 +38,7 @@ get_snoc (z ∷ xs) x y (suc i) e = ⊎_elim inl (λ t. inr (ap suc t.0, t.1)) (
 pub more_drawers : (m : Numbers) (from : ℕ) (ds all : List Drawer) (d : Drawer) → all ≡ ds ++ d ∷ [] →
     AllNewDrawers m from ds → IsNewDrawer m (from + length ds) d → AllNewDrawers m from all
 more_drawers m from ds all d is old new i e at =
-    ⊎_elim (λ x. old i e x)
-    (λ x. subst (λ (y : ℕ × Drawer). IsNewDrawer m (from + y.0) y.1) (λ j. (sym x.0 j, x.1 j)) new)
-    (get_snoc ds d e i (ap (λ y. slice_get y i) (sym is) ∙ at))
+    grind (arith, get_snoc ds d e i (ap (λ y. slice_get y i) (sym is) ∙ at))
 
 pub front_drawer : (m : Numbers) (ds : List Drawer) (d : Drawer) → AllNewDrawers m 1 ds → IsNewDrawer m 0 d →
     AllNewDrawers m 0 (d ∷ ds)
@@ -56,11 +49,7 @@ front_drawer m ds d all new (suc i) e at = subst (λ k. IsNewDrawer m k e) (omeg
 pub new_drawer : (m : Numbers) (n : ℕ) (d : Drawer) (counter_seat : CounterSeat) → n < m.drawers →
     counter_seat.table_id ≡ m.table.shared.table_id → d.seat ≡ counter_seat → d.number ≡ n → d.drawn.items ≡ [] →
     IsNewDrawer m n d
-new_drawer m n d counter_seat lt table seat number drawn = (
-  (ap (λ (y : CounterSeat). y.table_id) seat ∙ table, subst (λ k. k < m.drawers) (sym number) lt),
-  number,
-  drawn,
-)
+new_drawer m n d counter_seat lt table seat number drawn = grind arith
 
 module _ {A : Type 0} where
   pub get_index : (xs : List A) (i : ℕ) (d : A) → i < length xs → slice_get xs i ≡ Some (slice_index_or xs i d)
@@ -99,8 +88,7 @@ module _ {A : Type 0} where
   -- the last of a list is behind the others
   pub joined : (all old new done : List A) (o : Option A) (p : A) → all ≡ old ++ done → old ≡ new ++ option_to_list o →
       o ≡ Some p → all ≡ new ++ p ∷ done
-  joined all old new done o p a b e =
-      a ∙ ap (λ z. z ++ done) (b ∙ ap (λ z. new ++ option_to_list z) e) ∙ append_assoc new (p ∷ []) done
+  joined all old new done o p a b e = cc (append_assoc new (p ∷ []) done)
 
   pub split_of : (all rest : List A) (o : Option A) (last : A) → all ≡ rest ++ option_to_list o → o ≡ Some last →
       all ≡ rest ++ last ∷ []

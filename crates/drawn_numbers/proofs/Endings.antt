@@ -117,8 +117,7 @@ module _ (n id : ℕ) (all rest : List Drawer) (last : Drawer) (lists : List (Ve
   listed : (j : ℕ) → j < n → slice_get given j ≡ Some (r.drawn j)
   listed j lt =
       let l = at_filled all lists j (omega arith) (whole.there j lt) in
-      map_at (λ (xs : Vec ℕ Global). xs.items) (lists_filled all lists) j l.1.drawn l.4
-      ∙ ap Some (sym (own l.0 l.1 l.2) ∙ ap r.drawn l.3)
+      cc (map_at (λ (xs : Vec ℕ Global). xs.items) (lists_filled all lists) j l.1.drawn l.4, own l.0 l.1 l.2)
 
   length_given : length given ≡ n
   length_given = length-map (lists_filled all lists) (λ (xs : Vec ℕ Global). xs.items) ∙ filled_length all lists ∙ long

@@ -1,10 +1,8 @@
 -- Which messages, attempts and evictions a part always does something with.
-use Rattle.std.proofs.Common.{◌≡◌, ℕ, ◌+◌, ◌<◌, Bool, true, false, ◌&&◌, cond, eqb, List, [], ◌∷◌, ◌≤◌, ◌/◌}
-use Rattle.std.proofs.Common.{length, Option, Some, None, inl, inr, ◌⊎◌, refl, sym, ap, ◌∙◌, subst, ⊎_elim, arith}
-use Rattle.std.specs.Prelude.{is_some, option_map, Ok, Err}
+use Rattle.std.proofs.Common.{◌≡◌, ℕ, ◌+◌, ◌<◌, Bool, true, false, cond, eqb, List, [], ◌∷◌, ◌≤◌, length, Option, Some}
+use Rattle.std.proofs.Common.{None, inl, inr, ◌⊎◌, refl, sym, ap, ◌∙◌, subst, arith, is_some, option_map, nat_cmp}
 use Rattle.std.specs.List as list
 use Rattle.std.specs.List.{list_all}
-use Rattle.std.specs.Ordering.{nat_cmp}
 use Rattle.std.specs.FinMap.{FinMap}
 use Rattle.std.proofs.lemmas.Bool.Decides.{nat_tests}
 use Rattle.std.proofs.lemmas.Bool.{and_parts, cond-true, cond-false, eqb-true, eq-eqb}
@@ -20,7 +18,6 @@ use Rattle.line_sets.specs.Order.{find, is_there, IsDistinct}
 use Rattle.private_cache.specs.declared.line_copy.LineCopy.{LineCopy}
 use Rattle.private_cache.specs.CopyTable as cache
 use Rattle.private_cache.specs.CopyTable.{copy_of, is_pinned, place_for}
-use Rattle.private_cache.specs.declared.cache.CacheError.TheVariants as not_left
 use Rattle.core_pts.specs.declared.decision.CoreReaction.TheVariants.{Returns, Drops}
 use Rattle.core_pts.specs.declared.attempt.Attempt.{Attempt}
 use Rattle.core_pts.specs.declared.attempt.Attempt.TheVariants as attempt
@@ -34,21 +31,19 @@ use Rattle.llc_bank.specs.OnEntry as on_entry
 use Rattle.llc_bank.specs.OnEntry.{at_bank}
 use Rattle.llc_bank.specs.Settled.{is_settled, is_shared}
 use Rattle.llc_bank.specs.BankTable as bank_table
-use Rattle.llc_bank.specs.BankTable.{BankState, comes_to_bank, is_owned, core_of}
+use Rattle.llc_bank.specs.BankTable.{BankState, comes_to_bank, core_of}
 use Rattle.dram_mts.specs.Table.{dram_case, comes_to_dram}
 use Rattle.machine_table.specs.declared.event.Answer.TheVariants.{Held}
 use Rattle.machine_table.specs.Step.{Keeps, attempted, copy_evicted, entry_evicted, reacted}
 use Rattle.machine_theorem.specs.Rounds.{IsRequest}
 use Rattle.protocol.specs.Machine as by_line
 use Rattle.protocol.specs.Recalls.{recall_to}
-use Rattle.protocol.proofs.Lemmas.{Some_injective}
 use Rattle.machine_theorem.specs.View.{body_seen, message_seen, set_up, view}
 use Rattle.machine_theorem.proofs.Deliveries.{and_right, counts_if}
 use Rattle.machine_theorem.proofs.RoundEvents.{IsActive, IsTrying}
 use Rattle.machine_table.specs.declared.config.Config.{Config}
 use Rattle.machine_theorem.specs.States.{State}
 use Rattle.machine_theorem.specs.Kept.{IsKept}
-use Rattle.physiological_order.specs.Order.{address}
 
 -- a bank's recall of a line
 abbrev pub IsRecall : Body → Type 0
@@ -88,8 +83,7 @@ pinned_op core line pinned = go core.open_op refl
   where
     go : (o : Option Op) → core.open_op ≡ o →
         (op : Op) × (core.open_op ≡ Some op) × (core_table.line_of core op ≡ line)
-    go None opens = absurd (let z : false ≡ true =
-        sym (ap (λ (i : Option Op). is_pinned (option_map (core_table.line_of core) i) line) opens) ∙ pinned in cc)
+    go None opens = grind arith
     go (Some op) opens = (
       op,
       opens,
@@ -100,8 +94,7 @@ pinned_op core line pinned = go core.open_op refl
 pub pinned_here : (config : Config) (opening : FinMap nat_cmp ℕ) (a : State) → IsKept config opening a → (c l : ℕ) →
     is_pinned (core_table.pinned_line (a.cores c)) l ≡ true →
     by_line.IsPinned (set_up config opening) (view config a).cores l c
-pinned_here config opening a s c l pinned = let op = pinned_op (a.cores c) l pinned in
-    (op.0, op.1, ap (λ (i : ℕ). address op.0 / i) (sym (s.shape.each_core c).line_words) ∙ op.2)
+pinned_here config opening a s c l pinned = grind (arith, pinned_op (a.cores c) l pinned)
 
 -- the core that is asked to return a line
 pub recalled_core : (x : Message) → IsRecall x.body → (d : ℕ) → 1 ≤ recall_to d (message_seen x) → core_of x.to ≡ d
@@ -156,9 +149,7 @@ module _ (core : CoreState) (line : ℕ) where
   pub copy_active : (pinned : Option ℕ) (o : Option LineCopy) → is_some o ≡ true → is_pinned pinned line ≡ false →
       IsActive true (copy_evicted (core_table.sent_back core line (cache.evicted core.cache line pinned o)))
   copy_active pinned None there off = absurd (cc)
-  copy_active pinned (Some copy) there off =
-      subst (λ (b : Bool). IsActive true (copy_evicted (core_table.sent_back core line
-      (cond b (Err not_left.Pinned, core.cache) (Ok copy, cache.without_copy core.cache line))))) (sym off) tt
+  copy_active pinned (Some copy) there off = grind arith
 
 module _ (core : CoreState) (op : Op) where
   -- a copy that serves the operation completes it, if its time fits
@@ -269,12 +260,8 @@ module _ {X : Type 0} (passes : X → Bool) (Else : Type 0) where
       ((h : ℕ) (x : X) → find ps h ≡ Some x → Else ⊎ (passes x ≡ true)) →
       Else ⊎ (list_all (λ p. passes p.1) ps ≡ true)
   all_pass [] distinct each = inr refl
-  all_pass (p ∷ ps) distinct each = ⊎_elim (λ (e : Else). inl e)
-      (λ (first : passes p.1 ≡ true). ⊎_elim (λ (e : Else). inl e)
-      (λ (rest : list_all (λ p. passes p.1) ps ≡ true).
-      inr (ap (λ (b : Bool). b && list_all (λ p. passes p.1) ps) first ∙ rest))
-      (all_pass ps distinct.1 (λ h x is. each h x (behind p ps distinct.0 h x is))))
-      (each p.0 p.1 (here p ps))
+  all_pass (p ∷ ps) distinct each =
+      grind (arith, all_pass ps distinct.1 (λ h x is. each h x (behind p ps distinct.0 h x is)), here p ps)
 
 -- the line that is chosen to make room is one of the set
 chosen_in : (test : Entry → Bool) (ps : List (ℕ × Entry)) (v : ℕ) → bank_table.first_of test ps ≡ Some v →
@@ -288,8 +275,7 @@ chosen_in test (p ∷ ps) v is = go (test p.1) (chosen_in test ps v) is
 
     go : (b : Bool) → (bank_table.first_of test ps ≡ Some v → is_there ps v ≡ true) →
         option_map (λ e. e.0) (cond b (Some p) (list.find (λ e. test e.1) ps)) ≡ Some v → is_there (p ∷ ps) v ≡ true
-    go true rest e = subst (λ (k : ℕ). is_there (p ∷ ps) k ≡ true) (Some_injective p.0 v e)
-        (ap is_some (cond-true (eqb p.0 p.0) (Some p.1) (find ps p.0) (eq-eqb p.0 p.0 refl)))
+    go true rest e = cc (cond-true (eqb p.0 p.0) (Some p.1) (find ps p.0) (eq-eqb p.0 p.0 refl))
     go false rest e = later (eqb p.0 v) (rest e)
 
 pub chosen_there : (ps : List (ℕ × Entry)) → 0 < length ps → bank_table.all_settled ps ≡ true →

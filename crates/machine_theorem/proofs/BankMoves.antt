@@ -1,13 +1,10 @@
 -- The moves of a bank and of a DRAM keep the invariant.
 use Rattle.std.proofs.Common.{◌≡◌, ◌≢◌, ℕ, ◌%◌, ◌/◌, ◌<◌, ◌≤◌, max, Bool, true, false, List, ◌∷◌, Option, Some, None}
-use Rattle.std.proofs.Common.{refl, sym, ap, ◌∙◌, subst, arith, ⊎_elim}
-use Rattle.std.specs.Ordering.{nat_cmp}
+use Rattle.std.proofs.Common.{refl, sym, ap, ◌∙◌, subst, arith, ⊎_elim, nat_cmp, IsPermutation, mod-lt}
 use Rattle.std.specs.FinMap.{FinMap, insert}
 use Rattle.std.specs.List.{AllByRecursion as Each}
-use Rattle.std.specs.List.Sorted.{IsPermutation}
 use Rattle.std.proofs.lemmas.List.Sorted.{IsPermutation-refl}
 use Rattle.std.proofs.lemmas.Bool.{and_parts, cases_eq, lt-ltb, eq-eqb}
-use Rattle.std.proofs.Math.Nat.{mod-lt}
 use Rattle.network.specs.declared.counts.Counts.{Counts}
 use Rattle.network.specs.declared.message.Node.{Node}
 use Rattle.network.specs.declared.message.Node.TheVariants as node
@@ -248,8 +245,7 @@ module _ (config : Config) (opening : FinMap nat_cmp ℕ) (before : State) (mess
 
   came_as : (c : Body) → message.body ≡ c → IsPermutation (messages_of a.bag l)
       (body_seen (core_of message.from) (core_of message.to) c ∷ messages_of rest l)
-  came_as c e = subst (λ (d : Body). IsPermutation (messages_of a.bag l)
-      (body_seen (core_of message.from) (core_of message.to) d ∷ messages_of rest l)) e came
+  came_as c e = grind arith
 
   abbrev Up : Type 0
   Up = is_core_to_bank config.cores config.banks message.from message.to ≡ true
@@ -264,16 +260,14 @@ module _ (config : Config) (opening : FinMap nat_cmp ℕ) (before : State) (mess
       Reacts (bank_table.bank_table here message)
   bank_delivery to has =
       let room = has_room here.table (bank_table.set_of here l) in
-      subst (λ (k : ℕ). Reacts (bank_table.after_decision here message (on_entry.at_bank k here.mts room
-      (core_of message.from) (entry_of here l) message.body))) (sym of.lease)
-      (bank_goes config.lease (IsPinned (set_up config opening) (view config a).cores l) here.mts
-      (line_seen config a l) (messages_of rest l) (core_of message.from) here message Up Reacts
-      refl tt tt loads recalls grants becomes leaves room message.body
-      (and_parts (is_this_bank here.number message.to)
-      (comes_to_bank message.from message.body (entry_of here l)) has).1
-      (up message.body goes_home.2)
-      (subst (λ (k : ℕ). IsPermutation (messages_of a.bag l)
-      (body_seen (core_of message.from) k message.body ∷ messages_of rest l)) to came))
+      grind (
+        arith,
+        bank_goes config.lease (IsPinned (set_up config opening) (view config a).cores l) here.mts
+            (line_seen config a l) (messages_of rest l) (core_of message.from) here message Up Reacts refl tt tt loads recalls
+            grants becomes leaves room message.body (and_parts (is_this_bank here.number message.to) (comes_to_bank
+            message.from message.body (entry_of here l)) has).1 (up message.body goes_home.2) (subst (λ (k : ℕ). IsPermutation
+            (messages_of a.bag l) (body_seen (core_of message.from) k message.body ∷ messages_of rest l)) to came),
+      )
 
   -- to the DRAM behind it
   abbrev lines : FinMap nat_cmp (List ℕ)

@@ -1,11 +1,9 @@
 -- Owners and coherent values of a machine's lists are those of its state by lines.
-use Rattle.std.proofs.Common.{◌≡◌, ℕ, zero, suc, ◌+◌, ◌%◌, ◌≤◌, Bool, true, false, cond, eqb, List, [], ◌∷◌}
-use Rattle.std.proofs.Common.{length, get_or, Option, Some, None, refl, sym, ap, ap₂, ◌∙◌, arith, ⊎_elim}
+use Rattle.std.proofs.Common.{◌≡◌, ℕ, zero, suc, ◌+◌, ◌%◌, ◌≤◌, Bool, true, false, cond, eqb, List, [], ◌∷◌, length}
+use Rattle.std.proofs.Common.{get_or, Option, Some, None, refl, sym, ap, ap₂, ◌∙◌, arith, ⊎_elim, slice_get, mod-lt}
 use Rattle.std.proofs.lemmas.Bool.{cases_Bool}
-use Rattle.std.specs.List.{slice_get}
 use Rattle.std.specs.FinMap.{entries}
 use Rattle.std.proofs.lemmas.Option.{slice_get-get_or}
-use Rattle.std.proofs.Math.Nat.{mod-lt}
 use Rattle.std.proofs.lemmas.Bool.Decides.{nat_tests}
 use Rattle.network.specs.declared.message.Body.{Body}
 use Rattle.network.specs.declared.message.Body.TheVariants as body
@@ -29,10 +27,9 @@ use Rattle.machine_theorem.specs.Ownership.{ownership_in}
 use Rattle.machine_theorem.specs.Kept.{Invariant}
 use Rattle.machine_theorem.proofs.Turns.{line_same}
 use Rattle.machine_theorem.proofs.Openings.{no_copy, no_entry}
-use Rattle.machine_theorem.specs.Coherence.{owner_in, exclusive_copies, owners, or_other, or_else, owned_words}
-use Rattle.machine_theorem.specs.Coherence.{copy_words, owner_words, cached_words, words_with, granted_words}
-use Rattle.machine_theorem.specs.Coherence.{shared_words, bank_words, words_to_store, stored_words, words_in}
-use Rattle.machine_theorem.specs.Coherence.{coherent_words}
+use Rattle.machine_theorem.specs.Coherence.{exclusive_copies, copy_words, granted_words, words_to_store, coherent_words}
+use Rattle.machine_theorem.specs.Coherence.{or_else, owned_words, owner_words, cached_words, shared_words, stored_words}
+use Rattle.machine_theorem.specs.Coherence.{owner_in, owners, or_other, words_with, bank_words, words_in}
 
 -- what is had of a line where a part may not be there
 abbrev copy_at : Option CoreState → ℕ → Option Copy
@@ -75,8 +72,7 @@ carries_is from to _ = refl
 pub owners_weigh : (ms : List Message) (line : ℕ) → owners_in (messages_of ms line) ≡ weigh (ownership_in line) ms
 owners_weigh [] line = refl
 owners_weigh (x ∷ xs) line =
-    let rest = owners_weigh xs line in
-    let own = carries_is (core_of x.from) (core_of x.to) x.body in grind (arith, nat_tests, rest, own)
+    grind (arith, owners_weigh xs line, carries_is (core_of x.from) (core_of x.to) x.body, nat_tests)
 
 pub owners_are : (ms : List (ℕ × Message)) (line : ℕ) → owners_in (messages_of (bag_of ms) line) ≡ count_messages
     (is_ownership_of line) ms
@@ -106,10 +102,7 @@ none_owns (core ∷ cores) line h = go (copy_of core.cache line) h (none_owns co
     go : (o : Option LineCopy) → owner_in o + exclusive_copies cores line ≡ 0 → (exclusive_copies cores line ≡ 0 →
         owner_words cores line ≡ None) → or_other (owned_words o) (owner_words cores line) ≡ None
     go None h rest = rest (omega arith)
-    go (Some copy) h rest = ⊎_elim
-        (λ (e : is_exclusive copy.state ≡ true). absurd (let z = rw e at h in omega arith))
-        (λ (e : is_exclusive copy.state ≡ false). rw e (rest (let z = rw e at h in omega arith)))
-        (cases_Bool (is_exclusive copy.state))
+    go (Some copy) h rest = grind (arith, cases_Bool (is_exclusive copy.state))
 
 owner_is : (cores : List CoreState) (line : ℕ) → exclusive_copies cores line ≤ 1 →
     by_line.owner_words (λ k. copy_at (slice_get cores k) line) (length cores) ≡ owner_words cores line

@@ -1,8 +1,6 @@
 -- What can be delivered: a message that a line must have is in the bag, goes to its part, and has a case there.
-use Rattle.std.proofs.Common.{⊎_elim}
-use Rattle.std.proofs.Common.{◌≡◌, ℕ, zero, suc, ◌%◌, ◌<◌, ◌≤◌, Bool, true, false, ◌&&◌, ◌||◌, cond, eqb, leb}
-use Rattle.std.proofs.Common.{List, [], ◌∷◌, Option, Some, None, ◌⊎◌, inl, inr, refl, sym, ap, ◌∙◌, subst, arith}
-use Rattle.std.specs.Ordering.{nat_cmp}
+use Rattle.std.proofs.Common.{◌≡◌, ℕ, zero, suc, ◌%◌, ◌<◌, ◌≤◌, Bool, true, false, ◌&&◌, ◌||◌, cond, eqb, leb, List, []}
+use Rattle.std.proofs.Common.{◌∷◌, Option, Some, None, ◌⊎◌, inl, inr, refl, sym, ap, ◌∙◌, subst, arith, nat_cmp}
 use Rattle.std.specs.FinMap.{FinMap}
 use Rattle.std.proofs.lemmas.Bool.{cases_Bool, eqb-true, le-leb}
 use Rattle.network.specs.declared.message.Node.{Node}
@@ -19,7 +17,6 @@ use Rattle.core_pts.specs.OnCopy as on_copy
 use Rattle.core_pts.specs.OnCopy.{at_core, is_exclusive}
 use Rattle.core_pts.specs.CoreTable as core_table
 use Rattle.core_pts.specs.CoreTable.{CoreState, core_has_case, comes_to_core, is_this_core, pinned_line}
-use Rattle.machine_table.specs.Step as step
 use Rattle.machine_table.specs.Step.{Does, Attempting, Getting, core_step, reacted, attempted}
 use Rattle.llc_bank.specs.BankTable.{BankState, core_of, entry_of, bank_has_case, comes_to_bank, is_this_bank}
 use Rattle.dram_mts.specs.Table.{dram_has_case, comes_to_dram, is_dram}
@@ -76,10 +73,7 @@ of_line h w x = cond (eqb x.line h) (w (message_seen x)) 0
 pub line_weighs : (h : ℕ) (w : by_line.Message → ℕ) (bag : List Message) →
     tally w (messages_of bag h) ≡ weigh (of_line h w) bag
 line_weighs h w [] = refl
-line_weighs h w (x ∷ xs) =
-    let k = line_weighs h w xs in
-    ⊎_elim (λ (e : eqb x.line h ≡ true). rw e (omega arith)) (λ (e : eqb x.line h ≡ false). rw e (omega arith))
-    (cases_Bool (eqb x.line h))
+line_weighs h w (x ∷ xs) = grind (arith, line_weighs h w xs, cases_Bool (eqb x.line h))
 
 -- such a message
 pub record OfLine (h : ℕ) (w : by_line.Message → ℕ) (bag : List Message) : Type 0 where
@@ -101,8 +95,7 @@ module _ (config : Config) (opening : FinMap nat_cmp ℕ) (a : State) (s : IsKep
   finds = (state_consistent config opening a s).cases x rest taken
 
   home : (to : Node) → x.to ≡ to → IsHome (x.line % config.banks) to
-  home to is = subst (IsHome (x.line % config.banks)) is
-      (kept_reordered config opening a (x ∷ rest) taken s).shape.each_message.0.1
+  home to is = grind (arith, kept_reordered config opening a (x ∷ rest) taken s)
 
   -- to the line's bank
   pub record ToBank : Type 0 where
@@ -125,8 +118,7 @@ module _ (config : Config) (opening : FinMap nat_cmp ℕ) (a : State) (s : IsKep
       go (node.Core d) e k = absurd (let z : false ≡ true = sym (no_core (a.cores d) x.line)
           ∙ sym (ap (comes_to_core (a.cores d) x.line) is)
           ∙ and_right (is_this_core (a.cores d).number x.to) _ k.1 in cc)
-      go (node.Dram i) e k = absurd (let z : false ≡ true = sym no_dram ∙ sym (ap comes_to_dram is)
-          ∙ and_right (is_dram x.to) _ k.1 in cc)
+      go (node.Dram i) e k = absurd (let z : false ≡ true = cc (and_right (is_dram x.to) _ k.1) in cc)
 
   pub comes : ToBank → (b : Body) → x.body ≡ b →
       comes_to_bank x.from b (entry_of (a.banks (x.line % config.banks)) x.line) ≡ true
@@ -171,11 +163,9 @@ module _ (config : Config) (opening : FinMap nat_cmp ℕ) (a : State) (s : IsKep
     where
       go : (to : Node) → x.to ≡ to → FindsCase config a x to → ToCore
       go (node.Core d) e k = record { core = d; to = e; below = k.0; has = k.1 }
-      go (node.Bank i) e k = absurd (let z : false ≡ true = sym (no_bank x.from (a.banks i) x.line)
-          ∙ sym (ap (λ (c : Body). comes_to_bank x.from c (entry_of (a.banks i) x.line)) is)
-          ∙ and_right (is_this_bank (a.banks i).number x.to) _ k.1 in cc)
-      go (node.Dram i) e k = absurd (let z : false ≡ true = sym no_dram ∙ sym (ap comes_to_dram is)
-          ∙ and_right (is_dram x.to) _ k.1 in cc)
+      go (node.Bank i) e k = absurd (let z : false ≡ true =
+          grind (arith, and_right (is_this_bank (a.banks i).number x.to) _ k.1) in cc)
+      go (node.Dram i) e k = absurd (let z : false ≡ true = cc (and_right (is_dram x.to) _ k.1) in cc)
 
   -- to this core
   pub its_core : ToCore → (o : ℕ) → core_of x.to ≡ o →
@@ -187,20 +177,13 @@ pub core_decided : (core : CoreState) (x : Message) (b : Body) (p : Bool) (held 
     x.body ≡ b → is_pinned (pinned_line core) x.line ≡ p → copy_of core.cache x.line ≡ held →
     at_core core.lease p held b ≡ r →
     core_step core (Getting x) ≡ Does (reacted (core_table.after_reaction core x.line r))
-core_decided core x b p held r is pinned copy at =
-    ap (λ (e : CoreReaction). Does (reacted (core_table.after_reaction core x.line e)))
-    (ap (λ (d : Body). at_core core.lease (is_pinned (pinned_line core) x.line) (copy_of core.cache x.line) d) is
-    ∙ ap (λ (q : Bool). at_core core.lease q (copy_of core.cache x.line) b) pinned
-    ∙ ap (λ (i : Option LineCopy). at_core core.lease p i b) copy ∙ at)
+core_decided core x b p held r is pinned copy at = cc
 
 -- an attempt at an open operation, by the copy that there is
 pub attempt_as : (core : CoreState) (p : Op) → core.open_op ≡ Some p → (o : Option LineCopy) →
     copy_of core.cache (core_table.line_of core p) ≡ o →
     core_step core Attempting ≡ attempted core p (core_table.attempt_on core p o)
-attempt_as core p opens o is =
-    ap (step.attempt_open core) opens
-    ∙ ap (λ (i : Option Op). attempted core p (core_table.attempt_open core i)) opens
-    ∙ ap (λ (i : Option LineCopy). attempted core p (core_table.attempt_on core p i)) is
+attempt_as core p opens o is = cc
 
 -- one that the core's copy serves
 pub serving_attempt : (core : CoreState) (p : Op) (held : LineCopy) → core.open_op ≡ Some p →

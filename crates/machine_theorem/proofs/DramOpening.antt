@@ -1,12 +1,10 @@
 -- A DRAM opens with the words of the opening memory, eight to a line.
-use Rattle.std.proofs.Common.{◌≡◌, ◌≢◌, ℕ, zero, suc, ◌+◌, ◌*◌, ◌/◌, ◌%◌, ◌<◌, ◌≤◌, Bool, true, cond, eqb, List}
-use Rattle.std.proofs.Common.{[], ◌∷◌, length, replicate, set, get_or, Option, Some, refl, sym, ap, ◌∙◌, arith}
-use Rattle.std.proofs.Common.{⊎_elim, inl, inr, get_or-set_same, get_or-set_other, length-set}
-use Rattle.std.specs.Prelude.{unwrap_or}
+use Rattle.std.proofs.Common.{◌≡◌, ◌≢◌, ℕ, zero, suc, ◌+◌, ◌*◌, ◌/◌, ◌%◌, ◌<◌, ◌≤◌, Bool, true, cond, eqb, List, []}
+use Rattle.std.proofs.Common.{◌∷◌, length, replicate, set, get_or, Option, Some, refl, sym, ap, ◌∙◌, arith, ⊎_elim, inl}
+use Rattle.std.proofs.Common.{inr, get_or-set_same, get_or-set_other, length-set, unwrap_or, mod-lt, div-add-mod'}
 use Rattle.std.specs.Ordering.{nat_cmp, eq_by_cmp}
 use Rattle.std.specs.FinMap.{FinMap, empty, find, get-empty}
 use Rattle.std.specs.Cmp.{unsigned_tied}
-use Rattle.std.proofs.Math.Nat.{mod-lt, div-add-mod'}
 use Rattle.std.proofs.lemmas.Bool.{cond_both, cases_eq, eq-eqb, ne_eqb, cond-true, cond-false}
 use Rattle.dram_mts.specs.Lines.{words_of}
 use Rattle.machine_table.specs.declared.config.Config.{Config}

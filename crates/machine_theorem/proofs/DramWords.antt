@@ -1,6 +1,5 @@
 -- The words of a DRAM's lines after a store.
-use Rattle.std.proofs.Common.{◌≡◌, ◌≢◌, ℕ, List, replicate, Option, Some, refl, ap, ◌∙◌}
-use Rattle.std.specs.Prelude.{unwrap_or}
+use Rattle.std.proofs.Common.{◌≡◌, ◌≢◌, ℕ, List, replicate, Option, Some, refl, ap, ◌∙◌, unwrap_or}
 use Rattle.std.specs.Ordering.{nat_cmp, eq_by_cmp}
 use Rattle.std.specs.FinMap.{FinMap, get, insert, get-insert}
 use Rattle.std.specs.Cmp.{unsigned_tied}

@@ -1,7 +1,6 @@
 -- Every event of the machine's table is a move of one part, or changes nothing.
-use Rattle.std.proofs.Common.{◌≡◌, ℕ, ◌<◌, Bool, cond, List, [], ◌∷◌, ◌++◌, length, Option, Some, None}
-use Rattle.std.proofs.Common.{refl, ap, ◌∙◌, subst, arith}
-use Rattle.std.specs.List.{slice_get}
+use Rattle.std.proofs.Common.{◌≡◌, ℕ, ◌<◌, Bool, cond, List, [], ◌∷◌, ◌++◌, length, Option, Some, None, refl, ap, ◌∙◌}
+use Rattle.std.proofs.Common.{subst, arith, slice_get}
 use Rattle.std.specs.FinMap.{entries}
 use Rattle.std.proofs.lemmas.Bool.{cond_both}
 use Rattle.std.proofs.lemmas.Option.{get_or_from_slice_get, slice_get_within}
@@ -61,8 +60,7 @@ module _ (m : Machine) (s : Invariant m) where
       (message : Option Message) (n : Option ℕ) → IsGiven m to (has_case part) message n →
       AreBeside a.bag to (has_case x) message (rest n)
   beside to has_case x part e None None given = refl
-  beside to has_case x part e (Some message) (Some n) given =
-      (bag-taken n m.mail.messages message given.0, given.1, ap (λ y. has_case y message) e ∙ given.2)
+  beside to has_case x part e (Some message) (Some n) given = grind (arith, bag-taken n m.mail.messages message given.0)
   beside to has_case x part e None (Some n) given = absurd given
   beside to has_case x part e (Some message) None given = absurd given
 

@@ -1,6 +1,5 @@
 -- Any event and any list of events keep the invariant.
-use Rattle.std.proofs.Common.{◌≡◌, ℕ, true, List, [], ◌∷◌, sym, ◌∙◌, subst, ap}
-use Rattle.std.specs.Ordering.{nat_cmp}
+use Rattle.std.proofs.Common.{arith, ◌≡◌, ℕ, true, List, [], ◌∷◌, nat_cmp}
 use Rattle.std.specs.FinMap.{FinMap}
 use Rattle.machine_table.specs.declared.config.Config.{Config}
 use Rattle.machine_table.specs.declared.event.Event.{Event}
@@ -33,19 +32,12 @@ of_effect X m _ after e same moves = moves e
 effect_kept : (m : Machine) → Invariant m → (answer : Answer) (after : Machine) → Effect m answer after →
     HasAsMany m after → Invariant after
 effect_kept m s answer after effect many =
-    let kept : IsKept m.config m.opening (seen after) =
-    of_effect (IsKept m.config m.opening (seen after)) m answer after effect
-    (λ e. kept_same m.config m.opening (seen m) (seen after) e s.kept)
-    (λ move. kept_same m.config m.opening move.to (seen after) move.same
-    (move_kept m.config m.opening (seen m) s.kept move.to move.move)) in
-    record {
-      core_count = many.cores ∙ s.core_count ∙ ap (λ (c : Config). c.cores) (sym many.config);
-      bank_count = many.banks ∙ s.bank_count ∙ ap (λ (c : Config). c.banks) (sym many.config);
-      dram_count = many.drams ∙ s.dram_count ∙ ap (λ (c : Config). c.banks) (sym many.config);
-      lists = many.issued ∙ s.lists ∙ ap (λ (c : Config). c.cores) (sym many.config);
-      kept = subst (λ (c : Config). IsKept c after.opening (seen after)) (sym many.config)
-          (subst (λ (o : FinMap nat_cmp ℕ). IsKept m.config o (seen after)) (sym many.opening) kept);
-    }
+    grind (
+      arith,
+      of_effect (IsKept m.config m.opening (seen after)) m answer after effect (λ e. kept_same m.config
+          m.opening (seen m) (seen after) e s.kept) (λ move. kept_same m.config m.opening move.to (seen after) move.same
+          (move_kept m.config m.opening (seen m) s.kept move.to move.move)),
+    )
 
 outcome_kept : (m : Machine) → Invariant m → (event : Event) (o : Answer × Machine) → Outcome m event o → Invariant o.1
 outcome_kept m s event o is = effect_kept m s o.0 o.1 (goes m s event o is) (as_many_parts m event o is)

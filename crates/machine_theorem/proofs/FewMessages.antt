@@ -1,7 +1,7 @@
 -- A machine that no event of a round changes has at most one message in flight for each core, if the recalls that cores
 -- hold find the owners.
-use Rattle.std.proofs.Common.{◌≡◌, ◌≢◌, ℕ, zero, suc, ◌+◌, ◌-◌, ◌^◌, ◌<◌, ◌≤◌, Bool, true, false, eqb, List, []}
-use Rattle.std.proofs.Common.{◌∷◌, length, Option, Some, None, inl, inr, ◌⊎◌, refl, sym, ap, ◌∙◌, subst, ⊎_elim, arith}
+use Rattle.std.proofs.Common.{◌≡◌, ◌≢◌, ℕ, zero, suc, ◌+◌, ◌-◌, ◌^◌, ◌<◌, ◌≤◌, Bool, true, false, eqb, List, [], ◌∷◌}
+use Rattle.std.proofs.Common.{length, Option, Some, None, inl, inr, ◌⊎◌, refl, sym, ap, ◌∙◌, subst, ⊎_elim, arith}
 use Rattle.std.specs.List.{slice_get, AllByRecursion as Each}
 use Rattle.std.specs.Ordering.{nat_cmp}
 use Rattle.std.specs.FinMap.{FinMap}
@@ -25,7 +25,7 @@ use Rattle.machine_table.specs.Opening.{at_start}
 use Rattle.machine_table.specs.Runs.{after_all}
 use Rattle.machine_table.specs.SetUp.{is_good}
 use Rattle.protocol.specs.Machine as by_line
-use Rattle.protocol.specs.Machine.{tally, IsPinned}
+use Rattle.protocol.specs.Machine.{tally}
 use Rattle.protocol.specs.Recalls.{recall_to, grant_to, OwnsOrWill}
 use Rattle.protocol.proofs.Lemmas.{about, one_if, waits_here, waits_there}
 use Rattle.machine_theorem.specs.Bags.{bag_of, weigh}
@@ -39,8 +39,7 @@ use Rattle.machine_theorem.proofs.ActiveParts.{IsRecall, pinned_here, recall_wei
 use Rattle.machine_theorem.proofs.Bags.{bag-taken}
 use Rattle.machine_theorem.proofs.Deliveries.{of_line, line_weighs}
 use Rattle.machine_theorem.proofs.Events.{invariant}
-use Rattle.machine_theorem.proofs.MovingOn.{Stays, a_request, a_recall, message_moves, light_moves, asks}
-use Rattle.machine_theorem.proofs.MovingOn.{owner_moves}
+use Rattle.machine_theorem.proofs.MovingOn.{Stays, a_request, a_recall, message_moves, light_moves, asks, owner_moves}
 use Rattle.machine_theorem.proofs.RoundEvents.{CanSend}
 use Rattle.machine_theorem.proofs.ServiceEvents.{bag_length, rising_after}
 use Rattle.machine_theorem.proofs.Routes.{up_ends}

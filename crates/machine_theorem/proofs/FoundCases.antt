@@ -1,13 +1,9 @@
 -- Every message in flight has a case in the table of the part that it goes to.
 use Rattle.std.proofs.Common.{◌≡◌, ℕ, ◌%◌, ◌/◌, ◌<◌, Bool, true, false, cond, eqb, List, [], ◌∷◌, get_or, Option, Some}
-use Rattle.std.proofs.Common.{None}
-use Rattle.std.proofs.Common.{refl, sym, ap, ◌∙◌, subst, arith}
+use Rattle.std.proofs.Common.{None, refl, sym, ap, ◌∙◌, subst, arith, option_map, nat_cmp, eq-eqb}
 use Rattle.std.specs.List.{slice_get, AllByRecursion as Each}
-use Rattle.std.specs.Option.{option_map}
-use Rattle.std.specs.Ordering.{nat_cmp}
 use Rattle.std.specs.FinMap.{FinMap, entries}
 use Rattle.std.proofs.lemmas.Option.{slice_get-get_or, get_or_from_slice_get}
-use Rattle.std.proofs.lemmas.Bool.{eq-eqb}
 use Rattle.physiological_order.specs.declared.operation.Op.{Op}
 use Rattle.physiological_order.specs.Order.{address}
 use Rattle.network.specs.declared.message.Node.{Node}
@@ -40,8 +36,8 @@ use Rattle.protocol.proofs.Lemmas.{messages_have_cases}
 use Rattle.machine_theorem.specs.Bags.{bag_of}
 use Rattle.machine_theorem.specs.States.{State, seen}
 use Rattle.machine_theorem.specs.Consistent.{FindsCase, FindsPart}
-use Rattle.machine_theorem.specs.View.{copy_or_none, copy_in, entry_seen, entry_in, body_seen, message_seen}
-use Rattle.machine_theorem.specs.View.{messages_of, set_up, line_seen, view}
+use Rattle.machine_theorem.specs.View.{copy_or_none, copy_in, entry_seen, body_seen, message_seen, messages_of, set_up}
+use Rattle.machine_theorem.specs.View.{line_seen, view}
 use Rattle.machine_theorem.specs.Shape.{IsHome, IsCore, GoesHome}
 use Rattle.machine_theorem.specs.Kept.{IsKept, Invariant}
 use Rattle.machine_theorem.proofs.Lookups.{each_at_number, messages_here}
@@ -114,8 +110,7 @@ module _ (config : Config) (opening : FinMap nat_cmp ℕ) (a : State) (s : IsKep
     bank = a.banks b
 
     entry_is : (line_seen config a x.line).entry ≡ entry_seen (entry_of bank x.line)
-    entry_is = ap (λ (k : ℕ). entry_in (a.banks k) x.line)
-        (sym (subst (IsHome (x.line % config.banks)) to goes.1))
+    entry_is = grind arith
 
     bank_end : (c : Body) → x.body ≡ c → b < config.banks → comes_to_bank x.from c (entry_of bank x.line) ≡ true →
         Finds x.to
@@ -132,13 +127,11 @@ module _ (config : Config) (opening : FinMap nat_cmp ℕ) (a : State) (s : IsKep
   up : (b : Body) → x.body ≡ b → is_core_to_bank config.cores config.banks x.from x.to ≡ true →
       ((k : ℕ) (to : x.to ≡ node.Bank k) → is_core x.from ≡ true →
       comes_to_bank x.from b (entry_of (a.banks k) x.line) ≡ true) → Finds x.to
-  up b e r comes = let u = up_ends _ _ x.from x.to r in
-      bank_end u.bank u.to_bank b e u.some_bank (comes u.bank u.to_bank (ap is_core u.from_core))
+  up b e r comes = grind (arith, up_ends _ _ x.from x.to r)
 
   down : (b : Body) → x.body ≡ b → is_core_to_bank config.cores config.banks x.to x.from ≡ true →
       ((c : ℕ) (to : x.to ≡ node.Core c) → comes_to_core (a.cores c) x.line b ≡ true) → Finds x.to
-  down b e r comes = let u = up_ends _ _ x.to x.from r in
-      core_end u.core u.from_core b e u.some_core (comes u.core u.from_core)
+  down b e r comes = grind (arith, up_ends _ _ x.to x.from r)
 
   stored : (b : Body) → x.body ≡ b → is_bank_to_dram config.banks x.from x.to ≡ true → comes_to_dram b ≡ true →
       Finds x.to
@@ -151,8 +144,7 @@ module _ (config : Config) (opening : FinMap nat_cmp ℕ) (a : State) (s : IsKep
 
   fetched : (b : Body) → x.body ≡ b → is_bank_to_dram config.banks x.to x.from ≡ true →
       ((k : ℕ) (to : x.to ≡ node.Bank k) → comes_to_bank x.from b (entry_of (a.banks k) x.line) ≡ true) → Finds x.to
-  fetched b e r comes = let u = back_ends _ x.to x.from r in
-      bank_end u.bank u.from_bank b e u.some_bank (comes u.bank u.from_bank)
+  fetched b e r comes = grind (arith, back_ends _ x.to x.from r)
 
   case_of : (b : Body) → x.body ≡ b → has_route config.cores config.banks x.from x.to b ≡ true → Waits b → Finds x.to
   case_of (body.ShReq pts v) e r w = up _ e r (λ k to core. core)
@@ -242,8 +234,7 @@ gets_it m s n x number = go x.to refl
         on : (o : Option S) → slice_get parts i ≡ o → takes has_case o x ≡ true →
             (slice_get parts i ≡ Some (get_or parts i d)) × (has_case (get_or parts i d) x ≡ true)
         on None at has = absurd (cc)
-        on (Some y) at has = let e = get_or_from_slice_get parts i y d at in
-            (at ∙ ap Some (sym e), ap (λ (z : S). has_case z x) e ∙ has)
+        on (Some y) at has = grind (arith, get_or_from_slice_get parts i y d at)
 
     go : (to : Node) → x.to ≡ to → has_case_at m x to ≡ true → Gets m n x
     go (node.Core c) to has = let k = part m.cores c (open_core m.config c) core_has_case has in

@@ -1,6 +1,5 @@
 -- The initial state, part by part.
-use Rattle.std.proofs.Common.{◌≡◌, ℕ, zero, suc, ◌+◌, List, [], get_or, replicate, refl, sym, ap, ◌∙◌, arith}
-use Rattle.std.specs.Ordering.{nat_cmp}
+use Rattle.std.proofs.Common.{◌≡◌, ℕ, zero, suc, ◌+◌, List, [], get_or, replicate, refl, sym, ap, ◌∙◌, arith, nat_cmp}
 use Rattle.std.specs.FinMap.{FinMap, entries}
 use Rattle.machine_table.specs.declared.config.Config.{Config}
 use Rattle.machine_table.specs.Opening.{at_start, dram_of, open_bank, open_core, row}

@@ -1,25 +1,21 @@
 -- Every move keeps the invariant.
-use Rattle.std.proofs.Common.{◌≡◌, ℕ, ◌+◌, ◌%◌, ◌<◌, true, List, ◌∷◌, Option, refl, sym, ap, subst, inl, inr}
-use Rattle.std.specs.Ordering.{nat_cmp}
+use Rattle.std.proofs.Common.{arith, ◌≡◌, ℕ, ◌+◌, ◌%◌, ◌<◌, true, List, ◌∷◌, refl, ap, nat_cmp}
 use Rattle.std.specs.FinMap.{FinMap}
-use Rattle.std.proofs.lemmas.Bool.{cases_eq}
 use Rattle.network.specs.declared.message.Node.{Node}
 use Rattle.network.specs.declared.message.Node.TheVariants as node
 use Rattle.network.specs.declared.message.Message.{Message}
 use Rattle.timestamp_manager.specs.Lease.{fits}
 use Rattle.private_cache.specs.CopyTable.{copy_of}
 use Rattle.core_pts.specs.CoreTable.{core_has_case}
-use Rattle.llc_bank.specs.declared.entry.Entry.{Entry}
-use Rattle.llc_bank.specs.OnEntry as on_entry
-use Rattle.llc_bank.specs.BankTable.{core_of, entry_of, bank_has_case, after_eviction}
+use Rattle.llc_bank.specs.BankTable.{core_of, entry_of, bank_has_case}
 use Rattle.dram_mts.specs.Table.{dram_has_case}
 use Rattle.machine_table.specs.declared.config.Config.{Config}
 use Rattle.machine_table.specs.Step as step
 use Rattle.machine_table.specs.Step.{Act, message_of, core_step, bank_step, dram_step}
 use Rattle.machine_theorem.specs.Bags.{SameBag}
 use Rattle.machine_theorem.specs.States.{State}
-use Rattle.machine_theorem.specs.Moves.{AreBeside, with_core, with_bank, with_dram, Move, issues, completes}
-use Rattle.machine_theorem.specs.Moves.{core_steps, bank_steps, dram_steps}
+use Rattle.machine_theorem.specs.Moves.{AreBeside, with_core, with_bank, with_dram, Move, issues, completes, core_steps}
+use Rattle.machine_theorem.specs.Moves.{bank_steps, dram_steps}
 use Rattle.machine_theorem.specs.Shape.{IsHome}
 use Rattle.machine_theorem.specs.Kept.{IsKept}
 use Rattle.machine_theorem.proofs.KeptSteps.{kept_reordered, turned_kept, Comes, Goes, Tries, goes_to, goes_kept}
@@ -77,13 +73,7 @@ module _ (config : Config) (opening : FinMap nat_cmp ℕ) (a : State) (s : IsKep
   pub line_leaves : (i line : ℕ) →
       Goes config opening delivering a (with_bank a i) a.bag (bank_step (a.banks i) (step.Evicting line))
   line_leaves i line =
-      elim (cases_eq (line % config.banks) i) [
-        | inl e ↦ rw (← e) (entry_goes config opening a s line (entry_of (a.banks (line % config.banks)) line) refl)
-        | inr ne ↦
-            subst (λ (o : Option Entry). Goes config opening delivering a (with_bank a i) a.bag
-            (step.entry_evicted (after_eviction (a.banks i) line (on_entry.evicted o))))
-            (sym ((s.shape.each_bank i).own line ne)) tt
-      ]
+      grind (arith, entry_goes config opening a s line (entry_of (a.banks (line % config.banks)) line) refl)
 
   pub dram_delivered : (i : ℕ) (message : Message) (rest : List Message) (same : SameBag a.bag (message ∷ rest)) →
       message.to ≡ node.Dram i → dram_has_case (a.drams i) message ≡ true →

@@ -1,11 +1,9 @@
 -- What it means that a step of a part keeps the invariant of the state, and that a state in which the messages are in
 -- another order keeps it, too.
 use Rattle.std.proofs.Common.{◌≡◌, ◌≢◌, ℕ, ◌+◌, Bool, true, false, cond, eqb, List, [], ◌∷◌, ◌++◌, Some, None, refl}
-use Rattle.std.proofs.Common.{sym, ap, ◌∙◌, subst, arith, append_assoc}
-use Rattle.std.specs.Ordering.{nat_cmp}
+use Rattle.std.proofs.Common.{sym, ap, subst, arith, append_assoc, nat_cmp, IsPermutation}
 use Rattle.std.specs.FinMap.{FinMap}
 use Rattle.std.specs.List.{AllByRecursion as Each}
-use Rattle.std.specs.List.Sorted.{IsPermutation}
 use Rattle.std.proofs.lemmas.List.Sorted.{IsPermutation-refl, IsPermutation-cons, IsPermutation-swap}
 use Rattle.network.specs.declared.message.Message.{Message}
 use Rattle.machine_table.specs.declared.config.Config.{Config}
@@ -46,9 +44,7 @@ line_reordered (z ∷ zs) x y xs l = more (eqb z.line l) (message_seen z) _ _ (l
 
 line_kept : (before : List Message) (x y : Message) (xs : List Message) (l : ℕ) → l ≢ x.line →
     messages_of (before ++ x ∷ y ∷ xs) l ≡ messages_of (before ++ y ∷ x ∷ xs) l
-line_kept [] x y xs l ne =
-    sym (messages_there x (y ∷ xs) l ne)
-    ∙ ap (λ ms. cond (eqb y.line l) (message_seen y ∷ ms) ms) (messages_there x xs l ne)
+line_kept [] x y xs l ne = grind (arith, messages_there x (y ∷ xs) l ne, eqb y.line l, messages_there x xs l ne)
 line_kept (z ∷ zs) x y xs l ne = ap (λ ms. cond (eqb z.line l) (message_seen z ∷ ms) ms) (line_kept zs x y xs l ne)
 
 each_reordered : (P : Message → Type 0) {xs ys : List Message} → Reordered xs ys → Each P xs → Each P ys

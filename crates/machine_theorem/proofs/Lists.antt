@@ -1,7 +1,6 @@
 -- Parts by number: one of them changed, and the first of them in a list.
 use Rattle.std.proofs.Common.{◌≡◌, ℕ, zero, suc, ◌<◌, ◌≤◌, List, length, set, get_or, Some, refl, sym, ap, ◌∙◌, arith}
-use Rattle.std.proofs.Common.{get_or-set_same, get_or-set_other}
-use Rattle.std.specs.List.{slice_get}
+use Rattle.std.proofs.Common.{get_or-set_same, get_or-set_other, slice_get}
 use Rattle.protocol.specs.Machine.{with_at}
 use Rattle.protocol.proofs.Lemmas.{with_at_cases}
 use Rattle.machine_theorem.specs.States.{first}

@@ -1,16 +1,13 @@
 -- What is found in lists, tables and bags of messages after each change.
-use Rattle.std.proofs.Common.{◌≡◌, ◌≢◌, ℕ, zero, suc, ◌%◌, ◌<◌, true, false, eqb, List, [], ◌∷◌, length, set, Option}
-use Rattle.std.proofs.Common.{Some, None, refl, sym, ap, ◌∙◌, subst, ⊎_elim}
-use Rattle.std.specs.Option.{is_some}
+use Rattle.std.proofs.Common.{arith, ◌≡◌, ◌≢◌, ℕ, zero, suc, ◌%◌, ◌<◌, true, false, eqb, List, [], ◌∷◌, length, set}
+use Rattle.std.proofs.Common.{Option, Some, None, refl, sym, ap, ◌∙◌, subst, ⊎_elim, is_some, mod-lt}
 use Rattle.std.specs.List.{slice_get, AllByRecursion as Each}
-use Rattle.std.proofs.Math.Nat.{mod-lt}
 use Rattle.std.proofs.lemmas.Bool.{cases_Bool, ne_eqb, eq-eqb, cond-true, cond-false}
 use Rattle.network.specs.declared.message.Message.{Message}
 use Rattle.network.specs.NumberedMessages.{at_number}
 use Rattle.line_sets.specs.SetTable.{look, put, put_within, drop_line}
-use Rattle.line_sets.proofs.Lemmas.{look-put_same, look-put_other, look-put_within_same, look-put_within_other}
-use Rattle.line_sets.proofs.Lemmas.{look-drop_line_same, look-drop_line_other, length-put, length-put_within}
-use Rattle.line_sets.proofs.Lemmas.{length-drop_line}
+use Rattle.line_sets.proofs.Lemmas.{look-put_within_same, look-put_within_other, look-drop_line_other, length-drop_line}
+use Rattle.line_sets.proofs.Lemmas.{look-put_same, look-put_other, look-drop_line_same, length-put, length-put_within}
 use Rattle.protocol.proofs.Lemmas.{Some_injective}
 use Rattle.machine_theorem.specs.View.{message_seen, messages_of}
 
@@ -59,11 +56,7 @@ module _ {X : Type 0} (home : ℕ → ℕ) where
 
     is_now : (new : List (List (ℕ × X))) (o : Option X) → length new ≡ length sets → look new set_of line ≡ o →
         ((i k : ℕ) → k ≢ line → look new i k ≡ look sets i k) → IsNow sets new line o
-    is_now new o long here there = record {
-      some = subst (λ (n : ℕ). 0 < n) (sym long) some;
-      here = ap (λ (n : ℕ). look new (home line % n) line) long ∙ here;
-      there = λ k ne. there (home k % length new) k ne ∙ ap (λ (n : ℕ). look sets (home k % n) k) long;
-    }
+    is_now new o long here there = grind (arith, here, there)
 
     pub put_now : (x : X) → IsNow sets (put sets set_of line x) line (Some x)
     put_now x = is_now _ _ (length-put sets set_of line x) (look-put_same sets set_of line x within)

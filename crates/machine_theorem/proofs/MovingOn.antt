@@ -1,10 +1,8 @@
 -- A round changes a machine that can send a message, if a core has an operation open: by the entry of its line, a
 -- request that waits leads to a message, an attempt or an eviction that its part does something with.
-use Rattle.std.proofs.Common.{◌≡◌, ℕ, ◌/◌, ◌%◌, ◌≤◌, Bool, true, false, ◌||◌, eqb}
-use Rattle.std.proofs.Common.{List, [], ◌∷◌, length, Option, Some, None, inl, inr, ◌⊎◌, refl, sym, ap, ◌∙◌, subst}
-use Rattle.std.proofs.Common.{◌<◌, ◌-◌, ◌^◌, ⊎_elim, arith}
+use Rattle.std.proofs.Common.{◌≡◌, ℕ, ◌/◌, ◌%◌, ◌≤◌, Bool, true, false, ◌||◌, eqb, List, [], ◌∷◌, length, Option, Some}
+use Rattle.std.proofs.Common.{None, inl, inr, ◌⊎◌, refl, sym, ap, ◌∙◌, subst, ◌<◌, ◌-◌, ◌^◌, ⊎_elim, arith, slice_get}
 use Rattle.std.specs.Prelude.{option_map, is_some, not}
-use Rattle.std.specs.List.{slice_get}
 use Rattle.std.specs.Ordering.{nat_cmp}
 use Rattle.std.specs.FinMap.{FinMap}
 use Rattle.std.proofs.lemmas.Bool.{cases_eq, cond-true, cond-false, eq-eqb, ne_eqb, ltb-false, or_parts}
@@ -20,18 +18,17 @@ use Rattle.private_cache.specs.declared.line_copy.LineCopy.{LineCopy}
 use Rattle.private_cache.specs.CopyTable as cache
 use Rattle.private_cache.specs.CopyTable.{copy_of, is_pinned, place_for, victim_for}
 use Rattle.core_pts.specs.OnCopy as on_copy
-use Rattle.core_pts.specs.OnCopy.{is_exclusive}
 use Rattle.core_pts.specs.declared.attempt.Attempt.{Attempt}
 use Rattle.core_pts.specs.declared.attempt.Attempt.TheVariants as tried
 use Rattle.core_pts.specs.CoreTable as core_table
-use Rattle.core_pts.specs.CoreTable.{CoreState, core_has_case, pinned_line}
+use Rattle.core_pts.specs.CoreTable.{CoreState, pinned_line}
 use Rattle.llc_bank.specs.declared.entry.Entry.{Entry}
 use Rattle.llc_bank.specs.declared.entry.Entry.TheVariants as entry
 use Rattle.llc_bank.specs.Settled.{is_settled}
 use Rattle.llc_bank.specs.OnEntry as on_entry
 use Rattle.llc_bank.specs.OnEntry.{at_bank}
 use Rattle.llc_bank.specs.BankTable as bank_table
-use Rattle.llc_bank.specs.BankTable.{BankState, bank_has_case, core_of, entry_of, is_this_bank}
+use Rattle.llc_bank.specs.BankTable.{BankState, core_of, entry_of, is_this_bank}
 use Rattle.dram_mts.specs.Table.{is_dram}
 use Rattle.machine_table.specs.declared.event.Answer.TheVariants.{Held, Refused}
 use Rattle.machine_table.specs.declared.event.Refusal.TheVariants as refusal
@@ -64,8 +61,8 @@ use Rattle.machine_theorem.proofs.Openings.{Fair, fair as fair_set_up}
 use Rattle.machine_theorem.proofs.ServiceEvents.{number_in, rising_after}
 use Rattle.machine_theorem.proofs.SetUps.{after_all_same}
 use Rattle.machine_theorem.proofs.Sizes.{reached_sized}
-use Rattle.machine_theorem.proofs.RoundEvents.{CanSend, IsActive, IsTrying, attempt_moves, copy_moves}
-use Rattle.machine_theorem.proofs.RoundEvents.{delivery_moves, line_moves}
+use Rattle.machine_theorem.proofs.RoundEvents.{CanSend, IsActive, IsTrying, attempt_moves, copy_moves, delivery_moves}
+use Rattle.machine_theorem.proofs.RoundEvents.{line_moves}
 use Rattle.machine_theorem.proofs.SetSizes.{IsSized, Fits}
 use Rattle.machine_table.specs.Transition.{on_event, changed}
 use Rattle.machine_table.specs.declared.event.Event.TheVariants.{Deliver}

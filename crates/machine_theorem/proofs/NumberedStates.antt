@@ -1,6 +1,5 @@
 -- A state in lists, with its messages numbered, is a machine that keeps the invariant.
-use Rattle.std.proofs.Common.{ℕ, [], refl, sym}
-use Rattle.std.specs.Ordering.{nat_cmp}
+use Rattle.std.proofs.Common.{ℕ, [], refl, sym, nat_cmp}
 use Rattle.std.specs.FinMap.{FinMap, entries}
 use Rattle.machine_table.specs.declared.config.Config.{Config}
 use Rattle.machine_table.specs.Machine.{Machine}

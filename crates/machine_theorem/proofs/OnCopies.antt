@@ -1,9 +1,8 @@
 -- What a core's table does with one line: operations use copies as the protocol by lines says, and what is done at a
 -- message is a reply to the core or a move of the line.
-use Rattle.std.proofs.Common.{◌≡◌, ℕ, ◌+◌, ◌%◌, max, Bool, true, false, ◌&&◌, cond, leb, List, ◌∷◌, Option}
-use Rattle.std.proofs.Common.{Some, None, refl, sym, ap, ◌∙◌, subst, arith}
-use Rattle.std.specs.List.Sorted.{IsPermutation}
-use Rattle.std.proofs.lemmas.Bool.{and_parts, cond_both, or_parts, leb-true, leb-false}
+use Rattle.std.proofs.Common.{◌≡◌, ℕ, ◌+◌, ◌%◌, max, Bool, true, false, ◌&&◌, cond, leb, List, ◌∷◌, Option, Some, None}
+use Rattle.std.proofs.Common.{refl, sym, ◌∙◌, subst, arith, IsPermutation}
+use Rattle.std.proofs.lemmas.Bool.{and_parts, cond_both, or_parts, leb-true}
 use Rattle.physiological_order.specs.declared.operation.Op.{Op}
 use Rattle.physiological_order.specs.declared.operation.Op.TheVariants.{Load, Store, Swap}
 use Rattle.physiological_order.specs.Order.{address}
@@ -14,12 +13,12 @@ use Rattle.private_cache.specs.CopyTable.{copy_of, renewed, upgraded}
 use Rattle.timestamp_manager.specs.Lease.{fits}
 use Rattle.core_pts.specs.CoreTable.{CoreState, comes_to_core, waits_for, is_shared_copy}
 use Rattle.core_pts.specs.OnCopy as on_copy
-use Rattle.core_pts.specs.OnCopy.{is_exclusive, serves, time_of, received_at, copy_after, words_of_copy, at_core}
+use Rattle.core_pts.specs.OnCopy.{is_exclusive, serves, time_of, received_at, copy_after, at_core}
 use Rattle.core_pts.specs.declared.decision.CoreReaction.{CoreReaction}
 use Rattle.core_pts.specs.declared.decision.CoreReaction.TheVariants.{Arrives, Grants, Returns, Drops, NoCase}
 use Rattle.protocol.specs.Machine.{Config, Message, RenewRep, UpgradeRep, FlushReq, WbReq, Line, with_at, CannotUse}
-use Rattle.protocol.specs.Machine.{Copy, NotOwned, dropped, wb_dropped, flushed, written_back, Answers}
-use Rattle.protocol.specs.Machine.{shared, exclusive, renews, upgrades, Uses, load_hit, load_own, store_own, swap_own}
+use Rattle.protocol.specs.Machine.{NotOwned, dropped, wb_dropped, flushed, written_back, Answers, shared, exclusive}
+use Rattle.protocol.specs.Machine.{renews, upgrades, Uses, load_hit, load_own, store_own, swap_own}
 use Rattle.protocol.proofs.Lemmas.{Some_injective}
 use Rattle.machine_theorem.proofs.Routes.{GoesUp}
 use Rattle.machine_theorem.proofs.Turns.{Changes}
@@ -43,8 +42,7 @@ module _ (f : Config) (pts : ℕ) (copy : LineCopy) where
 
   pub serves_uses : (op : Op) (ts : ℕ) → serves op pts copy ≡ true → time_of f.private_write pts op copy ≡ Some ts →
       Used op (address op % f.line_words) ts
-  serves_uses (Load a) ts h t =
-      subst (Used (Load a) (a % f.line_words)) (Some_injective (max pts copy.wts) ts t) (load_uses a h)
+  serves_uses (Load a) ts h t = grind (arith, max pts copy.wts, load_uses a h)
   serves_uses (Store a v) ts h t =
       subst (Used (Store a v) (a % f.line_words)) (write_time_is (f.private_write && copy.written)
       (fits (copy.rts + 1)) (max pts copy.rts) (max pts (copy.rts + 1)) ts t) (store_own a v h)
@@ -55,15 +53,13 @@ module _ (f : Config) (pts : ℕ) (copy : LineCopy) where
 -- one that doesn't, can't be used
 pub serves_not : (op : Op) (pts : ℕ) (copy : LineCopy) → serves op pts copy ≡ false →
     CannotUse op pts (Some (copy_seen copy))
-serves_not (Load a) pts copy h =
-    let k = or_parts (is_exclusive copy.state) (leb pts copy.rts) h in (k.0, leb-false pts copy.rts k.1)
+serves_not (Load a) pts copy h = grind (arith, or_parts (is_exclusive copy.state) (leb pts copy.rts) h)
 serves_not (Store a v) pts copy h = (h, tt)
 serves_not (Swap a v) pts copy h = (h, tt)
 
 pub serves_clash : (op : Op) (pts : ℕ) (copy : LineCopy) → serves op pts copy ≡ true →
     CannotUse op pts (Some (copy_seen copy)) → ⊥
-serves_clash (Load a) pts copy h k =
-    let le = leb-true pts copy.rts (rw k.0 at h) in let lt = k.1 in omega arith
+serves_clash (Load a) pts copy h k = omega (arith, leb-true pts copy.rts (rw k.0 at h))
 serves_clash (Store a v) pts copy h k = let z : true ≡ false = sym h ∙ k.0 in cc
 serves_clash (Swap a v) pts copy h k = let z : true ≡ false = sym h ∙ k.0 in cc
 
@@ -105,8 +101,7 @@ module _ (lease : ℕ) (pinned : ℕ → Type 0) (t c : ℕ) (x : Line) (rest : 
 
   with_shared : (held : LineCopy) → x.copies c ≡ Some (copy_seen held) → is_exclusive held.state ≡ false →
       NotOwned (x.copies c)
-  with_shared held is sh copy e =
-      ap (λ (k : Copy). k.exclusive) (sym (Some_injective (copy_seen held) copy (sym is ∙ e))) ∙ sh
+  with_shared held is sh copy e = grind arith
 
   flush_fits : (o : Option LineCopy) → x.copies c ≡ copy_or_none o → b ≡ false → (pinned c → ⊥) →
       IsPermutation x.messages (FlushReq c ∷ rest) → CoreFits lease pinned t c x rest b o (on_copy.flushed o)

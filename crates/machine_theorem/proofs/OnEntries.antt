@@ -1,8 +1,6 @@
 -- What a bank's table does with one line is moves of the line.
 use Rattle.std.proofs.Common.{◌≡◌, ℕ, ◌+◌, max, Bool, true, false, ◌&&◌, cond, List, ◌∷◌, Option, Some, None, refl, ap}
-use Rattle.std.proofs.Common.{◌∙◌, subst}
-use Rattle.std.specs.List.Sorted.{IsPermutation}
-use Rattle.std.proofs.lemmas.Bool.{eqb-true}
+use Rattle.std.proofs.Common.{◌∙◌, subst, IsPermutation, eqb-true}
 use Rattle.network.specs.declared.message.Node.TheVariants.{Core}
 use Rattle.network.specs.declared.message.Message as network
 use Rattle.network.specs.declared.part.Reaction.{Reaction}
@@ -17,8 +15,8 @@ use Rattle.llc_bank.specs.OnEntry as on_entry
 use Rattle.llc_bank.specs.BankTable.{BankState, entry_of, with_used, with_changed, without_entry, from_bank, to_dram}
 use Rattle.llc_bank.specs.BankTable.{after_decision, comes_to_bank, is_owned}
 use Rattle.protocol.specs.Machine.{Message, Absent, Loading, Shared, Recalling, ShReq, ExReq, DramLd, DramLdRep}
-use Rattle.protocol.specs.Machine.{DramStRep, Line, load_starts, renewed, leased, upgraded, granted}
-use Rattle.protocol.specs.Machine.{wb_starts, flush_starts, flush_returns, wb_returns, loaded, stored}
+use Rattle.protocol.specs.Machine.{DramStRep, Line, load_starts, renewed, leased, upgraded, granted, wb_starts}
+use Rattle.protocol.specs.Machine.{flush_starts, flush_returns, wb_returns, loaded, stored}
 use Rattle.machine_theorem.proofs.Routes.{GoesDown}
 use Rattle.machine_theorem.proofs.Turns.{Changes}
 use Rattle.machine_theorem.specs.View.{timed, entry_seen, body_seen}

@@ -1,12 +1,9 @@
 -- The invariant holds of the initial state and of a machine as it opens.
-use Rattle.std.proofs.Common.{⊎_elim}
 use Rattle.std.proofs.Common.{◌≡◌, ℕ, ◌/◌, ◌%◌, ◌<◌, ◌≤◌, Bool, true, false, ◌&&◌, ◌||◌, eqb, leb, List, [], length}
-use Rattle.std.proofs.Common.{replicate, Option, Some, None, refl, sym, ap, ◌∙◌, subst, arith}
-use Rattle.std.specs.Prelude.{unwrap_or}
-use Rattle.std.specs.Ordering.{nat_cmp}
+use Rattle.std.proofs.Common.{replicate, Option, Some, None, refl, sym, ap, ◌∙◌, subst, arith, unwrap_or, nat_cmp}
 use Rattle.std.specs.FinMap.{FinMap, entries, get-entries}
 use Rattle.std.proofs.lemmas.List.{length-replicate}
-use Rattle.std.proofs.lemmas.Bool.{and_parts, or_cases, leb-true, eqb-true}
+use Rattle.std.proofs.lemmas.Bool.{and_parts, or_cases, leb-true}
 use Rattle.line_sets.specs.Order.{find}
 use Rattle.dram_mts.specs.Lines.{words_of}
 use Rattle.llc_bank.specs.declared.entry.Entry.{Entry}
@@ -41,8 +38,7 @@ some_of : (n most : ℕ) → is_within n most ≡ true → 0 < n
 some_of n most h = let le = leb-true 1 n (and_parts (leb 1 n) (leb n most) h).0 in omega arith
 
 one_or_eight : (n : ℕ) → (eqb n 1 || eqb n 8) ≡ true → (0 < n) × (n ≤ 8)
-one_or_eight n h = ⊎_elim (λ (e : eqb n 1 ≡ true). let q = eqb-true n 1 e in (omega arith, omega arith))
-    (λ (e : eqb n 8 ≡ true). let q = eqb-true n 8 e in (omega arith, omega arith)) (or_cases (eqb n 1) (eqb n 8) h)
+one_or_eight n h = grind (arith, or_cases (eqb n 1) (eqb n 8) h)
 
 pub fair : (c : Config) → is_good c ≡ true → Fair c
 fair c good =
@@ -65,10 +61,7 @@ fair c good =
     }
   where
     parts_of : (a b d e g : Bool) → (a && b && d && e && g) ≡ true → (a ≡ true) × (b ≡ true) × (d ≡ true) × (e ≡ true)
-    parts_of a b d e g h =
-        let k = and_parts (a && b && d) e (and_parts (a && b && d && e) g h).0 in
-        let l = and_parts (a && b) d k.0 in
-        let n = and_parts a b l.0 in (n.0, n.1, l.1, k.1)
+    parts_of a b d e g h = grind (arith, and_parts (a && b && d) e (and_parts (a && b && d && e) g h).0)
 
 module _ (c : Config) where
   pub no_copy : (i l : ℕ) → copy_in (open_core c i) l ≡ None

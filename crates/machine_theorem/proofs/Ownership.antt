@@ -1,17 +1,16 @@
 -- The owners of a line in a state: as in the machine of the state, and in the same state.
-use Rattle.std.proofs.Common.{◌≡◌, ℕ, zero, suc, ◌+◌, refl, sym, ap, ap₂, ◌∙◌}
+use Rattle.std.proofs.Common.{arith, ◌≡◌, ℕ, zero, suc, ◌+◌, refl, sym, ap₂, ◌∙◌, nat_cmp}
 use Rattle.std.proofs.Math.Path.{fun_ext}
-use Rattle.std.specs.Ordering.{nat_cmp}
 use Rattle.std.specs.FinMap.{FinMap}
 use Rattle.private_cache.specs.CopyTable.{copy_of}
 use Rattle.core_pts.specs.CoreTable.{CoreState}
 use Rattle.machine_table.specs.declared.config.Config.{Config}
-use Rattle.protocol.specs.Machine.{owned_below, owners_in}
+use Rattle.protocol.specs.Machine.{owned_below}
 use Rattle.machine_theorem.specs.Coherence as machine
 use Rattle.machine_theorem.specs.Coherence.{exclusive_copies}
-use Rattle.machine_theorem.specs.Ownership.{ownership_in, owners}
+use Rattle.machine_theorem.specs.Ownership.{owners}
 use Rattle.machine_theorem.specs.States.{State, Same, first, numbered_from, numbered}
-use Rattle.machine_theorem.specs.View.{copy_in, messages_of}
+use Rattle.machine_theorem.specs.View.{copy_in}
 use Rattle.machine_theorem.proofs.Bags.{bag-numbered}
 use Rattle.machine_theorem.proofs.Coherence.{owned_first, owns_is, owners_weigh, owners_are}
 
@@ -25,13 +24,8 @@ copies_sum cores (suc n) line =
 pub owners_numbered : (config : Config) (opening : FinMap nat_cmp ℕ) (a : State) (line : ℕ) →
     machine.owners (numbered config opening a) line ≡ owners config a line
 owners_numbered config opening a line =
-    ap₂ (λ n k. n + k) (copies_sum a.cores config.cores line)
-    (sym (owners_are (numbered_from 0 a.bag) line)
-    ∙ ap (λ xs. owners_in (messages_of xs line)) (bag-numbered 0 a.bag))
+    cc (copies_sum a.cores config.cores line, owners_are (numbered_from 0 a.bag) line, bag-numbered 0 a.bag)
 
 pub owners_same : (config : Config) (a b : State) → Same a b → (line : ℕ) →
     owners config a line ≡ owners config b line
-owners_same config a b k line =
-    ap₂ (λ n i. n + i)
-    (ap (λ cores. owned_below (λ c. copy_in (cores c) line) config.cores) (fun_ext k.cores))
-    (owners_weigh a.bag line ∙ k.bag (ownership_in line) ∙ sym (owners_weigh b.bag line))
+owners_same config a b k line = grind (arith, fun_ext k.cores, owners_weigh a.bag line, owners_weigh b.bag line)

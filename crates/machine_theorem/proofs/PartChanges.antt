@@ -1,7 +1,6 @@
 -- A machine and its state: one part put into both, and the messages in flight afterwards.
 use Rattle.std.proofs.Common.{◌≡◌, ℕ, ◌<◌, Bool, true, false, cond, List, [], ◌∷◌, ◌++◌, length, set, get_or, Option}
-use Rattle.std.proofs.Common.{Some, None, refl, ap, arith}
-use Rattle.std.specs.Ordering.{nat_cmp}
+use Rattle.std.proofs.Common.{Some, None, refl, ap, arith, nat_cmp}
 use Rattle.std.specs.FinMap.{FinMap, entries}
 use Rattle.physiological_order.specs.declared.operation.Op.{Op}
 use Rattle.network.specs.declared.counts.Counts.{Counts}
@@ -67,10 +66,7 @@ module _ (a : State) (m : Machine) (k : Same a (seen m)) where
         records = m.records ++ record_of c
             (length m.records) old op received ts ∷ [];
       }))
-  completion_put c op received ts old core lt =
-      let put = core_put c core lt in
-      same_by put.cores k.banks k.drams k.bag k.issued
-      (ap (λ rs. rs ++ record_of c (length rs) old op received ts ∷ []) k.records) k.counts
+  completion_put c op received ts old core lt = grind (arith, core_put c core lt)
 
 -- the messages in flight
 abbrev replied : Mail → Option Message → Mail

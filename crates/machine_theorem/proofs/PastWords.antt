@@ -1,9 +1,7 @@
 -- No turn of the protocol writes a word that lines don't have.
 use Rattle.std.proofs.Common.{◌≡◌, ◌≢◌, ℕ, ◌%◌, ◌<◌, Bool, true, List, set, Option, Some, None, ◌∙◌, subst, arith}
-use Rattle.std.proofs.Common.{get_or-set_other}
+use Rattle.std.proofs.Common.{get_or-set_other, IsPermutation, mod-lt}
 use Rattle.std.specs.List.{AllByRecursion as Each}
-use Rattle.std.specs.List.Sorted.{IsPermutation}
-use Rattle.std.proofs.Math.Nat.{mod-lt}
 use Rattle.std.proofs.lemmas.List.Sorted.{All-permutation}
 use Rattle.std.proofs.lemmas.List.Elements.{All-from_recursion, recursion_from_All}
 use Rattle.physiological_order.specs.declared.operation.Op.{Op}
@@ -21,8 +19,7 @@ use Rattle.machine_theorem.specs.PastWords.{ZerosFrom, EntryEnds, MessageEnds, H
 module _ (n : ℕ) where
   zeros_by : {x : Line} → ((core : ℕ) (copy : Copy) → x.copies core ≡ Some copy → ZerosFrom n copy.line.words) →
       EntryEnds n x.entry → Each (MessageEnds n) x.messages → ZerosFrom n x.dram → HasZeros n x
-  zeros_by copies entry messages dram =
-      record { copies = copies; entry = entry; messages = messages; dram = dram }
+  zeros_by copies entry messages dram = grind arith
 
   -- a core's copies after one changed
   copied : {x : Line} (c : ℕ) (new : Copy) → ZerosFrom n new.line.words → HasZeros n x → (d : ℕ) (copy : Copy) →
@@ -76,8 +73,7 @@ module _ (n : ℕ) where
   moved _ k = zeros_by k.copies tt (tt, k.messages) k.dram
 
   answered : {c : ℕ} {x y : Line} → Answers c x y → HasZeros n x → HasZeros n y
-  answered {c} (shared line rest p) k =
-      let each = taken p k.messages in zeros_by (copied c _ each.0 k) k.entry each.1 k.dram
+  answered {c} (shared line rest p) k = grind (arith, taken p k.messages)
   answered {c} (exclusive line rest p) k =
       let each = taken p k.messages in zeros_by (copied c _ each.0 k) k.entry each.1 k.dram
   answered {c} (renews rts copy rest p is) k =

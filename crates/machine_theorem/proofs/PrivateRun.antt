@@ -1,6 +1,5 @@
 -- The run of private writes, by computation.
-use Rattle.std.proofs.Common.{◌≡◌, ℕ, ◌<◌, List, set, get_or, length, length-set, refl, ap, ◌∙◌, arith}
-use Rattle.std.specs.Ordering.{nat_cmp}
+use Rattle.std.proofs.Common.{◌≡◌, ℕ, ◌<◌, List, set, get_or, length, length-set, refl, ap, ◌∙◌, arith, nat_cmp}
 use Rattle.std.specs.FinMap.{FinMap, entries}
 use Rattle.std.proofs.lemmas.List.{get_or-set_same}
 use Rattle.dram_mts.specs.Lines.{words_of}

@@ -1,9 +1,7 @@
 -- The records of a reached state: how many each core has, and their order.
 use Rattle.std.proofs.Common.{◌≡◌, ℕ, zero, suc, ◌+◌, cond, List, [], ◌∷◌, ◌++◌, length, length-append, map, Option}
-use Rattle.std.proofs.Common.{Some, None, ◌⊎◌, inl, inr, refl, sym, ap, ◌∙◌, subst, arith, ⊎_elim}
+use Rattle.std.proofs.Common.{Some, None, ◌⊎◌, inl, refl, sym, ap, ◌∙◌, subst, arith, ⊎_elim, slice_get, nat_cmp}
 use Rattle.std.proofs.lemmas.List.{length-map}
-use Rattle.std.specs.List.{slice_get}
-use Rattle.std.specs.Ordering.{nat_cmp}
 use Rattle.std.specs.FinMap.{FinMap}
 use Rattle.physiological_order.specs.declared.operation.Op.{Op}
 use Rattle.physiological_order.specs.declared.operation.Record.{Record}
@@ -54,8 +52,7 @@ step_adds a b put keeps rest _ to = absurd to
 
 move_adds : (config : Config) (a b : State) → Move config a b → Adds a b
 move_adds config a b (issues c op core lt e) = inl refl
-move_adds config a b (completes c op received ts core lt e) =
-    inr (record_of c (length a.records) (a.cores c) op received ts, refl, refl)
+move_adds config a b (completes c op received ts core lt e) = grind arith
 move_adds config a b (core_steps c act rest s lt beside is to) =
     step_adds a b (with_core a c) (λ part. refl) rest s to
 move_adds config a b (bank_steps i act rest s lt beside is to) =

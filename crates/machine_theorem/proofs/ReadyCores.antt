@@ -1,13 +1,9 @@
 -- A core whose copy serves its open operation: its next attempt completes it, and no other event changes that. So it is
 -- once a reply has come.
-use Rattle.std.proofs.Common.{arith, ◌+◌}
-use Rattle.std.proofs.Common.{◌≡◌, ◌≢◌, ℕ, ◌-◌, ◌^◌, ◌<◌, Bool, true, false, ◌&&◌, cond, eqb, nat_lt, List, [], ◌∷◌}
-use Rattle.std.proofs.Common.{length}
-use Rattle.std.proofs.Common.{Option, Some, None, Ok, Err, ◌⊎◌, inl, inr, refl, sym, ap, ◌∙◌, subst, ⊎_elim, set}
-use Rattle.std.specs.Prelude.{option_map}
-use Rattle.std.specs.Ordering.{nat_cmp}
+use Rattle.std.proofs.Common.{arith, ◌+◌, ◌≡◌, ◌≢◌, ℕ, ◌-◌, ◌^◌, ◌<◌, Bool, true, false, ◌&&◌, cond, eqb, nat_lt, List}
+use Rattle.std.proofs.Common.{[], ◌∷◌, length, Option, Some, None, Ok, Err, ◌⊎◌, inl, inr, refl, sym, ap, ◌∙◌, subst}
+use Rattle.std.proofs.Common.{⊎_elim, set, option_map, nat_cmp, slice_get}
 use Rattle.std.specs.FinMap.{FinMap}
-use Rattle.std.specs.List.{slice_get}
 use Rattle.std.proofs.lemmas.Bool.{and_parts, cases_eq, cond_both, cond-false, eq-eqb, eqb-true}
 use Rattle.std.proofs.lemmas.Option.{get_or_from_slice_get, slice_get_within}
 use Rattle.physiological_order.specs.declared.operation.Op.{Op}
@@ -45,8 +41,7 @@ use Rattle.machine_table.specs.Runs.{after_all}
 use Rattle.machine_table.specs.SetUp.{is_good}
 use Rattle.machine_table.specs.Step as step
 use Rattle.machine_table.specs.Step.{Step, Tried, Completes, Does, Getting, Attempting, attempted, copy_evicted}
-use Rattle.machine_table.specs.Step.{reacted}
-use Rattle.machine_table.specs.Step.{core_step, record_of}
+use Rattle.machine_table.specs.Step.{reacted, core_step, record_of}
 use Rattle.machine_table.specs.Transition.{changed, deliver_to, gets, if_there, issued, on_event, refused, tried}
 use Rattle.machine_table.specs.Transition.{transition}
 use Rattle.machine_table.proofs.Lemmas.{core_acts, finds}

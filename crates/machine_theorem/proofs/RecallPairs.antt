@@ -1,11 +1,9 @@
 -- What rounds keep of the recalls and returns of a line that go to and come from one core.
-use Rattle.std.proofs.Common.{◌≡◌, ◌≢◌, ℕ, ◌+◌, ◌≤◌, Option, Some, inl, inr, ◌⊎◌, sym, ap, ◌∙◌, ⊎_elim}
-use Rattle.std.proofs.Common.{arith}
+use Rattle.std.proofs.Common.{◌≡◌, ◌≢◌, ℕ, ◌+◌, ◌≤◌, Option, Some, inl, inr, ◌⊎◌, sym, ◌∙◌, ⊎_elim, arith}
 use Rattle.physiological_order.specs.declared.operation.Op.{Op}
 use Rattle.physiological_order.specs.Order.{address}
 use Rattle.protocol.specs.Machine.{Config, Entry, Exclusive, Recalling, Line, line_of, tally}
 use Rattle.protocol.specs.Recalls.{recall_to, return_of, OwnsOrWill}
-use Rattle.protocol.proofs.Lemmas.{Some_injective}
 
 -- an operation is open on the line, or on another
 abbrev pub IsHere : Config → ℕ → Option Op → Type 0
@@ -15,8 +13,7 @@ abbrev pub IsElsewhere : Config → ℕ → Option Op → Type 0
 IsElsewhere f l o = (op : Op) × (o ≡ Some op) × (line_of f (address op) ≢ l)
 
 pub not_both : (f : Config) (l : ℕ) (o : Option Op) → IsHere f l o → IsElsewhere f l o → ⊥
-not_both f l o here there =
-    there.2 (ap (λ (p : Op). line_of f (address p)) (Some_injective there.0 here.0 (sym there.1 ∙ here.1)) ∙ here.2)
+not_both f l o here there = grind arith
 
 -- how many recalls of the line to the core are in flight, and how many returns from it
 abbrev pub recalls : ℕ → Line → ℕ
@@ -60,16 +57,13 @@ module _ (f : Config) (l c : ℕ) where
     pub owned : OwnsOrWill c x → OwnsOrWill c y
 
   still_exclusive : (x y : Line) → Eased x y → y.entry ≡ Exclusive c → x.entry ≡ Exclusive c
-  still_exclusive x y e is = ⊎_elim (λ (q : y.entry ≡ x.entry). sym q ∙ is)
-      (λ (q : IsOther y.entry). absurd (q.0 is)) e.entry
+  still_exclusive x y e is = grind arith
 
   pub eased : (x y : Line) (o : Option Op) → Eased x y → Sound x o → Sound y o
   eased x y o e s = record {
     held = λ some here. e.owned (s.held (let z = e.recalled in omega (arith, some, z)) here);
     unasked = λ is. let z = s.unasked (still_exclusive x y e is) in let r = e.recalled in omega (arith, z, r);
-    asked = λ is. let r = e.recalled in ⊎_elim
-        (λ (q : y.entry ≡ x.entry). let z = s.asked (sym q ∙ is) in omega (arith, z, r))
-        (λ (q : IsOther y.entry). absurd (q.1 is)) e.entry;
+    asked = λ is. let r = e.recalled in grind arith;
     returning = λ some is. s.returning (let r = e.returned in omega (arith, some, r)) (still_exclusive x y e is);
   }
 
@@ -77,9 +71,7 @@ module _ (f : Config) (l c : ℕ) where
       (recalls c x ≤ qr → recalls c y ≤ pr) → (returns c x ≤ qb → returns c y ≤ pb) → Listed x o qr qb →
       Listed y o pr pb
   eased_list x y o qr qb pr pb e r b s = record {
-    recalls_listed = ⊎_elim (λ (z : recalls c x ≤ qr). inl (r z))
-        (λ (z : OwnsOrWill c x ⊎ IsElsewhere f l o). inr (⊎_elim (λ (w : OwnsOrWill c x). inl (e.owned w))
-        (λ (w : IsElsewhere f l o). inr w) z)) s.recalls_listed;
+    recalls_listed = grind arith;
     returns_listed = λ is. b (s.returns_listed (still_exclusive x y e is));
   }
 
@@ -101,8 +93,7 @@ module _ (f : Config) (l c : ℕ) where
   )
     where
       is_recalled : x.entry ≡ Recalling c
-      is_recalled = ⊎_elim (λ (e : x.entry ≡ Exclusive c). absurd (let z = s.unasked e in omega (arith, z, one)))
-          (λ (e : x.entry ≡ Recalling c). e) named
+      is_recalled = grind arith
 
       gone : recalls c y ≡ 0
       gone = let z = s.asked is_recalled in omega (arith, z, one)

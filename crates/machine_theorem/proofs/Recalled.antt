@@ -1,8 +1,7 @@
 -- A line that is recalled is brought back, though its owner must be granted it first, or completes its own operation.
 use Rattle.std.proofs.Common.{◌≡◌, ◌≢◌, ℕ, suc, ◌+◌, ◌/◌, ◌%◌, ◌<◌, ◌≤◌, max, Bool, true, false, cond, eqb, List, ◌∷◌}
 use Rattle.std.proofs.Common.{length, Option, Some, None, ◌⊎◌, inl, inr, refl, sym, ap, ◌∙◌, subst, arith, ⊎_elim}
-use Rattle.std.proofs.Common.{le_trans}
-use Rattle.std.specs.Prelude.{option_map}
+use Rattle.std.proofs.Common.{le_trans, option_map}
 use Rattle.std.proofs.lemmas.Bool.{cases_eq, cond-true, eq-eqb, eqb-true}
 use Rattle.physiological_order.specs.declared.operation.Op.{Op}
 use Rattle.physiological_order.specs.declared.operation.Op.TheVariants.{Load, Store, Swap}
@@ -40,11 +39,11 @@ use Rattle.machine_theorem.proofs.Bags.{as_many}
 use Rattle.machine_theorem.proofs.Lookups.{put_now, messages_here}
 use Rattle.machine_theorem.proofs.Consistency.{state_consistent, line_counts}
 use Rattle.machine_theorem.proofs.Deliveries.{owned_copy, counts_if, of_line, line_weighs, Found, found, found_of}
-use Rattle.machine_theorem.proofs.Deliveries.{ToCore, to_core}
-use Rattle.machine_theorem.proofs.Deliveries.{core_decided, owner_serves, IsReply, Suits, completed, its_core, served}
-use Rattle.machine_theorem.proofs.Ways.{Setting, AsksFor, Stands, Beside, Way, way_after, way_here, kept}
-use Rattle.machine_theorem.proofs.Ways.{unasked, asked_still, IsShared, IsGone, by_return, evicts, by_loading}
-use Rattle.machine_theorem.proofs.Ways.{by_storing, by_shared, way_then, answered, bank_moves, changed}
+use Rattle.machine_theorem.proofs.Deliveries.{ToCore, to_core, core_decided, owner_serves, IsReply, Suits, completed}
+use Rattle.machine_theorem.proofs.Deliveries.{its_core, served}
+use Rattle.machine_theorem.proofs.Ways.{Setting, AsksFor, Stands, Beside, Way, way_after, way_here, kept, unasked}
+use Rattle.machine_theorem.proofs.Ways.{asked_still, IsShared, IsGone, by_return, evicts, by_loading, by_storing}
+use Rattle.machine_theorem.proofs.Ways.{by_shared, way_then, answered, bank_moves, changed}
 use Rattle.machine_theorem.specs.Shape.{IsCore}
 use Rattle.machine_theorem.proofs.Taken.{takes}
 use Rattle.machine_theorem.specs.Rounds.{IsRequest}

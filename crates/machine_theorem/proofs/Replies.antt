@@ -1,7 +1,6 @@
 -- The bank of a line that a core asks for makes room, loads the line, gets it back, and replies.
 use Rattle.std.proofs.Common.{◌≡◌, ◌≢◌, ℕ, suc, ◌+◌, ◌/◌, ◌%◌, ◌≤◌, Bool, true, false, ◌&&◌, cond, List, ◌∷◌, length}
-use Rattle.std.proofs.Common.{Option, Some, None, refl, sym, ap, ◌∙◌, subst, arith, ⊎_elim}
-use Rattle.std.specs.Option.{is_some}
+use Rattle.std.proofs.Common.{Option, Some, None, refl, sym, ap, ◌∙◌, subst, arith, ⊎_elim, is_some}
 use Rattle.std.proofs.lemmas.Bool.{cases_Bool, cond_both, cases_eq, lt-ltb, ltb-false}
 use Rattle.physiological_order.specs.Order.{of_core}
 use Rattle.network.specs.declared.message.Node.TheVariants as node
@@ -37,8 +36,8 @@ use Rattle.machine_theorem.proofs.Sizes.{reached_sized, lines_fewer, first_there
 use Rattle.machine_theorem.proofs.Openings.{fair}
 use Rattle.machine_theorem.proofs.Deliveries.{Found, found, ToBank, to_bank}
 use Rattle.line_sets.specs.Order.{is_there}
-use Rattle.machine_theorem.proofs.Ways.{Setting, AsksFor, Stands, Comes, Way, way_here, kept, IsShared, IsGone}
-use Rattle.machine_theorem.proofs.Ways.{decided, by_loading, by_storing, Path, path_of, path_then, bank_moves, put}
+use Rattle.machine_theorem.proofs.Ways.{Setting, AsksFor, Stands, Comes, Way, way_here, kept, IsShared, IsGone, decided}
+use Rattle.machine_theorem.proofs.Ways.{by_loading, by_storing, Path, path_of, path_then, bank_moves, put}
 use Rattle.machine_theorem.proofs.Recalled.{Waits, by_recalling, by_exclusive, emptied}
 use Rattle.machine_theorem.specs.Rounds.{IsRequest}
 

@@ -1,19 +1,13 @@
 -- A place for a line stays where other lines of a cache are changed or leave.
-use Rattle.std.proofs.Common.{◌≡◌, ◌≢◌, ℕ, ◌%◌, ◌<◌, ◌≤◌, Bool, true, ◌||◌, ltb, List, length, length-set, set}
-use Rattle.std.proofs.Common.{Some, sym, ap, subst, arith, inl, inr}
-use Rattle.std.specs.Option.{is_some}
-use Rattle.std.proofs.Math.Nat.{mod-lt}
+use Rattle.std.proofs.Common.{◌≡◌, ◌≢◌, ℕ, ◌<◌, ◌≤◌, true, ltb, List, length, length-set, set, Some, arith, inl, inr}
+use Rattle.std.proofs.Common.{mod-lt}
 use Rattle.std.proofs.lemmas.Bool.{cases_eq}
-use Rattle.std.proofs.lemmas.Bool.Decides.{nat_tests}
 use Rattle.line_sets.specs.Order.{without, put_in_place}
 use Rattle.line_sets.specs.SetTable.{Sets, set_at}
 use Rattle.line_sets.proofs.Lemmas.{length-without_le, length-put_in_place, set_at-set_same, set_at-set_other}
 use Rattle.private_cache.specs.declared.line_copy.LineCopy.{LineCopy}
 use Rattle.private_cache.specs.CopyTable.{set_of, copy_of, place_for, with_changed, without_copy}
 use Rattle.machine_theorem.proofs.Lookups.{change_now, drop_now}
-
-or_keeps : (ways n k : ℕ) (p q : Bool) → q ≡ p → k ≤ n → (p || ltb n ways) ≡ true → (q || ltb k ways) ≡ true
-or_keeps ways n k p q same le h = grind (arith, nat_tests)
 
 -- a set is written with no more lines than it had
 pub set_le : {X : Type 0} (sets : List (List (ℕ × X))) (i j : ℕ) (ps : List (ℕ × X)) → i < length sets →
@@ -30,13 +24,12 @@ module _ (cache : Sets LineCopy) (some : 0 < length cache.sets) (line k : ℕ) (
       let new = record cache { sets = set cache.sets (set_of cache line) ps } in
       copy_of new k ≡ copy_of cache k → place_for new k ≡ true
   place-kept ps le same =
-      let new : Sets LineCopy = record cache { sets = set cache.sets (set_of cache line) ps } in
-      or_keeps cache.ways (length (set_at cache.sets (set_of cache k))) (length (set_at new.sets (set_of new k)))
-      (is_some (copy_of cache k)) (is_some (copy_of new k)) (ap is_some same)
-      (subst (λ (n : ℕ). length (set_at new.sets (k % n)) ≤ length (set_at cache.sets (set_of cache k)))
-      (sym (length-set cache.sets (set_of cache line) ps))
-      (set_le cache.sets (set_of cache line) (set_of cache k) ps (mod-lt line some) le))
-      place
+      grind (
+        arith,
+        length-set cache.sets (set_of cache line) ps,
+        set_le cache.sets (set_of cache line) (set_of cache k)
+            ps (mod-lt line some) le,
+      )
 
   pub place-changed : (copy old : LineCopy) → copy_of cache line ≡ Some old →
       place_for (with_changed cache line copy) k ≡ true
@@ -47,12 +40,10 @@ module _ (cache : Sets LineCopy) (some : 0 < length cache.sets) (line k : ℕ) (
 
   pub place-without : place_for (without_copy cache line) k ≡ true
   place-without =
-      place-kept (without (set_at cache.sets (set_of cache line)) line)
-      (length-without_le (set_at cache.sets (set_of cache line)) line)
-      ((drop_now (λ j. j) cache.sets some line).there k other)
+      cc (place-kept (without (set_at cache.sets (set_of cache line)) line) (length-without_le (set_at cache.sets
+      (set_of cache line)) line) ((drop_now (λ j. j) cache.sets some line).there k other))
 
 -- a copy is its own place
 pub place-there : (cache : Sets LineCopy) (line : ℕ) (copy : LineCopy) → copy_of cache line ≡ Some copy →
     place_for cache line ≡ true
-place-there cache line copy there =
-    ap (λ (b : Bool). b || ltb (length (set_at cache.sets (set_of cache line))) cache.ways) (ap is_some there)
+place-there cache line copy there = grind (arith, ltb (length (set_at cache.sets (set_of cache line))) cache.ways)

@@ -1,8 +1,7 @@
 -- Events of a round that change a machine, where a message has a number, and room or the place of the one that is
 -- delivered: each is a step of its part.
-use Rattle.std.proofs.Common.{◌≡◌, ℕ, ◌-◌, ◌^◌, ◌<◌, ◌/◌, Bool, true, false, ◌&&◌, length, Option, Some, None}
-use Rattle.std.proofs.Common.{refl, sym, ap, ◌∙◌, subst}
-use Rattle.std.specs.List.{slice_get}
+use Rattle.std.proofs.Common.{arith, ◌≡◌, ℕ, ◌-◌, ◌^◌, ◌<◌, ◌/◌, Bool, true, false, length, Option, Some, None, refl}
+use Rattle.std.proofs.Common.{sym, ap, ◌∙◌, subst, slice_get}
 use Rattle.std.proofs.lemmas.Bool.{cond-true, cond-false, lt-ltb}
 use Rattle.physiological_order.specs.declared.operation.Op.{Op}
 use Rattle.physiological_order.specs.Order.{address}
@@ -12,9 +11,9 @@ use Rattle.network.specs.Mail.{has_number, has_capacity}
 use Rattle.network.specs.NumberedMessages.{at_number}
 use Rattle.private_cache.specs.CopyTable.{victim_for}
 use Rattle.core_pts.specs.CoreTable as core_table
-use Rattle.core_pts.specs.CoreTable.{CoreState, core_has_case}
+use Rattle.core_pts.specs.CoreTable.{CoreState}
 use Rattle.llc_bank.specs.BankTable as bank_table
-use Rattle.llc_bank.specs.BankTable.{BankState, bank_has_case}
+use Rattle.llc_bank.specs.BankTable.{BankState}
 use Rattle.machine_table.specs.declared.event.Answer.{Answer}
 use Rattle.machine_table.specs.declared.event.Answer.TheVariants.{Held, Refused}
 use Rattle.machine_table.specs.declared.event.Event.{Event}
@@ -54,8 +53,7 @@ module _ {more : Bool} (m : Machine) (able : CanSend more m) where
   numbered = lt-ltb m.mail.next (2 ^ 64 - 1) able.numbers
 
   free : more ≡ true → has_capacity m.config.messages m.mail ≡ true
-  free is = ap (λ (b : Bool). b && has_number m.mail)
-      (lt-ltb (length m.mail.messages) m.config.messages (able.room is)) ∙ numbered
+  free is = cc (lt-ltb (length m.mail.messages) m.config.messages (able.room is), numbered)
 
   can : (consumes : Bool) (sends : Option Message) → (consumes ≡ false → more ≡ true) →
       can_post m.config.messages m.mail consumes sends ≡ true
@@ -91,11 +89,7 @@ module _ {more : Bool} (m : Machine) (able : CanSend more m) where
   happens e o is = cond-false m.is_stopped _ (on_event m e) able.runs ∙ is
 
   by_event : (e : Event) → IsInRound m e → (o : Answer × Machine) → on_event m e ≡ o → IsMoving o.0 → MovesOn m
-  by_event e made o is moving = record {
-    event = e;
-    in_round = made;
-    moving = subst (λ (r : Answer × Machine). IsMoving r.0) (sym (happens e o is)) moving;
-  }
+  by_event e made o is moving = grind (arith, made, happens e o is)
 
   module _ (c : ℕ) (core : CoreState) (at : slice_get m.cores c ≡ Some core) where
     tries : on_event m (event.Attempt c) ≡ tried m c core (attempt_open core core.open_op)

@@ -1,29 +1,25 @@
 -- Deliveries and banks' evictions keep what rounds keep of recalls, line by line and core by core.
 use Rattle.std.proofs.Common.{◌≡◌, ◌≢◌, ℕ, ◌+◌, ◌≤◌, Bool, true, false, cond, eqb, List, [], ◌∷◌, Option, Some, None}
-use Rattle.std.proofs.Common.{inl, inr, ◌⊎◌, refl, sym, ap, ◌∙◌, subst, ⊎_elim, arith, ◌<◌}
-use Rattle.std.specs.List.Sorted.{IsPermutation}
-use Rattle.std.specs.Prelude.{sum_by}
+use Rattle.std.proofs.Common.{inl, inr, ◌⊎◌, refl, sym, ap, ◌∙◌, subst, ⊎_elim, arith, ◌<◌, IsPermutation, sum_by}
 use Rattle.std.proofs.lemmas.Bool.{cases_eq, cond-true, cond-false, eqb-true, eq-eqb, ne_eqb}
 use Rattle.std.proofs.lemmas.List.Sums.{sum_by-cons}
 use Rattle.std.proofs.lemmas.List.Sorted.{sum_by-IsPermutation}
 use Rattle.physiological_order.specs.declared.operation.Op.{Op}
 use Rattle.physiological_order.specs.Order.{address}
 use Rattle.protocol.specs.Machine.{Config, Timed, Copy, Entry, Loading, Absent, Shared, Exclusive, Recalling, Storing}
-use Rattle.protocol.specs.Machine.{Message, ExReq, FlushReq, WbReq}
-use Rattle.protocol.specs.Machine.{DramLd, DramLdRep, DramSt, DramStRep, Line, Core, Machine, owns}
-use Rattle.protocol.specs.Machine.{tally, with_at, line_of, waits, IsPinned, Reachable, LineTransition, evict_shared}
-use Rattle.protocol.specs.Machine.{evict_exclusive, dropped, wb_dropped, flushed, written_back, load_starts, renewed}
-use Rattle.protocol.specs.Machine.{leased, upgraded, granted, wb_starts, flush_starts, flush_returns, wb_returns}
-use Rattle.protocol.specs.Machine.{loaded, stored, evict_clean, evict_dirty, shuffled, dram_loads, dram_stores}
-use Rattle.protocol.specs.Machine.{Answers, shared, exclusive, renews, upgrades, Transition, issue, advance, ask}
-use Rattle.protocol.specs.Machine.{answer, complete, line_changes}
+use Rattle.protocol.specs.Machine.{Message, ExReq, FlushReq, WbReq, DramLd, DramLdRep, DramSt, DramStRep, Line, Core}
+use Rattle.protocol.specs.Machine.{Machine, owns, tally, with_at, line_of, waits, IsPinned, Reachable, LineTransition}
+use Rattle.protocol.specs.Machine.{evict_shared, evict_exclusive, dropped, wb_dropped, flushed, written_back}
+use Rattle.protocol.specs.Machine.{load_starts, renewed, leased, upgraded, granted, wb_starts, flush_starts}
+use Rattle.protocol.specs.Machine.{flush_returns, wb_returns, loaded, stored, evict_clean, evict_dirty, shuffled}
+use Rattle.protocol.specs.Machine.{dram_loads, dram_stores, Answers, shared, exclusive, renews, upgrades, Transition}
+use Rattle.protocol.specs.Machine.{issue, advance, ask, answer, complete, line_changes}
 use Rattle.protocol.specs.Recalls.{recall_to, grant_to, return_of, OwnsOrWill, OwnerAnswers}
 use Rattle.protocol.proofs.Lemmas.{about, one_if, owner_named, owners_answer, unowned, reachable_ok, with_at_cases}
 use Rattle.machine_theorem.proofs.RecallPairs as pairs
 use Rattle.machine_theorem.proofs.RecallPairs.{IsHere, Sound, Listed, Settled, Eased, IsOther, recalls, returns, eased}
 use Rattle.machine_theorem.proofs.RecallPairs.{eased_list, listed_by}
-use Rattle.machine_theorem.proofs.Turns.{issuing, attempting, advancing, delivering, leaves_at, kind_at, kind_of}
-use Rattle.machine_theorem.proofs.Turns.{Leads}
+use Rattle.machine_theorem.proofs.Turns.{issuing, attempting, advancing, delivering, leaves_at, kind_at, kind_of, Leads}
 
 -- what the members of a bag weigh, in any order
 tally_taken : (w : Message → ℕ) (xs ys : List Message) → IsPermutation xs ys → tally w xs ≡ tally w ys
@@ -150,8 +146,7 @@ module _ (f : Config) (good : 0 < f.line_words) (strict : f.loses_recalls ≡ fa
       entry = inr other;
       recalled = k.recalled;
       returned = k.returned;
-      owned = λ has. ⊎_elim (λ (own : owns (x.copies c) ≡ 1). inl own)
-          (λ (grant : 1 ≤ tally (grant_to c) x.messages). inr (let z = k.granted in omega (arith, z, grant))) has;
+      owned = λ has. grind arith;
     })
 
     -- one that names no owner, or another than this core
@@ -247,8 +242,7 @@ module _ (f : Config) (good : 0 < f.line_words) (strict : f.loses_recalls ≡ fa
     moved (shuffled ms p) none after = stays _ after refl
         (let z = tally_taken (recall_to c) x.messages ms p in omega (arith, z))
         (let z = tally_taken (return_of c) x.messages ms p in omega (arith, z))
-    moved (dram_loads rest p) none after = let k = by_swapping (DramLdRep x.dram) p refl refl refl in
-        stays _ after refl k.recalled k.returned
+    moved (dram_loads rest p) none after = grind (arith, by_swapping (DramLdRep x.dram) p refl refl refl)
     moved (dram_stores words rest p) none after = let k = by_swapping DramStRep p refl refl refl in
         stays _ after refl k.recalled k.returned
 
@@ -274,8 +268,7 @@ module _ (f : Config) (good : 0 < f.line_words) (strict : f.loses_recalls ≡ fa
     delivered (issue d op none) is s l c = absurd (let z : issuing d ≡ delivering = is in cc)
     delivered (advance d) is s l c = absurd (let z : advancing ≡ delivering = is in cc)
     delivered (ask d op y opens out asks) is s l c = absurd (let z : attempting d ≡ delivering = is in cc)
-    delivered (complete d op copy new received ts opens out is_there uses) is s l c =
-        absurd (let z : attempting d ≡ delivering = is in cc)
+    delivered (complete d op copy new received ts opens out is_there uses) is s l c = grind (arith, delivering)
     delivered (answer d k y answers) is s l c = (
       changed k y c (answered m r k c answers) l (owners_answer f good strict _ s l),
       with_at_cases (λ j (z : Core). z.open_op ≡ (m.cores j).open_op) m.cores d _ refl (λ j ne. refl) c,

@@ -1,11 +1,9 @@
 -- What a machine makes of the events of a round, with the messages that are still to be delivered.
-use Rattle.std.proofs.Common.{◌≡◌, ◌≢◌, ℕ, ◌+◌, ◌-◌, ◌^◌, ◌<◌, ◌≤◌, Bool, true, false, eqb, nat_lt, List, [], ◌∷◌}
-use Rattle.std.proofs.Common.{◌++◌, Option, Some, None, inl, inr, ◌⊎◌, refl, sym, ap, ◌∙◌, subst, ⊎_elim, arith}
+use Rattle.std.proofs.Common.{◌≡◌, ◌≢◌, ℕ, ◌+◌, ◌-◌, ◌^◌, ◌<◌, ◌≤◌, Bool, true, false, eqb, nat_lt, List, [], ◌∷◌, ◌++◌}
+use Rattle.std.proofs.Common.{Option, Some, None, inl, inr, ◌⊎◌, refl, sym, ap, ◌∙◌, subst, ⊎_elim, arith, nat_cmp}
 use Rattle.std.specs.List.{slice_get, AllByRecursion as Each}
-use Rattle.std.specs.Ordering.{nat_cmp}
 use Rattle.std.specs.FinMap.{FinMap}
-use Rattle.std.proofs.lemmas.Bool.{cases_Bool, cond_both, cond-true, cond-false, eq-eqb, ne_eqb, ltb-true}
-use Rattle.std.proofs.lemmas.Bool.{ltb-false}
+use Rattle.std.proofs.lemmas.Bool.{cases_Bool, cond_both, cond-true, cond-false, eq-eqb, ne_eqb, ltb-true, ltb-false}
 use Rattle.std.proofs.lemmas.Bool.Decides.{nat_tests}
 use Rattle.physiological_order.specs.declared.operation.Op.{Op}
 use Rattle.network.specs.declared.message.Message.{Message}
@@ -24,7 +22,7 @@ use Rattle.machine_table.specs.Opening.{at_start}
 use Rattle.machine_table.specs.Posted.{can_post, left, posted}
 use Rattle.machine_table.specs.SetUp.{SetUpAs, is_good}
 use Rattle.machine_table.specs.Step as step
-use Rattle.machine_table.specs.Step.{Step, entry_evicted, reacted}
+use Rattle.machine_table.specs.Step.{Step, entry_evicted}
 use Rattle.machine_table.specs.Transition.{changed, deliver_to, if_there, on_event, refused, transition}
 use Rattle.machine_theorem.specs.Bags.{bag_of, weigh}
 use Rattle.machine_theorem.specs.HeldRecalls.{RecallsFindOwners}

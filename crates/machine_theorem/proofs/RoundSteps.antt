@@ -1,10 +1,7 @@
 -- What a machine makes of the events of a round keeps what rounds keep of recalls.
 use Rattle.std.proofs.Common.{◌≡◌, ◌≢◌, ℕ, ◌+◌, ◌-◌, ◌/◌, ◌%◌, ◌^◌, ◌<◌, ◌≤◌, Bool, true, false, cond, eqb, List, ◌∷◌}
 use Rattle.std.proofs.Common.{zero, suc, length, Option, Some, None, Ok, Err, inl, inr, ◌⊎◌, refl, sym, ap, ◌∙◌, subst}
-use Rattle.std.proofs.Common.{⊎_elim}
-use Rattle.std.proofs.Common.{arith, Result}
-use Rattle.std.specs.List.{slice_get}
-use Rattle.std.specs.Ordering.{nat_cmp}
+use Rattle.std.proofs.Common.{⊎_elim, arith, Result, slice_get, nat_cmp}
 use Rattle.std.specs.FinMap.{FinMap}
 use Rattle.std.proofs.lemmas.Bool.{cond_both, cond-true, eqb-true, lt-ltb}
 use Rattle.std.proofs.lemmas.Option.{get_or_from_slice_get, slice_get_within}
@@ -29,11 +26,11 @@ use Rattle.core_pts.specs.declared.decision.CoreReaction.TheVariants.{Returns}
 use Rattle.core_pts.specs.OnCopy as on_copy
 use Rattle.core_pts.specs.OnCopy.{serves}
 use Rattle.core_pts.specs.CoreTable as core_table
-use Rattle.core_pts.specs.CoreTable.{CoreState, core_has_case, is_this_core, pinned_line, to_bank}
+use Rattle.core_pts.specs.CoreTable.{CoreState, is_this_core, pinned_line, to_bank}
 use Rattle.llc_bank.specs.declared.decision.Decision.{Decision}
 use Rattle.llc_bank.specs.declared.decision.Decision.TheVariants.{Grants}
 use Rattle.llc_bank.specs.BankTable as bank_table
-use Rattle.llc_bank.specs.BankTable.{BankState, bank_has_case, core_of, entry_of, is_this_bank}
+use Rattle.llc_bank.specs.BankTable.{BankState, core_of, entry_of, is_this_bank}
 use Rattle.dram_mts.specs.Table.{dram_case, is_dram}
 use Rattle.machine_table.specs.declared.config.Config.{Config}
 use Rattle.machine_table.specs.declared.event.Answer.{Answer}
@@ -44,25 +41,23 @@ use Rattle.machine_table.specs.Machine.{Machine, with_core, with_bank, with_dram
 use Rattle.machine_table.specs.Opening.{open_bank, open_core}
 use Rattle.machine_table.specs.Posted.{can_post, left, posted}
 use Rattle.machine_table.specs.Step as step
-use Rattle.machine_table.specs.Step.{Step, Tried, Completes, Does, Getting, Evicting, attempt_open, attempted, reacted}
+use Rattle.machine_table.specs.Step.{Step, Tried, Completes, Does, Evicting, attempt_open, attempted, reacted}
 use Rattle.machine_table.specs.Step.{entry_evicted, copy_evicted, bank_step}
 use Rattle.machine_table.specs.Transition.{changed, if_there, issued, on_event, refused, tried}
 use Rattle.machine_table.proofs.Lemmas.{finds}
 use Rattle.protocol.specs.Machine as by_line
-use Rattle.protocol.specs.Machine.{tally}
 use Rattle.protocol.specs.Recalls.{recall_to, return_of}
 use Rattle.machine_theorem.specs.Bags.{SameBag, bag_of, weigh}
 use Rattle.machine_theorem.specs.Cases.{takes}
 use Rattle.machine_theorem.specs.Kept.{IsKept, Invariant}
 use Rattle.machine_theorem.specs.Moves as moves
-use Rattle.machine_theorem.specs.Moves.{with_answer, with_completion}
+use Rattle.machine_theorem.specs.Moves.{with_answer}
 use Rattle.machine_theorem.specs.Rounds.{IsMoving, IsRequest}
 use Rattle.machine_theorem.specs.States.{State, Same, seen}
 use Rattle.machine_theorem.specs.View.{body_seen, copy_in, copy_or_none, entry_in, line_seen, message_seen, set_up}
 use Rattle.machine_theorem.specs.View.{view}
 use Rattle.machine_theorem.proofs.ActiveParts.{IsRecall, core_active, bank_active, dram_active, no_request, no_recall}
-use Rattle.machine_theorem.proofs.ActiveParts.{served_tries, needs, recalled_core}
-use Rattle.machine_theorem.proofs.ActiveParts.{pinned_here}
+use Rattle.machine_theorem.proofs.ActiveParts.{served_tries, needs, recalled_core, pinned_here}
 use Rattle.machine_theorem.proofs.Bags.{bag-taken}
 use Rattle.machine_theorem.proofs.Routes.{up_ends}
 use Rattle.machine_theorem.proofs.CoreDeliveries.{core_delivery}

@@ -1,18 +1,16 @@
 -- The turns of cores in a round keep what rounds keep of recalls, line by line and core by core.
 use Rattle.std.proofs.Common.{◌≡◌, ◌≢◌, ℕ, ◌+◌, ◌≤◌, Bool, false, ◌∷◌, Option, Some, None, inl, inr, ◌⊎◌, refl, sym, ap}
-use Rattle.std.proofs.Common.{◌∙◌}
-use Rattle.std.proofs.Common.{subst, ⊎_elim, arith, le_refl}
+use Rattle.std.proofs.Common.{◌∙◌, subst, arith, le_refl}
 use Rattle.std.proofs.lemmas.Bool.{cases_eq}
 use Rattle.physiological_order.specs.declared.operation.Op.{Op}
 use Rattle.physiological_order.specs.Order.{address}
-use Rattle.protocol.specs.Machine.{Config, Copy, Exclusive, Message, FlushRep, Line, Core, Machine, owns, tally}
-use Rattle.protocol.specs.Machine.{with_at, line_of}
-use Rattle.protocol.specs.Machine.{IsPinned, LineTransition, evict_shared, evict_exclusive, Asks, to_read, to_write}
-use Rattle.protocol.specs.Machine.{Transition, issue, advance, ask, complete, line_changes}
-use Rattle.protocol.specs.Recalls.{recall_to, grant_to, return_of, OwnsOrWill}
+use Rattle.protocol.specs.Machine.{Config, Copy, Exclusive, Message, FlushRep, Line, Core, Machine, tally, with_at}
+use Rattle.protocol.specs.Machine.{line_of, IsPinned, LineTransition, evict_shared, evict_exclusive, Asks, to_read}
+use Rattle.protocol.specs.Machine.{to_write, Transition, issue, advance, ask, complete, line_changes}
+use Rattle.protocol.specs.Recalls.{recall_to, grant_to, return_of}
 use Rattle.protocol.proofs.Lemmas.{with_at_cases, with_at_other, with_at_same, Some_injective}
-use Rattle.machine_theorem.proofs.RecallPairs.{IsElsewhere, Sound, Listed, Eased, eased, eased_list, recalls}
-use Rattle.machine_theorem.proofs.RecallPairs.{returns, not_both}
+use Rattle.machine_theorem.proofs.RecallPairs.{IsElsewhere, Sound, Listed, Eased, eased, eased_list, recalls, returns}
+use Rattle.machine_theorem.proofs.RecallPairs.{not_both}
 use Rattle.machine_theorem.proofs.RoundLines.{Good, Alike, none_at}
 use Rattle.machine_theorem.proofs.Turns.{Kind, issuing, attempting, advancing, leaving, delivering, leaves_at, kind_at}
 use Rattle.machine_theorem.proofs.Turns.{kind_of, Leads}
@@ -47,10 +45,7 @@ module _ (f : Config) where
 
   pub delivers_next : (p : ℕ → (Message → ℕ) → ℕ) (next : ℕ) (m : Machine) →
       ((l : ℕ) (w : Message → ℕ) → tally w (m.lines l).messages ≤ p l w) → Turns next m → Good f p m
-  delivers_next p next m le turns l c = (
-    (turns l c).sound,
-    record { recalls_listed = inl (le l (recall_to c)); returns_listed = λ is. le l (return_of c) },
-  )
+  delivers_next p next m le turns l c = grind arith
 
   module _ (next : ℕ) (xs ys : ℕ → Line) (ds es : ℕ → Core) (l c : ℕ) where
     -- the line and the core stay as they were
@@ -73,8 +68,7 @@ module _ (f : Config) where
 
   beside_by : {c : ℕ} {x y : Line} → y.entry ≡ x.entry → y.copies c ≡ x.copies c → recalls c y ≤ recalls c x →
       returns c y ≤ returns c x → tally (grant_to c) x.messages ≤ tally (grant_to c) y.messages → Beside c x y
-  beside_by entry copies recalled returned granted =
-      record { entry = entry; copies = copies; recalled = recalled; returned = returned; granted = granted }
+  beside_by entry copies recalled returned granted = grind (arith, entry, copies, recalled, returned, granted)
 
   unchanged : (c : ℕ) (x : Line) → Beside c x x
   unchanged c x = beside_by refl refl (le_refl _) (le_refl _) (le_refl _)
@@ -84,8 +78,7 @@ module _ (f : Config) where
     entry = inl b.entry;
     recalled = b.recalled;
     returned = b.returned;
-    owned = λ own. ⊎_elim (λ (z : owns (x.copies c) ≡ 1). inl (ap owns b.copies ∙ z))
-        (λ (z : 1 ≤ tally (grant_to c) x.messages). inr (let g = b.granted in omega (arith, z, g))) own;
+    owned = λ own. grind arith;
   }
 
   -- a core's turn, as another core sees it, or this one, if its operation stays
@@ -208,13 +201,7 @@ module _ (f : Config) where
 
       own : TurnPair (c + 1) (with_at m.lines k y) (with_at m.cores d core) l d
       own = let q = turns l d in record {
-        sound = record {
-          held = λ some here. absurd (let z : None ≡ Some here.0 = sym closed ∙ here.1 in cc);
-          unasked = λ at. ap (tally (recall_to d)) same.1 ∙ q.sound.unasked (sym same.0 ∙ at);
-          asked = λ at. let z = q.sound.asked (sym same.0 ∙ at) in let w = ap (tally (recall_to d)) same.1 in
-              omega (arith, z, w);
-          returning = λ some at. absurd (back some at);
-        };
+        sound = grind (arith, asked);
         lacks = λ some at. absurd (back some at);
         listed = λ le. absurd (let w = attempts_at d c is in omega (arith, w, le));
       }
@@ -224,8 +211,7 @@ module _ (f : Config) where
       go (inr ne) = beside (c + 1) m.lines _ m.cores _ e (one_line m k y e (beside_by refl
           (with_at_other ((m.lines k).copies) d (Some new) e ne) (le_refl _) (le_refl _) (le_refl _)))
           (other_op m d _ e ne) l (turns l e)
-  attempts c (line_changes l t y move) is turns k e =
-      absurd (subst IsLines is (line_kind l (leaves_at move)))
+  attempts c (line_changes l t y move) is turns k e = grind (arith, line_kind l (leaves_at move))
   attempts c _ is turns l e = absurd (cc)
 
   -- its time goes on
@@ -233,8 +219,7 @@ module _ (f : Config) where
       Turns next n
   advances next {m} (advance d) is turns l c =
       beside next m.lines _ m.cores _ c (λ j. unchanged c (m.lines j)) (same_op m d _ refl c) l (turns l c)
-  advances next (line_changes l t y move) is turns k e =
-      absurd (subst IsLines is (line_kind l (leaves_at move)))
+  advances next (line_changes l t y move) is turns k e = grind (arith, line_kind l (leaves_at move))
   advances next _ is turns l e = absurd (cc)
 
   -- a copy leaves of a core that lacks one of its operation's line
@@ -302,16 +287,7 @@ module _ (f : Config) where
 
       own : TurnPair (c + 1) m.lines given l c
       own = let q = turns l c in record {
-        sound = record {
-          held = λ some here. ⊎_elim (λ (z : recalls c (m.lines l) ≤ 0). absurd (omega (arith, z, some)))
-              (λ (z : OwnsOrWill c (m.lines l) ⊎ IsElsewhere f l ((m.cores c).open_op)).
-              ⊎_elim (λ (own : OwnsOrWill c (m.lines l)). own)
-              (λ (there : IsElsewhere f l ((m.cores c).open_op)). absurd (closed there)) z)
-              (q.listed (le_refl c)).recalls_listed;
-          unasked = q.sound.unasked;
-          asked = q.sound.asked;
-          returning = λ some named. absurd (closed (q.sound.returning some named));
-        };
+        sound = grind (arith, le_refl c, asked);
         lacks = λ some named. absurd (closed (q.sound.returning some named));
         listed = λ le. absurd (omega (arith, le));
       }

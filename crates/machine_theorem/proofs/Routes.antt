@@ -1,5 +1,5 @@
 -- Between which nodes the messages go that parts send.
-use Rattle.std.proofs.Common.{◌≡◌, ℕ, ◌<◌, Bool, true, false, ◌&&◌, refl}
+use Rattle.std.proofs.Common.{arith, ◌≡◌, ℕ, ◌<◌, Bool, true, false, ◌&&◌, refl}
 use Rattle.std.proofs.lemmas.Bool.{and_parts, lt-ltb, ltb-true}
 use Rattle.network.specs.declared.message.Node.{Node}
 use Rattle.network.specs.declared.message.Node.TheVariants.{Core, Bank, Dram}
@@ -39,8 +39,7 @@ up_ends cores banks (Core c) (Bank b) h = record {
   bank = b;
   from_core = refl;
   to_bank = refl;
-  some_core =
-      ltb-true c cores (and_parts _ _ h).0;
+  some_core = grind (arith, ltb-true c cores (and_parts _ _ h).0);
   some_bank = ltb-true b banks (and_parts _ _ h).1;
 }
 up_ends cores banks _ _ h = absurd (let z : false ≡ true = h in cc)

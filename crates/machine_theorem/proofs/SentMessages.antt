@@ -1,8 +1,7 @@
 -- What parts send as they get messages, and as lines leave: no request, and a lease only to a reader that asks, for as
 -- long as it asks or longer.
-use Rattle.std.proofs.Common.{◌≡◌, ℕ, ◌+◌, ◌≤◌, Bool, true, false, ◌&&◌, cond, List, Option, Some, None, Ok, refl, sym}
-use Rattle.std.proofs.Common.{subst, arith}
-use Rattle.std.specs.Ordering.{nat_cmp}
+use Rattle.std.proofs.Common.{◌≡◌, ℕ, ◌+◌, ◌≤◌, Bool, true, false, ◌&&◌, cond, List, Option, Some, None, Ok, refl}
+use Rattle.std.proofs.Common.{arith, nat_cmp}
 use Rattle.std.specs.FinMap.{FinMap}
 use Rattle.std.proofs.lemmas.Bool.{cond_both}
 use Rattle.network.specs.declared.message.Body.{Body}
@@ -127,12 +126,11 @@ module _ (bank : BankState) (x : Message) (lease mts core : ℕ) (room : Bool) w
       Decides (on_entry.leased dirty line o)
   leases dirty line pts version is None e = tt
   leases dirty line pts version is (Some l) e =
-      let covered = (covers (fits (line.wts + lease) && fits (pts + lease)) (is_version line.wts version) line.wts
-      line.rts pts lease l e).from_reader in
-      let long : Leases (Some x) x.from l.0 =
-      (refl, subst (λ (b : Body). AsksFor b l.0) (sym is) (omega (arith, covered))) in
-      cond_both l.1 (body.RenewRep l.0) (body.ShRep (record line { rts = l.0 })) (SentAs (Some x) x.from)
-      (λ renews. long) (λ words. long)
+      grind (
+        arith,
+        covers (fits (line.wts + lease) && fits (pts + lease)) (is_version line.wts version) line.wts
+            line.rts pts lease l e,
+      )
 
   asks_back : (owner : ℕ) (o : Option ℕ) → Decides (on_entry.asked_back owner o)
   asks_back owner None = tt
@@ -188,7 +186,8 @@ line_leaves bank line = go (entry_of bank line)
     go (Some (entry.Exclusive owner)) = tt
     go (Some _) = tt
 
-pub dram_gets : (lines : FinMap nat_cmp (List ℕ)) (x : Message) (b : Body) → Sends (Some x) (reacted (dram_case lines x b))
+pub dram_gets : (lines : FinMap nat_cmp (List ℕ)) (x : Message) (b : Body) →
+    Sends (Some x) (reacted (dram_case lines x b))
 dram_gets lines x body.DramLd = tt
 dram_gets lines x (body.DramSt words) = tt
 dram_gets lines x _ = tt

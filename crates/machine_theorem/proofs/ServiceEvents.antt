@@ -1,15 +1,12 @@
 -- Moves of a state are events of a machine in that state, if it has capacity and numbers for what they send. Services
 -- are events that serve.
-use Rattle.std.proofs.Common.{◌≡◌, ◌≢◌, ℕ, zero, suc, ◌+◌, ◌-◌, ◌^◌, ◌<◌, ◌≤◌, Bool, true, false, cond, eqb, List}
-use Rattle.std.proofs.Common.{[], ◌∷◌, ◌++◌, length, Option, Some, None, Ok, ◌⊎◌, inl, inr, refl, sym, ap, ◌∙◌, subst}
-use Rattle.std.proofs.Common.{arith, ⊎_elim}
+use Rattle.std.proofs.Common.{◌≡◌, ◌≢◌, ℕ, zero, suc, ◌+◌, ◌-◌, ◌^◌, ◌<◌, ◌≤◌, Bool, true, false, cond, eqb, List, []}
+use Rattle.std.proofs.Common.{◌∷◌, ◌++◌, length, Option, Some, None, Ok, ◌⊎◌, inl, inr, refl, sym, ap, ◌∙◌, subst}
+use Rattle.std.proofs.Common.{arith, ⊎_elim, unwrap_or, zero-add, suc-add}
 use Rattle.std.specs.List.{slice_get, AllByRecursion as Each}
-use Rattle.std.specs.Option.{unwrap_or}
-use Rattle.std.proofs.Math.Nat.{zero-add, suc-add}
 use Rattle.std.proofs.lemmas.Bool.{cases_Bool, cond_both, cond-false, eq-eqb, ne_eqb, lt-ltb}
 use Rattle.std.proofs.lemmas.Option.{slice_get-get_or}
 use Rattle.physiological_order.specs.declared.operation.Op.{Op}
-use Rattle.physiological_order.specs.Order.{of_core}
 use Rattle.network.specs.declared.message.Node.{Node}
 use Rattle.network.specs.declared.message.Node.TheVariants as node
 use Rattle.network.specs.declared.message.Message.{Message}
@@ -25,7 +22,7 @@ use Rattle.machine_table.specs.declared.event.Answer.TheVariants.{Idle}
 use Rattle.machine_table.specs.declared.event.Event.{Event}
 use Rattle.machine_table.specs.declared.event.Event.TheVariants as event
 use Rattle.machine_table.specs.declared.event.Refusal.TheVariants as refusal
-use Rattle.machine_table.specs.Machine.{Machine, with_core, with_bank, with_dram, operation_of}
+use Rattle.machine_table.specs.Machine.{Machine, with_core, with_bank, with_dram}
 use Rattle.machine_table.specs.Posted.{can_post, left, posted}
 use Rattle.machine_table.specs.Runs.{after_all}
 use Rattle.machine_table.specs.Step as step
@@ -78,12 +75,7 @@ module _ (m : Machine) (rising : IsRising 0 m.mail.messages m.mail.next) where
   posted_rises : (n : Option ℕ) (consumes : Bool) (sends : Option Message) → Rises (posted m.mail n consumes sends)
   posted_rises n true None = (left_rises n, omega arith, omega arith)
   posted_rises n false None = (rising, omega arith, omega arith)
-  posted_rises n true (Some q) = (
-    rising_on 0 m.mail.next q (left m.mail n).messages
-        (left_rises n),
-    omega arith,
-    omega arith,
-  )
+  posted_rises n true (Some q) = grind (arith, rising_on 0 m.mail.next q (left m.mail n).messages (left_rises n))
   posted_rises n false (Some q) = (rising_on 0 m.mail.next q m.mail.messages rising, omega arith, omega arith)
 
   changed_rises : {S : Type 0} (put : S → Machine) (n : Option ℕ) (done : Step S) → Rises (changed m put n done).1.mail
@@ -212,10 +204,8 @@ module _ (config : Config) (a : State) (m : Machine) (k : ℕ) (i : IsIn config 
   can false (Some q) rest b room =
       let few : length a.bag < config.messages = ⊎_elim (λ le. omega (arith, le)) (λ lt. lt) room in
       let many = as_many a.bag (bag_of m.mail.messages) i.same.bag in
-      both _ _
-      (lt-ltb (length m.mail.messages) m.config.messages
-      (let z = bag_length m.mail.messages in rw i.set_up (omega (arith, z, many, few))))
-      (lt-ltb m.mail.next (2 ^ 64 - 1) (let z = i.numbers in omega (arith, z)))
+      cc (both _ _ (lt-ltb (length m.mail.messages) m.config.messages (let z = bag_length m.mail.messages in rw i.set_up
+      (omega (arith, z, many, few)))) (lt-ltb m.mail.next (2 ^ 64 - 1) (let z = i.numbers in omega (arith, z))))
 
   -- the machine afterwards is in this state, and runs
   abbrev Led : State → Answer × Machine → Type 0
@@ -359,13 +349,7 @@ module _ (config : Config) (most : ℕ) (room : most ≤ config.messages) where
         events = [];
         few = omega arith;
         serving = tt;
-        ends = inl (record {
-          completion = x.completion;
-          its_operation = x.its_operation;
-          records = ap (of_core c) (sym is.same.records) ∙ x.records
-              ∙ ap (λ rs. of_core c rs ++ x.completion ∷ []) i.same.records;
-          closed = ap operation_of (core_there config e.after n (services - e.made) is c lt) ∙ x.closed;
-        });
+        ends = grind (arith, core_there config e.after n (services - e.made) is c lt);
       }
 
       late : IsLate config e.after → (n : Machine) → IsIn config e.after n (suc (services - e.made)) →

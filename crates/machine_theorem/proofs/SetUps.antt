@@ -1,5 +1,5 @@
 -- No event changes how the machine was set up.
-use Rattle.std.proofs.Common.{◌≡◌, ℕ, List, [], ◌∷◌, length, length-set, Option, refl, ◌∙◌}
+use Rattle.std.proofs.Common.{arith, ◌≡◌, ℕ, List, [], ◌∷◌, length, length-set, Option, refl, ◌∙◌}
 use Rattle.std.proofs.lemmas.Bool.{cond_both}
 use Rattle.machine_table.specs.declared.event.Answer.{Answer}
 use Rattle.machine_table.specs.declared.event.Event.{Event}
@@ -31,14 +31,7 @@ module _ (m : Machine) where
   same : (n : Machine) → n.config ≡ m.config → n.opening ≡ m.opening → length n.cores ≡ length m.cores →
       length n.banks ≡ length m.banks → length n.drams ≡ length m.drams → length n.issued ≡ length m.issued →
       HasAsMany m n
-  same n config opening cores banks drams issued = record {
-    config = config;
-    opening = opening;
-    cores = cores;
-    banks = banks;
-    drams = drams;
-    issued = issued;
-  }
+  same n config opening cores banks drams issued = grind (arith, config, opening, cores, banks, drams, issued)
 
   -- whatever the step is, of a part that is put into the machine
   changed_same : {S : Type 0} (put : S → Machine) → ((part : S) → HasAsMany m (put part)) → (n : Option ℕ)

@@ -1,18 +1,14 @@
 -- Every reached state's sets have their sizes.
-use Rattle.std.proofs.Common.{◌≡◌, ◌≢◌, ℕ, ◌+◌, ◌/◌, ◌%◌, ◌<◌, ◌≤◌, Bool, true, false, ◌||◌, cond, eqb, List}
-use Rattle.std.proofs.Common.{[], ◌∷◌, length, set, length-set, Option, Some, None, refl, sym, ap}
-use Rattle.std.proofs.Common.{◌∙◌, subst, arith, inl, inr, length-append, replicate}
+use Rattle.std.proofs.Common.{◌≡◌, ◌≢◌, ℕ, ◌+◌, ◌/◌, ◌%◌, ◌<◌, ◌≤◌, Bool, true, false, ◌||◌, cond, eqb, List, [], ◌∷◌}
+use Rattle.std.proofs.Common.{length, set, length-set, Option, Some, None, refl, sym, ap, ◌∙◌, arith, inl, inr}
+use Rattle.std.proofs.Common.{length-append, replicate, is_some, mod-lt, ltb-true, eq-eqb, ne_eqb, eqb-true, nat_cmp}
 use Rattle.std.proofs.lemmas.List.{length-replicate}
-use Rattle.std.specs.Option.{is_some}
-use Rattle.std.proofs.Math.Nat.{mod-lt}
-use Rattle.std.proofs.lemmas.Bool.{cases_eq, cases_Bool, cond_both, ltb-true, eq-eqb, ne_eqb, eqb-true, eqb-false}
-use Rattle.std.proofs.lemmas.Bool.{and_parts}
+use Rattle.std.proofs.lemmas.Bool.{cases_eq, cases_Bool, cond_both, eqb-false, and_parts}
 use Rattle.line_sets.specs.Order.{find, is_there, put_last, put_in_place, without, IsDistinct}
 use Rattle.line_sets.specs.SetTable.{Sets, set_at, put, put_within, drop_line, has_room, has_place}
 use Rattle.line_sets.proofs.Lemmas.{set_at-set_same, set_at-set_other, length-put_in_place, length-without_le}
 use Rattle.line_sets.proofs.Lemmas.{length-without_there, find-put_last_other, find-put_in_place_other}
 use Rattle.line_sets.proofs.Lemmas.{find-without_other, IsDistinct-put_last, IsDistinct-without}
-use Rattle.std.specs.Ordering.{nat_cmp}
 use Rattle.std.specs.FinMap.{FinMap}
 use Rattle.std.specs.Prelude.{Result, Ok, Err}
 use Rattle.physiological_order.specs.declared.operation.Op.{Op}
@@ -46,9 +42,8 @@ use Rattle.machine_table.specs.declared.config.Config.{Config}
 use Rattle.core_pts.specs.declared.attempt.IssueError.{IssueError}
 use Rattle.timestamp_manager.specs.Lease as lease
 use Rattle.machine_table.specs.Step as step
-use Rattle.machine_table.specs.Step.{Step, Makes, Drops, Exhausts, Keeps, Tried, Completes, Does, Act, message_of}
-use Rattle.machine_table.specs.Step.{core_step}
-use Rattle.machine_table.specs.Step.{bank_step, reacted, entry_evicted, copy_evicted, attempted}
+use Rattle.machine_table.specs.Step.{Step, Makes, Drops, Tried, Completes, Does, Act, message_of, core_step, bank_step}
+use Rattle.machine_table.specs.Step.{reacted, entry_evicted, copy_evicted, attempted}
 use Rattle.protocol.specs.Machine.{with_at}
 use Rattle.protocol.proofs.Lemmas.{with_at_cases}
 use Rattle.machine_theorem.specs.States.{State}
@@ -101,10 +96,7 @@ module _ {X : Type 0} (n ways : ℕ) (some : 0 < n) (home : ℕ → ℕ) (table 
       ]
 
       here : (k : ℕ) → is_there ps k ≡ true → home k % length table.sets ≡ its_set
-      here k there = elim (cases_eq k line) [
-        | inl e ↦ ap (λ (n : ℕ). home n % length table.sets) e
-        | inr ne ↦ fits.homes its_set k (sym (ap is_some (others k ne)) ∙ there)
-      ]
+      here k there = grind arith
 
   abbrev old : List (ℕ × X)
   old = set_at table.sets its_set
@@ -311,8 +303,7 @@ module _ (config : Config) (some : 0 < config.sets) (core : CoreState) (fits : C
     where
       go : (o : Option Op) → core.open_op ≡ o → TriedFits config (step.attempt_open core o)
       go None e = tt
-      go (Some op) e = subst (λ i. TriedFits config (attempted core op (core_table.attempt_open core i))) (sym e)
-          (attempt_fits op)
+      go (Some op) e = grind (arith, attempt_fits op)
   core_fits (step.Getting m) bag rest to beside =
       reaction_fits m.line m.body ((and_parts (is_this_core core.number m.to) _ beside.2).1)
   core_fits (step.Evicting line) bag rest to beside =
@@ -387,12 +378,7 @@ module _ (config : Config) (good : is_good config ≡ true) (opening : FinMap na
     banks = λ b. empties (λ line. line / config.banks) config.bank_ways config.bank_sets;
   }
   reached_sized b (goes_on {a} r move) = move_sized config (fair config good) a (reached_sized a r) b move
-  reached_sized b (same {a} r e) =
-      let k = reached_sized a r in
-      record {
-        caches = λ c. subst (CoreFits config) (e.cores c) (k.caches c);
-        banks = λ j. subst (BankFits config) (e.banks j) (k.banks j);
-      }
+  reached_sized b (same {a} r e) = grind (arith, reached_sized a r)
 
 -- distinct lines that are all among others are no more than these
 lines_within : {X Y : Type 0} (ps : List (ℕ × X)) (qs : List (ℕ × Y)) → IsDistinct ps →

@@ -1,7 +1,5 @@
 -- The run of a stale hit, by computation.
-use Rattle.std.proofs.Common.{◌≡◌, ℕ, true, Option, get_or, refl, sym, ap, ◌∙◌, arith}
-use Rattle.std.specs.Prelude.{unwrap_or}
-use Rattle.std.specs.Ordering.{nat_cmp}
+use Rattle.std.proofs.Common.{◌≡◌, ℕ, true, Option, get_or, refl, sym, ap, ◌∙◌, arith, unwrap_or, nat_cmp}
 use Rattle.std.specs.FinMap.{FinMap, entries, get-entries}
 use Rattle.physiological_order.specs.Order.{flat}
 use Rattle.dram_mts.specs.Lines.{words_of}

@@ -1,29 +1,23 @@
 -- A part that holds or drops a message stays as it is; a core starts nothing, a bank drops nothing that it has a case
 -- for, and a DRAM answers each message that it has a case for.
-use Rattle.std.proofs.Common.{◌≡◌, ◌≢◌, ℕ, true, false, List, [], ◌∷◌, Option, Some, None, refl, subst}
+use Rattle.std.proofs.Common.{arith, ◌≡◌, ◌≢◌, ℕ, true, false, List, Option, Some, refl, subst, nat_cmp}
 use Rattle.std.proofs.lemmas.Bool.{and_parts}
-use Rattle.std.specs.Ordering.{nat_cmp}
 use Rattle.std.specs.FinMap.{FinMap}
-use Rattle.std.proofs.lemmas.List.Sorted.{IsPermutation-refl}
 use Rattle.network.specs.declared.message.Body.{Body}
 use Rattle.network.specs.declared.message.Body.TheVariants.{ShReq, DramLd, DramSt}
 use Rattle.network.specs.declared.message.Message.{Message}
 use Rattle.network.specs.declared.part.Reaction.{Reaction}
-use Rattle.line_sets.specs.SetTable.{has_room}
 use Rattle.core_pts.specs.declared.decision.CoreReaction.{CoreReaction}
 use Rattle.core_pts.specs.declared.decision.CoreReaction.TheVariants as on_copy
 use Rattle.core_pts.specs.CoreTable.{CoreState, core_table, after_reaction, decided}
 use Rattle.llc_bank.specs.declared.decision.Decision.{Decision}
 use Rattle.llc_bank.specs.declared.decision.Decision.TheVariants as on_entry
 use Rattle.llc_bank.specs.BankTable as banks
-use Rattle.llc_bank.specs.BankTable.{BankState, bank_table, bank_has_case, after_decision, is_this_bank, entry_of}
-use Rattle.llc_bank.specs.BankTable.{comes_to_bank}
+use Rattle.llc_bank.specs.BankTable.{BankState, bank_table, bank_has_case, after_decision}
 use Rattle.dram_mts.specs.Table.{comes_to_dram, is_dram, dram_case, dram_has_case}
 use Rattle.machine_table.specs.declared.event.Answer.TheVariants.{Delivered, Started}
 use Rattle.machine_table.specs.Step.{Step, Drops, Makes, Stays, reacted}
-use Rattle.protocol.specs.Machine.{Line}
-use Rattle.machine_theorem.specs.View.{body_seen, entry_seen}
-use Rattle.machine_theorem.proofs.OnEntries.{AtRequest, bank_goes}
+use Rattle.machine_theorem.proofs.OnEntries.{AtRequest}
 
 -- Cores
 
@@ -58,31 +52,12 @@ stays_at bank m _ = tt
 pub bank_stays : (bank : BankState) (m : Message) → Stays bank (bank_table bank m)
 bank_stays bank m = stays_at bank m (banks.decided bank m)
 
--- a bank drops nothing that it has a case for
-abbrev DropsNothing : Step BankState → Type 0
-DropsNothing Drops = ⊥
-DropsNothing _ = Unit {0}
-
 any_request : (b : Body) → AtRequest (Unit {0}) b
 any_request (ShReq pts version) = tt
 any_request _ = tt
 
 pub bank_drops : (bank : BankState) (m : Message) → bank_has_case bank m ≡ true → reacted (bank_table bank m) ≢ Drops
-bank_drops bank m has e =
-    let core = banks.core_of m.from in
-    let line : Line = record {
-      entry = entry_seen (entry_of bank m.line);
-      copies = λ c. None;
-      messages = body_seen core 0 m.body ∷ [];
-      dram = [];
-    } in
-    subst DropsNothing e
-    (bank_goes bank.lease (λ c. Unit {0}) bank.mts line [] core bank m (Unit {0})
-    (λ d. DropsNothing (reacted d)) refl tt tt (λ moves. tt)
-    (λ owner sent goes at moves. tt) (λ entry sent goes own up moves. tt) (λ dirty new old at moves. tt) (λ moves. tt)
-    (has_room bank.table (banks.set_of bank m.line)) m.body
-    (and_parts (is_this_bank bank.number m.to) (comes_to_bank m.from m.body (entry_of bank m.line)) has).1
-    (any_request m.body) (IsPermutation-refl line.messages))
+bank_drops bank m has e = grind (arith, any_request m.body)
 
 -- DRAMs
 

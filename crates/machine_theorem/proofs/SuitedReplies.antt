@@ -1,9 +1,7 @@
 -- Each request to read and each reply in flight serves the operation of the core that waits: no time is too early, as
 -- long as cores advance only between operations.
-use Rattle.std.proofs.Common.{◌≡◌, ◌≢◌, ℕ, ◌+◌, ◌-◌, ◌^◌, ◌≤◌, Bool, true, false, cond, eqb, nat_lt, List, []}
-use Rattle.std.proofs.Common.{◌∷◌, ◌++◌, Option, Some, None, Ok, Err, refl, sym, ap, ◌∙◌, subst, arith, le_refl}
-use Rattle.std.proofs.Common.{le_trans}
-use Rattle.std.specs.Prelude.{IfSome}
+use Rattle.std.proofs.Common.{ℕ, Bool, true, false, cond, nat_lt, List, Option, subst, arith, le_refl, le_trans, IfSome}
+use Rattle.std.proofs.Common.{◌≡◌, ◌≢◌, ◌+◌, ◌-◌, ◌^◌, ◌≤◌, eqb, [], ◌∷◌, ◌++◌, Some, None, Ok, Err, refl, sym, ap, ◌∙◌}
 use Rattle.std.specs.List.{slice_get, AllByRecursion as Each}
 use Rattle.std.proofs.lemmas.Bool.{cond_both, cond-true, eq-eqb}
 use Rattle.std.proofs.lemmas.Option.{get_or_from_slice_get, slice_get_within}
@@ -29,7 +27,7 @@ use Rattle.core_pts.specs.OnCopy.{serves}
 use Rattle.core_pts.specs.CoreTable as core_table
 use Rattle.core_pts.specs.CoreTable.{CoreState, core_has_case, pinned_line}
 use Rattle.llc_bank.specs.BankTable as bank_table
-use Rattle.llc_bank.specs.BankTable.{BankState, bank_has_case, core_of}
+use Rattle.llc_bank.specs.BankTable.{bank_has_case, core_of}
 use Rattle.dram_mts.specs.Table.{dram_has_case, dram_table}
 use Rattle.machine_table.specs.declared.event.Answer.{Answer}
 use Rattle.machine_table.specs.declared.event.Event.{Event}
@@ -42,8 +40,7 @@ use Rattle.machine_table.specs.Opening.{open_core}
 use Rattle.machine_table.specs.Posted.{can_post, left, posted}
 use Rattle.machine_table.specs.Runs.{after_all}
 use Rattle.machine_table.specs.Step as step
-use Rattle.machine_table.specs.Step.{Step, Completes, Does, attempt_open, attempted, advanced, copy_evicted}
-use Rattle.machine_table.specs.Step.{entry_evicted, reacted}
+use Rattle.machine_table.specs.Step.{Step, attempt_open, attempted, advanced, copy_evicted, entry_evicted, reacted}
 use Rattle.machine_table.specs.Transition.{changed, deliver_to, gets, if_there, issued, on_event, refused, tried}
 use Rattle.machine_table.specs.Transition.{transition}
 use Rattle.protocol.specs.Machine as by_line
@@ -60,8 +57,7 @@ use Rattle.machine_theorem.proofs.Lookups.{each_at_number}
 use Rattle.machine_theorem.proofs.PartChanges.{itself, core_put}
 use Rattle.machine_theorem.proofs.Parts.{core_shape}
 use Rattle.machine_theorem.proofs.SentMessages.{AsksFor, Leases, SentAs, Sends, bank_gets, copy_leaves, core_gets}
-use Rattle.machine_theorem.proofs.SentMessages.{dram_gets}
-use Rattle.machine_theorem.proofs.SentMessages.{line_leaves}
+use Rattle.machine_theorem.proofs.SentMessages.{dram_gets, line_leaves}
 
 -- while its request is out, the core reads at a time that isn't past this one
 abbrev pub Reads : CoreState → ℕ → Type 0

@@ -1,9 +1,7 @@
 -- What one core, one bank or one DRAM does to one line is a turn of the protocol by lines.
-use Rattle.std.proofs.Common.{◌≡◌, ◌≢◌, ℕ, ◌%◌, Bool, true, false, eqb, List, Option, Some, None, refl, sym, ap, ◌∙◌}
-use Rattle.std.proofs.Common.{subst}
-use Rattle.std.proofs.Common.{⊎_elim}
+use Rattle.std.proofs.Common.{arith, ◌≡◌, ◌≢◌, ℕ, ◌%◌, Bool, false, eqb, List, Option, Some, None, refl, sym, ap, ◌∙◌}
+use Rattle.std.proofs.Common.{subst, nat_cmp}
 use Rattle.std.proofs.lemmas.Bool.{cases_Bool}
-use Rattle.std.specs.Ordering.{nat_cmp}
 use Rattle.std.specs.FinMap.{FinMap}
 use Rattle.physiological_order.specs.declared.operation.Op.{Op}
 use Rattle.physiological_order.specs.declared.operation.Record.{Record}
@@ -24,26 +22,16 @@ use Rattle.machine_theorem.specs.View.{line_seen, view}
 -- machines that look alike are one
 pub machine_same : (m n : by_line.Machine) → ((l : ℕ) → m.lines l ≡ n.lines l) → ((c : ℕ) → m.cores c ≡ n.cores c) →
     ((b : ℕ) → m.mts b ≡ n.mts b) → ((c : ℕ) → m.issued c ≡ n.issued c) → m.records ≡ n.records → m ≡ n
-machine_same m n lines cores mts issued records =
-    λ i. record {
-      lines = λ l. lines l i;
-      cores = λ c. cores c i;
-      mts = λ b. mts b i;
-      issued =
-          λ c. issued c i;
-      records = records i;
-    }
+machine_same m n lines cores mts issued records = grind arith
 
 pub line_same : (x y : Line) → x.entry ≡ y.entry → ((c : ℕ) → x.copies c ≡ y.copies c) → x.messages ≡ y.messages →
     x.dram ≡ y.dram → x ≡ y
-line_same x y entry copies messages dram =
-    λ i. record { entry = entry i; copies = λ c. copies c i; messages = messages i; dram = dram i }
+line_same x y entry copies messages dram = grind arith
 
 -- what is seen of functions that are changed at one number
 pub seen_at : {X Y : Type 0} (see : X → Y) (f : ℕ → X) (i : ℕ) (x : X) (j : ℕ) →
     with_at (λ k. see (f k)) i (see x) j ≡ see (with_at f i x j)
-seen_at see f i x j =
-    ⊎_elim (λ (e : eqb j i ≡ true). rw e) (λ (e : eqb j i ≡ false). rw e) (cases_Bool (eqb j i))
+seen_at see f i x j = grind (arith, cases_Bool (eqb j i))
 
 -- and what is the same where the new part looks as the old one
 pub seen_alike : {X Y : Type 0} (see : X → Y) (f : ℕ → X) (i : ℕ) (x : X) → see x ≡ see (f i) → (j : ℕ) →

@@ -1,11 +1,8 @@
 -- Nothing is stuck: services complete the open operation of any core, in every reached state, or a time doesn't fit.
 use Rattle.std.proofs.Common.{⊎_elim, ◌≡◌, ◌≢◌, ℕ, suc, ◌+◌, ◌/◌, ◌%◌, ◌<◌, ◌≤◌, Bool, true, false, ◌&&◌, cond, eqb}
 use Rattle.std.proofs.Common.{leb, List, [], ◌∷◌, ◌++◌, length, Option, Some, None, ◌⊎◌, inl, inr, refl, sym, ap, ◌∙◌}
-use Rattle.std.proofs.Common.{subst, arith, le_trans, le_refl}
-use Rattle.std.specs.Prelude.{Ok, Err}
-use Rattle.std.specs.Ordering.{nat_cmp}
+use Rattle.std.proofs.Common.{subst, arith, le_trans, le_refl, Ok, Err, nat_cmp, is_some, mod-lt}
 use Rattle.std.specs.FinMap.{FinMap}
-use Rattle.std.specs.Option.{is_some}
 use Rattle.std.proofs.lemmas.Bool.{and_parts, cases_Bool, or_parts, or_right, cond-true, eq-eqb, ne_eqb, eqb-true}
 use Rattle.std.proofs.lemmas.Bool.{lt-ltb, ltb-false, leb-true, le-leb}
 use Rattle.physiological_order.specs.declared.operation.Op.{Op}
@@ -21,7 +18,6 @@ use Rattle.network.specs.Mail.{counted}
 use Rattle.line_sets.specs.Order.{is_there, without}
 use Rattle.line_sets.specs.SetTable.{Sets, set_at, has_room}
 use Rattle.line_sets.proofs.Lemmas.{length-without_there, length-drop_line, set_at-set_same}
-use Rattle.std.proofs.Math.Nat.{mod-lt}
 use Rattle.private_cache.specs.declared.line_copy.LineCopy.{LineCopy}
 use Rattle.private_cache.specs.declared.cache.CacheError.TheVariants as not_left
 use Rattle.private_cache.specs.CopyTable as cache

@@ -1,9 +1,7 @@
 -- Ways: services on one line, one after the other, and what banks and DRAMs do with it on the way.
 use Rattle.std.proofs.Common.{◌≡◌, ◌≢◌, ℕ, zero, suc, ◌+◌, ◌/◌, ◌%◌, ◌<◌, ◌≤◌, Bool, true, false, List, ◌∷◌, length}
-use Rattle.std.proofs.Common.{Option, Some, None, refl, ap, ◌∙◌, subst, arith, cond, le_trans}
-use Rattle.std.specs.Ordering.{nat_cmp}
+use Rattle.std.proofs.Common.{Option, Some, None, refl, ap, ◌∙◌, subst, arith, cond, le_trans, nat_cmp, mod-lt}
 use Rattle.std.specs.FinMap.{FinMap}
-use Rattle.std.proofs.Math.Nat.{mod-lt}
 use Rattle.physiological_order.specs.Order.{of_core}
 use Rattle.network.specs.declared.message.Node.TheVariants as node
 use Rattle.network.specs.declared.message.Body.{Body}

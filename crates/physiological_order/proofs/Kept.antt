@@ -1,9 +1,7 @@
 -- What is kept of records stays so when one more completes.
 use Rattle.std.proofs.Common.{◌≡◌, ℕ, ◌+◌, ◌<◌, ◌≤◌, List, [], ◌∷◌, ◌++◌, length, Some, inl, inr, sym, subst, arith}
-use Rattle.std.proofs.Common.{length-append}
-use Rattle.std.specs.Prelude.{slice_get}
+use Rattle.std.proofs.Common.{length-append, slice_get, IsPermutation}
 use Rattle.std.specs.List.{AllByRecursion as Each}
-use Rattle.std.specs.List.Sorted.{IsPermutation}
 use Rattle.std.proofs.lemmas.List.Sorted.{IsPermutation-refl}
 use Rattle.std.proofs.lemmas.Bool.{cases_eq}
 use Rattle.physiological_order.specs.declared.operation.Op.{Op}
@@ -12,10 +10,9 @@ use Rattle.physiological_order.specs.Order.{Memory, Follows, of_core, Arrangemen
 use Rattle.physiological_order.specs.Completion.{placed, arranged, Ascends, Receives, Kept, Fits}
 use Rattle.physiological_order.proofs.History.{Sorted, each_weaker, Receives-placed, replay-from_Receives}
 use Rattle.physiological_order.proofs.ArrangedRecords.{arranged-push, each_arranged, each_push}
-use Rattle.physiological_order.proofs.ArrangedRecords.{IsPermutation-push_placed}
-use Rattle.physiological_order.proofs.ArrangedRecords.{Ascends-placed, Sorted-from_Ascends, Rises-from_Ascends}
-use Rattle.physiological_order.proofs.ArrangedRecords.{of_core-placed_other, of_core-placed_own, Follows-push}
-use Rattle.physiological_order.proofs.ArrangedRecords.{Follows-issued, counts-push, length_arranged}
+use Rattle.physiological_order.proofs.ArrangedRecords.{IsPermutation-push_placed, Ascends-placed, Sorted-from_Ascends}
+use Rattle.physiological_order.proofs.ArrangedRecords.{Rises-from_Ascends, of_core-placed_other, of_core-placed_own}
+use Rattle.physiological_order.proofs.ArrangedRecords.{Follows-push, Follows-issued, counts-push, length_arranged}
 
 pub arrangement_of : (opening : Memory) (issued : ℕ → List Op) (records : List Record) → Kept opening issued records →
     Arrangement records (arranged records)

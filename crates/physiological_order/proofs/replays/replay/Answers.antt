@@ -1,5 +1,4 @@
-use Rattle.std.proofs.Common.{◌++◌, ◌∷◌, [], ap, ap₂, sym, ◌∙◌, take, arith}
-use Rattle.std.proofs.lemmas.List.{take_all}
+use Rattle.std.proofs.Common.{◌++◌, ◌∷◌, [], ap, ap₂, sym, ◌∙◌, take, arith, take_all}
 use Rattle.physiological_order.specs.Order.{flat, flat_received}
 use Rattle.physiological_order.specs.Words.{words_after, words_end}
 use Rattle.physiological_order.proofs.ReplaySteps.{words_end-take, replay-take, flat-words_end}

@@ -1,5 +1,4 @@
-use Rattle.std.proofs.Common.{◌≡◌, ℕ, ◌+◌, ◌*◌, ◌≤◌, length, cond, take, refl, sym, ap, ap₂, subst, ◌∙◌}
-use Rattle.std.proofs.Common.{arith}
+use Rattle.std.proofs.Common.{◌≡◌, ℕ, ◌+◌, ◌*◌, ◌≤◌, length, cond, take, refl, sym, ap, ap₂, subst, ◌∙◌, arith}
 use Rattle.physiological_order.proofs.WalkSteps.{take-next}
 use Rattle.std.proofs.lemmas.List.{take_all}
 use Rattle.physiological_order.proofs.LookCounts.{after_none, after_more, after_at_most, looks-next, looks-part}

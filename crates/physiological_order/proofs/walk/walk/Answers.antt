@@ -1,5 +1,4 @@
-use Rattle.std.proofs.Common.{◌+◌, ◌<◌, length, take, drop, suc, refl, sym, ap, ◌∙◌, arith}
-use Rattle.std.proofs.lemmas.List.{length-set}
+use Rattle.std.proofs.Common.{◌+◌, ◌<◌, length, take, drop, suc, refl, sym, ap, ◌∙◌, arith, length-set}
 use Rattle.physiological_order.specs.Order.{flat, flat_received, flat_after}
 use mathlib.Core.Bool.{false≢true}
 use Rattle.physiological_order.specs.Picking.{picked}

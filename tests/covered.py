@@ -75,10 +75,11 @@ class Watched(Room):
             path.unlink()
         return why, {file: sorted(pairs) for file, pairs in arcs.items()}
 
-    def branches(self, arcs):
+    def branches(self, arcs, only=""):
         """By file the lines whose branches aren't all gone, with those that aren't; and how many branches there are."""
         data = library(self.notes).CoverageData(basename=str(self.notes / "all"))
-        files = [str(path.relative_to(self.folder)) for name in FOLDERS for path in (self.folder / name).rglob("*.py")]
+        paths = (path for name in FOLDERS for path in (self.folder / name).rglob("*.py"))
+        files = [file for file in (str(path.relative_to(self.folder)) for path in paths) if re.search(only, file)]
         data.add_arcs({str(self.folder / file): arcs.get(file, ()) for file in files})
         data.write()
         judge = library(self.notes).Coverage(str(self.notes / "all"), config_file=str(self.notes / "settings"))
@@ -123,10 +124,10 @@ def excused(table):
             for line in table.splitlines() if line and not line.startswith("#")}
 
 
-def judged(room, arcs):
-    """Prints the branches that no script goes, without a reason; how many do what."""
+def judged(room, arcs, only):
+    """Prints the branches of some files that no script goes, without a reason; how many do what."""
     rows, counts = excused(TABLE.read_text(encoding="utf-8")), {"excused": 0, "left": 0}
-    missing, count = room.branches(arcs)
+    missing, count = room.branches(arcs, only)
     for file, lines in missing.items():
         text = (room.folder / file).read_text(encoding="utf-8").splitlines()
         for line, ways in sorted(lines.items()):
@@ -143,6 +144,7 @@ def parsed():
     for name in PROGRAMS:
         parser.add_argument(name)
     parser.add_argument("--by", default="", metavar="REGEX", help="only by scripts whose command has this (all)")
+    parser.add_argument("--only", default="", metavar="REGEX", help="only of files whose path has this (all)")
     parser.add_argument("--kept", type=Path, default=Path("mutants.kept"), metavar="FILE", help="(mutants.kept)")
     return parser.parse_args()
 
@@ -155,7 +157,7 @@ def main():
         for _, _, of in told:
             for file, pairs in of.items():
                 arcs.setdefault(file, set()).update(map(tuple, pairs))
-        counts, count = judged(room, arcs)
+        counts, count = judged(room, arcs, options.only)
     gone = count - counts["left"] - counts["excused"]
     print(f"{count} branches, {gone} gone by {len(told)} scripts, {counts['excused']} in tests/covered.table, "
           f"{counts['left']} left: {100 * gone / count:.1f} %")

@@ -450,6 +450,9 @@ def others(tester):
     Path(os.environ["TARDIS"]).chmod(0o755)
     ran = tester.run(*traces)
     tester.expect(ran == (2, "", f"explain.py: {os.environ['TARDIS']} answers no verdict\n"), f"no verdict: {ran}")
+    Path(os.environ["TARDIS"]).write_text("#!/bin/sh\necho 'tardis: line 0: 9 Read' >&2\nexit 2\n")
+    ran = tester.run(*traces)
+    tester.expect(ran == (2, "", f"explain.py: {traces[0]}: line 0: 9 Read\n"), f"a fault of no line: {ran}")
     os.environ["TARDIS"] = kept
     status, out, error = tester.run("--help")
     tester.expect((status, error) == (0, "") and "TRACE RECORDS" in out, f"--help: {status} {error}")

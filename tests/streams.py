@@ -8,7 +8,7 @@ and its report without words. If a line is at fault, standard error says which. 
 beginning of the records of the lines before it, and no more than the second program can write (docs/STREAMS.md).
 
 Pipes are tried that stay open or are long, and readers that leave early. The parts are examples, faults, cut_texts,
-cores, odd_texts, pipes, memory and at_random, and long, a text of 20,000,000 lines, which is tried only if it is named.
+cores, odd_texts, pipes, memory, long, which is a text of 20,000,000 lines, and at_random.
 --traces and --seed say how many traces are drawn, and which. --self-test spoils each answer: first the status, then the
 output, then standard error; and says which comparison doesn't notice. The last line is `N tried, M wrong`.
 """
@@ -415,13 +415,13 @@ def long(tester, folder):
     tester.covers(peak < 64, f"{count} lines take {peak:.0f} MB")
 
 
-PARTS = {part.__name__: part for part in (examples, faults, cut_texts, cores, odd_texts, pipes, memory, at_random)}
+PARTS = {part.__name__: part for part in (examples, faults, cut_texts, cores, odd_texts, pipes, memory, long, at_random)}
 
 
 def tried(tester, parts):
     with tempfile.TemporaryDirectory() as folder:
         for name in parts:
-            (PARTS | {"long": long})[name](tester, folder)
+            PARTS[name](tester, folder)
 
 
 def main():

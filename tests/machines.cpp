@@ -121,7 +121,8 @@ void places() {
     options.banks = 2;
     options.sets = options.ways = options.bank_sets = options.bank_ways = 1;
     auto small = tardis::Machine::open(2, options);
-    expect(is(small->issue({0, TARDIS_SWAP, 8, 7}), TARDIS_ISSUED) && is(small->attempt(0), TARDIS_REQUESTED), "a swap");
+    expect(is(small->issue({0, TARDIS_SWAP, 8, 7}), TARDIS_ISSUED), "a swap");
+    expect(is(small->attempt(0), TARDIS_REQUESTED), "its request");
     for (const uint64_t number : {0, 1, 2, 0, 3}) small->deliver(number);
     expect(is(small->attempt(0).record, {{0, TARDIS_SWAP, 8, 7}, 0, 0, 1, 0}), "a swap's record");
     expect(small->owners(8) == 1 && small->value(8) == 7, "an owner");
@@ -152,8 +153,10 @@ void records() {
           "1 0 S 0x8 5 0 0", "1 0 X 0x8 5 0 0", "1 0  0x8 5 0 0", "1 0 R 8 5 0 0", "1 0 R 0x 5 0 0", "1 0 R 0xg 5 0 0",
           "1 0 R 0x8 a 0 0", "1 0 R 0x8  5 0 0", "1 0 R 0x8 5 0 0 ", "1 0 R 0x8 5 0 ; 0", "\n1 0 R 0x8 5 0 0",
           "1 0 R 0x8 5 0 0\n", "1 0 RW 0x8 5 0 0", "-1 0 R 0x8 5 0 0", "1048576 0 R 0x8 5 0 0", "1 0", "1 0 ", "1 0 R",
-          "1 0 R 0x8 18446744073709551616 0 0", "1 0 R 0x10000000000000000 5 0 0"})
-        expect(!of(line), line);
+          "1 0 R 0x8 18446744073709551616 0 0", "1 0 R 0x10000000000000000 5 0 0"}) {
+        const std::vector<char> bytes(line, line + std::strlen(line)); // so that valgrind sees what is read behind them
+        expect(!of({bytes.data(), bytes.size()}), line);
+    }
 }
 
 } // namespace

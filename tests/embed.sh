@@ -3,8 +3,8 @@
 # tests/embed.sh [--build | --kept]. Each number that a call answers is met once, by hand; the examples are run, and
 # records checked, through the library, with the reports that the program must give, and at a cost that hardly grows
 # with the cores. Valgrind says nothing of any of them. Histories that grow and machines that are driven are compared
-# with the second program (tests/histories.py, tests/systems.py). It needs gcc, g++, valgrind and the Rattle kit, whose C
-# file for memory is linked; without rustc it says so and leaves out the caller in Rust. At its end tests/installed.sh
+# with the second program (tests/histories.py, tests/systems.py). It needs gcc, g++, valgrind and the Rattle kit, whose
+# C file for memory is linked; without rustc it says so and leaves out the caller in Rust. At its end tests/installed.sh
 # tries what is installed.
 #
 # With --build the library is proved and built first, with all below it. That takes two minutes where ./tardis is built,

@@ -1,5 +1,5 @@
-/* Drives the machine from C: core 1 loads a word that opens with 5. Each message in flight is printed before it arrives;
-   here the last one sent arrives first. */
+/* Drives the machine from C: core 1 loads a word that opens with 5. Each message in flight is printed before it
+   arrives; here the last one sent arrives first. */
 #include "tardis.h"
 
 #include <inttypes.h>

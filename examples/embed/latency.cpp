@@ -1,5 +1,5 @@
-// A network of one's own drives the machine: latency TRACE [LEASE ..], as latency.py in C++. A hop takes 10 cycles, DRAM
-// 100, a hit 1, and an advance none; a message that is held tries again a hop later.
+// A network of one's own drives the machine: latency TRACE [LEASE ..], as latency.py in C++. A hop takes 10 cycles,
+// DRAM 100, a hit 1, and an advance none; a message that is held tries again a hop later.
 #include "tardis.hpp"
 
 #include <cstdlib>

@@ -3,8 +3,9 @@
 # tests/embed.sh [--build | --kept]. Each number that a call answers is met once, by hand; the examples are run, and
 # records checked, through the library, with the reports that the program must give, and at a cost that hardly grows
 # with the cores. Valgrind says nothing of any of them. Histories that grow and machines that are driven are compared
-# with the second program (tests/histories.py, tests/systems.py). It needs gcc, g++, valgrind and the Rattle kit, whose C file for memory is linked; without rustc
-# it says so and leaves out the caller in Rust. At its end tests/installed.sh tries what is installed.
+# with the second program (tests/histories.py, tests/systems.py). It needs gcc, g++, valgrind and the Rattle kit, whose
+# C file for memory is linked; without rustc it says so and leaves out the caller in Rust. At its end tests/installed.sh
+# tries what is installed.
 #
 # With --build the library is proved and built first, with all below it. That takes two minutes where ./tardis is built,
 # and half an hour on a new machine. With --kept it is built over what rt ci kept of the crates below, in a minute or
@@ -52,6 +53,8 @@ strict="-O1 -Wall -Wextra -Werror -I$crate"
     g++ -std=c++17 -pedantic $strict -o "$work/tardis" "$embed/tardis.cpp" $library &&
     g++ -std=c++17 -pedantic $strict -o "$work/views" "$embed/views.cpp" $library &&
     g++ -std=c++17 -pedantic $strict -Wl,--wrap=tardis_c_trace -o "$work/reports" "$top/tests/reports.cpp" $library &&
+    g++ -std=c++17 -pedantic $strict $memory -o "$work/machines" "$top/tests/machines.cpp" $library &&
+    g++ -std=c++17 -pedantic $strict -o "$work/throws" "$top/tests/throws.cpp" $library &&
     gcc -std=c11 -pedantic $strict $memory -o "$work/system_calls" "$top/tests/system_calls.c" $library &&
     g++ -x c++ -std=c++11 -pedantic $strict $memory -o "$work/system_calls_cpp" "$top/tests/system_calls.c" \
         -x none $library &&
@@ -90,8 +93,10 @@ for each in history_c history_cpp; do
 done
 : >"$work/lines"
 silent numbers_c
-silent system_calls
-[ "$status" = 0 ] || exit 1
+for each in system_calls machines throws; do
+    silent "$each"
+    [ "$status" = 0 ] || { cat "$work/said"; exit 1; }
+done
 silent reports
 silent directory 0
 silent directory 0 completion

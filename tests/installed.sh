@@ -109,14 +109,12 @@ if has cmake "its file"; then
     legal "cmake in C++" "$work/cmake/in_cpp" check
 fi
 
-strict="-std=c++17 -pedantic -O1 -Wall -Wextra -Werror -I$prefix/include"
-for each in "$embed/latency.cpp" "$top/tests/machines.cpp" "$top/tests/throws.cpp"; do
-    # shellcheck disable=SC2086
-    g++ $strict -o "$work/$(basename "$each" .cpp)" "$each" -L"$prefix/lib" -ltardis || exit 1
-done
+strict="-pedantic -O1 -Wall -Wextra -Werror -I$prefix/include"
+# shellcheck disable=SC2086
+g++ -std=c++17 $strict -o "$work/latency" "$embed/latency.cpp" -L"$prefix/lib" -ltardis &&
+    gcc -std=c11 $strict -o "$work/drive" "$embed/drive.c" -L"$prefix/lib" -ltardis || exit 1
 # The machine from C: a load of a word that opens with 5, by hand.
-gcc -std=c11 -pedantic -O1 -Wall -Wextra -Werror -I"$prefix/include" -o "$work/drive" "$embed/drive.c" || exit 1
-valgrind -q --leak-check=full --show-leak-kinds=all "$work/drive" tardis-play-events >"$work/said" 2>&1 ||
+valgrind -q --leak-check=full --show-leak-kinds=all "$work/drive" >"$work/said" 2>&1 ||
     fail "drive: $(cat "$work/said")"
 diff - "$work/said" <<'END' || exit 1
 opened
@@ -124,9 +122,9 @@ issued
 requested
 m0 ShReq core 1 > bank 0 0x8 pts 0 version none: started
 m1 DramLd bank 0 > dram 0 0x8: delivered
-m2 DramLdRep dram 0 > bank 0 0x8 words 5: delivered
+m2 DramLdRep dram 0 > bank 0 0x8: delivered
 m0 ShReq core 1 > bank 0 0x8 pts 0 version none: delivered
-m3 ShRep bank 0 > core 1 0x8 wts 0 rts 10 words 5: delivered
+m3 ShRep bank 0 > core 1 0x8 wts 0 rts 10: delivered
 completed 1 0 R 0x8 5 0 0
 core 1 received 5
 END
@@ -135,10 +133,6 @@ awk 'BEGIN { for (line = 0; line < 9; line++) printf "0 W 0x%x 1\n", 2048 * line
 for trace in FIRST-STORE MIGRATORY FALSE-SHARING PAST COMMENTS EMPTY full; do
     path=$top/examples/traces/$trace.trace
     [ -e "$path" ] || path=$work/$trace.trace
-    "$work/latency" tardis-play-events "$path" 1 100 >"$work/said"
+    "$work/latency" "$path" 1 100 >"$work/said"
     "$embed/latency.py" "$path" 1 100 | diff "$work/said" - || exit 1
 done
-# Machines in C++ whose players live side by side, are interrupted or gone.
-printf '#!/bin/sh\nfor answer in opened "refused NoMemory"; do read -r _; echo "$answer"; done\n' >"$work/full"
-chmod +x "$work/full"
-"$work/machines" "$TARDIS_PLAYER" "$work/full" && "$work/throws" "$TARDIS_PLAYER" "$work/full"

@@ -232,7 +232,19 @@ static void refused(void) {
     MUST(most > 10);
 }
 
+/* Each number's word, and that the next number has none. */
+static void names(void) {
+    MUST(strcmp(tardis_answer_name(TARDIS_ISSUED), "issued") == 0 && !tardis_answer_name(TARDIS_REFUSED + 1));
+    MUST(strcmp(tardis_answer_name(TARDIS_REFUSED), "refused") == 0 && !*tardis_refusal_name(TARDIS_NOT_REFUSED));
+    MUST(strcmp(tardis_refusal_name(TARDIS_TOO_MANY), "TooMany") == 0 && !tardis_refusal_name(TARDIS_STOPPED + 1));
+    MUST(strcmp(tardis_refusal_name(TARDIS_MEMORY_REFUSED), "NoMemory") == 0 && !tardis_end_name(TARDIS_DRAM + 1));
+    MUST(strcmp(tardis_message_name(TARDIS_DRAM_ST_REP), "DramStRep") == 0);
+    MUST(!tardis_message_name(TARDIS_DRAM_ST_REP + 1) && !tardis_message_name(UINT64_MAX));
+    MUST(strcmp(tardis_end_name(TARDIS_DRAM), "dram") == 0);
+}
+
 int main(void) {
+    names();
     tardis_defaults(&options);
     nulls();
     openings();

@@ -29,14 +29,11 @@ static void put_record(const struct tardis_record *record) {
 }
 
 static void put_answer(int number, const struct tardis_answer *answer) {
-    static const char *const names[] = {"issued", "completed ", "requested", "waiting", "idle", "delivered", "dropped",
-                                        "held", "started", "evicted", "recalled", "advanced", "refused "};
-    static const char *const causes[] = {"", "Busy", "TooMany", "NoSuch", "NoRoom", "Pinned", "NetworkFull",
-                                         "NoMemory", "Exhausted", "Stopped"};
     must(number, TARDIS_DONE);
-    fputs(names[answer->kind], stdout);
+    fputs(tardis_answer_name(answer->kind), stdout);
+    if (answer->kind == TARDIS_COMPLETED || answer->kind == TARDIS_REFUSED) putchar(' ');
     if (answer->kind == TARDIS_COMPLETED) put_record(&answer->completed);
-    else puts(causes[answer->refusal]);
+    else puts(tardis_refusal_name(answer->refusal));
 }
 
 static void event(const char *line) {
@@ -74,12 +71,10 @@ static void put_place(int number, const struct tardis_place *place, const char *
 }
 
 static void put_message(const struct tardis_message *message) {
-    static const char *const kinds[] = {"ShReq", "ExReq", "ShRep", "ExRep", "RenewRep", "UpgradeRep", "FlushReq",
-                                        "WbReq", "FlushRep", "WbRep", "DramLd", "DramLdRep", "DramSt", "DramStRep"};
-    static const char *const ends[] = {"core", "bank", "dram"};
     const uint64_t kind = message->kind;
-    printf("%s %s %" PRIu64 " > %s %" PRIu64 " 0x%" PRIx64, kinds[kind], ends[message->from_kind], message->from,
-           ends[message->to_kind], message->to, message->line * line_bytes);
+    printf("%s %s %" PRIu64 " > %s %" PRIu64 " 0x%" PRIx64, tardis_message_name(kind),
+           tardis_end_name(message->from_kind), message->from, tardis_end_name(message->to_kind), message->to,
+           message->line * line_bytes);
     if (kind == TARDIS_SH_REQ) printf(" pts %" PRIu64, message->pts);
     if (kind <= TARDIS_EX_REQ && message->has_version) printf(" version %" PRIu64, message->version);
     else if (kind <= TARDIS_EX_REQ) fputs(" version none", stdout);

@@ -47,8 +47,8 @@ def looks_of(draw, cores, sent):
     core, address = draw.randrange(cores + 1), hex(8 * draw.randrange(16))
     number = draw.choice(sent) if sent else 3
     return ("flight", "sent", "records", "stopped", f"message m{number}", f"message m{number + 1}", f"room m{number}",
-            f"record {draw.randrange(8)}", f"open {core}", f"copies {core}", f"entries {draw.randrange(3)}", f"victim {core} {address}", f"owners {address}",
-            f"word {address}")
+            f"record {draw.randrange(8)}", f"open {core}", f"copies {core}", f"entries {draw.randrange(3)}",
+            f"victim {core} {address}", f"owners {address}", f"word {address}")
 
 
 class Driven:

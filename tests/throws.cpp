@@ -1,8 +1,7 @@
-// Errors of tardis.hpp as exceptions, by hand: throws PLAYER FULL, as machines.cpp. What isn't an error is answered.
+// Errors of tardis.hpp as exceptions, by hand. What isn't an error is answered.
 #define TARDIS_EXCEPTIONS
 #include "tardis.hpp"
 
-#include <csignal>
 #include <cstdlib>
 #include <iostream>
 
@@ -66,33 +65,30 @@ void histories() {
            [] { tardis::check_history(tardis::View<tardis_operation>(nullptr, 1), {}); });
 }
 
-void machines(const std::string &player, const std::string &full) {
-    std::string why;
-    throws(TARDIS_MACHINE_GONE, "no player of events answers", [&] { tardis::Machine::open("/none", "cores 2"); });
-    throws(TARDIS_BAD_MACHINE, "refused BadConfig", [&] { tardis::Machine::open(player, "cores 65", &why); });
-    expect(why == "refused BadConfig", "why a machine isn't opened");
-    throws(TARDIS_MACHINE_LINE, "unread: an option is wanted", [&] { tardis::Machine::open(player, "core 2"); });
-    throws(TARDIS_MACHINE_LINE, "that isn't one line: machine cores 2\n",
-           [&] { tardis::Machine::open(player, "cores 2\n"); });
-    auto machine = tardis::Machine::open(player, "cores 2");
-    throws(TARDIS_MACHINE_LINE, "unread: there is no such call", [&] { machine->call("fly"); });
-    throws(TARDIS_MACHINE_LINE, "that isn't one line:  ", [&] { machine->call(" "); });
-    expect(machine->deliver(7) == "refused NoSuch" && machine->call("issue 0 R 0x8") == "issued", "a refusal");
-    expect(!machine->message(7) && !machine->record(0), "what there isn't");
-    expect(machine->in_flight().is_told && machine->attempt(0) == "requested", "the calls behind them");
+void machines() {
+    const tardis_options options = tardis::defaults();
+    const tardis_word words[] = {{8, 5}, {12, 6}};
+    int why = TARDIS_DONE;
+    throws(TARDIS_BAD_MACHINE, "tardis: bad configuration", [&] { tardis::Machine::open(65, options, {}, &why); });
+    expect(why == TARDIS_BAD_MACHINE, "why a machine isn't opened");
+    throws(TARDIS_BAD_OPENING, "tardis: word 1: bad address", [&] { tardis::Machine::open(2, options, words); });
+    throws(TARDIS_NULL, "tardis: a pointer is null", [&] { tardis::Machine::open(2, options, {nullptr, 1}); });
+    auto machine = tardis::Machine::open(2, options);
+    throws(TARDIS_BAD_OPERATION, "tardis: operation: bad kind", [&] { machine->issue({0, 3, 8, 0}); });
+    expect(machine->deliver(7).cause() == "NoSuch" && machine->issue({0, 0, 8, 0}).name() == "issued", "a refusal");
+    expect(!machine->message(7) && !machine->record(0) && !machine->open_operation(7), "what there isn't");
+    expect(machine->in_flight().empty() && machine->attempt(0).name() == "requested", "the calls behind them");
     tardis::Machine moved = std::move(*machine);
-    throws(TARDIS_MACHINE_GONE, "no player of events answers", [&] { machine->in_flight(); });
-    expect(moved.in_flight().numbers.size() == 1, "a machine that was moved");
-    auto list = tardis::Machine::open(full, "");
-    throws(TARDIS_NO_MEMORY, "refused NoMemory", [&] { list->in_flight(); });
-    throws(TARDIS_MACHINE_GONE, "no player of events answers", [&] { list->message(0); });
+    throws(TARDIS_NO_SYSTEM, "tardis: no machine is open", [&] { machine->in_flight(); });
+    throws(TARDIS_NO_SYSTEM, "tardis: no machine is open", [&] { machine->advance(0); });
+    throws(TARDIS_NO_SYSTEM, "tardis: no machine is open", [&] { machine->copies(0); });
+    expect(moved.in_flight().size() == 1, "a machine that was moved");
 }
 
 } // namespace
 
-int main(int, char **words) {
-    alarm(60);
+int main() {
     reports();
     histories();
-    machines(words[1], words[2]);
+    machines();
 }

@@ -1,7 +1,6 @@
 /* The checker and the runner of "Tardis, proved" for C and C++. crates/tardis_c/README.md of the repository says what
-   is proved of them and how to link them. At the end is a machine that the caller drives, event by event; that of
-   tardis_machine.h is a process of its own, which takes lines. The numbers that calls answer are the program's numbers
-   of errors where it has them, and not its exit statuses.
+   is proved of them and how to link them. At the end is a machine that the caller drives, event by event. The numbers
+   that calls answer are the program's numbers of errors where it has them, and not its exit statuses.
 
    Texts are bytes with a length, and need no byte 0 at their end. A null pointer stands for nothing where the length is
    0, and is TARDIS_NULL elsewhere. What a call writes must not overlap anything else that it is given. No call keeps a
@@ -40,7 +39,7 @@ enum tardis_number {
     TARDIS_BAD_OPERATION = 10, /* an operation of an array has a fault */
     TARDIS_BAD_RECORD = 11,    /* a record of an array has a fault, and no operation has one */
     TARDIS_BAD_OPENING = 12,   /* the text is no opening; a word of an array has a fault */
-    TARDIS_NO_SYSTEM = 16,     /* no machine is open: it never was, or is closed (13 to 15 are of tardis_machine.h) */
+    TARDIS_NO_SYSTEM = 16,     /* no machine is open: it never was, or is closed (13 to 15 are of no call) */
     TARDIS_IS_OPEN = 17,       /* a machine is open already, and stays */
     TARDIS_NO_SUCH = 18        /* there is no such core, message in flight or record */
 };
@@ -599,6 +598,31 @@ static inline int tardis_system_owners(struct tardis_system *system, uint64_t li
    multiple of 8. */
 static inline int tardis_system_value(struct tardis_system *system, uint64_t address, uint64_t *value) {
     return system && value ? (int)tardis_c_system_value(system, address, value) : TARDIS_NULL;
+}
+
+/* The words that docs/EVENTS.md has for an answer, for the cause of a refusal (the empty text for none), for a kind of
+   message, and for what is at an end of it. Each is null for a number that is none of these. */
+static inline const char *tardis_answer_name(uint64_t kind) {
+    static const char *const names[] = {"issued", "completed", "requested", "waiting", "idle", "delivered", "dropped",
+                                        "held", "started", "evicted", "recalled", "advanced", "refused"};
+    return kind < sizeof names / sizeof *names ? names[kind] : NULL;
+}
+
+static inline const char *tardis_refusal_name(uint64_t refusal) {
+    static const char *const names[] = {"", "Busy", "TooMany", "NoSuch", "NoRoom", "Pinned", "NetworkFull", "NoMemory",
+                                        "Exhausted", "Stopped"};
+    return refusal < sizeof names / sizeof *names ? names[refusal] : NULL;
+}
+
+static inline const char *tardis_message_name(uint64_t kind) {
+    static const char *const names[] = {"ShReq", "ExReq", "ShRep", "ExRep", "RenewRep", "UpgradeRep", "FlushReq",
+                                        "WbReq", "FlushRep", "WbRep", "DramLd", "DramLdRep", "DramSt", "DramStRep"};
+    return kind < sizeof names / sizeof *names ? names[kind] : NULL;
+}
+
+static inline const char *tardis_end_name(uint64_t kind) {
+    static const char *const names[] = {"core", "bank", "dram"};
+    return kind < sizeof names / sizeof *names ? names[kind] : NULL;
 }
 
 #ifdef __cplusplus

@@ -1,5 +1,5 @@
-// The checker, the runner and the machine for C++17, header only, over tardis.h and the player of events. Nothing here
-// is proved; what it calls is.
+// The checker, the runner and the machine for C++17, header only, over tardis.h. Nothing here is proved; what it calls
+// is.
 //
 // Errors are values: numbers of tardis.h, and empty optionals; nothing throws but for want of memory. If
 // TARDIS_EXCEPTIONS is defined before this file is included, a call that would answer an error throws a tardis::Error
@@ -8,7 +8,6 @@
 #define TARDIS_HPP
 
 #include "tardis.h"
-#include "tardis_machine.h"
 
 #include <algorithm>
 #include <charconv>
@@ -16,7 +15,6 @@
 #include <iterator>
 #include <memory>
 #include <optional>
-#include <sstream>
 #include <stdexcept>
 #include <string>
 #include <string_view>
@@ -34,7 +32,7 @@ namespace tardis {
 inline namespace TARDIS_ERRORS {
 
 #ifdef TARDIS_EXCEPTIONS
-// Why a call has no answer: the number of tardis.h or tardis_machine.h, and what the call would have said in words.
+// Why a call has no answer: the number of tardis.h, and what the call would have said in words.
 class Error : public std::runtime_error {
   public:
     Error(int number, const std::string &words) : std::runtime_error(words), number(number) {}
@@ -103,11 +101,28 @@ struct State {
     }
 };
 
-// The record that a text begins with: an answer, as `completed 1 0 R 0x8 5 0 0` or that of `record 0`, or a line of a
-// trace's records. A load has the value 0, and a store receives 0.
-inline std::optional<tardis_record> record_of(std::string_view text) {
+// The record that a line of a trace's records has. A load has the value 0, and a store receives 0.
+inline std::optional<tardis_record> record_of(std::string_view line) {
+    const char *at = line.data(), *const end = at + line.size();
+    // Whether the next word is a number of at most 64 bits; what follows it is next then.
+    const auto is_read = [&](uint64_t &number, int base = 10) {
+        const auto read = std::from_chars(at, end, number, base);
+        if (read.ec != std::errc() || (read.ptr != end && *read.ptr != ' ')) return false;
+        at = read.ptr == end ? end : read.ptr + 1;
+        return true;
+    };
     tardis_record record{};
-    if (tardis_machine_record_of(text.data(), text.size(), &record) != TARDIS_MACHINE_DONE) return std::nullopt;
+    uint64_t core = 0;
+    if (!is_read(core) || core >= TARDIS_MOST_CORES || !is_read(record.place) || end - at < 4) return std::nullopt;
+    const size_t kind = std::string_view("RWS").find(*at); // as enum tardis_kind has them
+    if (kind == std::string_view::npos || std::string_view(at + 1, 3) != " 0x") return std::nullopt;
+    at += 4;
+    record.operation.core = static_cast<uint32_t>(core);
+    record.operation.kind = static_cast<uint32_t>(kind);
+    if (!is_read(record.operation.address, 16)) return std::nullopt;
+    if (kind != TARDIS_LOAD && !is_read(record.operation.value)) return std::nullopt;
+    if (kind != TARDIS_STORE && !is_read(record.received)) return std::nullopt;
+    if (!is_read(record.time) || !is_read(record.number) || at != end || at[-1] == ' ') return std::nullopt;
     return record;
 }
 
@@ -249,6 +264,16 @@ struct Verdict {
     bool is_legal() const { return number == TARDIS_DONE; }
 };
 
+// Why a call has no answer, in words.
+inline std::string words_of(int number) {
+    switch (number) {
+    case TARDIS_NO_MEMORY: return "tardis: no memory";
+    case TARDIS_BAD_MACHINE: return "tardis: bad configuration";
+    case TARDIS_NO_SYSTEM: return "tardis: no machine is open";
+    default: return "tardis: a pointer is null";
+    }
+}
+
 // What is wrong with an item that is refused, in words, as `tardis: record 3: bad place`. `at` is its index, if it is
 // of an array.
 inline std::string words_of(int number, uint64_t kind, const uint64_t *at = nullptr) {
@@ -274,8 +299,8 @@ inline Verdict check_history(View<tardis_operation> operations, View<tardis_reco
             tardis_first_lack(operations.data(), operations.size(), records.data(), records.size(), &lack);
         if (verdict.number == TARDIS_NOT_DONE) verdict.lack = lack;
     }
-    if (verdict.number == TARDIS_NO_MEMORY) fail(verdict.number, "tardis: no memory");
-    if (verdict.number == TARDIS_NULL) fail(verdict.number, "tardis: a pointer is null");
+    if (verdict.number == TARDIS_NO_MEMORY || verdict.number == TARDIS_NULL)
+        fail(verdict.number, words_of(verdict.number));
     if (verdict.number >= TARDIS_BAD_OPERATION)
         fail(verdict.number, words_of(verdict.number, verdict.found.kind, &verdict.found.number));
     return verdict;
@@ -319,184 +344,159 @@ class History {
     std::vector<tardis_record> records;
 };
 
-// A message in flight: its number, kind (ShReq, ..) and ends (core 1, bank 0, dram 0), its line's byte address, and
-// what it carries (`wts 0 rts 10 words 0`).
-struct Message {
-    uint64_t number;
-    std::string kind, sender, receiver;
-    uint64_t address;
-    std::string carries;
-};
-
-// An answer in its parts: its first word, the cause of a refusal, and the record of a completion.
+// The answer to an event. Unless `number` is TARDIS_DONE there is none, and the rest is that of a refusal without a
+// cause.
 struct Answer {
-    std::string name, cause;
-    std::optional<tardis_record> record;
+    int number = TARDIS_NO_SYSTEM;
+    tardis_answer_kind kind = TARDIS_REFUSED;
+    tardis_refusal refusal = TARDIS_NOT_REFUSED;
+    std::optional<tardis_record> record{}; // of a completion
+
+    // The words of docs/EVENTS.md, as `requested`; and the cause of a refusal, as `NoRoom`, or the empty text.
+    std::string_view name() const { return tardis_answer_name(kind); }
+    std::string_view cause() const { return tardis_refusal_name(refusal); }
 };
 
-// The first answer of a line.
-inline Answer answer_of(std::string_view told) {
-    told = told.substr(0, told.find(';'));
-    const std::string_view name = told.substr(0, told.find(' '));
-    const std::string_view rest = told.substr(std::min(name.size() + 1, told.size()));
-    return {std::string(name), std::string(name == "refused" ? rest : std::string_view()), record_of(told)};
-}
+// A message in flight: what tardis.h shows of it, and the byte address of its line's first word.
+struct Message : tardis_message {
+    uint64_t address = 0;
 
-// All answers of a line, as `run EVENT; EVENT; ..` gets them.
-inline std::vector<Answer> answers_of(std::string_view told) {
-    std::vector<Answer> answers;
-    for (size_t at = 0, end; at < told.size(); at = end + 2) {
-        end = std::min(told.find("; ", at), told.size());
-        answers.push_back(answer_of(told.substr(at, end - at)));
-    }
-    return answers;
-}
-
-// The numbers of the messages in flight, in the order of sending, for a loop to go through. There are none, and
-// `is_told` is false, where memory is refused or the player is gone.
-struct InFlight {
-    bool is_told = false;
-    std::vector<uint64_t> numbers;
-    auto begin() const { return numbers.begin(); }
-    auto end() const { return numbers.end(); }
+    std::string_view name() const { return tardis_message_name(kind); }
 };
 
-// A machine that you drive: you say which core attempts, and when each message arrives. It runs in the player of
-// events, a process of its own, which answers each call at once (docs/EVENTS.md). The machine ends with this value.
-// One thread at a time may call it.
+// A machine that you drive: you say which core attempts, and when each message arrives. It is the library's, in your
+// program, and ends with this value. A line is named by the byte address of any of its words. One thread at a time may
+// call it. A machine that was moved from is none: its calls are errors.
 class Machine {
   public:
-    // Starts the player at this path, or of this name on PATH, and opens a machine, as `cores 4 line-words 8 lease 10`;
-    // none if that is refused. Then `why` is the player's answer, or empty where there is no player.
-    static std::optional<Machine> open(const std::string &player, const std::string &options,
-                                       std::string *why = nullptr) {
-        Machine machine;
-        int number = tardis_machine_start(&machine.machine, player.c_str());
-        std::string answer;
-        if (number == TARDIS_MACHINE_DONE) number = machine.tell("machine " + options, answer);
-        if (why) *why = answer == "opened" ? "" : answer;
-        if (answer == "opened") return machine;
-        if (number == TARDIS_MACHINE_DONE)
-            number = answer == "refused NoMemory" ? TARDIS_NO_MEMORY : TARDIS_BAD_MACHINE;
-        fail(number, words_of(number, "machine " + options, answer));
+    // Opens a machine as the options say (`lease` to `private_write`), over a memory that opens with these words; none
+    // if that is refused. `why` gets the number of tardis.h.
+    static std::optional<Machine> open(unsigned cores, const tardis_options &options = defaults(),
+                                       View<tardis_word> opening = {}, int *why = nullptr) {
+        Machine machine(8 * options.line_words);
+        const int number = tardis_system_open(&machine.system, cores, &options, opening.data(), opening.size());
+        if (why) *why = number;
+        if (number == TARDIS_DONE) return machine;
+        uint64_t at = 0;
+        while (number == TARDIS_BAD_OPENING && !tardis_c_word_fault(&opening[at])) at++;
+        fail(number, number == TARDIS_BAD_OPENING ? words_of(number, tardis_c_word_fault(&opening[at]), &at)
+                                                  : words_of(number));
         return std::nullopt;
     }
 
-    Machine(Machine &&other) noexcept : machine(std::exchange(other.machine, {0, 0})) {}
+    Machine(Machine &&other) noexcept
+        : system(std::exchange(other.system, {nullptr, 0})), line_bytes(other.line_bytes) {}
     Machine &operator=(Machine &&other) noexcept {
-        std::swap(machine, other.machine);
+        std::swap(system, other.system);
+        std::swap(line_bytes, other.line_bytes);
         return *this;
     }
-    ~Machine() { tardis_machine_close(&machine); }
+    ~Machine() { tardis_system_close(&system); }
 
-    // The answer to a line of docs/EVENTS.md: `issue 1 R 0x8`, `deliver m3`, `copy 0 0x8`. It is empty if the player is
-    // gone, or if that isn't one line. A refusal is an answer; `unread: ..` is an error.
-    std::string call(const std::string &line) {
-        std::string answer;
-        const int number = tell(line, answer);
-        if (number != TARDIS_MACHINE_DONE) fail(number, words_of(number, line, answer));
-        return answer;
-    }
-
-    // Events: each has its answer, as `answer_of` takes it apart. An operation that is issued is attempted later.
-    std::string issue(const tardis_operation &operation) {
-        static const char *const kinds[] = {" R ", " W ", " S ", " unknown "};
-        const std::string kind = kinds[std::min<uint32_t>(operation.kind, 3)];
-        const std::string value = operation.kind == TARDIS_LOAD ? "" : ' ' + std::to_string(operation.value);
-        return call("issue " + std::to_string(operation.core) + kind + text_of(operation.address) + value);
-    }
-    std::string attempt(unsigned core) { return call("attempt " + std::to_string(core)); }
-    std::string deliver(uint64_t number) { return call("deliver m" + std::to_string(number)); }
-    std::string advance(unsigned core) { return call("advance " + std::to_string(core)); }
+    // Events. An operation that is issued is attempted later.
+    Answer issue(const tardis_operation &operation) { return event(tardis_system_issue, &operation); }
+    Answer attempt(unsigned core) { return event(tardis_system_attempt, core); }
+    Answer deliver(uint64_t number) { return event(tardis_system_deliver, number); }
+    Answer advance(unsigned core) { return event(tardis_system_advance, core); }
     // The core gives up its copy of a line; the bank gives up its entry, or recalls the line first.
-    std::string evict_copy(unsigned core, uint64_t address) {
-        return call("evict core " + std::to_string(core) + ' ' + text_of(address));
+    Answer evict_copy(unsigned core, uint64_t address) {
+        return event(tardis_system_evict_copy, core, address / line_bytes);
     }
-    std::string evict_entry(unsigned bank, uint64_t address) {
-        return call("evict bank " + std::to_string(bank) + ' ' + text_of(address));
+    Answer evict_entry(unsigned bank, uint64_t address) {
+        return event(tardis_system_evict_entry, bank, address / line_bytes);
     }
 
-    // The line to evict so that the core has a place for this one, after `refused NoRoom`; none if it has one.
-    std::optional<uint64_t> victim(unsigned core, uint64_t address) {
-        return number_of(call("victim " + std::to_string(core) + ' ' + text_of(address)), 2, 16);
+    // The line to evict so that the core has a place for this one, on TARDIS_NO_ROOM; none if it has one.
+    std::optional<uint64_t> victim(unsigned core, uint64_t address) const {
+        const auto place = look<tardis_place>(tardis_system_victim, core, address / line_bytes);
+        return place && place->is_there ? std::optional(place->line * line_bytes) : std::nullopt;
     }
     // The bank and the line to evict so that a message, which was held, finds room; none if it needs none.
-    std::optional<std::pair<unsigned, uint64_t>> room(uint64_t number) {
-        std::istringstream words(call("room m" + std::to_string(number)));
-        std::string part, address;
-        unsigned bank = 0;
-        if (!(words >> part >> bank >> address)) return std::nullopt;
-        const auto line = number_of(address, 2, 16);
-        if (!line) return std::nullopt;
-        return std::pair(bank, *line);
-    }
-
-    // The record of the operation that completed as this one, from 0 on; none if there is none yet.
-    std::optional<tardis_record> record(uint64_t number) { return record_of(call("record " + std::to_string(number))); }
-
-    InFlight in_flight() {
-        InFlight flight;
-        const std::string told = call("flight");
-        if (told == "none") return {true, {}};
-        std::istringstream words(told);
-        for (std::string word; words >> word;) {
-            const auto number = word[0] == 'm' ? number_of(word, 1, 10) : std::nullopt;
-            if (!number) {
-                fail(TARDIS_NO_MEMORY, told);
-                return {};
-            }
-            flight.numbers.push_back(*number);
-        }
-        flight.is_told = !flight.numbers.empty();
-        return flight;
+    std::optional<std::pair<unsigned, uint64_t>> room(uint64_t number) const {
+        const auto place = look<tardis_place>(tardis_system_make_room, number);
+        if (!place || !place->is_there) return std::nullopt;
+        return std::pair(static_cast<unsigned>(place->bank), place->line * line_bytes);
     }
 
     // The message in flight that has this number, if there is one.
-    std::optional<Message> message(uint64_t number) {
-        std::istringstream words(call("message m" + std::to_string(number)));
-        std::string kind, from, of, arrow, to, at, address, carries;
-        if (!(words >> kind >> from >> of >> arrow >> to >> at >> address)) return std::nullopt;
-        std::getline(words >> std::ws, carries);
-        const auto first = number_of(address, 2, 16);
-        if (!first) return std::nullopt;
-        return Message{number, kind, from + ' ' + of, to + ' ' + at, *first, carries};
+    std::optional<Message> message(uint64_t number) const {
+        const auto found = look<tardis_message>(tardis_system_message, number);
+        return found ? std::optional(Message{*found, found->line * line_bytes}) : std::nullopt;
+    }
+    // The messages in flight, in the order of sending.
+    std::vector<Message> in_flight() const {
+        std::vector<Message> all;
+        for (uint32_t index = 0; const auto number = look<uint64_t>(tardis_system_message_number, index); index++)
+            all.push_back(*message(*number));
+        return all;
     }
 
+    // The record of the operation that completed as this one, from 0 on; none if there is none yet.
+    std::optional<tardis_record> record(size_t number) const {
+        return look<tardis_record>(tardis_system_record, number);
+    }
+    // The records from this one on.
+    std::vector<tardis_record> records(size_t first = 0) const {
+        std::vector<tardis_record> all;
+        while (const auto next = record(first + all.size())) all.push_back(*next);
+        return all;
+    }
+    // The core's open operation, and whether its request is out; none if it has none.
+    std::optional<tardis_open> open_operation(unsigned core) const {
+        const auto found = look<tardis_open>(tardis_system_open_operation, core);
+        return found && found->state ? found : std::nullopt;
+    }
+    // The lines that a core has copies of, or that a bank has Shared or Exclusive, in rising order; none if memory is
+    // refused. The library sorts them for each one.
+    std::optional<std::vector<uint64_t>> copies(unsigned core) const { return lines(tardis_system_copy, core); }
+    std::optional<std::vector<uint64_t>> entries(unsigned bank) const { return lines(tardis_system_entry, bank); }
+
+    // How many own a line, 0 or 1; the value of the word at an address; and what the machine has counted.
+    std::optional<uint64_t> owners(uint64_t address) const {
+        return look<uint64_t>(tardis_system_owners, address / line_bytes);
+    }
+    std::optional<uint64_t> value(uint64_t address) const { return look<uint64_t>(tardis_system_value, address); }
+    std::optional<tardis_totals> totals() const { return look<tardis_totals>(tardis_system_totals); }
+
   private:
-    static std::string text_of(uint64_t address) {
-        char digits[16];
-        return "0x" + std::string(digits, std::to_chars(digits, digits + sizeof digits, address, 16).ptr);
-    }
-    // The number that a word has behind its first letters.
-    static std::optional<uint64_t> number_of(const std::string &word, size_t from, int base) {
-        uint64_t number = 0;
-        const char *const end = word.data() + word.size();
-        if (word.size() <= from) return std::nullopt;
-        const auto read = std::from_chars(word.data() + from, end, number, base);
-        return read.ec == std::errc() && read.ptr == end ? std::optional(number) : std::nullopt;
-    }
-    // Why a line has no answer but this one, in words.
-    static std::string words_of(int number, const std::string &line, const std::string &answer) {
-        if (!answer.empty()) return answer;
-        return number == TARDIS_MACHINE_LINE ? "that isn't one line: " + line : "no player of events answers";
-    }
-    // Puts the answer to a line there, or nothing where there is none; the number of tardis_machine.h.
-    int tell(const std::string &line, std::string &answer) {
-        const int number = tardis_machine_send(&machine, line.data(), line.size());
-        if (number != TARDIS_MACHINE_DONE) return number;
-        for (char block[4096]; answer.empty() || answer.back() != '\n';) {
-            const size_t count = tardis_machine_receive(&machine, block, sizeof block);
-            if (count == 0) {
-                answer.clear();
-                return TARDIS_MACHINE_GONE;
-            }
-            answer.append(block, count);
+    explicit Machine(uint64_t line_bytes) : line_bytes(line_bytes) {}
+
+    template <class Call, class... Of> Answer event(Call call, Of... of) {
+        tardis_answer told{};
+        const int number = call(&system, of..., &told);
+        if (number == TARDIS_DONE) {
+            Answer answer{number, static_cast<tardis_answer_kind>(told.kind),
+                          static_cast<tardis_refusal>(told.refusal)};
+            if (told.kind == TARDIS_COMPLETED) answer.record = told.completed;
+            return answer;
         }
-        answer.pop_back();
-        return answer.rfind("unread: ", 0) == 0 ? TARDIS_MACHINE_LINE : TARDIS_MACHINE_DONE;
+        if constexpr ((std::is_same_v<Of, const tardis_operation *> || ...))
+            if (number == TARDIS_BAD_OPERATION) fail(number, words_of(number, tardis_c_operation_fault(of...)));
+        fail(number, words_of(number));
+        return {number};
     }
-    Machine() = default;
-    tardis_machine machine{0, 0};
+    // What a look-up tells; none if there is no such thing, or no machine.
+    template <class Told, class Call, class... Of> std::optional<Told> look(Call call, Of... of) const {
+        Told told{};
+        const int number = call(&system, of..., &told);
+        if (number == TARDIS_DONE) return told;
+        if (number != TARDIS_NO_SUCH) fail(number, words_of(number));
+        return std::nullopt;
+    }
+    template <class Call> std::optional<std::vector<uint64_t>> lines(Call call, unsigned seat) const {
+        std::vector<uint64_t> all;
+        for (uint64_t line = 0;;) {
+            const int number = call(&system, seat, all.size(), &line);
+            if (number == TARDIS_NO_SUCH) return all;
+            if (number != TARDIS_DONE) {
+                fail(number, words_of(number));
+                return std::nullopt;
+            }
+            all.push_back(line * line_bytes);
+        }
+    }
+    mutable tardis_system system{nullptr, 0}; // the library takes it so for look-ups, too, and changes nothing then
+    uint64_t line_bytes;
 };
 
 } // namespace TARDIS_ERRORS

@@ -1,43 +1,60 @@
-/* Drives the machine from C, one line of docs/EVENTS.md at a time: drive PLAYER. Core 1 loads a word that opens with 5.
-   Each message in flight is printed before it arrives; here the last one sent arrives first. */
-#define _POSIX_C_SOURCE 200809L
-#include "tardis_machine.h"
+/* Drives the machine from C: core 1 loads a word that opens with 5. Each message in flight is printed before it
+   arrives; here the last one sent arrives first. */
+#include "tardis.h"
 
+#include <inttypes.h>
 #include <stdio.h>
 #include <stdlib.h>
 
-static struct tardis_machine machine;
-static char answer[200];
+static struct tardis_system machine;
+static struct tardis_answer answer;
 
-/* The answer to a call; the program ends where there is none. */
-static const char *call(const char *line) {
-    if (tardis_machine_call(&machine, line, answer, sizeof answer) != TARDIS_MACHINE_DONE) {
-        fprintf(stderr, "drive: %s: no answer\n", line);
-        exit(1);
-    }
-    return answer;
+/* The program ends where a call has no answer. */
+static void must(int number) {
+    if (number == TARDIS_DONE) return;
+    fprintf(stderr, "drive: a call answered %d\n", number);
+    exit(1);
 }
 
-int main(int count, char **words) {
-    char line[100];
-    struct tardis_record record;
-    if (count != 2 || tardis_machine_start(&machine, words[1]) != TARDIS_MACHINE_DONE) {
-        fputs("drive: give the player of events\n", stderr);
-        return 2;
+static void print_message(const struct tardis_message *message) {
+    printf("m%" PRIu64 " %s %s %" PRIu64 " > %s %" PRIu64 " 0x%" PRIx64, message->number,
+           tardis_message_name(message->kind), tardis_end_name(message->from_kind), message->from,
+           tardis_end_name(message->to_kind), message->to, 8 * message->line);
+    if (message->kind == TARDIS_SH_REQ)
+        printf(" pts %" PRIu64 " version %s", message->pts, message->has_version ? "some" : "none");
+    if (message->kind == TARDIS_SH_REP) printf(" wts %" PRIu64 " rts %" PRIu64, message->wts, message->rts);
+}
+
+static void print_load(const struct tardis_record *record) {
+    printf("completed %u %" PRIu64 " R 0x%" PRIx64 " %" PRIu64 " %" PRIu64 " %" PRIu64 "\n",
+           (unsigned)record->operation.core, record->place, record->operation.address, record->received, record->time,
+           record->number);
+    printf("core %u received %" PRIu64 "\n", (unsigned)record->operation.core, record->received);
+}
+
+int main(void) {
+    const struct tardis_word five = {0x8, 5};
+    const struct tardis_operation load = {1, TARDIS_LOAD, 0x8, 0};
+    struct tardis_options options;
+    struct tardis_totals totals;
+    struct tardis_message message;
+    uint64_t number;
+    tardis_defaults(&options);
+    must(tardis_system_open(&machine, 2, &options, &five, 1));
+    puts("opened");
+    must(tardis_system_issue(&machine, &load, &answer));
+    puts(tardis_answer_name(answer.kind));
+    must(tardis_system_attempt(&machine, 1, &answer));
+    puts(tardis_answer_name(answer.kind));
+    while (tardis_system_totals(&machine, &totals) == TARDIS_DONE && totals.messages) {
+        must(tardis_system_message_number(&machine, (uint32_t)totals.messages - 1, &number));
+        must(tardis_system_message(&machine, number, &message));
+        print_message(&message);
+        must(tardis_system_deliver(&machine, number, &answer));
+        printf(": %s\n", tardis_answer_name(answer.kind));
     }
-    printf("%s\n", call("machine cores 2 lease 10 with 0x8 5"));
-    printf("%s\n", call("issue 1 R 0x8"));
-    printf("%s\n", call("attempt 1"));
-    while (call("flight")[0] == 'm') {
-        const unsigned long long number = strtoull(strrchr(answer, 'm') + 1, NULL, 10);
-        snprintf(line, sizeof line, "message m%llu", number);
-        printf("m%llu %s: ", number, call(line));
-        snprintf(line, sizeof line, "deliver m%llu", number);
-        printf("%s\n", call(line));
-    }
-    printf("%s\n", call("attempt 1"));
-    if (tardis_machine_record(answer, &record) == TARDIS_MACHINE_DONE)
-        printf("core %u received %llu\n", (unsigned)record.operation.core, (unsigned long long)record.received);
-    tardis_machine_close(&machine);
+    must(tardis_system_attempt(&machine, 1, &answer));
+    if (answer.kind == TARDIS_COMPLETED) print_load(&answer.completed);
+    tardis_system_close(&machine);
     return 0;
 }

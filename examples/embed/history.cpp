@@ -2,6 +2,7 @@
 #include "tardis.hpp"
 
 #include <iostream>
+#include <sstream>
 
 namespace {
 

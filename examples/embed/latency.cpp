@@ -1,19 +1,22 @@
-// A network of one's own drives the machine: latency PLAYER TRACE [LEASE ..], as latency.py in C++. A hop takes 10
-// cycles, DRAM 100, a hit 1, and an advance none; a message that is held tries again a hop later.
+// A network of one's own drives the machine: latency TRACE [LEASE ..], as latency.py in C++. A hop takes 10 cycles,
+// DRAM 100, a hit 1, and an advance none; a message that is held tries again a hop later.
 #include "tardis.hpp"
 
-#include <algorithm>
+#include <cstdlib>
 #include <fstream>
 #include <iostream>
 #include <map>
 #include <queue>
+#include <sstream>
 #include <tuple>
 
 namespace {
 
 constexpr uint64_t HOP = 10, DRAM = 100, HIT = 1;
 
-using Programs = std::map<unsigned, std::queue<std::string>>;
+// An operation, or nothing: then the core's time goes on.
+using Step = std::optional<tardis_operation>;
+using Programs = std::map<unsigned, std::queue<Step>>;
 
 // A time, whether a message arrives then (or a core goes on, which comes first), and which.
 using Due = std::tuple<uint64_t, bool, uint64_t>;
@@ -25,7 +28,7 @@ class Network {
         for (unsigned core = 0; core < cores; core++) due.push({0, false, core});
     }
 
-    // The time of the last event; none if a step is refused or the player is gone.
+    // The time of the last event; none if a step is refused.
     std::optional<uint64_t> run() {
         uint64_t now = 0;
         while (!due.empty()) {
@@ -34,52 +37,51 @@ class Network {
             now = time;
             if (is_message) arrive(number, now);
             else go_on(static_cast<unsigned>(number), now);
-            const tardis::InFlight flight = machine.in_flight();
-            if (!flight.is_told || is_refused) return std::nullopt;
-            for (const uint64_t each : flight) {
-                if (each < sent) continue;
-                const auto message = machine.message(each);
-                if (!message) return std::nullopt;
-                const bool is_dram = message->kind.rfind("Dram", 0) == 0;
-                due.push({now + (is_dram ? DRAM : HOP), true, each});
-                sent = each + 1;
+            if (is_refused) return std::nullopt;
+            for (const tardis::Message &message : machine.in_flight()) {
+                if (message.number < sent) continue;
+                const bool is_dram = message.from_kind == TARDIS_DRAM || message.to_kind == TARDIS_DRAM;
+                due.push({now + (is_dram ? DRAM : HOP), true, message.number});
+                sent = message.number + 1;
             }
         }
         return now;
     }
 
+    // What the cores were issued, and what they completed.
+    tardis::History history;
+
   private:
     // The core issues its next operation, if it has none open, and attempts it.
     void go_on(unsigned core, uint64_t now) {
-        const std::string name = std::to_string(core);
-        while (machine.call("open " + name) == "none") {
-            if (programs[core].empty()) return;
-            const std::string step = programs[core].front();
-            programs[core].pop();
-            const std::string said = step[0] == 'A' ? machine.advance(core) : machine.call("issue " + name + ' ' + step);
-            is_refused |= said != "issued" && said != "advanced";
+        for (auto &steps = programs[core]; !machine.open_operation(core); steps.pop()) {
+            if (steps.empty()) return;
+            const Step &step = steps.front();
+            const tardis::Answer answer = step ? machine.issue(*step) : machine.advance(core);
+            is_refused |= answer.kind == TARDIS_REFUSED;
+            if (step) history.issue(*step);
         }
-        std::string answer = machine.attempt(core);
-        if (answer == "refused NoRoom") {
-            std::istringstream words(machine.call("open " + name));
-            std::string letter, address;
-            words >> letter >> address;
-            machine.call("evict core " + name + ' ' + machine.call("victim " + name + ' ' + address));
+        tardis::Answer answer = machine.attempt(core);
+        if (answer.refusal == TARDIS_NO_ROOM) {
+            const uint64_t wanted = machine.open_operation(core)->operation.address;
+            if (const auto victim = machine.victim(core, wanted)) machine.evict_copy(core, *victim);
             answer = machine.attempt(core);
         }
-        if (answer.rfind("completed", 0) == 0) due.push({now + HIT, false, core});
+        if (!answer.record) return;
+        history.complete(*answer.record);
+        due.push({now + HIT, false, core});
     }
 
     // The message arrives; a core that got one goes on.
     void arrive(uint64_t number, uint64_t now) {
         const auto message = machine.message(number);
-        if (!message) return;  // the player is gone
-        const std::string answer = machine.deliver(number);
-        if (answer == "held" || answer == "started") {
+        if (!message) return;
+        const tardis::Answer answer = machine.deliver(number);
+        if (answer.kind == TARDIS_HELD || answer.kind == TARDIS_STARTED) {
             if (const auto room = machine.room(number)) machine.evict_entry(room->first, room->second);
             due.push({now + HOP, true, number});
-        } else if (message->receiver.rfind("core ", 0) == 0) {
-            due.push({now, false, std::stoull(message->receiver.substr(5))});
+        } else if (message->to_kind == TARDIS_CORE) {
+            due.push({now, false, message->to});
         }
     }
 
@@ -90,37 +92,48 @@ class Network {
     bool is_refused = false;
 };
 
+// The steps of each core, in the text's order; none if a line is no step.
+std::optional<Programs> programs_of(std::istream &text) {
+    Programs programs;
+    for (std::string line; std::getline(text, line);) {
+        std::istringstream words(line.substr(0, line.find('#')));
+        std::string first, letter, more;
+        if (!(words >> first) || first == "trace") continue;
+        tardis_operation operation{0, TARDIS_LOAD, 0, 0};
+        words >> letter;
+        operation.kind = letter == "R" ? TARDIS_LOAD : letter == "W" ? TARDIS_STORE : TARDIS_SWAP;
+        if (letter != "A") words >> std::hex >> operation.address;
+        if (letter == "W" || letter == "S") words >> std::dec >> operation.value;
+        if (!words || words >> more || !(std::istringstream(first) >> operation.core)) return std::nullopt;
+        programs[operation.core].push(letter == "A" ? Step() : operation);
+    }
+    return programs;
+}
+
 } // namespace
 
 int main(int count, char **words) {
-    if (count < 3) {
-        std::cerr << "latency: give the player of events, a trace, and leases\n";
+    std::ifstream file(count > 1 ? words[1] : "");
+    const auto programs = programs_of(file);
+    if (count < 2 || !programs || !file.eof()) {
+        std::cerr << "latency: give a trace, and leases\n";
         return 2;
     }
-    Programs programs;
-    unsigned cores = 1;
-    std::ifstream file(words[2]);
-    if (!file) {
-        std::cerr << "latency: " << words[2] << " can't be read\n";
-        return 2;
-    }
-    for (std::string line; std::getline(file, line);) {
-        std::istringstream fields(line.substr(0, line.find('#')));
-        std::string core, step;
-        if (!(fields >> core) || core == "trace" || !std::getline(fields >> std::ws, step)) continue;
-        programs[static_cast<unsigned>(std::stoul(core))].push(step);
-        cores = std::max(cores, static_cast<unsigned>(std::stoul(core)) + 1);
-    }
-    std::vector<std::string> leases(words + 3, words + count);
+    const unsigned cores = programs->empty() ? 1 : programs->rbegin()->first + 1;
+    std::vector<std::string> leases(words + 2, words + count);
     if (leases.empty()) leases = {"1", "10", "100", "1000", "10000"};
     for (const std::string &lease : leases) {
-        auto machine = tardis::Machine::open(words[1], "cores " + std::to_string(cores) + " lease " + lease);
-        const auto cycles = machine ? Network(*machine, programs, cores).run() : std::nullopt;
+        tardis_options options = tardis::defaults();
+        options.lease = std::strtoull(lease.c_str(), nullptr, 10);
+        auto machine = tardis::Machine::open(cores, options);
+        std::optional<Network> network;
+        if (machine) network.emplace(*machine, *programs, cores);
+        const auto cycles = network ? network->run() : std::nullopt;
         if (!cycles) {
             std::cerr << "latency: lease " << lease << ": no machine of " << cores << " cores takes the trace\n";
             return 1;
         }
-        std::cout << "lease " << lease << ": " << *cycles << " cycles, " << machine->call("records") << " operations, "
-                  << machine->call("check") << '\n';
+        std::cout << "lease " << lease << ": " << *cycles << " cycles, " << machine->records().size() << " operations, "
+                  << (network->history.verdict(true).is_legal() ? "legal" : "not legal") << '\n';
     }
 }

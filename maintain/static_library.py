@@ -93,11 +93,12 @@ def built_over_left(kit, folder):
 
 
 def main():
-    keeps, proves = loaded(LOOKS), loaded(PROVES)
-    if keeps is None and proves is None:
-        return skip("the kit isn't the one that this was written for")
-    with tempfile.TemporaryDirectory(prefix="static-") as folder:
-        return built_over_kept(keeps, folder) if keeps else built_over_left(proves, folder)
+    for looks, build in ((LOOKS, built_over_kept), (PROVES, built_over_left)):
+        kit = loaded(looks)
+        if kit is not None:
+            with tempfile.TemporaryDirectory(prefix="static-") as folder:
+                return build(kit, folder)
+    return skip("the kit isn't the one that this was written for")
 
 
 if __name__ == "__main__":

@@ -41,7 +41,7 @@ enum tardis_number {
     TARDIS_BAD_OPENING = 12,   /* the text is no opening; a word of an array has a fault */
     TARDIS_NO_SYSTEM = 16,     /* no machine is open: it never was, or is closed (13 to 15 are of no call) */
     TARDIS_IS_OPEN = 17,       /* a machine is open already, and stays */
-    TARDIS_NO_SUCH = 18        /* there is no such core, message in flight or record */
+    TARDIS_NO_SUCH = 18        /* there is no such core, message in flight or record, or none at the index */
 };
 
 /* The options of a run. Those named flags are set by any number but 0. */
@@ -54,7 +54,7 @@ struct tardis_options {
     uint64_t bank_sets;     /* 1 to 1024 */
     uint64_t bank_ways;     /* 1 to 16 */
     uint64_t line_words;    /* 1 or 8 */
-    uint64_t messages;      /* in flight, 1 to 65536 */
+    uint64_t messages;      /* in flight, 1 to 65536; with no more than cores a run may get stuck */
     uint64_t private_write; /* a flag */
     uint64_t by_seed;       /* a flag: events are drawn, and not in rounds */
     uint64_t seed;          /* of the first run, if events are drawn; each further run has the next */
@@ -125,8 +125,8 @@ enum tardis_source {
     TARDIS_A_RECORD = 2
 };
 
-/* What is wrong with a history: as in `struct tardis_told`, also on TARDIS_BAD_OPENING. With TARDIS_WRONG_VALUE what the
-   record should have received, too, and who wrote that; else all of this is 0. */
+/* What is wrong with a history: as in `struct tardis_told`, also on TARDIS_BAD_OPENING. With TARDIS_WRONG_VALUE what
+   the record should have received, too, and who wrote that; else all of this is 0. */
 struct tardis_found {
     uint64_t kind; /* enum tardis_told_kind */
     uint64_t number;
@@ -494,10 +494,12 @@ static inline void tardis_system_close(struct tardis_system *system) {
     if (system) tardis_c_system_close(system);
 }
 
-/* Events. Each is TARDIS_DONE with its answer, which may be a refusal, or TARDIS_NO_SYSTEM. A line is named by its
-   number: the byte address of one of its words, divided by 8 * line_words. */
+/* Events. Each is TARDIS_DONE with its answer, which may be a refusal, or TARDIS_NO_SYSTEM. Unless it is TARDIS_DONE,
+   the answer stays as it was. A line is named by its number: the byte address of one of its words, divided by
+   8 * line_words. Its bank is that number modulo `banks`. */
 
-/* A core is given its next operation, which is attempted later. TARDIS_BAD_OPERATION if that has a fault. */
+/* A core is given its next operation, which is attempted later. TARDIS_BAD_OPERATION if that has a fault, also without
+   a machine. A core that the machine doesn't have is TARDIS_NOT_THERE. */
 static inline int tardis_system_issue(struct tardis_system *system, const struct tardis_operation *operation,
                                       struct tardis_answer *answer) {
     if (!system || !operation || !answer) return TARDIS_NULL;
@@ -584,7 +586,7 @@ static inline int tardis_system_victim(struct tardis_system *system, uint32_t co
 }
 
 /* The bank and the line to evict so that a message, a request that is held, finds room; nothing if that is of no
-   use. */
+   use, or if no message has this number. */
 static inline int tardis_system_make_room(struct tardis_system *system, uint64_t number, struct tardis_place *place) {
     return system && place ? (int)tardis_c_system_make_room(system, number, place) : TARDIS_NULL;
 }

@@ -366,7 +366,7 @@ struct Message : tardis_message {
 
 // A machine that you drive: you say which core attempts, and when each message arrives. It is the library's, in your
 // program, and ends with this value. A line is named by the byte address of any of its words. One thread at a time may
-// call it. A machine that was moved from is none: its calls are errors.
+// call it. A machine that another was made from is none: its calls are errors. An assignment by move swaps the two.
 class Machine {
   public:
     // Opens a machine as the options say (`lease` to `private_write`), over a memory that opens with these words; none

@@ -8,7 +8,7 @@ and its report without words. If a line is at fault, standard error says which. 
 beginning of the records of the lines before it, and no more than the second program can write (docs/STREAMS.md).
 
 Pipes are tried that stay open or are long, and readers that leave early. The parts are examples, faults, cut_texts,
-cores, odd_texts, pipes, memory, long, which is a text of 20,000,000 lines, and at_random.
+cores, odd_texts, pipes, memory, waits, long, which is a text of 20,000,000 lines, and at_random.
 --traces and --seed say how many traces are drawn, and which. --self-test spoils each answer: first the status, then the
 output, then standard error; and says which comparison doesn't notice. The last line is `N tried, M wrong`.
 """
@@ -32,6 +32,7 @@ from tests.texts import PATIENCE, TOP, Tester, form_2_faults, moved, of_printf, 
 FORMS = [], ["--records"], ["--json"]
 WITHOUT_WORDS = ["--no-words"], ["--no-words", "--json"]
 AHEAD = 4096  # steps that are read ahead at least
+BLOCK = 1024  # steps of a core that wait together
 NO_LIMIT = ["--limit", "4294967295"]
 # What spoils an answer: a part of status, output and standard error each.
 SPOILERS = {"status": lambda status, out, error: (status ^ 1, out, error),
@@ -284,12 +285,21 @@ def cores(tester, folder):
             faulty(tester, path, text, f"line {6 * AHEAD + 1}: {fault}", "--cores", cores, *over)
 
 
+def in_blocks(steps):
+    """These steps of a core wait, and hit but for the first ones. They are taken up to the last one before the same
+    steps come again, since 12,288 of another core lie between."""
+    lines = (f"0 {'WS'[at % 2]} {8 * (at % 5):#x} {at}\n" if at % 3 else "0 R 0x8\n" for at in range(steps))
+    waiting = "".join(lines)
+    return (waiting + "1 R 0x100\n" * 3 * AHEAD + waiting).encode()
+
+
 def odd_texts(tester, folder):
     """Texts without a step, and those in which one core's lines come long before another's."""
     path = Path(folder, "odd.trace")
     texts = [b"", b"\n", b"#", b"# one\n \t\n#", b"trace 2", b"trace 2\n\n# two\n", b"\n" * 5 * AHEAD, b"trace 2\n5 A\n"]
     first, last = b"0 R 0x0\n0 W 0x8 1\n" * 2 * AHEAD, b"3 S 0x8 4\n3 R 0x0\n" * 2 * AHEAD
     texts += [first + last, last + first, b"3 R 0x0\n" + first, first + b"3 R 0x0", b"7 R 0x0\n"]
+    texts += [in_blocks(steps) for blocks in range(3) for steps in range(blocks * BLOCK, blocks * BLOCK + 3)]
     for text in texts:
         path.write_bytes(text)
         for options in ["--fair", "--limit", "1000000"], by_seed(["--limit", "1000000"], 5):
@@ -383,11 +393,12 @@ def measured(tester, make, *words):
         return (run.returncode, out.read().decode(), error), used.ru_maxrss / 1024
 
 
-def loads(count):
-    """The report on `count` loads of 0x0 by core 0."""
+def loads(count, cores=1):
+    """The report on `count` loads of 0x0 by core 0, or by more cores."""
     zeros = "".join(f"{name} 0\n" for name in ("stores", "swaps", "renewals", "upgrades", "flushes", "write-backs",
                                               "stale-hits"))
-    return f"cores 1\nissued {count}\ncompleted {count}\nend all-done\nloads {count}\n{zeros}order legal\nword 0x0 0\n"
+    begins = f"cores {cores}\nissued {count}\ncompleted {count}\nend all-done\nloads {count}\n"
+    return f"{begins}{zeros}order legal\nword 0x0 0\n"
 
 
 def memory(tester, folder):
@@ -406,6 +417,19 @@ def memory(tester, folder):
                       f"{counts[1]} lines take {peaks[1]:.0f} MB, a tenth of them {peaks[0]:.0f}, {policy}")
 
 
+def waits(tester, folder):
+    """A step that waits takes no more than 24 bytes, also where all wait when the text ends. So few records are kept."""
+    peaks = []
+    for count in 500000, 2000000:
+        make = f"yes '0 R 0x0' | head -n {count - 1}; echo '1 R 0x0'"
+        answer, peak = measured(tester, make, "--stream", "--cores", "2", *NO_LIMIT)
+        got = tester.came(answer)
+        tester.expect(got == (0, loads(count, 2), ""), f"{count} lines, the last one of another core: {got}")
+        peaks.append(peak)
+    a_step = (peaks[1] - peaks[0]) * 2 ** 20 / 1500000
+    tester.covers(a_step < 24, f"a step that waits takes {a_step:.0f} bytes")
+
+
 def long(tester, folder):
     """More lines than `trace` takes."""
     count = 20000000
@@ -415,7 +439,8 @@ def long(tester, folder):
     tester.covers(peak < 64, f"{count} lines take {peak:.0f} MB")
 
 
-PARTS = {part.__name__: part for part in (examples, faults, cut_texts, cores, odd_texts, pipes, memory, long, at_random)}
+PARTS = {part.__name__: part for part in (examples, faults, cut_texts, cores, odd_texts, pipes, memory, waits, long,
+                                          at_random)}
 
 
 def tried(tester, parts):

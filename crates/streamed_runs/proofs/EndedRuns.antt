@@ -76,7 +76,7 @@ module _ (begins : (keeps : Bool) (policy : Policy) (m : Machine) (behind : List
     leads = refl;
     ended = λ more many follows. first_stands more many;
     within = omega arith;
-    goes = inr (refl, inl refl, ap (paced policy) none);
+    goes = inr (inl (refl, refl), ap (paced policy) none);
     idle = λ is core. ap (λ (lanes : List (List Step)). lane lanes core) queues ∙ nothing_in config.cores core;
     few = omega arith;
     met = met;

@@ -1,6 +1,7 @@
 -- A run goes on as that of the whole text does, while its steps are read.
 use Rattle.std.proofs.Common.{◌≡◌, ◌≢◌, ◌⊎◌, ℕ, ◌+◌, ◌-◌, ◌^◌, ◌<◌, ◌≤◌, Bool, true, false, List, [], ◌∷◌, ◌++◌}
-use Rattle.std.proofs.Common.{length, get_or, inl, inr, refl, sym, ap, ap₂, ◌∙◌, ◌↔◌, subst, arith, append-nil, replicate}
+use Rattle.std.proofs.Common.{length, get_or, inl, inr, refl, sym, ap, ap₂, ◌∙◌, ◌↔◌, subst, arith, append-nil}
+use Rattle.std.proofs.Common.{not, replicate}
 use Rattle.std.proofs.lemmas.Bool.{cases_lt}
 use Rattle.std.proofs.lemmas.List.{get_or_past, length-replicate}
 use Rattle.std.specs.FinMap.{empty}
@@ -26,11 +27,11 @@ use Rattle.trace_reader.specs.Steps.{cores_of, lane, named}
 use Rattle.trace_reader.proofs.Lemmas.{cores-append, named-append}
 use Rattle.streamed_runs.specs.declared.summary.Summary.{Summary}
 use Rattle.streamed_runs.specs.Pieces.{IsPiece}
-use Rattle.streamed_runs.specs.StreamStates.{IsGoing, MayFollow, StreamState, lanes_for, turns_left}
+use Rattle.streamed_runs.specs.StreamStates.{IsGoing, MayFollow, StreamState, end_with, lanes_for, turns_left}
 use Rattle.streamed_runs.specs.Summaries.{all_counted, summary_of}
 use Rattle.streamed_runs.proofs.CountedRecords.{counted_all}
-use Rattle.streamed_runs.proofs.JoinedLanes.{ends_later, ends_now, ends_so, lane_joined, lanes_count, lanes_joined}
-use Rattle.streamed_runs.proofs.JoinedLanes.{length_joined, queues_joined}
+use Rattle.streamed_runs.proofs.JoinedLanes.{ends_later, ends_now, lane_joined, lanes_count, lanes_joined}
+use Rattle.streamed_runs.proofs.JoinedLanes.{length_joined, no_steps, nothing_in, queues_joined}
 use Rattle.streamed_runs.proofs.MadePieces.{some_core}
 
 -- what is cited of the laws of schedules, `lists_are_filled_between_turns` (joins, fills), `runs_go_on` (begins, further)
@@ -122,7 +123,8 @@ stays_over taken s going done =
 -- steps were read ahead of a run that isn't over
 module _ (laws : Laws) (taken more : List (ℕ × (ℕ × Step))) (s : StreamState) (going : IsGoing taken s) (on : 0 < s.left)
     (one_each : length s.ahead.queues ≡ s.machine.config.cores) (ahead : AheadState)
-    (filled : HasTaken true s.ahead ahead more) (at_end : Bool) where
+    (filled : HasTaken true s.ahead ahead more) (at_end : Bool)
+    (nothing : s.at_end ≡ true → (more ≡ []) × (at_end ≡ true)) where
   abbrev cores : ℕ
   cores = s.machine.config.cores
 
@@ -136,7 +138,7 @@ module _ (laws : Laws) (taken more : List (ℕ × (ℕ × Step))) (s : StreamSta
   abbrev made : ℕ
   made = s.limit - s.left
 
-  isn't_over : (s.at_end ≡ false) × ((s.end ≡ AllDone) ⊎ (s.end ≡ TurnsUsed)) × (s.pace ≡ paced s.pace.policy made)
+  isn't_over : (((s.at_end ≡ false) × (s.end ≡ AllDone)) ⊎ (s.end ≡ TurnsUsed)) × (s.pace ≡ paced s.pace.policy made)
   isn't_over = elim going.goes [ inl none ↦ absurd (omega (arith, none, on)) | inr goes ↦ goes ]
 
   as_many : length ahead.queues ≡ cores
@@ -145,11 +147,23 @@ module _ (laws : Laws) (taken more : List (ℕ × (ℕ × Step))) (s : StreamSta
   fresh_count : (later : List (List Step)) → length later ≡ cores → length later ≡ length fresh
   fresh_count later many = many ∙ sym (lanes_count cores (unnumbered more))
 
+  -- what may follow behind what was read
+  both_follow : (later : List (List Step)) → length later ≡ cores → MayFollow at_end later → (b : Bool) → s.at_end ≡ b →
+      MayFollow b (joined fresh later)
+  both_follow later many follows false is = tt
+  both_follow later many follows true is = λ core.
+      let read = nothing is in
+      lane_joined fresh later core (fresh_count later many)
+      ∙ ap₂ (λ (xs ys : List Step). xs ++ ys)
+      (ap (λ (told : List (ℕ × (ℕ × Step))). lane (lanes_for cores (unnumbered told)) core) read.0
+      ∙ ap (λ (lanes : List (List Step)). lane lanes core) (no_steps cores) ∙ nothing_in cores core)
+      (subst (λ (b : Bool). MayFollow b later) read.1 follows core)
+
   -- the same run, with what was read where it stands now
-  same_run : (later : List (List Step)) → length later ≡ cores →
+  same_run : (later : List (List Step)) → length later ≡ cores → MayFollow at_end later →
       EndsBy true step_acts s.pace.policy made (at_start s.machine.config empty) (joined (lanes_for cores told) later)
       going.events s.machine (joined ahead.queues later) (end_before (joined fresh later) s.end)
-  same_run later many =
+  same_run later many follows =
       let old = lanes_for cores (unnumbered taken) in
       let all = sym (laws.joins old fresh later)
       ∙ ap (λ (lanes : List (List Step)). joined lanes later) (sym (lanes_joined cores taken more)) in
@@ -162,7 +176,7 @@ module _ (laws : Laws) (taken more : List (ℕ × (ℕ × Step))) (s : StreamSta
       (joined old (joined fresh later)) going.events s.machine lanes (end_before (joined fresh later) s.end)) queues
       (going.ended (joined fresh later)
       (length_joined fresh later (fresh_count later many) ∙ lanes_count cores (unnumbered more))
-      (subst (λ (b : Bool). MayFollow b (joined fresh later)) (sym isn't_over.0) tt)))
+      (both_follow later many follows s.at_end refl)))
 
   -- where the queues were empty, they have what was read
   fresh_lane : s.end ≡ AllDone → (core : ℕ) → lane ahead.queues core ≡ lane fresh core
@@ -183,12 +197,12 @@ module _ (laws : Laws) (taken more : List (ℕ × (ℕ × Step))) (s : StreamSta
       let sum = cores-append taken more in let old = going.few in let new = filled.few in
       omega (arith, sum, old, new, one_each)
 
+  not_used : AllDone ≢ TurnsUsed
+  not_used is = absurd cc
+
   -- ---- all is done, and nothing more is to come
 
   module _ (whole : at_end ≡ true) (done : s.end ≡ AllDone) (none : (core : ℕ) → lane ahead.queues core ≡ []) where
-    not_used : AllDone ≢ TurnsUsed
-    not_used is = absurd cc
-
     last_stands : Stands s.machine.config s.pace.policy (s.limit - 0) at_end told going.events s.machine ahead.queues s.end
     last_stands later many follows =
         let nothing = subst (λ (b : Bool). MayFollow b later) whole follows in
@@ -203,7 +217,7 @@ module _ (laws : Laws) (taken more : List (ℕ × (ℕ × Step))) (s : StreamSta
         (omega arith)
         (subst (λ (e : End). EndsBy true step_acts s.pace.policy made (at_start s.machine.config empty)
         (joined (lanes_for cores told) later) going.events s.machine (joined ahead.queues later) e) end
-        (same_run later many))
+        (same_run later many follows))
 
     pub all_is_done : (records : List Record) →
         IsGoing (taken ++ more) (record s { ahead = ahead; at_end = at_end; left = 0; done = records })
@@ -226,17 +240,17 @@ module _ (laws : Laws) (taken more : List (ℕ × (ℕ × Step))) (s : StreamSta
 
   -- ---- a piece is made of what was read
 
-  module _ (turns : ℕ) (within : turns ≤ s.left) (whole : at_end ≡ true → turns ≡ s.left)
+  module _ (turns : ℕ) (within : turns ≤ s.left)
       (some : s.end ≡ AllDone → (core : ℕ) × (lane ahead.queues core ≢ []))
       (enough : at_end ≡ false → (core : ℕ) → core < cores → turns ≤ length (lane ahead.queues core))
       (next : Paced) (after : Machine) (queues : List (List Step)) (end : End) (done : List Record)
       (piece : IsPiece turns s.pace s.machine ahead.queues next after queues end done) where
     used : (later : List (List Step)) → length later ≡ cores → end_before (joined fresh later) s.end ≡ TurnsUsed
-    used later many = elim isn't_over.1 [
-      | inl all ↦ let found = some all in
-          ap (λ (e : End). end_before (joined fresh later) e) all
+    used later many = elim isn't_over.0 [
+      | inl all ↦ let found = some all.1 in
+          ap (λ (e : End). end_before (joined fresh later) e) all.1
           ∙ ends_later (joined fresh later) found.0
-          (λ none. found.1 (fresh_lane all found.0
+          (λ none. found.1 (fresh_lane all.1 found.0
           ∙ front_empty _ _ (sym (lane_joined fresh later found.0 (fresh_count later many)) ∙ none)))
       | inr so ↦ ap (λ (e : End). end_before (joined fresh later) e) so
     ]
@@ -265,22 +279,26 @@ module _ (laws : Laws) (taken more : List (ℕ × (ℕ × Step))) (s : StreamSta
         (is_ahead later many follows)
         (subst (λ (e : End). EndsBy true step_acts s.pace.policy made (at_start s.machine.config empty)
         (joined (lanes_for cores told) later) going.events s.machine (joined ahead.queues later) e)
-        (used later many) (same_run later many))
+        (used later many) (same_run later many follows))
         (subst (λ (pace : Paced). GoesOnFrom true step_acts pace turns s.machine ahead.queues piece.events after queues
-        end) isn't_over.2
+        end) isn't_over.1
         (laws.turns true s.pace piece.begun turns s.machine after ahead.queues queues piece.events end piece.ended).3)
 
     -- the turns that are left: none where the run is over
-    abbrev left : ℕ
-    left = turns_left s.left turns end
+    abbrev left_with : Bool → End → ℕ
+    left_with b e = turns_left s.left turns (end_with e (not b))
 
-    counted : (e : End) → (turns_left s.left turns e ≡ s.left - turns) ⊎ ((turns_left s.left turns e ≡ 0)
-        × (e ≢ AllDone) × (e ≢ TurnsUsed))
-    counted AllDone = inl refl
-    counted TurnsUsed = inl refl
-    counted Stalled = inr (refl, λ is. absurd cc, λ is. absurd cc)
-    counted Exhausted = inr (refl, λ is. absurd cc, λ is. absurd cc)
-    counted NoMemory = inr (refl, λ is. absurd cc, λ is. absurd cc)
+    abbrev left : ℕ
+    left = left_with at_end end
+
+    counted : (b : Bool) (e : End) → (left_with b e ≡ s.left - turns) ⊎ ((left_with b e ≡ 0)
+        × ((later : List (List Step)) → MayFollow b later → end_before later e ≢ TurnsUsed))
+    counted b TurnsUsed = inl refl
+    counted false AllDone = inl refl
+    counted true AllDone = inr (refl, λ later follows used. not_used (sym (ends_now later follows) ∙ used))
+    counted b Stalled = inr (refl, λ later follows used. absurd cc)
+    counted b Exhausted = inr (refl, λ later follows used. absurd cc)
+    counted b NoMemory = inr (refl, λ later follows used. absurd cc)
 
     -- Where more is to come, the piece began as many turns as it might, whatever that is: a step of the first core.
     abbrev one_behind : List (List Step)
@@ -291,34 +309,38 @@ module _ (laws : Laws) (taken more : List (ℕ × (ℕ × Step))) (s : StreamSta
         let rest = length-replicate {A = List Step} (cores - 1) [] in let some = some_core s.machine.config going.good in
         omega (arith, rest, some)
 
-    goes_behind : at_end ≡ false → end_before one_behind end ≡ TurnsUsed →
-        gone piece.begun s.pace ≡ paced s.pace.policy (s.limit - (s.left - turns))
-    goes_behind more is =
-        let all = laws.used true s.pace piece.begun turns s.machine after ahead.queues one_behind queues piece.events end
-        as_many one_in_each
-        (is_ahead one_behind one_in_each (subst (λ (b : Bool). MayFollow b one_behind) (sym more) tt)) piece.ended is in
+    goes_behind : piece.begun ≡ turns → gone piece.begun s.pace ≡ paced s.pace.policy (s.limit - (s.left - turns))
+    goes_behind all =
         let under = going.within in
-        ap₂ gone all isn't_over.2 ∙ laws.sum s.pace.policy made turns
+        ap₂ gone all isn't_over.1 ∙ laws.sum s.pace.policy made turns
         ∙ ap (paced s.pace.policy) (omega (arith, within, under))
 
+    begun_all : at_end ≡ false → end_before one_behind end ≡ TurnsUsed → piece.begun ≡ turns
+    begun_all more is =
+        laws.used true s.pace piece.begun turns s.machine after ahead.queues one_behind queues piece.events end as_many
+        one_in_each (is_ahead one_behind one_in_each (subst (λ (b : Bool). MayFollow b one_behind) (sym more) tt))
+        piece.ended is
+
     goes : (b : Bool) → at_end ≡ b → (e : End) → end ≡ e →
-        (turns_left s.left turns e ≡ 0) ⊎ ((at_end ≡ false) × ((e ≡ AllDone) ⊎ (e ≡ TurnsUsed))
-        × (gone piece.begun s.pace ≡ paced s.pace.policy (s.limit - turns_left s.left turns e)))
-    goes true is AllDone done = let all = whole is in inl (omega (arith, all))
-    goes true is TurnsUsed done = let all = whole is in inl (omega (arith, all))
-    goes false is AllDone done = inr (
-      is,
-      inl refl,
-      goes_behind is (ap (end_before one_behind) done ∙ ends_later one_behind 0 (λ none. absurd cc)),
+        (left_with b e ≡ 0) ⊎ ((((at_end ≡ false) × (e ≡ AllDone)) ⊎ (e ≡ TurnsUsed))
+        × (gone piece.begun s.pace ≡ paced s.pace.policy (s.limit - left_with b e)))
+    goes b is TurnsUsed done = inr (
+      inr refl,
+      goes_behind ((laws.turns true s.pace piece.begun turns s.machine after ahead.queues queues piece.events end
+          piece.ended).1 done),
     )
-    goes false is TurnsUsed done = inr (is, inr refl, goes_behind is (ap (end_before one_behind) done))
+    goes false is AllDone done = inr (
+      inl (is, refl),
+      goes_behind (begun_all is (ap (end_before one_behind) done ∙ ends_later one_behind 0 (λ none. absurd cc))),
+    )
+    goes true is AllDone done = inl refl
     goes b is Stalled done = inl refl
     goes b is Exhausted done = inl refl
     goes b is NoMemory done = inl refl
 
     left_stands : Stands s.machine.config s.pace.policy (s.limit - left) at_end told (going.events ++ piece.events) after
         queues end
-    left_stands later many follows = elim (counted end) [
+    left_stands later many follows = elim (counted at_end end) [
       | inl rest ↦ let under = going.within in
           let turns_made : made + turns ≡ s.limit - left = omega (arith, rest, within, under) in
           subst (λ (n : ℕ). EndsBy true step_acts s.pace.policy n (at_start s.machine.config empty)
@@ -326,7 +348,7 @@ module _ (laws : Laws) (taken more : List (ℕ × (ℕ × Step))) (s : StreamSta
           (end_before later end)) turns_made (piece_stands later many follows)
       | inr over ↦ let none = over.0 in let under = going.within in
           with_more_turns laws s.pace.policy (made + turns) (s.limit - left) _ _ _ _ _ _
-          (λ is. over.2 (sym (ends_so later end over.1) ∙ is)) (omega (arith, none, within, under))
+          (over.1 later follows) (omega (arith, none, within, under))
           (piece_stands later many follows)
     ]
 
@@ -367,7 +389,7 @@ module _ (laws : Laws) (taken more : List (ℕ × (ℕ × Step))) (s : StreamSta
             ∙ ap (λ (c : Config). after_all (at_start c empty) (going.events ++ piece.events)) (sym piece.config);
         ended = subst (λ (c : Config). Stands c s.pace.policy (s.limit - left) at_end told (going.events ++ piece.events)
             after queues end) (sym piece.config) left_stands;
-        within = let under = going.within in elim (counted end) [
+        within = let under = going.within in elim (counted at_end end) [
           | inl rest ↦ omega (arith, rest, under)
           | inr over ↦ let none = over.0 in omega (arith, none)
         ];

@@ -136,13 +136,6 @@ all_empty (steps ∷ behind) none = rw (none 0) (all_empty behind (λ core. none
 pub ends_now : (behind : Lanes) → ((core : ℕ) → lane behind core ≡ []) → end_before behind AllDone ≡ AllDone
 ends_now behind none = rw (all_empty behind none) refl
 
-pub ends_so : (behind : Lanes) (end : End) → end ≢ AllDone → end_before behind end ≡ end
-ends_so behind AllDone other = absurd (other refl)
-ends_so behind Stalled other = refl
-ends_so behind TurnsUsed other = refl
-ends_so behind Exhausted other = refl
-ends_so behind NoMemory other = refl
-
 pub ends_here : (n : ℕ) (end : End) → end_before (replicate n []) end ≡ end
 ends_here n AllDone = ends_now (replicate n []) (nothing_in n)
 ends_here n Stalled = refl

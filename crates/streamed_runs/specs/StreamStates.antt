@@ -65,8 +65,8 @@ pub record IsGoing (taken : List (ℕ × (ℕ × Step))) (s : StreamState) : Typ
       (joined (lanes_for s.machine.config.cores (unnumbered taken)) more) events s.machine
       (joined s.ahead.queues more) (end_before more s.end)
   pub within : s.left ≤ s.limit
-  -- the run is over, or there is more to read, and it goes on behind the turns that it used so far
-  pub goes : (s.left ≡ 0) ⊎ ((s.at_end ≡ false) × ((s.end ≡ AllDone) ⊎ (s.end ≡ TurnsUsed))
+  -- the run is over; or there is more to read or to do, and it goes on behind the turns that it used so far
+  pub goes : (s.left ≡ 0) ⊎ ((((s.at_end ≡ false) × (s.end ≡ AllDone)) ⊎ (s.end ≡ TurnsUsed))
       × (s.pace ≡ paced s.pace.policy (s.limit - s.left)))
   pub idle : s.end ≡ AllDone → (core : ℕ) → lane s.ahead.queues core ≡ []
   pub few : cores_of (unnumbered taken) ≤ s.machine.config.cores
@@ -82,9 +82,8 @@ pub record IsGoing (taken : List (ℕ × (ℕ × Step))) (s : StreamState) : Typ
 abbrev pub IsOver : StreamState → Type 0
 IsOver s = s.left ≡ 0
 
--- how many turns are left after a piece of so many: none, if the run is over
+-- how many turns are left after a piece of so many that ends like this: none, if the run is over
 abbrev pub turns_left : ℕ → ℕ → End → ℕ
-turns_left left turns AllDone = left - turns
 turns_left left turns TurnsUsed = left - turns
 turns_left left turns _ = 0
 

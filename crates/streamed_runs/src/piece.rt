@@ -11,6 +11,9 @@ use schedules::{Pace, run_on};
 use std::alloc::Global;
 use trace_reader::StepQueue;
 
+// How many turns a piece has at most that begins at the text's end: what completes in it is kept until it is over.
+const LAST_TURNS: usize = 4_096;
+
 // How a run that is over ends, where the text has more steps or not.
 pub(crate) fn end_with(end: End, has_more: bool) -> End
     ensures { result ≡ end_with end has_more }
@@ -22,13 +25,13 @@ pub(crate) fn end_with(end: End, has_more: bool) -> End
 }
 
 // How many turns are left after a piece of so many, of those that were left before it: none, if the run is over.
-pub(crate) fn turns_left(left: u32, turns: u32, end: End) -> u32
+pub(crate) fn turns_left(left: u32, turns: u32, end: End, has_more: bool) -> u32
     requires { turns ≤ left }
-    ensures { result ≡ turns_left left turns end }
+    ensures { result ≡ turns_left left turns (end_with end has_more) }
 {
-    match end {
-        End::AllDone | End::TurnsUsed => left - turns,
-        End::Stalled | End::Exhausted | End::NoMemory => 0,
+    match end_with(end, has_more) {
+        End::TurnsUsed => left - turns,
+        End::AllDone | End::Stalled | End::Exhausted | End::NoMemory => 0,
     }
 }
 
@@ -44,12 +47,12 @@ pub(crate) fn is_done(has_more: bool, end: End, are_empty: bool) -> bool
 // for, if more may come behind them.
 pub(crate) fn turns_ahead(left: u32, steps: usize, has_more: bool) -> u32
     ensures most { result ≤ left }
-    ensures all { has_more ≡ false → result ≡ left }
     ensures ahead { has_more ≡ true → result ≤ steps }
     ensures some { 0 < left → (has_more ≡ true → 0 < steps) → 0 < result }
 {
-    if has_more && steps < left as usize {
-        steps as u32
+    let most = if has_more { steps } else { LAST_TURNS };
+    if most < left as usize {
+        most as u32
     } else {
         left
     }

@@ -1,13 +1,13 @@
 //! A run of a trace that is read as the run goes.
-ghost use Rattle.std.specs.Prelude.{◌≡◌, ◌⊎◌, ◌++◌, ◌≤◌, ◌<◌, [], ℕ, List, length, nat_lt, true, Option, Some, Ok};
+ghost use Rattle.std.specs.Prelude.{◌≡◌, ◌≢◌, ◌⊎◌, ◌++◌, ◌≤◌, ◌<◌, [], ℕ, List, length, nat_lt, true, Option, Some, Ok};
 ghost use Rattle.std.specs.Prelude.{IfErr, IfOk, IfSome, OnOk, false};
 ghost use Rattle.byte_streams.specs.Device.{AtEnd};
 ghost use Rattle.std.specs.FinMap.{empty};
 ghost use Rattle.machine_table.specs.Opening.{at_start};
 ghost use Rattle.machine_table.specs.SetUp.{is_good};
 ghost use Rattle.programs.specs.declared.steps.Step.{Step};
-ghost use Rattle.trace_reader.specs.Filling.{Stops, unnumbered};
-ghost use Rattle.trace_reader.specs.Steps.{cores_of};
+ghost use Rattle.trace_reader.specs.Filling.{HasTaken, Stops, unnumbered};
+ghost use Rattle.trace_reader.specs.Steps.{cores_of, lane};
 ghost use Rattle.trace_reader.specs.Streams.{coming, steps_told, where_known, OnlyFault, Yields};
 ghost use Rattle.streamed_runs.specs.StreamStates.{HasEnded, IsAllRead, IsGoing, IsOver, IsSameRun};
 ghost use Rattle.streamed_runs.specs.StreamStates.{issued_below, opens_below, values_in};
@@ -95,6 +95,34 @@ fn open_operations(system: &System<ToldHistory>) -> u32
         }
     }
     count
+}
+
+// Reads ahead of a piece, unless the text is at its end: whether the text has more. If so, each core has a step.
+fn read_on<S: Source>(
+    ahead: &mut ReadAhead,
+    source: &mut S,
+    at_end: bool,
+) -> Result<bool, AheadError>
+    ensures filled { (taken : List (ℕ × (ℕ × Step)))
+        × Yields (coming ahead.old.stream (S.remaining source.old))
+        (coming ahead.new.stream (S.remaining source.new)) taken
+        × HasTaken true ahead.old ahead.new taken × (at_end ≡ true → taken ≡ []) }
+    ensures all { result ≡ Ok true → (core : ℕ) → core < length ahead.new.queues →
+        lane ahead.new.queues core ≢ [] }
+    ensures over { IfOk result (λ has_more. at_end ≡ true → has_more ≡ false) }
+    ensures end { result ≡ Ok false →
+        (at_end ≡ true → IsAllRead (S.remaining source.old) (S.remaining source.old) ahead.old.stream) →
+        IsAllRead (S.remaining source.old) (S.remaining source.new) ahead.new.stream }
+    ensures none_failed { OnOk result (S.failures source.new ≡ S.failures source.old) }
+    ensures stops { IfErr result (Stops (length ahead.old.queues) (S.failures source.old)
+        (S.failures source.new) (where_known (S.remaining source.old)
+        (coming ahead.new.stream (S.remaining source.new)))) }
+{
+    if at_end {
+        return Ok(false);
+    }
+    let most = if ahead.shortest() < TURNS { STEPS } else { 0 };
+    ahead.fill(source, most)
 }
 
 // A machine with this set-up over zeros. For a run by a seed it keeps its lines in rising order from the start, since
@@ -185,12 +213,7 @@ impl StreamedRun {
         if self.left == 0 {
             return Ok(false);
         }
-        let most = if self.ahead.shortest() < TURNS {
-            STEPS
-        } else {
-            0
-        };
-        let has_more = self.ahead.fill(source, most)?;
+        let has_more = read_on(&mut self.ahead, source, self.at_end)?;
         self.at_end = !has_more;
         if is_done(has_more, self.end, self.ahead.are_empty()) {
             self.left = 0;
@@ -209,7 +232,7 @@ impl StreamedRun {
         );
         self.done = done;
         self.end = end;
-        self.left = turns_left(self.left, turns, end);
+        self.left = turns_left(self.left, turns, end, !self.at_end);
         let Ok(()) = self.summary.add(&self.done) else {
             return Err(AheadError::NoMemory);
         };

@@ -7,5 +7,7 @@ pub mod Reading
 pub mod Ahead
 pub mod Outcomes
 pub mod Streams
+pub mod PackedSteps
+pub mod WaitingSteps
 pub mod Filling
 pub mod AheadLends

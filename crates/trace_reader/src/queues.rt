@@ -2,10 +2,10 @@
 ghost use Rattle.std.specs.Prelude.{◌≡◌, ◌==◌, ◌++◌, ◌∷◌, [], ℕ, length, OnErr, OnOk};
 ghost use Rattle.trace_reader.specs.Steps.{named};
 
-use physiological_order::{Memory, Op};
+use crate::step_blocks::Blocks;
+use physiological_order::Memory;
 use programs::program::Program;
 use std::alloc::{AllocError, Global};
-use std::collections::VecDeque;
 use std::marker::Model;
 use trace_lines::Step;
 
@@ -28,16 +28,20 @@ pub(crate) fn add_word(step: &Step, names: bool, words: &mut Memory) -> Result<(
 /// Steps that wait, the next one in front; more may come behind them. Contracts see the steps that are left.
 #[derive(Drop)]
 pub struct StepQueue {
-    steps: VecDeque<Step>,
+    blocks: Blocks,
+    left: usize,
 }
 
 impl Model for StepQueue {
-    ghost use Rattle.std.specs.Prelude.{List};
+    ghost use Rattle.std.specs.Prelude.{◌≡◌, List, length};
     ghost use Rattle.programs.specs.declared.steps.Step.{Step};
+    ghost use Rattle.trace_reader.specs.WaitingSteps.{IsTurned, waiting};
 
     ghost Value = { List Step };
 
-    ghost view = { λ queue. queue.steps.items };
+    ghost view = { λ queue. waiting queue.blocks };
+
+    ghost invariant = { λ queue. (queue.left ≡ length (waiting queue.blocks)) × IsTurned queue.blocks };
 }
 
 impl StepQueue {
@@ -46,7 +50,8 @@ impl StepQueue {
         ensures { result ≡ [] }
     {
         StepQueue {
-            steps: VecDeque::new(alloc),
+            blocks: Blocks::new(alloc),
+            left: 0,
         }
     }
 
@@ -54,14 +59,14 @@ impl StepQueue {
     pub fn left(&self) -> usize
         ensures { result ≡ length self.now }
     {
-        self.steps.len()
+        self.left
     }
 
     /// Whether no step is left.
     pub fn is_empty(&self) -> bool
         ensures { result ≡ (length self.now == 0) }
     {
-        self.steps.is_empty()
+        self.left == 0
     }
 
     /// Puts a step behind those that are left, and adds the word that it names, if words are asked for. If an allocation
@@ -77,11 +82,13 @@ impl StepQueue {
             words.new ≡ named names words.old ((core, step) ∷ [])) }
         ensures refused { OnErr result ((self.new ≡ self.old) × (words.new ≡ words.old)) }
     {
-        // The check finds what a step holds only where the function names its type.
-        let _inside: Option<Op> = None;
-        self.steps.reserve(1)?;
+        let Some(left) = self.left.checked_add(1) else {
+            return Err(AllocError);
+        };
+        self.blocks.make_room()?;
         add_word(&step, names, words)?;
-        self.steps.push_back_reserved(step);
+        self.blocks.put(step);
+        self.left = left;
         Ok(())
     }
 }
@@ -92,10 +99,13 @@ impl Program for StepQueue {
     ghost acts = { record { next = first_step; done = behind_first } };
 
     fn next(&self) -> Option<Step> {
-        self.steps.front().copied()
+        self.blocks.first()
     }
 
     fn done(&mut self, _received: Option<u64>) {
-        let _first = self.steps.pop_front();
+        if self.left > 0 {
+            self.blocks.take_first();
+            self.left -= 1;
+        }
     }
 }

@@ -3,7 +3,8 @@ use Rattle.std.proofs.Common.{◌≡◌, ℕ, ◌+◌, ◌<◌, ◌≤◌, ◌%�
 use Rattle.std.proofs.Common.{Option, Some, None, Result, Ok, Err, IfOk, IfSome, OnErr, IsTrue, ◌||◌, inr, refl, sym}
 use Rattle.std.proofs.Common.{ap, ◌∙◌, subst, arith}
 use Rattle.std.specs.List.{slice_get, AllByRecursion as Each}
-use Rattle.std.specs.Option.{option_map, unwrap_or}
+use Rattle.std.specs.Option.{is_some, option_map, unwrap_or}
+use Rattle.std.specs.Prelude.{◌&&◌, not}
 use Rattle.std.specs.Ordering.{nat_cmp}
 use Rattle.std.specs.FinMap.{FinMap}
 use Rattle.std.proofs.lemmas.Bool.{eq-eqb, false≢true, lt-ltb}
@@ -16,6 +17,7 @@ use Rattle.network.specs.declared.message.Node.TheVariants as node
 use Rattle.network.specs.declared.message.Body.TheVariants.{FlushRep}
 use Rattle.network.specs.declared.part.Reaction.{Reaction}
 use Rattle.network.specs.declared.part.Reaction.TheVariants.{Done, HeldAfter}
+use Rattle.line_sets.specs.SetTable.{has_room, set_at}
 use Rattle.network.specs.Flight.{Flight, SameNetwork}
 use Rattle.network.specs.NumberedMessages.{at_number}
 use Rattle.network.specs.Routes.{has_endpoints}
@@ -51,6 +53,8 @@ use Rattle.machine_theorem.proofs.Lemmas.{core_shape, bank_shape}
 use Rattle.machine_table.specs.declared.event.Event.TheVariants.{Deliver}
 use Rattle.interleaving_core.specs.declared.core_masks.CoreMasks.{CoreMasks}
 use Rattle.interleaving_core.specs.CoreMasks.{AreMasks}
+use Rattle.interleaving_core.specs.LookUps.{is_request, is_under_way, make_room, message_waits, room_at}
+use Rattle.interleaving_core.specs.LookUps.{room_for_message, room_in, waiting_message, waits_at, waits_in}
 use Rattle.interleaving_core.specs.Reservation.{IsFitted, owed}
 use Rattle.interleaving_core.specs.declared.plain_answer.PlainAnswer.{PlainAnswer}
 use Rattle.interleaving_core.specs.PartChanges.{answer_of, applied, stops}
@@ -206,6 +210,45 @@ dram_asks {m} {seen} is_view n {message} there b to here (Err e) asks =
     (subst (λ o. unwrap_or (option_map (λ x. is_first_store m x x.to) o) false ≡ true) there
     (subst (λ k. is_first_store m message k ≡ true) (sym to)
     (ap (λ o. unwrap_or (option_map (λ dram. needs_memory dram message) o) false) here ∙ of_there _ there asks)))
+
+-- whether a message in flight waits, in a machine that is seen as a model, by what it goes to
+module _ {m seen : Machine} (is_view : m ≡ seen) (n : ℕ) where
+  pub none_waits : None ≡ at_number n m.mail.messages → message_waits seen n ≡ false
+  none_waits none = ap (λ (k : Machine). message_waits k n) (sym is_view) ∙ ap (waiting_message m) (sym none)
+
+  pub waits_where : {message : Message} → Some message ≡ at_number n m.mail.messages → {to : Node} →
+      message.to ≡ to → message_waits seen n ≡ waits_at m message to
+  waits_where {message} there goes =
+      ap (λ (k : Machine). message_waits k n) (sym is_view) ∙ ap (waiting_message m) (sym there)
+      ∙ ap (waits_at m message) goes
+
+  pub waits_at_bank : {message : Message} → Some message ≡ at_number n m.mail.messages → {b : ℕ} →
+      message.to ≡ node.Bank b → {bank : BankState} → slice_get m.banks b ≡ Some bank →
+      message_waits seen n ≡ (is_request message.body && is_under_way (bank_table.entry_of bank message.line))
+  waits_at_bank {message} there goes here =
+      waits_where there goes ∙ ap (λ (o : Option BankState). is_request message.body && waits_in message.line o) here
+
+-- no line leaves a bank for a request of a line that it has
+pub no_room_made : (m : Machine) (n : ℕ) {message : Message} → Some message ≡ at_number n m.mail.messages →
+    (b : ℕ) → message.to ≡ node.Bank b → {bank : BankState} → slice_get m.banks b ≡ Some bank →
+    is_some (bank_table.entry_of bank message.line) ≡ true → make_room m n ≡ None
+no_room_made m n {message} there b to {bank} here has =
+    ap (room_for_message m) (sym there) ∙ by_kind (is_request message.body)
+  where
+    set : ℕ
+    set = bank_table.set_of bank message.line
+
+    none_made : bank_table.make_room bank message.line ≡ None
+    none_made =
+        ap (λ (x : Bool). cond (x || has_room bank.table set
+        || not (bank_table.all_settled (set_at bank.table.sets set))) None
+        (bank_table.chosen (set_at bank.table.sets set))) has
+
+    by_kind : (asks : Bool) → cond asks (room_at m message.line message.to) None ≡ None
+    by_kind false = refl
+    by_kind true =
+        ap (room_at m message.line) to ∙ ap (room_in b message.line) here
+        ∙ ap (option_map (λ (victim : ℕ). (b, victim))) none_made
 
 -- what a core sends back goes to a bank
 module _ (m : Machine) (s : Invariant m) (c : ℕ) (core : CoreState) (here : slice_get m.cores c ≡ Some core) where

@@ -17,6 +17,10 @@ use Rattle.core_pts.specs.OpenCopy.{waits_without}
 use Rattle.llc_bank.specs.BankTable as bank_table
 use Rattle.llc_bank.specs.BankTable.{BankState}
 use Rattle.llc_bank.specs.Settled.{is_settled}
+use Rattle.llc_bank.specs.declared.entry.Entry.{Entry}
+use Rattle.llc_bank.specs.declared.entry.Entry.TheVariants.{Loading, Recalling, Storing}
+use Rattle.machine_table.specs.declared.event.Event.{Event}
+use Rattle.machine_table.specs.declared.event.Event.TheVariants.{Deliver}
 use Rattle.machine_table.specs.Machine.{Machine}
 
 -- the copy to evict from a core's cache to make a place for a line, if there is none: the least recently used one
@@ -83,3 +87,31 @@ room_for_message m (Some message) = if is_request message.body then room_at m me
 
 abbrev pub make_room : Machine → ℕ → Option (ℕ × ℕ)
 make_room m number = room_for_message m (at_number number m.mail.messages)
+
+-- whether something is under way for a line of a bank: it is being loaded, recalled or stored
+abbrev pub is_under_way : Option Entry → Bool
+is_under_way (Some Loading) = true
+is_under_way (Some (Recalling owner)) = true
+is_under_way (Some Storing) = true
+is_under_way _ = false
+
+abbrev pub waits_in : ℕ → Option BankState → Bool
+waits_in line None = false
+waits_in line (Some bank) = is_under_way (bank_table.entry_of bank line)
+
+abbrev pub waits_at : Machine → Message → Node → Bool
+waits_at m x (Bank b) = is_request x.body && waits_in x.line (slice_get m.banks b)
+waits_at m x _ = false
+
+abbrev pub waiting_message : Machine → Option Message → Bool
+waiting_message m None = false
+waiting_message m (Some x) = waits_at m x x.to
+
+-- whether a message in flight asks a bank for a line for which something is under way
+abbrev pub message_waits : Machine → ℕ → Bool
+message_waits m number = waiting_message m (at_number number m.mail.messages)
+
+-- whether an event delivers such a message, to a machine that isn't stopped
+abbrev pub delivery_waits : Machine → Event → Bool
+delivery_waits m (Deliver number) = not m.is_stopped && message_waits m number
+delivery_waits m _ = false

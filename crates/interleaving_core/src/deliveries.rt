@@ -1,9 +1,21 @@
 //! The delivery of a message in a machine's parts.
-ghost use Rattle.std.specs.Prelude.{◌≡◌, ℕ, IfOk, IsTrue, OnErr};
+ghost use Rattle.std.specs.Prelude.{◌≡◌, ◌<◌, ◌&&◌, ◌||◌, ℕ, List, None, Some, false, is_some};
+ghost use Rattle.std.specs.Prelude.{IfOk, IfSome, IsSome, IsTrue, OnErr, slice_get, slice_set};
+ghost use Rattle.network.specs.declared.part.Reaction.TheVariants.{Held};
+ghost use Rattle.network.specs.Flight.{SameNetwork};
+ghost use Rattle.network.specs.NumberedMessages.{at_number};
+ghost use Rattle.network.specs.Sends.{sent_by};
+ghost use Rattle.core_pts.specs.CoreTable.{CoreState, core_has_case, core_table};
+ghost use Rattle.llc_bank.specs.BankTable.{bank_table, entry_of};
 ghost use Rattle.machine_table.specs.declared.event.Event.TheVariants.{Deliver};
 ghost use Rattle.machine_table.specs.Machine.{Machine};
+ghost use Rattle.machine_table.specs.Posted.{can_send};
+ghost use Rattle.machine_table.specs.Step.{Stays, reacted};
 ghost use Rattle.machine_table.specs.Transition.{on_event};
-ghost use Rattle.interleaving_core.specs.PartChanges.{answer_of};
+ghost use Rattle.interleaving_core.specs.CoreMasks.{AreMasks};
+ghost use Rattle.interleaving_core.specs.Endpoints.{ReactionHasEndpoints};
+ghost use Rattle.interleaving_core.specs.LookUps.{is_request, is_under_way, make_room, message_waits};
+ghost use Rattle.interleaving_core.specs.PartChanges.{answer_of, applied, stops};
 ghost use Rattle.interleaving_core.specs.PartsInMemory.{ArePartsOf, with_parts};
 ghost use Rattle.interleaving_core.specs.Reservation.{IsFitted};
 ghost use Rattle.interleaving_core.specs.StepAnswers.{TakesMemory, asks_memory};
@@ -13,14 +25,69 @@ use crate::plain_answer::PlainAnswer;
 use crate::reactions::deliver_to;
 use core_pts::Core;
 use dram_mts::Dram;
-use llc_bank::Bank;
+use llc_bank::{Bank, Entry};
 use machine_table::Refusal;
-use network::{InFlight, MsgNo, Node};
+use network::{Body, InFlight, Message, MsgNo, Node};
 use std::alloc::AllocError;
 
+// Whether a message asks a bank for a line that is being loaded, recalled or stored: it is held then, and no line need
+// leave for it.
+#[inline(always)]
+fn waits_for_line(bank: &Bank, message: &Message) -> bool
+    ensures value { result ≡ (is_request message.now.body &&
+        is_under_way (entry_of bank.now message.now.line)) }
+    ensures held { IsTrue result → bank_table bank.now message.now ≡ Some (Held, bank.now) }
+    ensures there { IsTrue result → IsTrue (is_some (entry_of bank.now message.now.line)) }
+{
+    match message.body {
+        Body::ShReq { .. } | Body::ExReq { .. } => matches!(
+            bank.entry(message.line),
+            Some(Entry::Loading | Entry::Recalling { .. } | Entry::Storing)
+        ),
+        _ => false,
+    }
+}
+
+// A message in flight is delivered to its core, and how that stands is noted. A core takes no memory for it.
+fn deliver_to_core(
+    core: &mut Core,
+    flight: &mut InFlight,
+    masks: &mut CoreMasks,
+    is_stopped: &mut bool,
+    number_of_core: u32,
+    number: MsgNo,
+) -> PlainAnswer
+    requires few { number_of_core < 64 }
+    requires there { IsSome (at_number number flight.old.mail.messages) }
+    requires case { IfSome (at_number number flight.old.mail.messages) (λ message.
+        IsTrue (core_has_case core.old message)) }
+    requires quiet { IfSome (at_number number flight.old.mail.messages) (λ message.
+        Stays core.old (core_table core.old message)) }
+    requires endpoints { IfSome (at_number number flight.old.mail.messages) (λ message.
+        IsTrue (can_send flight.old.capacity flight.old.mail (sent_by (core_table core.old message))) →
+        ReactionHasEndpoints flight.old.cores flight.old.banks (core_table core.old message)) }
+    ensures done { IfSome (at_number number flight.old.mail.messages)
+        (λ message. (answer_of result, core.new, flight.new.mail) ≡ applied flight.old.capacity
+        core.old flight.old.mail (Some number) (reacted (core_table core.old message))) }
+    ensures stop { is_stopped.new ≡ (stops (answer_of result) || is_stopped.old) }
+    ensures set_up { SameNetwork flight.old flight.new }
+    ensures masked { (cores : List CoreState) → slice_get cores number_of_core ≡ Some core.old →
+        core.new.open_op ≡ core.old.open_op → AreMasks masks.old cores →
+        AreMasks masks.new (slice_set cores number_of_core core.new) }
+{
+    match deliver_to(core, flight, is_stopped, number) {
+        Ok(plain) => {
+            note_delivery(masks, number_of_core, core);
+            plain
+        }
+        Err(AllocError) => unreachable!(),
+    }
+}
+
 /// A message in flight is delivered: what the table answers, and what it makes of the parts. An error leaves all as it
-/// was. It takes the parts, so that a program has it once. Each crate that names a machine would have its own copy of
-/// what is generic over the history, and the copies would call what this one has in line.
+/// was. Where `waits` is set the message is held, and no line need leave for it. What this calls takes the part alone,
+/// so that a program has it once: of what is generic over the history each crate that names a machine has its own copy.
+#[inline(always)]
 pub(crate) fn deliver(
     flight: &mut InFlight,
     number: MsgNo,
@@ -29,8 +96,10 @@ pub(crate) fn deliver(
     drams: &mut Vec<Dram>,
     masks: &mut CoreMasks,
     is_stopped: &mut bool,
+    waits: &mut bool,
 ) -> Result<PlainAnswer, AllocError>
-    requires { (m : Machine) × (room : ℕ) × ArePartsOf m room cores.old.items banks.old.items
+    requires not_yet { waits.old ≡ false }
+    requires parts { (m : Machine) × (room : ℕ) × ArePartsOf m room cores.old.items banks.old.items
         drams.old.items flight.old masks.old is_stopped.old }
     ensures done { (m : Machine) (room : ℕ) → ArePartsOf m room cores.old.items banks.old.items
         drams.old.items flight.old masks.old is_stopped.old → IfOk result (λ plain. (
@@ -41,6 +110,12 @@ pub(crate) fn deliver(
     ensures fitted { (m : Machine) (room : ℕ) → ArePartsOf m room cores.old.items
         banks.old.items drams.old.items flight.old masks.old is_stopped.old →
         IsFitted m.config flight.new cores.new.items m.records room masks.new }
+    ensures waits { (m : Machine) (room : ℕ) → ArePartsOf m room cores.old.items banks.old.items
+        drams.old.items flight.old masks.old is_stopped.old → waits.new ≡ message_waits m number }
+    ensures told { (m : Machine) (room : ℕ) → ArePartsOf m room cores.old.items
+        banks.old.items drams.old.items flight.old masks.old is_stopped.old → IsTrue waits.new →
+        make_room (with_parts m cores.new.items banks.new.items drams.new.items
+        flight.new.mail is_stopped.new) number ≡ None }
     ensures refused { OnErr result ((cores.new.items ≡ cores.old.items)
         × (banks.new.items ≡ banks.old.items) × (drams.new.items ≡ drams.old.items)
         × (flight.new ≡ flight.old) × (is_stopped.new ≡ is_stopped.old)) }
@@ -57,12 +132,15 @@ pub(crate) fn deliver(
     match message.to {
         Node::Core(number_of_core) => {
             let core = &mut cores[number_of_core as usize];
-            let plain = deliver_to(core, flight, is_stopped, number)?;
-            note_delivery(masks, number_of_core, core);
-            Ok(plain)
+            Ok(deliver_to_core(core, flight, masks, is_stopped, number_of_core, number))
         }
         Node::Bank(bank) => {
             let bank = &mut banks[bank as usize];
+            if waits_for_line(bank, message) {
+                *waits = true;
+                flight.seek(number);
+                return Ok(PlainAnswer::Held);
+            }
             deliver_to(bank, flight, is_stopped, number)
         }
         Node::Dram(bank) => {

@@ -1,7 +1,8 @@
 //! One event of the machine.
-ghost use Rattle.std.specs.Prelude.{◌≡◌, ◌<◌, IfOk, IsTrue, None, OnErr, length};
+ghost use Rattle.std.specs.Prelude.{◌≡◌, ◌<◌, IfOk, IsTrue, None, OnErr, false, length};
 ghost use Rattle.machine_table.specs.Transition.{on_event, transition};
 ghost use Rattle.machine_theorem.specs.Kept.{Invariant};
+ghost use Rattle.interleaving_core.specs.LookUps.{delivery_waits, make_room, message_waits};
 ghost use Rattle.interleaving_core.specs.PartChanges.{answer_in, answer_of};
 ghost use Rattle.interleaving_core.specs.StepAnswers.{Stepped, TakesMemory, asks_memory};
 
@@ -108,10 +109,11 @@ impl<H: History> MachineState<H> {
         plain
     }
 
-    // A message in flight is delivered.
+    // A message in flight is delivered. Where `waits` is set it is held, and no line need leave for it.
     #[inline(always)]
-    fn deliver(&mut self, number: MsgNo) -> Result<PlainAnswer, AllocError>
-        requires { Invariant self.old }
+    fn deliver(&mut self, number: MsgNo, waits: &mut bool) -> Result<PlainAnswer, AllocError>
+        requires kept { Invariant self.old }
+        requires not_yet { waits.old ≡ false }
         ensures done { IfOk result (λ plain. (answer_of plain, self.new) ≡
             on_event self.old (Event.Deliver number)) }
         ensures refused { OnErr result (self.new ≡ self.old) }
@@ -119,6 +121,8 @@ impl<H: History> MachineState<H> {
             (TakesMemory self.old (on_event self.old (Event.Deliver number))) }
         ensures store { OnErr result
             (IsTrue (asks_memory self.old (Event.Deliver number))) }
+        ensures waits { waits.new ≡ message_waits self.old number }
+        ensures told { IsTrue waits.new → make_room self.new number ≡ None }
     {
         deliver(
             &mut self.flight,
@@ -128,7 +132,63 @@ impl<H: History> MachineState<H> {
             &mut self.drams,
             &mut self.masks,
             &mut self.is_stopped,
+            waits,
         )
+    }
+
+    // The same, as a call: what is placed in line with an event's answer stays short.
+    #[inline(never)]
+    fn deliver_apart(&mut self, number: MsgNo) -> Result<PlainAnswer, AllocError>
+        requires { Invariant self.old }
+        ensures done { IfOk result (λ plain. (answer_of plain, self.new) ≡
+            on_event self.old (Event.Deliver number)) }
+        ensures refused { OnErr result (self.new ≡ self.old) }
+        ensures wanted { OnErr result
+            (TakesMemory self.old (on_event self.old (Event.Deliver number))) }
+        ensures store { OnErr result
+            (IsTrue (asks_memory self.old (Event.Deliver number))) }
+    {
+        let mut waits = false;
+        self.deliver(number, &mut waits)
+    }
+
+    // The delivery of a message, as `step` makes it. `waits` is as in `deliver`.
+    #[inline(always)]
+    fn told(&mut self, number: MsgNo, waits: &mut bool) -> Result<Option<PlainAnswer>, AllocError>
+        requires kept { Invariant self.old }
+        requires not_yet { waits.old ≡ false }
+        ensures done { IfOk result (λ plain. (answer_in self.new.records plain, self.new) ≡
+            transition self.old (Event.Deliver number)) }
+        ensures refused { OnErr result (self.new ≡ self.old) }
+        ensures wanted { OnErr result
+            (TakesMemory self.old (transition self.old (Event.Deliver number))) }
+        ensures memory { OnErr result
+            (IsTrue (asks_memory self.old (Event.Deliver number))) }
+        ensures completed { IfOk result (λ plain. plain ≡ None → 0 < length self.new.records) }
+        ensures waits { waits.new ≡ delivery_waits self.old (Event.Deliver number) }
+        ensures told { IsTrue waits.new → make_room self.new number ≡ None }
+    {
+        if self.is_stopped {
+            return Ok(Some(PlainAnswer::Refused(Refusal::Stopped)));
+        }
+        Ok(Some(self.deliver(number, waits)?))
+    }
+
+    /// The delivery of a message, as `step` makes it. `waits` is as in `deliver`.
+    #[inline(always)]
+    pub(crate) fn step_told(&mut self, number: MsgNo, waits: &mut bool) -> Option<PlainAnswer>
+        requires kept { Invariant self.old }
+        requires not_yet { waits.old ≡ false }
+        ensures stepped { Stepped self.old (Event.Deliver number)
+            (answer_in self.new.records result) self.new }
+        ensures completed { result ≡ None → 0 < length self.new.records }
+        ensures waits { waits.new ≡ delivery_waits self.old (Event.Deliver number) }
+        ensures told { IsTrue waits.new → make_room self.new number ≡ None }
+    {
+        match self.told(number, waits) {
+            Ok(plain) => plain,
+            Err(AllocError) => Some(PlainAnswer::Refused(Refusal::NoMemory)),
+        }
     }
 
     // What the table answers to an event, if there is memory for it.
@@ -148,7 +208,7 @@ impl<H: History> MachineState<H> {
         match event {
             Event::Issue(core, op) => Ok(Some(self.issue(core, op)?)),
             Event::Attempt(core) => Ok(self.attempt(core)),
-            Event::Deliver(number) => Ok(Some(self.deliver(number)?)),
+            Event::Deliver(number) => Ok(Some(self.deliver_apart(number)?)),
             Event::EvictCache(core, line) => Ok(Some(self.evict_cache(core, line))),
             Event::EvictBank(bank, line) => Ok(Some(self.evict_bank(bank, line))),
             Event::Advance(core) => Ok(Some(self.advance(core))),

@@ -14,7 +14,7 @@ ghost use Rattle.protocol.specs.Issued.{IsIssued};
 ghost use Rattle.machine_theorem.specs.Coherence.{owners, coherent};
 ghost use Rattle.machine_theorem.specs.Kept.{Invariant};
 ghost use Rattle.machine_table.specs.Transition.{transition};
-ghost use Rattle.interleaving_core.specs.LookUps.{copies, entries, free_copies, is_waiting, make_room};
+ghost use Rattle.interleaving_core.specs.LookUps.{copies, delivery_waits, entries, free_copies, is_waiting, make_room};
 ghost use Rattle.machine_table.specs.Machine.{open_op};
 ghost use Rattle.interleaving_core.specs.LookUps.{victim, victim_for_core};
 ghost use Rattle.interleaving_core.specs.CoreMasks.{IsMask, is_idle, is_trying};
@@ -185,6 +185,21 @@ impl<H: History> System<H> {
         ensures completed { result ≡ None → 0 < length self.new.records }
     {
         self.state.step(event)
+    }
+
+    /// Delivers a message, as `step_plain` does, and says whether it is a request of a line that its bank is loading,
+    /// recalling or storing: it is held then, and no line need leave the bank for it.
+    #[inline(always)]
+    pub fn step_told(&mut self, number: MsgNo) -> (Option<PlainAnswer>, bool)
+        ensures stepped { Stepped self.old (Event.Deliver number)
+            (answer_in self.new.records result.0) self.new }
+        ensures completed { result.0 ≡ None → 0 < length self.new.records }
+        ensures waits { result.1 ≡ delivery_waits self.old (Event.Deliver number) }
+        ensures told { IsTrue result.1 → make_room self.new number ≡ None }
+    {
+        let mut waits = false;
+        let plain = self.state.step_told(number, &mut waits);
+        (plain, waits)
     }
 
     /// A list of events, one after the other, with their answers. After each beginning of the list the records are a

@@ -179,6 +179,13 @@ module _ {P W : Type 0} (acts : Acts P) (watches : Watches W) where
   did_not p b f fails =
       subst (λ (c : Bool). IsMade acts watches (only_if c f (standing p false)) p p false) (sym fails) (none_made p)
 
+  -- a part that makes nothing, under any condition
+  pub did_nothing : (p : Point P W) (b : Bool) (f : Part P) → f (standing p false) ≡ [] →
+      IsMade acts watches (only_if b f (standing p false)) p p false
+  did_nothing p true f none =
+      subst (λ (xs : List Action). IsMade acts watches xs p p false) (sym none) (none_made p)
+  did_nothing p false f none = none_made p
+
   -- what is left of a part, where all before was made
   abbrev pub IsLeft : Part P → Part P → Point P W → Point P W → Type 0
   IsLeft all left p q =

@@ -1,14 +1,18 @@
 //! What a run notes: each event is shown when it is answered, and which programs have a next step.
-ghost use Rattle.std.specs.Prelude.{◌≡◌, ◌≢◌, ◌<◌, ℕ, false, List, if◌then◌else◌};
+ghost use Rattle.std.specs.Prelude.{◌≡◌, ◌≢◌, ◌<◌, ℕ, IsTrue, None, false, List, if◌then◌else◌};
 ghost use Rattle.std.specs.Int.{bit_at};
+ghost use Rattle.machine_table.specs.declared.event.Event.TheVariants.{Deliver};
 ghost use Rattle.machine_table.specs.Machine.{Machine};
+ghost use Rattle.interleaving_core.specs.LookUps.{make_room};
 ghost use Rattle.interleaving_core.specs.PartChanges.{answer_in};
-ghost use Rattle.schedules.specs.Notes.{IsNoted, Noted, answered, is_no_memory, is_refused};
+ghost use Rattle.interleaving_core.specs.StepAnswers.{Stepped};
+ghost use Rattle.schedules.specs.Notes.{IsNoted, IsSame, Noted, answered, is_no_memory, is_refused};
 ghost use Rattle.schedules.specs.Parts.{is_advanced, is_times_end, is_held, is_evicted, is_progress, is_no_room};
 
 use crate::watcher::Watcher;
 use interleaving_core::{Event, History, PlainAnswer, Refusal, System, with_bit};
 use machine_table::laws::every_answer_keeps_its_word;
+use network::MsgNo;
 use physiological_order::Record;
 use programs::End;
 
@@ -157,6 +161,36 @@ impl<W: Watcher> Log<W> {
             self.has_progressed = is_progress(plain);
         }
     }
+
+    // Notes the answer to an event, for which the watcher is ready. An error ends the run, as one of `step` does.
+    #[inline(always)]
+    fn settle<K: History>(
+        &mut self,
+        system: &System<K>,
+        event: &Event,
+        plain: Option<PlainAnswer>,
+    ) -> Result<Option<PlainAnswer>, End>
+        requires { (before : Machine) × W.watches.IsReady self.old.watcher before event.now }
+        ensures { (before : Machine) (first : Log W) → IsSame W.watches first self.old →
+            W.watches.IsReady self.old.watcher before event.now →
+            Stepped before event.now (answer_in system.now.records plain) system.now →
+            Noted W.watches before first event.now (answered system.now.records result)
+            system.now self.new }
+    {
+        every_answer_keeps_its_word();
+        if !is_refused(&plain) {
+            self.note(system, event, &plain);
+            return Ok(plain);
+        }
+        if is_no_memory(&plain) {
+            return Err(End::NoMemory);
+        }
+        self.note(system, event, &plain);
+        if is_exhausted(&plain) {
+            return Err(End::Exhausted);
+        }
+        Ok(plain)
+    }
 }
 
 // Gives the machine an event and notes it. An error ends the run: Exhausted, where the event is noted, or NoMemory,
@@ -170,23 +204,33 @@ pub(crate) fn step<W: Watcher, K: History>(
     ensures { Noted W.watches system.old log.old event.now (answered system.new.records result)
         system.new log.new }
 {
-    every_answer_keeps_its_word();
     if log.watcher.prepare(system, event).is_err() {
         return Err(End::NoMemory);
     }
     let plain = system.step_plain(*event);
-    if !is_refused(&plain) {
-        log.note(system, event, &plain);
-        return Ok(plain);
-    }
-    if is_no_memory(&plain) {
+    log.settle(system, event, plain)
+}
+
+// The same for the delivery of a message. Where `waits` is set it is held, and no line need leave its bank for it.
+#[inline(always)]
+pub(crate) fn step_told<W: Watcher, K: History>(
+    log: &mut Log<W>,
+    system: &mut System<K>,
+    number: MsgNo,
+    waits: &mut bool,
+) -> Result<Option<PlainAnswer>, End>
+    requires { waits.old ≡ false }
+    ensures noted { Noted W.watches system.old log.old (Deliver number)
+        (answered system.new.records result) system.new log.new }
+    ensures told { IsTrue waits.new → make_room system.new number ≡ None }
+{
+    let event = Event::Deliver(number);
+    if log.watcher.prepare(system, &event).is_err() {
         return Err(End::NoMemory);
     }
-    log.note(system, event, &plain);
-    if is_exhausted(&plain) {
-        return Err(End::Exhausted);
-    }
-    Ok(plain)
+    let (plain, is_waiting) = system.step_told(number);
+    *waits = is_waiting;
+    log.settle(system, &event, plain)
 }
 
 // The same for an attempt of a core. Most find that it waits for its line: these take few instructions, and no call.

@@ -5,7 +5,7 @@ ghost use Rattle.schedules.specs.Parts.{Does, Advances, one, finds_no_place, tri
 ghost use Rattle.schedules.specs.RoundSchedule.{step_action};
 ghost use Rattle.schedules.specs.Notes.{Did, at};
 
-use crate::log::{Log, is_evicted, is_held, is_no_room, step, try_core};
+use crate::log::{Log, is_evicted, is_held, is_no_room, step, step_told, try_core};
 use crate::look_ups::{tell, tell_advance};
 use crate::watcher::Watcher;
 use interleaving_core::{Event, History, System};
@@ -78,7 +78,11 @@ pub(crate) fn deliver<P: Program, W: Watcher, K: History>(
     ensures { (programs : List P) → Did P.acts W.watches (delivery P.acts is_fair number)
         (at system.old programs log.old) result (at system.new programs log.new) }
 {
-    let plain = step(log, system, &Event::Deliver(number))?;
+    let mut waits = false;
+    let plain = step_told(log, system, number, &mut waits)?;
+    if waits {
+        return Ok(());
+    }
     if is_held(&plain) {
         return evict_bank::<P, W, K>(system, log, is_fair, number);
     }

@@ -1,4 +1,4 @@
-use Rattle.std.proofs.Common.{◌≡◌, IfOk, OnErr, IsTrue, sym, subst, refl}
+use Rattle.std.proofs.Common.{◌≡◌, ◌∙◌, ap, IfOk, OnErr, IsTrue, sym, subst, refl}
 use Rattle.machine_table.specs.declared.event.Answer.{Answer}
 use Rattle.machine_table.specs.declared.event.Event.TheVariants.{Deliver}
 use Rattle.machine_table.specs.Machine.{Machine}
@@ -6,21 +6,22 @@ use Rattle.machine_table.specs.Transition.{on_event}
 use Rattle.machine_theorem.specs.Kept.{Invariant}
 use Rattle.interleaving_core.specs.contracts.machine_state.MachineState.{the_view}
 use Rattle.interleaving_core.specs.PartChanges.{answer_of}
+use Rattle.interleaving_core.specs.LookUps.{message_waits}
 use Rattle.interleaving_core.specs.PartsInMemory.{with_parts}
 use Rattle.interleaving_core.specs.StepAnswers.{TakesMemory, asks_memory}
 use Rattle.interleaving_core.proofs.machine_state.MachineState.deliver.Goals as goal
 
-pub deliver-requires : goal.deliver-requires
-deliver-requires g c = (
+pub deliver-requires-clause-parts : goal.deliver-requires-clause-parts
+deliver-requires-clause-parts g c = (
   the_view g.row.H g.H.History c.self.inside,
   g.H.History.room c.self.inside.history,
-  record { are = refl; kept = subst Invariant (sym c.self.view_is) c.requires; fits = c.self.invariant },
+  record { are = refl; kept = subst Invariant (sym c.self.view_is) c.requires.kept; fits = c.self.invariant },
 )
 
 pub invariant_of-self : goal.invariant_of-self
 invariant_of-self g c =
     c.deliver.ensures.fitted (the_view g.row.H g.H.History c.self.inside) (g.H.History.room c.self.inside.history)
-    (record { are = refl; kept = subst Invariant (sym c.self.view_is) c.requires; fits = c.self.invariant })
+    (record { are = refl; kept = subst Invariant (sym c.self.view_is) c.requires.kept; fits = c.self.invariant })
 
 pub returns-clause-done : goal.returns-clause-done
 returns-clause-done g c =
@@ -31,16 +32,27 @@ returns-clause-done g c =
       with_parts m new.cores.items new.banks.items new.drams.items new.flight.mail new.is_stopped,
     ) (on_event x (Deliver c.args.number)))) c.self.view_is
     (c.deliver.ensures.done m (g.H.History.room c.self.inside.history)
-    (record { are = refl; kept = subst Invariant (sym c.self.view_is) c.requires; fits = c.self.invariant }))
+    (record { are = refl; kept = subst Invariant (sym c.self.view_is) c.requires.kept; fits = c.self.invariant }))
 
 pub returns-clause-wanted : goal.returns-clause-wanted
 returns-clause-wanted g c =
     subst (λ (x : Machine). OnErr c.deliver.result (TakesMemory x (on_event x (Deliver c.args.number)))) c.self.view_is
     (c.deliver.ensures.wanted (the_view g.row.H g.H.History c.self.inside) (g.H.History.room c.self.inside.history)
-    (record { are = refl; kept = subst Invariant (sym c.self.view_is) c.requires; fits = c.self.invariant }))
+    (record { are = refl; kept = subst Invariant (sym c.self.view_is) c.requires.kept; fits = c.self.invariant }))
 
 pub returns-clause-store : goal.returns-clause-store
 returns-clause-store g c =
     subst (λ (x : Machine). OnErr c.deliver.result (IsTrue (asks_memory x (Deliver c.args.number)))) c.self.view_is
     (c.deliver.ensures.store (the_view g.row.H g.H.History c.self.inside) (g.H.History.room c.self.inside.history)
-    (record { are = refl; kept = subst Invariant (sym c.self.view_is) c.requires; fits = c.self.invariant }))
+    (record { are = refl; kept = subst Invariant (sym c.self.view_is) c.requires.kept; fits = c.self.invariant }))
+
+pub returns-clause-told : goal.returns-clause-told
+returns-clause-told g c = λ told.
+    c.deliver.ensures.told (the_view g.row.H g.H.History c.self.inside) (g.H.History.room c.self.inside.history)
+    (record { are = refl; kept = subst Invariant (sym c.self.view_is) c.requires.kept; fits = c.self.invariant }) told
+
+pub returns-clause-waits : goal.returns-clause-waits
+returns-clause-waits g c =
+    c.deliver.ensures.waits (the_view g.row.H g.H.History c.self.inside) (g.H.History.room c.self.inside.history)
+    (record { are = refl; kept = subst Invariant (sym c.self.view_is) c.requires.kept; fits = c.self.invariant })
+    ∙ ap (λ (x : Machine). message_waits x c.args.number) c.self.view_is

@@ -52,12 +52,12 @@ class Refused:
     """The result of a run: what the shim reports, its status, and what it wrote.
 
     The shim says whether anything was refused, and if so, whether threads were at work; how many were started; and how
-    often one let another one run, if it is asked that.
+    often one slept for 50 microseconds, if it is asked that, and no other sleep.
     """
 
     def __init__(self, told, status, out, error):
         self.told, self.status, self.out, self.error = told, status, out, error
-        self.is_at_work, self.started, self.yields = "w" in told, told.count("t"), told.count("y")
+        self.is_at_work, self.started, self.sleeps = "w" in told, told.count("t"), told.count("s") - told.count("z")
         self.refused = self.is_at_work or "!" in told
 
     def answer(self):
@@ -182,10 +182,11 @@ def growths(tester):
 
 def without_runs(folder):
     """Commands that end without a run, each with its answer: the status, standard output and standard error."""
-    cut, late, wrong, loads, falling, opening, twice = (
-        folder / name for name in ("cut", "late", "wrong", "loads", "falling", "opening", "twice"))
+    cut, late, waits, wrong, loads, falling, opening, twice = (
+        folder / name for name in ("cut", "late", "waits", "wrong", "loads", "falling", "opening", "twice"))
     cut.write_text("RISCV A\n{ x=1;\n")
     late.write_text("0 R 0x0\n" * 40 + "0 R 0x4\n")
+    waits.write_text("0 R 0x0\n" * 3100 + "0 R 0x4\n")
     trace = TRACES / "ADVANCES.trace"
     records = trace.with_suffix(".records")
     wrong.write_text("0 0 W 0x0 1 1 0\n")
@@ -204,6 +205,8 @@ def without_runs(folder):
     yield "the ends of SB", ["ends", LITMUS / "SB.litmus"], (0, SB_ENDS, "")
     yield "a test that is cut", ["litmus", cut], (2, "", "tardis: line 2: 14 CutShort\n")
     yield "a trace with a fault", ["trace", late], (2, "", "tardis: line 41: 6 BadAddress\n")
+    yield "a trace with a fault, behind steps that wait in blocks", ["trace", "--stream", "--cores", "2", waits], (
+        2, "", "tardis: line 3101: 6 BadAddress\n")
     yield "records with a fault", ["check", trace, late], (2, "", "tardis: line 1: 7 BadValue\n")
     yield "no machine", ["trace", "--lease", "0", trace], (3, "", "tardis: bad configuration\n")
     yield "no file", ["trace", folder / "none"], (4, "", "tardis: read failed\n")

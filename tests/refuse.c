@@ -4,7 +4,8 @@
      REFUSE_BYTES=FD    nothing; but at the end the sum of all bytes that growths asked for goes to the descriptor
    HOW is error (EIO), interrupted (EINTR), short (one byte is moved, of the Nth and each later call), late (one byte is
    moved by each call before the Nth, which is an error), or, for a write, nothing (no byte is taken).
-     REFUSE_YIELDS=1    nothing; but a y is told for each time that a thread lets another one run
+     REFUSE_SLEEPS=1    nothing; but an s is told for each time that a thread sleeps for 50 microseconds, and a z for
+                        each other time
    Bytes go to descriptor REFUSE_TOLD: a t for each thread that is started; and, if something is refused for the first
    time, a w where work is shared by threads (in a thread that was started, or in the first one while it works beside
    such a thread), and else an exclamation mark. */
@@ -34,7 +35,7 @@ struct refusal {
 };
 
 static struct refusal growth, reading, writing;
-static int told = -1, tells_yields;
+static int told = -1, tells_sleeps;
 static unsigned long asked; /* bytes, by all growths */
 static int works; /* the first thread, beside another one */
 static ssize_t (*next_read)(int, void *, size_t);
@@ -67,7 +68,7 @@ __attribute__((constructor)) static void begin(void) {
     next_create = (create_function)dlsym(RTLD_NEXT, "pthread_create");
     next_join = (int (*)(pthread_t, void **))dlsym(RTLD_NEXT, "pthread_join");
     if (text) told = atoi(text);
-    tells_yields = getenv("REFUSE_YIELDS") != NULL;
+    tells_sleeps = getenv("REFUSE_SLEEPS") != NULL;
     open_refusal(&reading, "REFUSE_READ");
     open_refusal(&writing, "REFUSE_WRITE");
     open_refusal(&growth, "REFUSE_GROWTH");
@@ -153,9 +154,9 @@ int pthread_create(pthread_t *thread, const pthread_attr_t *how, void *(*run)(vo
     return 0;
 }
 
-int sched_yield(void) {
-    if (tells_yields) tell("y");
-    return (int)syscall(SYS_sched_yield);
+int nanosleep(const struct timespec *asked, struct timespec *left) {
+    if (tells_sleeps) tell(asked->tv_sec == 0 && asked->tv_nsec == 50000 ? "s" : "z");
+    return (int)syscall(SYS_nanosleep, asked, left);
 }
 
 int pthread_join(pthread_t thread, void **result) {

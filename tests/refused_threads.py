@@ -11,7 +11,7 @@ is done. If one growth was refused, the answer is one of these, and the shim say
 
 How many turns a seat may have must not matter: if the threads of a run were all started and it ends at its limit, the
 script makes it again with a higher one. Where nothing is refused, it also tries how many threads are started, how often
-a waiting worker lets another one run, and that two to four workers on one processor need few turns.
+a waiting worker sleeps, and that two to four workers on one processor need few turns.
 """
 import os
 import tempfile
@@ -35,7 +35,7 @@ OPERATIONS = 4
 WORKERS = 2
 LIMITS = (100_000, 5_000_000, 200_000_000)
 MOST_TURNS = 4_294_967_295
-FEW_TURNS = 5_000  # of each seat: enough on one processor, where a worker that waits lets another one run
+FEW_TURNS = 5_000  # of each seat: enough on one processor, where a worker that waits sleeps
 LAST_TIME = 2**64 - 1  # at this time no lease fits, and a run is exhausted
 PASSES = 200  # after so many of one worker alone nothing in these runs goes on any more
 SCHEDULE = ["--schedule", "threads", "--workers", WORKERS]
@@ -232,7 +232,7 @@ def are_started(tester, *words, runs=1):
 
 
 def lets_others_run(tester):
-    """A worker that waits, even one without seats, lets another one run long before its time slice ends."""
+    """A worker that waits sleeps long before its time slice ends, so that another one runs."""
     processors = os.sched_getaffinity(0)
     os.sched_setaffinity(0, {min(processors)})
     for workers in (2, 3, 4):
@@ -242,19 +242,20 @@ def lets_others_run(tester):
     os.sched_setaffinity(0, processors)
 
 
-def yields_where_due(tester, folder):
+def sleeps_where_due(tester, folder):
     """A core advances in each of its 1,024 turns, 16 in a pass: 64 passes. A seat that waits has one turn in a pass, so
-    that its worker makes passes that come to nothing, until it has had 1,024 turns, too: another thread is due after
-    each fourth of them. A single worker makes 960. Of several workers, those that don't have the core make 1,024, with
-    the bank, with another core, or with both; one without seats makes none. In the third trace core 0 advances 300
-    times first, in 301 turns and 19 passes: its worker makes 1,005 more with the bank, and 723 without it."""
+    that its worker makes passes that come to nothing, until it has had 1,024 turns, too. It sleeps after the 128th of
+    them and after each fourth that follows: for 1,024 that is 1 + 224 times. A single worker makes 960: 1 + 208. Of
+    several workers, those that don't have the core make 1,024, with the bank, with another core, or with both; one
+    without seats makes none. In the third trace core 0 advances 300 times first, in 301 turns and 19 passes. Its worker
+    makes 1,005 more with the bank (1 + 219), and 723 without it (1 + 148)."""
     steps = Path(folder, "advances.trace")
-    for zeros, ones, *all_yields in ((2000, 0, 240, 256, 256), (0, 2000, 240, 256, 512), (300, 2000, 240, 251, 436)):
+    for zeros, ones, *all_sleeps in ((2000, 0, 209, 225, 225), (0, 2000, 209, 225, 450), (300, 2000, 209, 220, 374)):
         steps.write_text("trace 2\n" + zeros * "0 A\n" + ones * "1 A\n")
-        for workers, yields in enumerate(all_yields, 1):
-            ran = tester.run(["trace", *SCHEDULE[:2], "--workers", workers, "--limit", 1024, steps], yields=1)
-            good = (ran.status, ran.yields) == (1, yields)
-            tester.expect(good, f"{zeros} and {ones} advances, {workers} workers: {ran.yields} yields")
+        for workers, sleeps in enumerate(all_sleeps, 1):
+            ran = tester.run(["trace", *SCHEDULE[:2], "--workers", workers, "--limit", 1024, steps], sleeps=1)
+            good = (ran.status, ran.sleeps) == (1, sleeps)
+            tester.expect(good, f"{zeros} and {ones} advances, {workers} workers: {ran.sleeps} sleeps")
 
 
 def refused_threads(tester):
@@ -266,7 +267,7 @@ def refused_threads(tester):
     are_started(tester, "trace", "--schedule", "threads", "--fair", TRACE)
     are_started(tester, "trace", "--schedule", "threads", "--time", LAST_TIME, TRACE)
     with tempfile.TemporaryDirectory() as folder:
-        yields_where_due(tester, folder)
+        sleeps_where_due(tester, folder)
         cores = Path(folder, "64-cores.trace")
         cores.write_text("trace 2\n63 R 0x0\n")
         are_started(tester, "trace", "--schedule", "threads", cores)

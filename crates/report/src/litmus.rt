@@ -25,6 +25,7 @@ use run_options::LitmusOptions;
 use run_results::{Done, RunError};
 use shared_jobs::Free;
 use std::alloc::{AllocError, Global};
+use std::rt::Clock;
 use std::thread::Threads;
 use worker_driver::{
     Driver, Policy, config_of, driver_of, limit_of, policy_runs, seeded_runs, threaded_runs,
@@ -35,7 +36,7 @@ use worker_driver::{
 /// end state in the report is an outcome of the sequential machine. If the source has more bytes than a litmus text
 /// may have, the call doesn't read it to its end. Read takes precedence over Litmus, that over BadConfig, and Write
 /// comes last; on any error but Write the sink is unchanged.
-pub fn run_litmus<R: Threads + Sync, S: Source, K: Sink>(
+pub fn run_litmus<R: Threads + Clock + Sync, S: Source, K: Sink>(
     rt: &R,
     alloc: Global,
     source: &mut S,
@@ -83,7 +84,7 @@ pub(crate) fn test_in(alloc: Global, bytes: &[u8]) -> Result<Test, RunError>
 }
 
 // The report on the litmus test that these bytes are.
-fn report_of<R: Threads + Sync>(
+fn report_of<R: Threads + Clock + Sync>(
     rt: &R,
     alloc: Global,
     bytes: &[u8],
@@ -113,7 +114,7 @@ fn report_of<R: Threads + Sync>(
 }
 
 // The runs of the test that the options ask for, on a machine that is set up so.
-fn runs_of<R: Threads + Sync>(
+fn runs_of<R: Threads + Clock + Sync>(
     rt: &R,
     alloc: Global,
     test: &Test,

@@ -25,6 +25,7 @@ use report_lines::{Layout, put_closing};
 use schedules::{Policy, Watcher, run_watched};
 use shared_jobs::Free;
 use std::alloc::{AllocError, Global};
+use std::rt::Clock;
 use std::thread::Threads;
 use thread_driver::laws::closed_machines_are_consistent;
 use trace_reader::Trace;
@@ -74,7 +75,7 @@ pub(crate) fn run_by_policy<W: Watcher + Drop>(
 
 /// A run of the trace over a memory of zeros, by so many threads, with at most so many turns of each core and bank,
 /// those of banks fair or not.
-pub(crate) fn run_by_threads<R: Threads + Sync>(
+pub(crate) fn run_by_threads<R: Threads + Clock + Sync>(
     rt: &R,
     alloc: Global,
     trace: &Trace,

@@ -27,6 +27,7 @@ use run_options::TraceOptions;
 use run_results::{Done, RunError};
 use schedules::Policy;
 use std::alloc::{AllocError, Global};
+use std::rt::Clock;
 use std::thread::Threads;
 use trace_reader::Trace;
 use worker_driver::{Driver, Finished, config_of, driver_of, limit_of, workers_of};
@@ -35,7 +36,7 @@ use worker_driver::{Driver, Finished, config_of, driver_of, limit_of, workers_of
 /// writes the report of the run, or its records alone. What goes out is told of a legal history, whatever the end of
 /// the run. Read goes before Trace, that before BadConfig, and Write comes last; by an error but Write the sink is
 /// unchanged. NoMemory comes only of a text with a step before any fault, or of a run on a good machine.
-pub fn run_trace<R: Threads + Sync, S: Source, K: Sink>(
+pub fn run_trace<R: Threads + Clock + Sync, S: Source, K: Sink>(
     rt: &R,
     alloc: Global,
     source: &mut S,
@@ -78,7 +79,7 @@ pub fn run_trace<R: Threads + Sync, S: Source, K: Sink>(
 }
 
 // The report on a trace, or its records.
-fn report_of<R: Threads + Sync>(
+fn report_of<R: Threads + Clock + Sync>(
     rt: &R,
     alloc: Global,
     trace: &Trace,
@@ -98,7 +99,7 @@ fn report_of<R: Threads + Sync>(
 }
 
 // A run of the trace on this machine, as it is told.
-fn told<R: Threads + Sync>(
+fn told<R: Threads + Clock + Sync>(
     rt: &R,
     alloc: Global,
     trace: &Trace,
@@ -141,7 +142,7 @@ pub(crate) fn told_by_policy(
 }
 
 // A run of the trace by threads, as it is told, with fair turns of banks or not.
-fn told_by_threads<R: Threads + Sync>(
+fn told_by_threads<R: Threads + Clock + Sync>(
     rt: &R,
     alloc: Global,
     trace: &Trace,

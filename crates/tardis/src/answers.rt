@@ -16,11 +16,12 @@ use command_line::laws::streams_follow_policies;
 use command_line::{WordsError, read_words};
 use run_results::{Done, ErrorLine, RunError, error_line, exit_status};
 use std::alloc::Global;
+use std::rt::Clock;
 use std::thread::Threads;
 
 /// Does what the words ask for, and answers the exit status. A report goes to `out`; why there is none goes to
 /// `errors`, in one line, or in the lines of a command line's refusal. Nothing reports errors of `errors` itself.
-pub fn answer<R: Threads + Sync, F: Files, K: Sink, E: Sink>(
+pub fn answer<R: Threads + Clock + Sync, F: Files, K: Sink, E: Sink>(
     rt: &R,
     alloc: Global,
     files: &F,

@@ -13,10 +13,11 @@ use report::{check_history, layout_of, opening_of, run_ends, run_litmus, run_str
 use run_options::{CheckOptions, EndsOptions, LitmusOptions, StreamOptions, TraceOptions};
 use run_results::{Done, RunError};
 use std::alloc::Global;
+use std::rt::Clock;
 use std::thread::Threads;
 
 /// Does a job that can be done, and opens all its files first.
-pub(crate) fn run_job<R: Threads + Sync, F: Files, K: Sink>(
+pub(crate) fn run_job<R: Threads + Clock + Sync, F: Files, K: Sink>(
     rt: &R,
     alloc: Global,
     files: &F,
@@ -42,7 +43,7 @@ pub(crate) fn run_job<R: Threads + Sync, F: Files, K: Sink>(
 }
 
 // Runs the litmus test of a file that was opened.
-fn litmus_of<R: Threads + Sync, S: Source + Drop, K: Sink>(
+fn litmus_of<R: Threads + Clock + Sync, S: Source + Drop, K: Sink>(
     rt: &R,
     alloc: Global,
     opened: Result<S, DeviceError>,
@@ -59,7 +60,7 @@ fn litmus_of<R: Threads + Sync, S: Source + Drop, K: Sink>(
     }
 }
 
-fn litmus_on<R: Threads + Sync, S: Source + Drop, K: Sink>(
+fn litmus_on<R: Threads + Clock + Sync, S: Source + Drop, K: Sink>(
     rt: &R,
     alloc: Global,
     file: S,
@@ -106,7 +107,7 @@ fn ends_on<S: Source + Drop, K: Sink>(
 }
 
 // Runs the trace of a file that was opened.
-fn trace_of<R: Threads + Sync, S: Source + Drop, K: Sink>(
+fn trace_of<R: Threads + Clock + Sync, S: Source + Drop, K: Sink>(
     rt: &R,
     alloc: Global,
     opened: Result<S, DeviceError>,
@@ -123,7 +124,7 @@ fn trace_of<R: Threads + Sync, S: Source + Drop, K: Sink>(
     }
 }
 
-fn trace_on<R: Threads + Sync, S: Source + Drop, K: Sink>(
+fn trace_on<R: Threads + Clock + Sync, S: Source + Drop, K: Sink>(
     rt: &R,
     alloc: Global,
     file: S,

@@ -15,6 +15,7 @@ use host::HostFiles;
 use std::alloc::AllocError;
 use std::io;
 use std::process::ExitCode;
+use std::rt::Clock;
 use std::thread::Threads;
 
 /// The words of the command line.
@@ -31,7 +32,7 @@ fn borrowed<'a>(rt: &HostRuntime, texts: &'a [String]) -> Result<Vec<&'a str>, A
 
 /// The exit status. If a word is no text, the command line is refused; any other failure here is a failed allocation.
 /// `threads` share the runs of a litmus test.
-fn status<R: Threads + Sync>(rt: &HostRuntime, threads: &R) -> u8 {
+fn status<R: Threads + Clock + Sync>(rt: &HostRuntime, threads: &R) -> u8 {
     let mut out = ToWrite::new(rt.stdout());
     let mut errors = ToWrite::new(rt.stderr());
     let texts = match words_of(rt) {

@@ -6,6 +6,7 @@ use crate::turn_counts::{Calls, TurnCounts};
 use litmus_reader::read;
 use run_options::MachineOptions;
 use std::alloc::Global;
+use std::rt::Clock;
 use std::test::Fail;
 use std::thread::Threads;
 use worker_driver::{End, Free, Gate, RunEnd, batch, config_of, threaded_runs};
@@ -120,7 +121,7 @@ fn all_runs_of_a_batch_pass_the_gate(rt: HostRuntime) -> Result<(), Fail> {
 }
 
 // Runs by threads of a machine that opens at this time, with so many turns for each seat.
-fn runs_by_threads<R: Threads + Sync, G: Gate + Sync>(
+fn runs_by_threads<R: Threads + Clock + Sync, G: Gate + Sync>(
     rt: &R,
     alloc: Global,
     time: u64,

@@ -8,6 +8,7 @@ use mailboxes::Run;
 use physiological_order::Memory;
 use programs::{End, Program, Step};
 use std::alloc::{AllocError, Global};
+use std::rt::Clock;
 use std::thread::Threads;
 use thread_driver::ThreadRun;
 use worker_driver::run_seats;
@@ -86,7 +87,7 @@ fn scripts<'a>(
 }
 
 /// How a case ends if this many workers drive it by a gate; none if an allocation failed or there is no such machine.
-pub(crate) fn end_of<R: Threads + Sync>(
+pub(crate) fn end_of<R: Threads + Clock + Sync>(
     rt: &R,
     alloc: Global,
     case: &Case,

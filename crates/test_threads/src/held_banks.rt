@@ -6,6 +6,7 @@ use physiological_order::Memory;
 use programs::{End, Program, Step};
 use shared_jobs::Gate;
 use std::alloc::{AllocError, Global};
+use std::rt::Clock;
 use std::sync::atomic::{AtomicU64, Ordering};
 use std::test::Fail;
 use std::thread;
@@ -84,7 +85,7 @@ impl Program for Telling<'_> {
 }
 
 // How a run of one store ends that two workers make by the gate.
-fn end_by<R: Threads + Sync>(
+fn end_by<R: Threads + Clock + Sync>(
     rt: &R,
     alloc: Global,
     gate: &HeldBank,

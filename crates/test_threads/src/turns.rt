@@ -6,6 +6,7 @@ use crate::turn_counts::TurnCounts;
 use machine_table::Config;
 use programs::End;
 use std::alloc::Global;
+use std::rt::Clock;
 use std::test::Fail;
 use std::thread::Threads;
 
@@ -94,7 +95,7 @@ const GIVEN: &[(Case, u32, u32, End, [u64; 3], u64)] = &[
 ];
 
 // Whether a case ends so that so many workers drive, and they give its first seats so many turns each.
-fn gives<R: Threads + Sync>(
+fn gives<R: Threads + Clock + Sync>(
     rt: &R,
     alloc: Global,
     case: &Case,
@@ -303,7 +304,11 @@ const STOPS_BANK: Case = Case {
 
 // How many turns core 0 and the bank have, which one worker drives, if a seat of these stops and so ends the turns of
 // the other worker, which has core 1.
-fn turns_to_the_stop<R: Threads + Sync>(rt: &R, alloc: Global, case: &Case) -> Option<(u64, u64)> {
+fn turns_to_the_stop<R: Threads + Clock + Sync>(
+    rt: &R,
+    alloc: Global,
+    case: &Case,
+) -> Option<(u64, u64)> {
     let gate = TurnCounts::new(alloc, 3, 0).ok()?;
     if end_of(rt, alloc, case, 2, &gate) != Some(End::Exhausted) {
         return None;

@@ -1,7 +1,7 @@
 -- A worker before each pass: what it gave its seats and what it has signaled. And how it ends.
 use Rattle.std.proofs.Common.{◌≡◌, ℕ, ◌+◌, ◌%◌, ◌<◌, ◌≤◌, Bool, true, false, List, length, refl, sym, ap, ◌∙◌}
-use Rattle.std.proofs.Common.{subst, arith, true≢false}
-use Rattle.std.proofs.lemmas.Bool.{or_parts}
+use Rattle.std.proofs.Common.{subst, arith, true≢false, inl, inr}
+use Rattle.std.proofs.lemmas.Bool.{cases_lt, le-ltb, lt-ltb, or_parts}
 use Rattle.std.specs.Prelude.{replicate}
 use Rattle.std.specs.List.{zip}
 use Rattle.mailboxes.specs.declared.machine.Machine.{Machine}
@@ -25,16 +25,27 @@ use Rattle.thread_driver.proofs.Pairs.{pairs_few}
 use Rattle.thread_driver.proofs.Shares.{counted_long, counted_used}
 use Rattle.thread_driver.proofs.Worked.{SeatsCounted, counted_within, given_all, given_more, not_counted}
 
--- If no pass brought anything on so far, as many came to nothing as there were.
+-- how many passes count as idle, once so many came to nothing in a row
+abbrev pub AreIdle : (idle passes : ℕ) → Type 0
+AreIdle idle passes = (passes < 128 → idle ≡ passes) × (128 ≤ passes → idle ≡ 124 + passes % 4)
+
+-- If no pass brought anything on so far, all of them came to nothing.
 pub idle_passes : (all told both : Told) (idle passes turn : ℕ) (is_due : Bool) → both ≡ told_by_both all told →
     (passes, is_due) ≡ rested idle told.has_progressed →
-    (all.has_progressed ≡ false → idle ≡ turn % 4) → both.has_progressed ≡ false → passes ≡ (turn + 1) % 4
+    (all.has_progressed ≡ false → AreIdle idle turn) → both.has_progressed ≡ false → AreIdle passes (turn + 1)
 idle_passes all told both idle passes turn is_due told_is rests was none =
     let parts = or_parts all.has_progressed told.has_progressed
     (sym (ap (λ (t : Told). t.has_progressed) told_is) ∙ none) in
     let before = was parts.0 in
-    let now : passes ≡ (idle + 1) % 4 = ap (λ (p : ℕ × Bool). p.0) (rests ∙ ap (rested idle) parts.1) in
-    omega arith
+    let now : (passes, is_due) ≡ rested idle false = rests ∙ ap (rested idle) parts.1 in
+    elim (cases_lt idle 127) [
+      | inl low ↦
+          let more : passes ≡ idle + 1 = ap (λ (p : ℕ × Bool). p.0) (rw (lt-ltb _ _ low) at now) in
+          (grind (arith, before.0, before.1), grind (arith, before.0, before.1))
+      | inr high ↦
+          let last : passes ≡ 124 = ap (λ (p : ℕ × Bool). p.0) (rw (le-ltb _ _ high) at now) in
+          (grind (arith, before.0, before.1), grind (arith, before.0, before.1))
+    ]
 
 module _ {P : Type 0} (acts : Acts P) (m : Machine) (signals : Signals) where
   -- The worker w, now l, gave each of its seats so many turns, by their numbers: one a pass at least, of at most

@@ -1,6 +1,6 @@
 -- Workers, and what they do with what they were dealt.
-use Rattle.std.specs.Prelude.{◌≡◌, ◌⊎◌, ◌||◌, ◌&&◌, not, is_none, Bool, true, false, ℕ, zero, suc, ◌+◌, ◌%◌, ◌<◌, ◌≤◌}
-use Rattle.std.specs.Prelude.{List, [], ◌∷◌, length, min, Some, nat_eq, slice_get}
+use Rattle.std.specs.Prelude.{◌≡◌, ◌⊎◌, ◌||◌, ◌&&◌, not, is_none, Bool, true, false, ℕ, zero, suc, ◌+◌, ◌<◌, ◌≤◌}
+use Rattle.std.specs.Prelude.{List, [], ◌∷◌, length, min, Some, nat_lt, slice_get, if◌then◌else◌}
 use Rattle.std.specs.Int.{from_bool}
 use Rattle.std.specs.List.{zip}
 use Rattle.mailboxes.specs.declared.machine.Machine.{Machine}
@@ -64,11 +64,11 @@ AreUsed limit k ns = (i n : ℕ) → i < k → slice_get ns i ≡ Some n → lim
 abbrev pub IsWhole : {X : Type 0} → ℕ → List X → Told → Type 0
 IsWhole n xs told = ends_all told ≡ false → n ≡ length xs
 
--- How many passes in a row came to nothing, modulo 4, after one more; and whether another thread is due: after each
--- fourth of them.
+-- How many passes in a row came to nothing, after one more; and whether the worker sleeps. It does after the 128th, and
+-- then four are taken off: so it does after each fourth that follows, too.
 abbrev pub rested : ℕ → Bool → ℕ × Bool
 rested idle true = (0, false)
-rested idle false = let n = (idle + 1) % 4 in (n, nat_eq n 0)
+rested idle false = if nat_lt idle 127 then (idle + 1, false) else (124, true)
 
 module _ {P : Type 0} (acts : Acts P) where
   -- whether a core has no open operation, and its program no next step

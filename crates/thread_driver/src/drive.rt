@@ -23,6 +23,7 @@ use seat_rule::laws::seats_are_few;
 use seat_rule::parts::records_of_seats_are_counted;
 use shared_jobs::Gate;
 use std::alloc::{AllocError, Global};
+use std::rt::Clock;
 use std::thread;
 use std::thread::Threads;
 use stop_flags::{Signals, open_signals};
@@ -42,7 +43,7 @@ use stop_flags::{Signals, open_signals};
 /// A worker whose thread can't be started works in the thread that was to start it, after that thread's own worker has
 /// ended. Until then its seats have no turns, and messages to them wait. The others mostly use up their turns by then,
 /// and the run ends at its limit. All seats and programs come back all the same.
-pub fn drive_threads<R: Threads + Sync, P: Program + Send + Drop, G: Gate + Sync>(
+pub fn drive_threads<R: Threads + Clock + Sync, P: Program + Send + Drop, G: Gate + Sync>(
     rt: &R,
     alloc: Global,
     machine: &Machine,
@@ -73,7 +74,7 @@ pub fn drive_threads<R: Threads + Sync, P: Program + Send + Drop, G: Gate + Sync
 }
 
 /// Gives the seats turns as `drive_threads` does; with `fair` each turn of a bank is a fair one (`fair_bank_turn`).
-pub fn drive_seats<R: Threads + Sync, P: Program + Send + Drop, G: Gate + Sync>(
+pub fn drive_seats<R: Threads + Clock + Sync, P: Program + Send + Drop, G: Gate + Sync>(
     rt: &R,
     alloc: Global,
     machine: &Machine,
@@ -123,7 +124,7 @@ pub fn drive_seats<R: Threads + Sync, P: Program + Send + Drop, G: Gate + Sync>(
 
 // Deals the seats and programs to workers, lets these work, and gathers the seats and programs again. What all turns
 // told. AllocError where there is no memory for the workers: then nothing is changed.
-fn drive_shift<R: Threads + Sync, P: Program + Send + Drop, G: Gate + Sync>(
+fn drive_shift<R: Threads + Clock + Sync, P: Program + Send + Drop, G: Gate + Sync>(
     rt: &R,
     alloc: Global,
     machine: &Machine,
@@ -169,7 +170,7 @@ fn drive_shift<R: Threads + Sync, P: Program + Send + Drop, G: Gate + Sync>(
 }
 
 // Each of so many workers works in a thread of its own, one of them in the calling one.
-fn drive_team<R: Threads + Sync, P: Program + Send + Drop, G: Gate + Sync>(
+fn drive_team<R: Threads + Clock + Sync, P: Program + Send + Drop, G: Gate + Sync>(
     rt: &R,
     machine: &Machine,
     signals: &Signals,
@@ -190,7 +191,7 @@ fn drive_team<R: Threads + Sync, P: Program + Send + Drop, G: Gate + Sync>(
             requires { IsReady P.acts machine.now signals.now worker.now }
             ensures { IsSignalerOf signals.entry.now worker.exit.now.signaler ×
                 Works P.acts machine.entry.now rota worker.entry.now worker.exit.now }
-        { work(machine, signals, gate, rota, worker) },
+        { work(rt, machine, signals, gate, rota, worker) },
     );
 }
 

@@ -110,11 +110,12 @@ pub fn seats_have_turns_in_a_row<P: Program>()
         InARow (IsBankTurn fair m) most n p k told q → n < most → (n < k) × (k ≤ most) }
 {}
 
-/// When a worker lets another thread run: after each fourth pass in a row in which no turn of its seats made progress.
-pub fn waiting_workers_let_others_run()
+/// When a worker sleeps: after the 128th pass in a row in which no turn of its seats made progress, and after each
+/// fourth that follows.
+pub fn waiting_workers_sleep()
     ensures progress { (idle : ℕ) → rested idle true ≡ (0, false) }
-    ensures waits { (idle : ℕ) → idle < 3 → rested idle false ≡ (idle + 1, false) }
-    ensures due { rested 3 false ≡ (0, true) }
+    ensures waits { (idle : ℕ) → idle < 127 → rested idle false ≡ (idle + 1, false) }
+    ensures due { rested 127 false ≡ (124, true) }
 {}
 
 /// Turns end AllDone exactly if no core has an open operation and no program a next step. Else they end NoMemory

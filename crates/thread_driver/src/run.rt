@@ -13,6 +13,7 @@ use programs::End;
 use programs::program::Program;
 use shared_jobs::Gate;
 use std::alloc::{AllocError, Global};
+use std::rt::Clock;
 use std::thread::Threads;
 
 /// The result of a run by threads: how it ended, the machine after it was closed, and the programs, in the order of
@@ -29,7 +30,7 @@ pub struct ThreadRun<P: Drop> {
 /// ends. After it the machine is in a reached state, which is consistent (`closed_machines_are_consistent`). The turns
 /// that lead from the opened seats to the closed ones decide how it ends; if that is TurnsUsed, each seat had exactly
 /// `turn_limit` of them. AllocError if memory to open the machine or to close it can't be allocated.
-pub fn run_threads<R: Threads + Sync, P: Program + Send + Drop, G: Gate + Sync>(
+pub fn run_threads<R: Threads + Clock + Sync, P: Program + Send + Drop, G: Gate + Sync>(
     rt: &R,
     alloc: Global,
     config: Config,
@@ -53,7 +54,7 @@ pub fn run_threads<R: Threads + Sync, P: Program + Send + Drop, G: Gate + Sync>(
 }
 
 /// Runs as `run_threads` does; with `fair` each turn of a bank is a fair one (`fair_bank_turn`).
-pub fn run_seats<R: Threads + Sync, P: Program + Send + Drop, G: Gate + Sync>(
+pub fn run_seats<R: Threads + Clock + Sync, P: Program + Send + Drop, G: Gate + Sync>(
     rt: &R,
     alloc: Global,
     config: Config,

@@ -15,15 +15,21 @@ use crate::worker::{Rota, Worker};
 use mailboxes::{CoreSeat, Machine};
 use programs::program::Program;
 use shared_jobs::Gate;
+use std::rt::Clock;
 use std::thread;
+use std::time::Duration;
 use stop_flags::{Signaler, Signals};
 
 // The most seats of a machine.
 const SEATS: usize = 72;
 
+// How long a worker sleeps that waits for others, in microseconds.
+const REST: u64 = 50;
+
 /// Gives the worker's seats turns, one pass after the other, until all programs are done, its seats had their most
 /// turns, or some seat lacked memory or stopped. Then it has signaled a stop exactly if that was a seat of its own.
-pub(crate) fn work<P: Program + Drop, G: Gate>(
+pub(crate) fn work<R: Clock, P: Program + Drop, G: Gate>(
+    rt: &R,
     machine: &Machine,
     signals: &Signals,
     gate: &G,
@@ -59,7 +65,7 @@ pub(crate) fn work<P: Program + Drop, G: Gate>(
             return;
         }
         if is_due {
-            thread::yield_now();
+            thread::sleep(rt, Duration::from_micros(REST));
         }
     }
     tell(
@@ -70,8 +76,8 @@ pub(crate) fn work<P: Program + Drop, G: Gate>(
     );
 }
 
-// What a worker keeps after a pass: what all its turns reported, and how many passes in a row came to nothing. And
-// whether another thread is due at the processor: after each fourth of these.
+// What a worker keeps after a pass: what all its turns reported, and how many passes in a row came to nothing, less
+// those for which it slept. And whether it is to sleep: after the 128th of these, and after each fourth that follows.
 fn after_pass(all: Told, idle: u8, told: Told) -> (Told, u8, bool)
     ensures told { result.0 ≡ told_by_both all told }
     ensures idle { (result.1, result.2) ≡ rested idle told.has_progressed }
@@ -80,8 +86,10 @@ fn after_pass(all: Told, idle: u8, told: Told) -> (Told, u8, bool)
     if told.has_progressed {
         return (all, 0, false);
     }
-    let idle = idle.wrapping_add(1) % 4;
-    (all, idle, idle == 0)
+    if idle < 127 {
+        return (all, idle + 1, false);
+    }
+    (all, 124, true)
 }
 
 // Tells which programs are finished, and looks. If that finds no end, and turns are left, each seat of the worker has

@@ -16,6 +16,7 @@ use report_text::RunEnd;
 use sequential_machine::laws::performed_histories_are_sequential;
 use shared_jobs::Gate;
 use std::alloc::{AllocError, Global};
+use std::rt::Clock;
 use std::thread::Threads;
 use thread_driver::laws::closed_machines_are_consistent;
 use thread_driver::run_seats;
@@ -25,7 +26,7 @@ use thread_driver::run_seats;
 /// those of banks are fair ones. They pass the gate before and after each turn. The end state of a run that is all done
 /// is an outcome of the sequential machine. AllocError if memory for the list, for a machine or for the result of a run
 /// can't be allocated.
-pub fn threaded_runs<R: Threads + Sync, G: Gate + Sync>(
+pub fn threaded_runs<R: Threads + Clock + Sync, G: Gate + Sync>(
     rt: &R,
     alloc: Global,
     test: &Test,
@@ -53,7 +54,7 @@ pub fn threaded_runs<R: Threads + Sync, G: Gate + Sync>(
 }
 
 // A run of the test by threads.
-fn threaded_run<R: Threads + Sync, G: Gate + Sync>(
+fn threaded_run<R: Threads + Clock + Sync, G: Gate + Sync>(
     rt: &R,
     alloc: Global,
     test: &Test,

@@ -10,7 +10,7 @@ use Rattle.thread_driver.proofs.work.work.Goals as goal
 pub loop-init : goal.loop-init
 loop-init g c = (
   at_first g.P.Program.acts c.args.machine.now c.args.signals.now c.args.rota c.args.worker.now c.requires,
-  λ none. refl,
+  λ none. (λ low. refl, λ high. absurd (omega arith)),
 )
 
 pub returns-in_default-clause-works : goal.returns-in_default-clause-works

@@ -1,51 +1,155 @@
 #!/usr/bin/env python3
-"""Compares the structures of tardis.h with those of the static library and of examples/embed/history.rs, and its version
+"""Compares tardis.h with the static library, with examples/embed/history.rs and with the Python package, and its version
 with the other places that have one: maintain/header.py --check
 
 No proof sees how a caller declares what it hands over. Each structure must have the same fields in the same order, each
-as wide: a field that is narrower on one side may lose its high bits, and a proof takes it for any other number. The
-constants that stand for answers, refusals, messages and ends must be the numbers of the library's definitions.
+as wide: a field that is narrower on one side may lose its high bits, and a proof takes it for any other number. Each
+export must be declared with the types that its definition has, a slice as a pointer and a length; none may be missing.
+`struct tardis_system` must be as large as the library's handle. The constants that stand for answers, refusals, messages
+and ends must be the numbers of the library's definitions, and their words those of the Python package.
 
 TARDIS_VERSION is the version. The library's call, the program's `--version` and the Python package repeat it.
 """
+import ctypes
 import re
 import sys
 from pathlib import Path
 
 TOP = Path(__file__).resolve().parent.parent
+sys.path.insert(0, str(TOP / "python"))
+from tardis import structures  # noqa: E402
+
 OF_MACHINES = "answer", "message", "open", "place", "totals"
 NAMES = "options", "operation", "record", "told", "word", "found", "lack", *OF_MACHINES  # what is handed over
 HIDDEN = {"history", "system"}  # what no call of the library takes; what only the library looks into
 NOT_IN_RUST = {"told", "lack", *OF_MACHINES}  # what history.rs does without
+NOT_IN_PYTHON = {"told", "word"}  # words go there as bytes
 PARTS, REFUSALS = "tardis_c/specs/SystemParts.antt", "machine_table/specs/RefusalNumbers.antt"
 CONSTANTS = (("answer_kind", PARTS, "answer_of"), ("message_kind", PARTS, "said"), ("end", PARTS, "end_of"),
              ("refusal", REFUSALS, "number_of"))  # by enumeration: the definition that has its numbers
 OTHER_NAMES = {"NO_SUCH": "NOT_THERE", "NO_MEMORY": "MEMORY_REFUSED"}  # other constants of tardis.h have these names
+WORDS = {"answer": structures.ANSWERS, "refusal": structures.REFUSALS, "message": structures.MESSAGES,
+         "end": structures.ENDS}  # by the call of tardis.h that tells them
+WIDE = {"*mut u8": 8, "u64": 8, "void *": 8, "uint64_t": 8, "Global": 0}  # bytes; an allocator is none
+PLAIN = {"u32": "uint32_t", "u64": "uint64_t", "usize": "size_t", "u8": "uint8_t", "Handle": "struct tardis_system"}
 
 
 def fields(found):
     """The names and the widths of fields, or the structures that they are, from pairs of a type and a name."""
-    return [(name, re.sub(r"struct tardis_|Plain|^uint|_t$|^u(?=\d)", "", kind).lower()) for kind, name in found]
+    return [(name, re.sub(r"struct tardis_|Plain|^\W*uint|_t(?=$|\*)|^u(?=\d)", "", kind).lower())
+            for kind, name in found]
 
 
 def of_c(text):
     """The structures that a C header declares, by their names."""
-    return {name: fields(re.findall(r"^\s+(\S+|struct \S+) (\w+);", body, re.M))
+    return {name: fields((f"{kind}*{many}" if many else kind, each) for kind, each, many in
+                         re.findall(r"^\s+(\S+|struct \S+) (\w+)(?:\[(\d+)\])?;", body, re.M))
             for name, body in re.findall(r"^struct tardis_(\w+) \{(.*?)^\};", text, re.M | re.S)}
 
 
 def of_rust(text):
     """The structures that sources in Rattle or Rust lay out as C does, by their names."""
     found = re.findall(r"#\[repr\(C\)\]\s+(?:#\[[^\n]*\]\s+)*pub struct (?:Plain)?(\w+) \{(.*?)\n\s*\}", text, re.S)
-    return {name.lower(): fields((kind, each) for each, kind in re.findall(r"pub (\w+): (\w+),", body))
-            for name, body in found}
+    return {name.lower(): fields((re.sub(r"\[(\w+); (\d+)\]", r"\1*\2", kind), each) for each, kind in
+                                 re.findall(r"pub (\w+): (\[[^]]*\]|\w+),", body)) for name, body in found}
+
+
+def width(kind):
+    """A type of the Python package, as `fields` has it."""
+    if issubclass(kind, ctypes.Array):
+        return f"{width(kind._type_)}*{kind._length_}"
+    return kind.__name__.lower() if issubclass(kind, ctypes.Structure) else str(8 * ctypes.sizeof(kind))
+
+
+def of_python():
+    """The structures of the Python package, by their names."""
+    return {name.lower(): [(field, width(kind)) for field, kind in each._fields_]
+            for name, each in vars(structures).items() if isinstance(each, type) and issubclass(each, ctypes.Structure)
+            and each is not structures.System}
+
+
+def taken(kind):
+    """The types in C of what a parameter in Rattle hands over; none of an allocator."""
+    if kind == "Global":
+        return []
+    whole = re.fullmatch(r"(&mut |&)?(\[)?(?:Plain)?(\w+)\]?", kind)
+    const, name = "" if whole[1] == "&mut " else "const ", PLAIN.get(whole[3], f"struct tardis_{whole[3].lower()}")
+    if whole[1] is None:
+        return [name]
+    return [f"{const}{name} *", *["size_t"] * (whole[2] is not None)]
+
+
+def exports(library):
+    """The types in C of what each export of the library answers and takes, by its name."""
+    found = re.findall(r'^pub extern "C" fn (\w+)\((.*?)\)(?: -> (\w+))?\s+ensures', library, re.M | re.S)
+    return {name: (PLAIN[answers] if answers else "void",
+                   [each for kind in re.findall(r": ([^,]+?)(?:,|$)", takes) for each in taken(kind.strip())])
+            for name, takes, answers in found}
+
+
+def prototypes(header):
+    """What tardis.h declares of each export, in the same way."""
+    found = re.findall(r"^(\w+) (tardis_c_\w+)\(([^)]*)\);", header, re.M)
+    return {name: (answers, [re.sub(r"\s+", " ", re.sub(r"\w+$", "", each.strip())).strip()
+                             for each in takes.split(",") if each.strip() != "void"])
+            for answers, name, takes in found}
+
+
+def in_python():
+    """What the Python package declares of the calls that it makes; a pointer to bytes, or to items, is `*`."""
+    def kind(of):
+        if of in (structures.BYTES, structures.ITEMS):
+            return "*"
+        if hasattr(of, "contents"):
+            return f"{kind(of._type_)} *"
+        is_whole = not issubclass(of, ctypes.Structure)
+        return f"uint{8 * ctypes.sizeof(of)}_t" if is_whole else f"struct tardis_{of.__name__.lower()}"
+
+    return {prefix + name: ("void" if name in structures.SILENT else "uint32_t", [kind(each) for each in takes])
+            for prefix, calls in (("tardis_c_", structures.CALLS), ("tardis_c_system_", structures.CALLS_OF_SYSTEMS))
+            for name, takes in calls.items()}
+
+
+def stands_for(declared, wanted):
+    """Whether what Python declares stands for what tardis.h does. There is no `const` there, and no `size_t`."""
+    return declared[0] == wanted[0] and len(declared[1]) == len(wanted[1]) and all(
+        "*" in need if has == "*" else has == need.removeprefix("const ").replace("size_t", "uint64_t")
+        for has, need in zip(declared[1], wanted[1]))
+
+
+def calls(header, library):
+    """Which exports are declared otherwise than they are defined, or by the Python package."""
+    has, wanted = prototypes(header), exports(library)
+    for name in sorted({*has, *wanted}):
+        if has.get(name) != wanted.get(name):
+            yield f"header.py: tardis.h declares {name} as {has.get(name)}, and the library has {wanted.get(name)}"
+    if not wanted or len(re.findall(r"\btardis_c_\w+\([^;{]*;", header[:header.index("static uint64_t")])) != len(has) \
+            or library.count('extern "C"') != len(wanted):
+        yield "header.py: there are exports that it doesn't find"
+    for name, of in in_python().items():
+        if name not in has or not stands_for(of, has[name]):
+            yield f"header.py: the Python package declares {name} as {of}, and tardis.h {has.get(name)}"
+
+
+def handle(header, sources):
+    """Whether struct tardis_system has another size than the library's handle."""
+    def size(name):
+        body = re.search(rf"pub struct {name} \{{(.*?)\n\}}", sources, re.S)[1]
+        kinds = re.findall(r"^\s+(?:pub )?\w+: ([^,]+),", body, re.M)
+        return sum(WIDE[kind] if kind in WIDE else size(kind) for kind in kinds)
+
+    body = re.search(r"^struct tardis_system \{(.*?)^\};", header, re.M | re.S)[1]
+    in_c = sum(WIDE[kind] for kind in re.findall(r"^\s+(\w+(?: \*)?)\s*\w+;", body, re.M))
+    of_library, of_package = size("Handle"), ctypes.sizeof(structures.System)
+    if not in_c == of_library == of_package:
+        yield f"header.py: struct tardis_system has {in_c} bytes, {of_package} in Python, and the handle {of_library}"
 
 
 def constants(header):
-    """Which enumerations have other constants than the definition of their numbers."""
+    """Which enumerations have other constants than the definition of their numbers, or other words in Python."""
     for name, file, definition in CONSTANTS:
         text = (TOP / "crates" / file).read_text(encoding="utf-8")
-        cases = re.findall(rf"^{definition} \(?(\w+).*?\)? = (?:bare |record {{ kind = |\()?(\d+)", text, re.M)
+        cases = re.findall(rf"^{definition} \(?(\w+).*?\)? = \D*(\d+)", text, re.M)
         snake = [(re.sub(r"(?<=[a-z])(?=[A-Z])", "_", case).upper(), number) for case, number in cases]
         wanted = [(f"TARDIS_{OTHER_NAMES.get(case, case) if name == 'refusal' else case}", number)
                   for case, number in snake]
@@ -53,6 +157,10 @@ def constants(header):
         has = [each for each in re.findall(r"(TARDIS_\w+) = (\d+)", body) if each[0] != "TARDIS_NOT_REFUSED"]
         if not wanted or has != wanted:
             yield f"header.py: enum tardis_{name} isn't {definition} of {file}: {sorted({*has} ^ {*wanted})}"
+    for name, words in WORDS.items():
+        told = re.search(rf"tardis_{name}_name\(.*?names\[\] = \{{(.*?)\}};", header, re.S)[1]
+        if re.findall(r'"(\w*)"', told) != [*words]:
+            yield f"header.py: the Python package has other words of tardis_{name}_name"
 
 
 def versions(header):
@@ -66,18 +174,25 @@ def versions(header):
             yield f"header.py: {place} lacks {looks}"
 
 
+def sources(*crates):
+    """The sources of crates, as one text."""
+    return "".join(file.read_text(encoding="utf-8") for crate in crates
+                   for file in sorted((TOP / "crates" / crate / "src").glob("*.rt")))
+
+
 def main():
     header = (TOP / "crates/tardis_c/tardis.h").read_text(encoding="utf-8")
-    wanted = of_c(header)
-    library = "".join(file.read_text(encoding="utf-8") for file in sorted((TOP / "crates/tardis_c/src").glob("*.rt")))
+    wanted, library = of_c(header), sources("tardis_c")
     example = (TOP / "examples/embed/history.rs").read_text(encoding="utf-8")
     faults = [f"header.py: {side} has another tardis_{name} than tardis.h: {has.get(name)}"
-              for side, has in (("the library", of_rust(library)), ("history.rs", of_rust(example)))
-              for name in NAMES if not wanted.get(name) or has.get(name) != wanted[name]
-              if not (side == "history.rs" and name in NOT_IN_RUST)]
+              for side, has, without in (("the library", of_rust(library), ()),
+                                         ("history.rs", of_rust(example), NOT_IN_RUST),
+                                         ("the Python package", of_python(), NOT_IN_PYTHON))
+              for name in NAMES if not wanted.get(name) or has.get(name) != wanted[name] if name not in without]
     if set(wanted) != {*NAMES, *HIDDEN}:
         faults.append(f"header.py: tardis.h declares {sorted(wanted)}")
-    sys.exit("\n".join([*faults, *constants(header), *versions(header)]) or None)
+    sys.exit("\n".join([*faults, *calls(header, library), *handle(header, sources("held_machine")), *constants(header),
+                        *versions(header)]) or None)
 
 
 if sys.argv[1:2] in (["-h"], ["--help"]):

@@ -43,7 +43,10 @@ version=$("$prefix/bin/tardis" --version 2>&1)
 said=$(cd "$top/python" && python3 -c 'import tardis; print("tardis", tardis.__version__)')
 [ "$version" = "$said" ] || fail "$version, and in Python $said"
 "$top/tests/python_package.py" --library && "$top/tests/histories.py" "$embed/history.py" || exit 1
-! has jupyter-nbconvert "the notebook" || "$top/tests/notebook.py" || exit 1
+gcc -shared -fPIC -O1 -o "$work/refusing.so" "$top/tests/refusing.c" -Wl,--wrap=malloc -Wl,--wrap=realloc \
+    -Wl,--wrap=free -Wl,--whole-archive "$prefix/lib/libtardis.a" -Wl,--no-whole-archive &&
+    TARDIS_LIBRARY="$work/refusing.so" "$top/tests/python_package.py" --refused || exit 1
+"$top/tests/notebook.py" || exit 1
 
 # The shared library's name has the version; it exports the calls of the header and nothing else, and can't be run.
 minor=${version#tardis }
@@ -96,7 +99,7 @@ if has pkg-config "its file"; then
 fi
 if has cmake "its file"; then
     # As two parts of one project find it.
-    printf '%s\n' 'cmake_minimum_required(VERSION 3.13)' 'project(tried C CXX)' 'find_package(tardis 0.3 REQUIRED)' \
+    printf '%s\n' 'cmake_minimum_required(VERSION 3.13)' 'project(tried C CXX)' 'find_package(tardis 0.4 REQUIRED)' \
         "add_executable(by_cmake $embed/check.c)" 'target_link_libraries(by_cmake tardis::tardis)' \
         "find_package(tardis ${version#tardis } EXACT REQUIRED)" 'set(CMAKE_CXX_STANDARD 17)' \
         "add_executable(in_cpp $embed/tardis.cpp)" 'target_link_libraries(in_cpp tardis::tardis)' \
@@ -124,7 +127,7 @@ m0 ShReq core 1 > bank 0 0x8 pts 0 version none: started
 m1 DramLd bank 0 > dram 0 0x8: delivered
 m2 DramLdRep dram 0 > bank 0 0x8: delivered
 m0 ShReq core 1 > bank 0 0x8 pts 0 version none: delivered
-m3 ShRep bank 0 > core 1 0x8 wts 0 rts 10: delivered
+m3 ShRep bank 0 > core 1 0x8 wts 0 rts 10 words 5: delivered
 completed 1 0 R 0x8 5 0 0
 core 1 received 5
 END

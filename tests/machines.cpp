@@ -40,8 +40,8 @@ bool is_none(tardis::Machine &machine) {
     for (const tardis::Answer &answer : answers)
         if (answer.number != TARDIS_NO_SYSTEM || answer.kind != TARDIS_REFUSED || answer.cause() != "") return false;
     return !machine.victim(0, 8) && !machine.room(0) && !machine.message(0) && machine.in_flight().empty() &&
-           !machine.record(0) && machine.records().empty() && !machine.open_operation(0) && !machine.copies(0) &&
-           !machine.entries(0) && !machine.owners(8) && !machine.value(8) && !machine.totals();
+           !machine.record(0) && machine.records().empty() && !machine.open_operation(0) &&
+           machine.copies(0).number == TARDIS_NO_SYSTEM && machine.entries(0).number == TARDIS_NO_SYSTEM && !machine.owners(8) && !machine.value(8) && !machine.totals();
 }
 
 // Machines that aren't opened, and why.
@@ -96,16 +96,24 @@ void loads() {
     for (const tardis::Message &message : machine->in_flight()) sum = 10 * sum + message.number + 1;
     expect(sum == 12 && machine->totals()->messages == 2, "a request and its fetch");
     expect(!machine->record(0) && machine->records().empty(), "a record that there isn't yet");
-    for (const uint64_t number : {1, 2, 0, 3}) expect(is(machine->deliver(number), TARDIS_DELIVERED), "an arrival");
+    for (const uint64_t number : {1, 2, 0}) expect(is(machine->deliver(number), TARDIS_DELIVERED), "an arrival");
+    const auto reply = machine->message(3);
+    expect(reply->kind == TARDIS_SH_REP && reply->wts == 0 && reply->rts == 10, "a lease");
+    expect(reply->words[0] == 5 && std::count(reply->words + 1, reply->words + 8, 0u) == 7, "what it brings");
+    expect(is(machine->deliver(3), TARDIS_DELIVERED), "the last arrival");
     const tardis_record loaded{{1, TARDIS_LOAD, 0x28, 0}, 0, 5, 0, 0};
     const tardis::Answer answer = machine->attempt(1);
     expect(answer.kind == TARDIS_COMPLETED && answer.name() == "completed" && is(answer.record, loaded), "its record");
     expect(is(machine->record(0), loaded) && !machine->record(1), "a record by its number");
     expect(machine->records().size() == 1 && is(machine->records()[0], loaded) && machine->records(1).empty(), "all");
-    expect(machine->copies(1) == std::vector<uint64_t>{0x28} && machine->copies(0)->empty(), "copies");
-    expect(machine->entries(0) == std::vector<uint64_t>{0x28} && machine->entries(1)->empty(), "entries");
+    expect(machine->copies(1) == std::vector<uint64_t>{0x28} && machine->copies(0).empty(), "copies");
+    expect(machine->copies(0).number == TARDIS_DONE, "that there are no copies");
+    expect(machine->entries(0) == std::vector<uint64_t>{0x28}, "entries");
+    for (const tardis::Lines &none : {machine->copies(2), machine->copies(UINT32_MAX), machine->entries(1)})
+        expect(none.empty() && none.number == TARDIS_NO_SUCH, "lines of what isn't there");
     is_refused = true;
-    expect(!machine->copies(1) && !machine->entries(0), "lines without memory");
+    for (const tardis::Lines &none : {machine->copies(1), machine->entries(0)})
+        expect(none.empty() && none.number == TARDIS_NO_MEMORY, "lines without memory");
     is_refused = false;
     expect(machine->value(0x28) == 5 && machine->value(0x30) == 0 && machine->owners(0x28) == 0, "values and owners");
     expect(is(machine->deliver(7), TARDIS_REFUSED, TARDIS_NOT_THERE) && !machine->message(7), "no such message");
@@ -138,6 +146,20 @@ void places() {
     expect(open.kind == TARDIS_STORE && open.address == UINT64_MAX - 7 && open.value == UINT64_MAX, "what is open");
 }
 
+// More lines than fit where they are first put, from the last to the first.
+void many() {
+    auto machine = tardis::Machine::open(1);
+    std::vector<uint64_t> lines;
+    for (uint64_t line = 0; line < 70; line++) {
+        lines.push_back(8 * line);
+        machine->issue({0, TARDIS_LOAD, 8 * (69 - line), 0});
+        machine->attempt(0);
+        for (const uint64_t number : {0, 1, 2, 0, 3}) machine->deliver(4 * line + number);
+        machine->attempt(0);
+    }
+    expect(machine->copies(0) == lines && machine->entries(0) == lines, "70 lines");
+}
+
 // Records of lines.
 void records() {
     const uint64_t most = UINT64_MAX;
@@ -166,5 +188,6 @@ int main() {
     moved();
     loads();
     places();
+    many();
     records();
 }

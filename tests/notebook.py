@@ -1,13 +1,19 @@
 #!/usr/bin/env python3
 """Runs the notebook of examples/notebooks: tests/notebook.py
 
-jupyter-nbconvert executes it, with the library and the player that the environment names. Its counts must be those of
-the second program, its plot must have a point for each, and its page must be what tools/page.py writes.
+Its cells are run here, with the library and the player that the environment names, and once more by jupyter-nbconvert
+where that is there. Its counts must be those of the second program, its plot must have a point for each, and its page
+must be what tools/page.py writes.
 """
+import ast
+import contextlib
+import io
 import json
 import os
+import shutil
 import subprocess
 import sys
+import types
 from html import unescape
 from pathlib import Path
 
@@ -33,28 +39,52 @@ def counts():
         yield " ".join([str(lease), *(numbers[count] for count in COUNTS)])
 
 
-def main():
-    version = {}
-    exec((TOP / "python/tardis/version.py").read_text(), version)
+def by_jupyter():
+    """The outputs of the cells, by Jupyter; None where that isn't there."""
+    if shutil.which("jupyter-nbconvert") is None:
+        return print("notebook.py: no jupyter-nbconvert, so the notebook is run without it", file=sys.stderr)
     words = ["jupyter-nbconvert", "--to", "notebook", "--execute", "--stdout", "--log-level", "ERROR", NOTEBOOK]
     ran = subprocess.run(words, cwd=TOP, env=QUIET, capture_output=True, text=True)
     if "NoSuchKernel" in ran.stderr:
-        print("notebook.py: not tried: Debian's python3-ipykernel isn't there", file=sys.stderr)
-        return None
+        return print("notebook.py: no python3-ipykernel, so the notebook is run without Jupyter", file=sys.stderr)
     if ran.returncode:
-        return ran.stderr
-    text = ran.stdout
-    outputs = [output for cell in json.loads(text)["cells"] for output in cell.get("outputs", [])
+        sys.exit(f"notebook.py: {ran.stderr}")
+    outputs = [output for cell in json.loads(ran.stdout)["cells"] for output in cell.get("outputs", [])
                if output.get("name") != "stderr"]  # there tools/page.py says if the second program played
-    kinds = [output["output_type"] for output in outputs]
-    if kinds != ["stream", "stream", "execute_result", "execute_result"]:
-        return f"outputs {kinds}"
-    said, swept, plot, page = outputs
-    if "".join(said["text"]) != f"tardis {version['VERSION']} proved\n":
-        return f"{said['text']}"
-    if "".join(swept["text"]).splitlines() != list(counts()):
-        return f"other counts than the second program's: {swept['text']}"
-    drawn, shown = ("".join(output["data"]["text/html"]) for output in (plot, page))
+    return ["".join(output["text"] if output["output_type"] == "stream" else output["data"]["text/html"])
+            for output in outputs]
+
+
+def by_cells():
+    """The outputs of the cells, which are run here: what each prints, or the HTML that its last line is."""
+    shown = types.ModuleType("IPython.display")
+    shown.HTML = str
+    sys.modules["IPython"] = sys.modules["IPython.display"] = shown
+    os.chdir(NOTEBOOK.parent)
+    names, outputs = {}, []
+    for cell in json.loads(NOTEBOOK.read_text())["cells"]:
+        if cell["cell_type"] == "code":
+            *body, last = ast.parse("".join(cell["source"])).body
+            is_value = isinstance(last, ast.Expr) and not (isinstance(last.value, ast.Call)
+                                                           and getattr(last.value.func, "id", "") == "print")
+            with contextlib.redirect_stdout(io.StringIO()) as said:
+                exec(compile(ast.Module(body if is_value else [*body, last], []), "cell", "exec"), names)
+                value = eval(compile(ast.Expression(last.value), "cell", "eval"), names) if is_value else None
+            outputs += [said.getvalue()] * bool(said.getvalue()) + [value] * is_value
+    return outputs
+
+
+def fault(outputs):
+    """What is wrong with the outputs."""
+    version = {}
+    exec((TOP / "python/tardis/version.py").read_text(), version)
+    if len(outputs) != 4:
+        return f"{len(outputs)} outputs"
+    said, swept, drawn, shown = outputs
+    if said != f"tardis {version['VERSION']} proved\n":
+        return said
+    if swept.splitlines() != list(counts()):
+        return f"other counts than the second program's: {swept}"
     if drawn.count("<circle") != len(LEASES) * len(COUNTS) or any(count not in drawn for count in COUNTS):
         return "the plot lacks points"
     wanted = printed("tools/page.py", "--lease", "3", "examples/traces/PAST.trace")
@@ -66,5 +96,6 @@ def main():
 if __name__ == "__main__":
     if sys.argv[1:]:
         sys.exit(print(__doc__))
-    told = main()
-    sys.exit(told and f"notebook.py: {told}")
+    for made in (by_jupyter(), by_cells()):
+        if made is not None and (why := fault(made)):
+            sys.exit(f"notebook.py: {why}")

@@ -2,18 +2,27 @@
 """Tries the players' `--live` (docs/EVENTS.md) and the Python package: tests/python_package.py EVENT_PLAYER
 
 Each call of the texts in crates/play_events/data is sent alone, and its answer read before the next one is sent, to the
-proved player and to the second program's. Then the package: answers by hand, faults, and a network of one's own
-(examples/embed/latency.py), by both. tests/python_package.py --library tries litmus tests, traces and checks by the
-shared library that TARDIS_LIBRARY names, against the reports in examples/; without the option, by the second program.
+proved player and to the second program's. Then the package by the second program: answers by hand, faults, a network of
+one's own (examples/embed/latency.py), and litmus tests, traces and checks against the reports in examples/.
+
+    tests/python_package.py --library    all of the package by the shared library that TARDIS_LIBRARY names, and machines
+                                         that are drawn next to the second program's
+    tests/python_package.py --refused    machines by a library that refuses growths of memory (tests/refusing.c)
 """
+import contextlib
+import copy
+import ctypes
+import gc
 import importlib.util
 import os
+import random
 import shutil
 import signal
 import subprocess
 import sys
 import tempfile
 import warnings
+from concurrent.futures import ThreadPoolExecutor
 from itertools import islice
 from pathlib import Path
 
@@ -22,6 +31,7 @@ sys.path[:0] = [str(TOP), str(TOP / "python")]
 import tardis  # noqa: E402
 from reference.machine_texts import MachinePlayer  # noqa: E402
 from reference.texts import examples_of, is_answer  # noqa: E402
+from tests import systems  # noqa: E402
 from tardis.options import Options  # noqa: E402
 
 OF_MACHINES = "lease, time, banks, sets, ways, bank_sets, bank_ways, line_words, messages, private_write"
@@ -101,16 +111,24 @@ def machine():
         if opened.open_operation(1) != "R 0x8 requested" or opened.open_operation(0) is not None:
             fail("open operations")
         sent = opened.message(0)
-        names += [opened.deliver(number).name for number in (0, 1, 2, 0, 3)]
+        names += [opened.deliver(number).name for number in (0, 1, 2, 0)]
+        reply = opened.message(3)
+        names.append(opened.deliver(3).name)
         done = opened.attempt(1)
         if names != ["issued", "requested", "started", "delivered", "delivered", "delivered", "delivered"]:
             fail(f"events of a load: {names}")
-        if sent != tardis.Message(0, "ShReq", "core 1", "bank 0", 8, "pts 0 version none"):
+        if (sent, sent.carries) != (tardis.Message(0, "ShReq", "core 1", "bank 0", 8, pts=0), "pts 0 version none"):
             fail(f"its request: {sent}")
+        granted = tardis.Message(3, "ShRep", "bank 0", "core 1", 8, wts=0, rts=10, words=(5,))
+        if (reply, reply.carries) != (granted, "wts 0 rts 10 words 5"):
+            fail(f"its reply: {reply}")
         if done.record != tardis.Record(1, 0, "R", 8, None, 5, 0, 0) or opened.records() != [done.record]:
             fail(f"its record: {done}")
         if (opened.value(8), opened.check(), opened.in_flight(), opened.message(0)) != (5, "legal", [], None):
             fail("the look-ups after it")
+        shown = opened.copies(1), opened.copies(0), opened.copies(9), opened.entries(0), opened.entries(1), opened.owners(8)
+        if (*shown, opened.totals()) != ([8], [], [], [8], [], 0, tardis.Totals(0, 0, 0, 0, 0, 1, False)):
+            fail(f"copies, entries, owners and totals: {shown}, {opened.totals()}")
         if opened.deliver(7) != tardis.Answer("refused", "NoSuch") or opened.open_operation(1) is not None:
             fail("a message that isn't there")
         if opened.records(1) or opened.records().columns()["received"] != [5] or opened.records().end is not None:
@@ -124,14 +142,9 @@ def machine():
             fail("the messages of a store and a load")
         several(opened)
     refuses(tardis.TardisError, opened.in_flight, "a machine that its with closed")
-    opened_with()
     for make, kind in ((lambda: tardis.Machine(cores=65), tardis.BadConfiguration),
                        (lambda: tardis.Machine(ways=17), tardis.BadConfiguration)):
-        try:
-            make()
-            fail("a machine that can't be")
-        except kind:
-            pass
+        refuses(kind, make, "a machine that can't be")
     return opened.is_proved
 
 
@@ -140,39 +153,41 @@ def several(opened):
     came = opened.run("deliver m5", "deliver m9", "attempt 1")
     if came != [tardis.Answer("started"), tardis.Answer("refused", "NoSuch"), tardis.Answer("waiting")]:
         fail(f"three events in one call: {came}")
-    came = opened.run("deliver m6", "deliver m7", "deliver m5", "deliver m8", "attempt 1")
+    came = opened.run("deliver m6", "deliver m7; deliver m5", "deliver m8", "attempt 1")
     loaded = tardis.Record(1, 1, "R", 24, None, 0, 0, 1)
     if [answer.record for answer in came] != [None] * 4 + [loaded] or opened.records(1) != [loaded]:
         fail(f"the record of an event among others: {came}")
-    if tardis.answers_of("idle; completed 1 1 R 0x18 0 0 1") != [tardis.Answer("idle"), came[4]]:
-        fail("two answers in one line")
-    refuses(ValueError, opened.run, "no event")
-
-
-class Heard(tardis.Machine):
-    """A machine whose calls are kept."""
-
-    def call(self, line):
-        self.calls = [*getattr(self, "calls", []), line]
-        return super().call(line)
+    for wrong in ("no event", "issue 1 R 0x8 5", "issue 1 W 0x8", "issue 1 X 0x8", "issue 1 R 8", "issue 1 R 0xG",
+                  "attempt -1", "attempt \u0661", "deliver 4", "deliver mm", "evict bank 0", "evict dram 0 0x0", "advance",
+                  "attempt 1;", ""):
+        refuses(ValueError, lambda: opened.run("attempt 0", wrong), repr(wrong))
+    if opened.run() or opened.open_operation(0) != "W 0x10 9 requested" or opened.totals().messages != 1:
+        fail("events that can't be read, or none")
+    came = opened.run("issue 1 S 0x18 7", "evict core 1 3", "evict core 1 0x18", "evict bank 0 3", "advance 1")
+    if came != [tardis.Answer("issued"), tardis.Answer("refused", "Pinned"), tardis.Answer("refused", "Pinned"),
+                tardis.Answer("evicted"), tardis.Answer("advanced")]:
+        fail(f"evictions by numbers of lines and by addresses: {came}")
 
 
 def opened_with():
-    """A machine is opened with all of its options, by hand: the options' order says nothing."""
+    """The second program's machine is opened with all of its options, by hand: the options' order says nothing."""
     given = {"banks": 2, "sets": 4, "ways": 3, "bank_sets": 8, "bank_ways": 5, "line_words": 8, "lease": 7,
              "messages": 9, "time": 11, "private_write": True}
-    with Heard(cores=3, memory={8: 5, 64: 2 ** 64 - 1}, **given) as heard:
-        words, _, opening = heard.calls[0].partition(" with ")
-        if heard.call("shape") != "cores 3 banks 2 line-words 8" or heard.call("time 2") != "11":
+    heard, call = [], tardis.player.Player.call
+    tardis.player.Player.call = lambda player, line: (heard.append(line), call(player, line))[1]
+    with tardis.Machine(cores=3, memory={8: 5, 64: 2 ** 64 - 1}, **given) as opened:
+        if opened._driver.call("shape") != "cores 3 banks 2 line-words 8" or opened._driver.call("time 2") != "11":
             fail("the shape of a machine")
+    tardis.Machine().close()
+    tardis.player.Player.call = call
+    words, _, opening = heard[0].partition(" with ")
     words = words.split()
     wanted = {"cores": "3", "banks": "2", "sets": "4", "ways": "3", "bank-sets": "8", "bank-ways": "5",
               "line-words": "8", "lease": "7", "messages": "9", "time": "11", "private-write": "yes"}
     if (words[0], dict(zip(words[1::2], words[2::2])), opening) != ("machine", wanted, f"0x8 5 0x40 {2 ** 64 - 1}"):
-        fail(f"the options of a machine: {heard.calls[0]}")
-    with Heard() as heard:
-        if "private-write no" not in heard.calls[0] or " with" in heard.calls[0]:
-            fail(f"a machine without options: {heard.calls[0]}")
+        fail(f"the options of a machine: {heard[0]}")
+    if "private-write no" not in heard[-1] or " with" in heard[-1]:
+        fail(f"a machine without options: {heard[-1]}")
 
 
 def places():
@@ -182,7 +197,7 @@ def places():
         small.attempt(0)
         for number in (0, 1, 2, 0, 3):
             small.deliver(number)
-        if small.attempt(0).record != tardis.Record(0, 0, "S", 8, 7, 0, 1, 0):
+        if small.attempt(0).record != tardis.Record(0, 0, "S", 8, 7, 0, 1, 0) or small.owners(8) != 1:
             fail(f"a swap: {small.records()}")
         small.load(0, 24)
         came = small.attempt(0).cause, small.victim(0, 24), small.victim(0, 8), small.evict_copy(0, 8).name
@@ -192,8 +207,26 @@ def places():
         came = small.room(5), *(small.deliver(number).name for number in (4, 5)), small.room(5), small.room(4)
         if came != ((1, 8), "delivered", "held", (1, 8), None) or small.evict_entry(1, 8).name != "evicted":
             fail(f"a place in a bank: {came}")
-        if (small.advance(1).name, small.call("time 1")) != ("advanced", "1"):
+        if small.advance(1).name != "advanced" or small.victim(9, 8) is not None or small.check() != "legal":
             fail("an advance")
+    wide = tardis.Machine(cores=1, line_words=8, memory={0x40: 1, 0x78: 2 ** 64 - 1})
+    wide.run("issue 0 R 0x48", "attempt 0", "deliver m0", "deliver m1")
+    if wide.message(2).words != (1, 0, 0, 0, 0, 0, 0, 2 ** 64 - 1) or wide.message(2).address != 0x40:
+        fail(f"eight words: {wide.message(2)}")
+
+
+def many():
+    """By hand: 70 lines, which are more than fit where the library first puts them, loaded from the last on."""
+    with tardis.Machine(cores=1, time=7) as opened:
+        for line in range(70):
+            opened.load(0, 8 * (69 - line))
+            opened.attempt(0)
+            for number in (0, 1, 2, 0, 3):
+                opened.deliver(4 * line + number)
+            opened.attempt(0)
+        lines = [8 * line for line in range(70)]
+        if opened.copies(0) != lines or opened.entries(0) != lines or {each.time for each in opened.records()} != {7}:
+            fail(f"70 lines: {opened.copies(0)}, {opened.entries(0)}")
 
 
 def refuses(kind, make, what):
@@ -210,8 +243,8 @@ def on_alarm(*_):
 
 
 def troubles():
-    """A machine that is closed, whose player dies, or that is interrupted in a call: the next call is a TardisError,
-    and nothing is left open. Options that a machine doesn't have, and values of wrong types."""
+    """Machines that are closed, and what is left open; options that a machine doesn't have, and values
+    of wrong types or out of their ranges, each of which the error names."""
     before = len(os.listdir("/proc/self/fd"))
     for options in ({"runs": 5}, {"fair": True}, {"cores": 2.0}, {"lease": True}, {"private_write": "no"}):
         refuses(TypeError, lambda: tardis.Machine(**options), options)
@@ -220,34 +253,206 @@ def troubles():
         fail(f"an option that there isn't: {told}")
     refuses(ValueError, lambda: tardis.Machine(memory={4: 1}), "an address of no word")
     closed = tardis.Machine()
-    if os.getpgid(closed._player.pid) == os.getpgid(0):
-        fail("Ctrl-C ends the player")
-    refuses(ValueError, lambda: closed.call("flight \udc80"), "no ASCII")
+    for named, make in (("core", lambda: closed.load(1_048_576, 8)), ("address", lambda: closed.load(0, 4)),
+                        ("value", lambda: closed.store(0, 8, 2 ** 64)), ("core", lambda: closed.attempt(2 ** 32)),
+                        ("core", lambda: closed.advance(-1)), ("number", lambda: closed.deliver(2 ** 64)),
+                        ("bank", lambda: closed.evict_entry(2 ** 32, 8)), ("address", lambda: closed.evict_copy(0, 12)),
+                        ("number", lambda: closed.message(-1)), ("core", lambda: closed.copies(2 ** 32)),
+                        ("address", lambda: closed.value(2 ** 64)), ("first", lambda: closed.records(-1))):
+        told = str(refuses(ValueError, make, f"a {named} out of its range"))
+        if not told.startswith(f"{named} is "):
+            fail(f"an error that names {named}: {told}")
+    refuses(TypeError, lambda: closed.attempt("0"), "a core that is a text")
+    if closed.attempt(2 ** 32 - 1) != tardis.Answer("refused", "NoSuch") or closed.load(1_048_575, 8).cause != "NoSuch":
+        fail("cores that there aren't")
+    if closed.check() != "legal" or closed.records():
+        fail("a machine that nothing happened to")
     closed.close()
     closed.close()
-    dead = tardis.Machine()
-    dead._player.kill()
-    dead._player.wait()
-    interrupted = tardis.Machine()
+    calls = (lambda: closed.load(0, 8), lambda: closed.attempt(0), closed.in_flight, closed.records, closed.totals,
+             lambda: closed.copies(0), lambda: closed.value(8), closed.check, lambda: closed.run("attempt 0"))
+    for call in calls:
+        refuses(tardis.TardisError, call, "a machine that is closed")
+    kept = tardis.Machine()
+    of_kept = copy.copy(kept)
+    kept.load(0, 8)
+    del kept  # but the other one has its machine
+    if of_kept.open_operation(0) != "R 0x8":
+        fail("a machine that something refers to")
+    tardis.Machine()  # and not closed
+    del of_kept, closed, calls, call, make
+    if len(os.listdir("/proc/self/fd")) != before:
+        fail("what is left open")
+
+
+def player(is_proved):
+    """The player by its lines: one that is closed, that dies, or that is interrupted in a call."""
+    before = len(os.listdir("/proc/self/fd"))
+    with tardis.Player() as closed:
+        answers = [closed.call(line) for line in ("machine cores 2", "program 0 R 0x8; W 0x8 5", "rounds 9", "time 0",
+                                                  "copy 0 0x8", "run attempt 0; attempt 1")]
+        wanted = "exclusive written wts 11 rts 11 words 5"  # one tick behind the load's lease
+        if answers[:2] + answers[3:] != ["opened", "given", "11", wanted, "idle; idle"] or \
+                tardis.answers_of(answers[-1]) != [tardis.Answer("idle")] * 2 or closed.is_proved != is_proved:
+            fail(f"a player: {answers}")
+        if tardis.answers_of("idle; completed 1 1 R 0x18 0 0 1")[1].record != tardis.Record(1, 1, "R", 24, None, 0, 0, 1):
+            fail("two answers in one line")
+        if os.getpgid(closed._process.pid) == os.getpgid(0):
+            fail("Ctrl-C ends the player")
+        for line in ("flight \udc80", "flight\nflight", " ", "fly"):
+            refuses(ValueError, lambda: closed.call(line), repr(line))
+    closed.close()
+    dead = tardis.Player()
+    dead._process.kill()
+    dead._process.wait()
+    interrupted = tardis.Player()
+    interrupted.call("machine")
     interrupted.call("program 0 1000000 R 0x0")
     signal.signal(signal.SIGALRM, on_alarm)
     signal.setitimer(signal.ITIMER_REAL, 0.05)
     refuses(InterruptedError, lambda: interrupted.call("rounds 4000000"), "an interrupted call")
-    for machine in (closed, dead, interrupted):
-        refuses(tardis.TardisError, lambda: machine.load(0, 8), "a machine without a player")
-        machine.close()
-    tardis.Machine()  # and not closed
-    with tempfile.TemporaryDirectory() as folder:
-        player = Path(folder, "player")
-        player.write_text("#!/bin/sh\nfor answer in opened 'refused NoMemory'; do read -r _; echo \"$answer\"; done\n")
-        player.chmod(0o755)
-        named, os.environ["TARDIS_PLAYER"] = os.environ["TARDIS_PLAYER"], str(player)
-        with tardis.Machine() as full:
-            refuses(tardis.NoMemory, full.in_flight, "a list without memory")
-    refuses(FileNotFoundError, tardis.Machine, "a player that isn't there")
+    for each in (closed, dead, interrupted):
+        refuses(tardis.TardisError, lambda: each.call("flight"), "a player that ended")
+        each.close()
+    tardis.Player()  # and not closed
+    named, os.environ["TARDIS_PLAYER"] = os.environ["TARDIS_PLAYER"], "there/is/none"
+    refuses(FileNotFoundError, tardis.Player, "a player that isn't there")
     os.environ["TARDIS_PLAYER"] = named
     if len(os.listdir("/proc/self/fd")) != before:
         fail("what is left open")
+
+
+def refused_lists():
+    """Lists that the second program's machine has no memory for, and a machine."""
+    for told, make in (("opened\nrefused NoMemory", lambda: tardis.Machine().in_flight()),
+                       ("opened\nrefused NoMemory", lambda: tardis.Machine().copies(0)),
+                       ("refused NoMemory", tardis.Machine)):
+        with tempfile.TemporaryDirectory() as folder:
+            says = Path(folder, "says.py")
+            says.write_text(f"import sys\nfor line in {told.splitlines()}: input(), print(line, flush=True)\n")
+            second, tardis.found.second = tardis.found.second, lambda *_: [sys.executable, str(says)]
+            refuses(tardis.NoMemory, make, "a list without memory")
+            tardis.found.second = second
+
+
+@contextlib.contextmanager
+def without_library():
+    """There is no library."""
+    named, os.environ["TARDIS_LIBRARY"] = os.environ.get("TARDIS_LIBRARY"), ""
+    tardis.library.loaded.cache_clear()
+    try:
+        yield
+    finally:
+        del os.environ["TARDIS_LIBRARY"]
+        if named is not None:
+            os.environ["TARDIS_LIBRARY"] = named
+        tardis.library.loaded.cache_clear()
+
+
+def shown(machine, draw, cores):
+    """All that a machine shows, at places that are drawn."""
+    addresses = [8 * draw.randrange(16) for _ in range(2)]
+    numbers = machine.in_flight()
+    looked = [numbers[0] if numbers else 0, draw.choice([*numbers, 9])]
+    seats = range(cores + 1)
+    yield from (numbers, list(machine), [each.carries for each in machine], machine.totals(), machine.check())
+    yield from ([machine.message(number) for number in looked], [machine.room(number) for number in looked])
+    yield from ([machine.open_operation(core) for core in seats], machine.records(draw.randrange(3)))
+    yield from ([machine.copies(core) for core in seats], [machine.entries(bank) for bank in seats])
+    yield from ([machine.victim(draw.randrange(cores + 1), address) for address in addresses],
+                [machine.owners(address) for address in addresses], [machine.value(address) for address in addresses])
+
+
+def driven(machines=40, events=60):
+    """Machines that are drawn, by the library and by the second program: what each call answers."""
+    for seed in range(machines):
+        draw = random.Random(seed)
+        cores, options, opening = systems.machine_of(draw)
+        named = {name.replace("-", "_"): bool(value) if name == "private-write" else value
+                 for name, value in options.items()}
+        with without_library():
+            second = tardis.Machine(cores, dict(opening), **named)
+        with tardis.Machine(cores, dict(opening), **named) as first, second:
+            if (first.is_proved, second.is_proved) != (True, False):
+                fail("which machine answers")
+            for _ in range(events):
+                call = systems.event_of(draw, cores, first.in_flight())
+                answers, state = (first.run(call), second.run(call)), draw.getstate()
+                told = []
+                for each in (first, second):
+                    draw.setstate(state)
+                    told.append(list(shown(each, draw, cores)))
+                if answers[0] != answers[1] or told[0] != told[1]:
+                    fail(f"seed {seed}: {call}: {answers}, {[pair for pair in zip(*told) if pair[0] != pair[1]]}")
+    print(f"python_package.py: {machines} machines, {events} events each, as by the second program")
+
+
+def at_once():
+    """Four threads with a machine each: what one thread's shows is what it shows alone."""
+    def stored(core):
+        with tardis.Machine(cores=4) as own:
+            for turn in range(300):
+                own.store(core, 8, turn)
+                while own.attempt(core).name != "completed":
+                    own.deliver(own.in_flight()[-1])
+            return own.records(), own.check()
+
+    with ThreadPoolExecutor(4) as pool:
+        for core, came in enumerate(pool.map(stored, range(4))):
+            if came != stored(core) or came[1] != "legal":
+                fail(f"machines at once: core {core}")
+
+
+def refused_memory():
+    """A machine over a library that counts the blocks that it holds, and refuses one growth (tests/refusing.c)."""
+    library = tardis.library.loaded()
+    at, growths, held = (ctypes.c_size_t.in_dll(library, name) for name in ("refused_at", "growths", "held"))
+
+    def refused(make):
+        """What a call answers, and how often memory was refused to it before."""
+        for times in range(9):
+            try:
+                came = make()
+            except tardis.NoMemory:
+                continue
+            if came != tardis.Answer("refused", "NoMemory"):
+                return came, times
+        return fail("memory is refused again")
+
+    def loaded():
+        """A load by hand; how often memory was refused."""
+        opened, often = refused(lambda: tardis.Machine(memory={8: 5}))
+        events = ("issue 1 R 0x8", "attempt 1", *(f"deliver m{number}" for number in (0, 1, 2, 0, 3)), "attempt 1")
+        for event in events:
+            came, times = refused(lambda: opened.run(event)[0])
+            often += times
+        if came.record != tardis.Record(1, 0, "R", 8, None, 5, 0, 0):
+            fail(f"a load, where memory was refused: {came}")
+        for look, wanted in ((lambda: opened.copies(1), [8]), (lambda: opened.entries(0), [8]), (opened.check, "legal")):
+            came, times = refused(look)
+            often += times
+            if came != wanted:
+                fail(f"a look-up, where memory was refused: {came}")
+        return often
+
+    at.value = growths.value = 0
+    loaded()
+    most, before = growths.value, held.value
+    for at.value in range(1, most + 1):
+        growths.value = 0  # a list that can't grow ahead grows by as much as it needs, once more
+        if not loaded() and growths.value != most + 1 or held.value != before:
+            fail(f"growth {at.value} of {most} isn't met, or {held.value} blocks are held, not {before}")
+    at.value = 0
+    if most < 10 or before:
+        fail(f"{most} growths, and {before} blocks held")
+    opened = tardis.Machine()
+    if held.value == 0:
+        fail("a machine holds nothing")
+    opened.itself = opened
+    del opened
+    gc.collect()
+    if held.value:
+        fail("a machine that was collected holds memory")
 
 
 def latency():
@@ -542,9 +747,13 @@ plain: tardis.Counts | None = tardis.trace("0 R 0x0").counts
 told: str = records.text
 columns: dict[str, list[int]] = counted.columns("banks")
 answered: tardis.Record | None = tardis.Machine().run("attempt 0")[0].record
+shape: str = tardis.Player().call("shape")
 rows: dict[str, object] = tardis.trace("0 R 0x0", counts=True, json=True)["rows"]
 with tardis.Machine(cores=2) as machine:
     sent: tardis.Message | None = machine.message(0)
+    words: tuple[int, ...] = next(iter(machine)).words
+    lines: list[int] = machine.copies(0)
+    stopped: bool = machine.totals().is_stopped
 """
 
 
@@ -666,33 +875,47 @@ def another_version():
     tardis.version.VERSION = version
 
 
+def machines(is_proved):
+    """A machine by hand, and a network of one's own: what that prints."""
+    if machine() != is_proved:
+        fail("which machine answers")
+    places()
+    many()
+    troubles()
+    return latency()
+
+
 def main(words):
     if words[:1] in ([], ["-h"], ["--help"]):
         return print(__doc__)
+    if words == ["--refused"]:
+        return refused_memory()
     if words == ["--library"]:
         another_version()
+        told = machines(True)
+        at_once()
+        warnings.simplefilter("ignore")
+        driven()
+        with without_library():
+            if latency() != told:
+                fail("latency.py: by the library and by the second program")
+        warnings.simplefilter("default")
         return runs(True)
     packaged()
     typed()
     warnings.simplefilter("ignore")
     ranges()
     found_there()
-    player = words[0]
-    told = []
-    for command, named in (([player], player), ([sys.executable, str(TOP / "reference/play.py")], "")):
+    os.environ["TARDIS_LIBRARY"] = os.environ["TARDIS"] = ""
+    for command, named in ((words[:1], words[0]), ([sys.executable, str(TOP / "reference/play.py")], "")):
         os.environ["TARDIS_PLAYER"] = named
         dialog(command)
-        tried = texts(command, 2000 if named else 30)
-        if machine() != bool(named):
-            fail("which player answers")
-        places()
-        troubles()
-        told.append(latency())
-        print(f"python_package.py: {tried} calls, one by one")
-    if told[0] != told[1]:
-        fail(f"latency.py: {told[0]} by the proved player, and {told[1]}")
-    os.environ["TARDIS_LIBRARY"] = os.environ["TARDIS"] = ""
-    runs(False)
+        print(f"python_package.py: {texts(command, 2000 if named else 30)} calls, one by one")
+        player(bool(named))
+    machines(False)
+    opened_with()
+    refused_lists()
+    return runs(False)
 
 
 if __name__ == "__main__":

@@ -93,7 +93,7 @@ void views() {
 } // namespace
 
 int main() {
-    expect(tardis::version() == "0.3.0", "the version");
+    expect(tardis::version() == "0.4.0", "the version");
     parts();
     views();
     calls = 0;

@@ -1,6 +1,6 @@
 /* Plays calls of docs/EVENTS.md on a machine of tardis.h, for tests/systems.py: systems CORES OPTION.. opens it, with
    the first ten options in the order of struct tardis_options and then, in pairs, words and their values. Each line of
-   standard input is a call, and its answer one line; that of a message lacks its words. */
+   standard input is a call, and its answer one line. */
 #include "tardis.h"
 
 #include <inttypes.h>
@@ -70,18 +70,27 @@ static void put_place(int number, const struct tardis_place *place, const char *
     printf("0x%" PRIx64 "\n", place->line * line_bytes);
 }
 
+/* A message. Of the words that it doesn't carry, each must be 0. */
 static void put_message(const struct tardis_message *message) {
     const uint64_t kind = message->kind;
+    const int has_line = kind == TARDIS_SH_REP || kind == TARDIS_EX_REP || kind == TARDIS_FLUSH_REP ||
+                         kind == TARDIS_WB_REP;
+    const uint64_t words = has_line || kind == TARDIS_DRAM_LD_REP || kind == TARDIS_DRAM_ST ? line_bytes / 8 : 0;
+    uint64_t at;
     printf("%s %s %" PRIu64 " > %s %" PRIu64 " 0x%" PRIx64, tardis_message_name(kind),
            tardis_end_name(message->from_kind), message->from, tardis_end_name(message->to_kind), message->to,
            message->line * line_bytes);
     if (kind == TARDIS_SH_REQ) printf(" pts %" PRIu64, message->pts);
     if (kind <= TARDIS_EX_REQ && message->has_version) printf(" version %" PRIu64, message->version);
     else if (kind <= TARDIS_EX_REQ) fputs(" version none", stdout);
-    if (kind == TARDIS_SH_REP || kind == TARDIS_EX_REP || kind == TARDIS_FLUSH_REP || kind == TARDIS_WB_REP)
-        printf(" wts %" PRIu64, message->wts);
+    if (has_line) printf(" wts %" PRIu64, message->wts);
     if (kind >= TARDIS_SH_REP && kind <= TARDIS_WB_REP && kind != TARDIS_FLUSH_REQ)
         printf(" rts %" PRIu64, message->rts);
+    if (words) fputs(" words", stdout);
+    for (at = 0; at < 8; at++) {
+        if (at < words) printf(" %" PRIu64, message->words[at]);
+        else must(message->words[at] != 0, 0);
+    }
     puts("");
 }
 
@@ -106,15 +115,22 @@ static void flight(void) {
     puts(index ? "" : "none");
 }
 
-/* The lines of a core's copies, or of a bank's entries. */
+/* The lines of a core's copies, or of a bank's entries; with room for few of them at first. */
 static void lines(const char *name, uint32_t seat) {
-    int (*const look_up)(struct tardis_system *, uint32_t, size_t, uint64_t *) =
-        *name == 'c' ? tardis_system_copy : tardis_system_entry;
-    uint64_t line;
-    size_t index = 0;
-    while (look_up(&machine, seat, index, &line) == TARDIS_DONE)
-        printf(index++ ? " 0x%" PRIx64 : "0x%" PRIx64, line * line_bytes);
-    puts(index ? "" : "none");
+    int (*const look_up)(struct tardis_system *, uint32_t, uint64_t *, size_t, size_t *) =
+        *name == 'c' ? tardis_system_copies : tardis_system_entries;
+    uint64_t few[2] = {7, 7}, all[20];
+    size_t count, again, at;
+    const int number = look_up(&machine, seat, few, 1, &count);
+    if (number == TARDIS_NO_SUCH || count == 0) {
+        puts("none");
+        return;
+    }
+    must(number, TARDIS_DONE);
+    must(look_up(&machine, seat, all, 20, &again), TARDIS_DONE);
+    must(again != count || count > 20 || few[0] != all[0] || few[1] != 7, 0);
+    for (at = 0; at < count; at++) printf(at ? " 0x%" PRIx64 : "0x%" PRIx64, all[at] * line_bytes);
+    puts("");
 }
 
 static void totals(const char *line) {

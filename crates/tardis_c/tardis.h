@@ -24,8 +24,8 @@
 extern "C" {
 #endif
 
-/* The version: 10000 for each major version, 100 for each minor one, 1 for each patch. So 300 is 0.3.0. */
-#define TARDIS_VERSION 300
+/* The version: 10000 for each major version, 100 for each minor one, 1 for each patch. So 400 is 0.4.0. */
+#define TARDIS_VERSION 400
 
 enum tardis_number {
     TARDIS_DONE = 0,         /* every run ended all done; the records are legal */
@@ -204,7 +204,7 @@ enum tardis_message_kind {
 
 enum tardis_end { TARDIS_CORE = 0, TARDIS_BANK = 1, TARDIS_DRAM = 2 };
 
-/* A message in flight. What its kind doesn't carry is 0; the words that it carries aren't shown. */
+/* A message in flight. What its kind doesn't carry is 0. */
 struct tardis_message {
     uint64_t number;
     uint64_t kind;        /* enum tardis_message_kind */
@@ -218,6 +218,7 @@ struct tardis_message {
     uint64_t version;     /* which is of this version */
     uint64_t wts;         /* the time of the line's last write */
     uint64_t rts;         /* the time up to which the line may be read */
+    uint64_t words[8];    /* the line's words: all eight, or the first where line_words is 1 */
 };
 
 /* A core's open operation. */
@@ -283,8 +284,10 @@ uint32_t tardis_c_system_message_number(struct tardis_system *system, uint32_t i
 uint32_t tardis_c_system_message(struct tardis_system *system, uint64_t number, struct tardis_message *message);
 uint32_t tardis_c_system_record(struct tardis_system *system, size_t number, struct tardis_record *record);
 uint32_t tardis_c_system_open_operation(struct tardis_system *system, uint32_t core, struct tardis_open *operation);
-uint32_t tardis_c_system_copy(struct tardis_system *system, uint32_t core, size_t index, uint64_t *line);
-uint32_t tardis_c_system_entry(struct tardis_system *system, uint32_t bank, size_t index, uint64_t *line);
+uint32_t tardis_c_system_copies(struct tardis_system *system, uint32_t core, uint64_t *lines, size_t size,
+                                size_t *count);
+uint32_t tardis_c_system_entries(struct tardis_system *system, uint32_t bank, uint64_t *lines, size_t size,
+                                 size_t *count);
 uint32_t tardis_c_system_victim(struct tardis_system *system, uint32_t core, uint64_t line,
                                 struct tardis_place *place);
 uint32_t tardis_c_system_make_room(struct tardis_system *system, uint64_t number, struct tardis_place *place);
@@ -567,15 +570,20 @@ static inline int tardis_system_open_operation(struct tardis_system *system, uin
     return system && operation ? (int)tardis_c_system_open_operation(system, core, operation) : TARDIS_NULL;
 }
 
-/* The line at an index of a core's copies, in rising order; TARDIS_NO_SUCH past the last one, or if there is no such
-   core, and TARDIS_NO_MEMORY. Each call sorts all of the core's lines. */
-static inline int tardis_system_copy(struct tardis_system *system, uint32_t core, size_t index, uint64_t *line) {
-    return system && line ? (int)tardis_c_system_copy(system, core, index, line) : TARDIS_NULL;
+/* The numbers of the lines that a core has copies of, in rising order: as many as `lines` has room for, and *count says
+   how many there are. TARDIS_NO_SUCH if there is no such core, else TARDIS_NO_MEMORY if memory is refused. A core has at
+   most sets * ways copies, and a bank bank_sets * bank_ways entries. */
+static inline int tardis_system_copies(struct tardis_system *system, uint32_t core, uint64_t *lines, size_t size,
+                                       size_t *count) {
+    if (!system || tardis_is_null(lines, size) || !count) return TARDIS_NULL;
+    return (int)tardis_c_system_copies(system, core, lines ? lines : &tardis_nothing, size, count);
 }
 
-/* The line at an index of those that a bank has Shared or Exclusive, in the same way. */
-static inline int tardis_system_entry(struct tardis_system *system, uint32_t bank, size_t index, uint64_t *line) {
-    return system && line ? (int)tardis_c_system_entry(system, bank, index, line) : TARDIS_NULL;
+/* The numbers of the lines that a bank has Shared or Exclusive, in the same way. */
+static inline int tardis_system_entries(struct tardis_system *system, uint32_t bank, uint64_t *lines, size_t size,
+                                        size_t *count) {
+    if (!system || tardis_is_null(lines, size) || !count) return TARDIS_NULL;
+    return (int)tardis_c_system_entries(system, bank, lines ? lines : &tardis_nothing, size, count);
 }
 
 /* The copy to evict from a core's cache to make a place for a line, if there is none; TARDIS_NO_SUCH if there is no

@@ -45,7 +45,7 @@ class Error : public std::runtime_error {
 inline void fail(int, const std::string &) {}
 #endif
 
-// The library's version, as 0.3.0.
+// The library's version, as 0.4.0.
 inline std::string version() {
     const uint32_t number = tardis_version();
     return std::to_string(number / 10000) + '.' + std::to_string(number / 100 % 100) + '.' +
@@ -364,6 +364,11 @@ struct Message : tardis_message {
     std::string_view name() const { return tardis_message_name(kind); }
 };
 
+// Lines, by the byte addresses of their first words. Unless `number` is TARDIS_DONE there are none.
+struct Lines : std::vector<uint64_t> {
+    int number = TARDIS_NO_SYSTEM;
+};
+
 // A machine that you drive: you say which core attempts, and when each message arrives. It is the library's, in your
 // program, and ends with this value. A line is named by the byte address of any of its words. One thread at a time may
 // call it. A machine that another was made from is none: its calls are errors. An assignment by move swaps the two.
@@ -446,10 +451,10 @@ class Machine {
         const auto found = look<tardis_open>(tardis_system_open_operation, core);
         return found && found->state ? found : std::nullopt;
     }
-    // The lines that a core has copies of, or that a bank has Shared or Exclusive, in rising order; none if memory is
-    // refused. The library sorts them for each one.
-    std::optional<std::vector<uint64_t>> copies(unsigned core) const { return lines(tardis_system_copy, core); }
-    std::optional<std::vector<uint64_t>> entries(unsigned bank) const { return lines(tardis_system_entry, bank); }
+    // The lines that a core has copies of, or that a bank has Shared or Exclusive, in rising order. Their number is
+    // TARDIS_NO_SUCH if there is no such core or bank.
+    Lines copies(unsigned core) const { return lines(tardis_system_copies, core); }
+    Lines entries(unsigned bank) const { return lines(tardis_system_entries, bank); }
 
     // How many own a line, 0 or 1; the value of the word at an address; and what the machine has counted.
     std::optional<uint64_t> owners(uint64_t address) const {
@@ -483,17 +488,17 @@ class Machine {
         if (number != TARDIS_NO_SUCH) fail(number, words_of(number));
         return std::nullopt;
     }
-    template <class Call> std::optional<std::vector<uint64_t>> lines(Call call, unsigned seat) const {
-        std::vector<uint64_t> all;
-        for (uint64_t line = 0;;) {
-            const int number = call(&system, seat, all.size(), &line);
-            if (number == TARDIS_NO_SUCH) return all;
-            if (number != TARDIS_DONE) {
-                fail(number, words_of(number));
-                return std::nullopt;
-            }
-            all.push_back(line * line_bytes);
-        }
+    template <class Call> Lines lines(Call call, unsigned seat) const {
+        Lines all;
+        size_t count = 64; // which mostly is enough
+        do {
+            all.resize(count);
+            all.number = call(&system, seat, all.data(), all.size(), &count);
+        } while (all.number == TARDIS_DONE && count > all.size());
+        if (all.number != TARDIS_DONE && all.number != TARDIS_NO_SUCH) fail(all.number, words_of(all.number));
+        all.resize(all.number == TARDIS_DONE ? count : 0);
+        for (uint64_t &line : all) line *= line_bytes;
+        return all;
     }
     mutable tardis_system system{nullptr, 0}; // the library takes it so for look-ups, too, and changes nothing then
     uint64_t line_bytes;

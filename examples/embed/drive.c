@@ -22,7 +22,8 @@ static void print_message(const struct tardis_message *message) {
            tardis_end_name(message->to_kind), message->to, 8 * message->line);
     if (message->kind == TARDIS_SH_REQ)
         printf(" pts %" PRIu64 " version %s", message->pts, message->has_version ? "some" : "none");
-    if (message->kind == TARDIS_SH_REP) printf(" wts %" PRIu64 " rts %" PRIu64, message->wts, message->rts);
+    if (message->kind == TARDIS_SH_REP)
+        printf(" wts %" PRIu64 " rts %" PRIu64 " words %" PRIu64, message->wts, message->rts, message->words[0]);
 }
 
 static void print_load(const struct tardis_record *record) {

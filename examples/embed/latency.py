@@ -39,7 +39,7 @@ class Network:
             if not self.programs[core]:
                 return
             step = self.programs[core].pop(0)
-            self.machine.call(f"advance {core}" if step == "A" else f"issue {core} {step}")
+            self.machine.run(f"advance {core}" if step == "A" else f"issue {core} {step}")
         answer = self.machine.attempt(core)
         if answer.cause == "NoRoom":
             address = int(self.machine.open_operation(core).split()[1], 16)

@@ -109,7 +109,7 @@ static int trace(const char *text, const struct tardis_options *options, size_t 
 
 /* What a caller in another language, which has no header, writes for the header's names. */
 static void names(void) {
-    MUST(TARDIS_VERSION == 300 && tardis_version() == 300);
+    MUST(TARDIS_VERSION == 400 && tardis_version() == 400);
     MUST(TARDIS_DONE == 0 && TARDIS_NO_MEMORY == 3 && TARDIS_BAD_TEST == 4 && TARDIS_BAD_LINE == 5);
     MUST(TARDIS_BAD_MACHINE == 6 && TARDIS_NOT_DONE == 7 && TARDIS_SHORT_BUFFER == 8 && TARDIS_NULL == 9);
     MUST(TARDIS_BAD_OPERATION == 10 && TARDIS_BAD_RECORD == 11 && TARDIS_BAD_OPENING == 12);

@@ -1,35 +1,16 @@
-"""The calls of the proved library, as crates/tardis_c/tardis.h declares them."""
+"""The calls of the proved library that make reports and verdicts."""
 import ctypes
 import functools
 from typing import Any
 
-from tardis import found, version
+from tardis import found, structures, version
 from tardis.errors import BadConfiguration, BadText, NoMemory, TardisError
 from tardis.options import MOST, Asked, Options
 
 DONE, NO_MEMORY, BAD_TEST, BAD_LINE, BAD_MACHINE, NOT_DONE, SHORT_BUFFER, BAD_OPENING = 0, 3, 4, 5, 6, 7, 8, 12
 ERRORS = {NO_MEMORY: NoMemory, BAD_TEST: BadText, BAD_LINE: BadText, BAD_MACHINE: BadConfiguration,
           BAD_OPENING: BadText}
-FIELDS = ("lease", "time", "banks", "sets", "ways", "bank_sets", "bank_ways", "line_words", "messages", "private_write",
-          "by_seed", "seed", "limit", "runs", "records", "fair", "json", "counts", "every")
-
-
-class TardisOptions(ctypes.Structure):
-    """struct tardis_options."""
-
-    _fields_ = [(name, ctypes.c_uint64) for name in FIELDS]
-
-
-class TardisFound(ctypes.Structure):
-    """struct tardis_found."""
-
-    _fields_ = [(name, ctypes.c_uint64) for name in ("kind", "number", "expected", "source", "writer")]
-
-
-class TardisLack(ctypes.Structure):
-    """struct tardis_lack."""
-
-    _fields_ = [(name, ctypes.c_uint64) for name in ("core", "place")]
+FIELDS = tuple(name for name, *_ in structures.Options._fields_)
 
 
 @functools.cache
@@ -39,24 +20,28 @@ def loaded() -> Any:
     if path is None:
         return None
     library = ctypes.CDLL(path)
+    prefixes = (("tardis_c_", structures.CALLS), ("tardis_c_system_", structures.CALLS_OF_SYSTEMS))
+    names = [prefix + name for prefix, calls in prefixes for name in calls]
+    if not all(hasattr(library, name) for name in names) or library.tardis_c_version() != version.number():
+        raise TardisError(f"{path} is of another version than {version.VERSION}")
     fields = (ctypes.c_uint64 * (len(FIELDS) + 8))(*[MOST] * (len(FIELDS) + 8))
     library.tardis_c_defaults(fields)
     if list(fields) != [*(int(getattr(Options(), name, 0)) for name in FIELDS), *[MOST] * 8]:
         raise TardisError(f"{path} is of another version: its options are others")
-    calls = ("tardis_c_litmus", "tardis_c_trace", "tardis_c_check_opened", "tardis_c_check_history",
-             "tardis_c_first_lack")
-    if not all(hasattr(library, name) for name in ("tardis_c_version", *calls)) \
-            or library.tardis_c_version() != version.number():
-        raise TardisError(f"{path} is of another version than {version.VERSION}")
-    for name in calls:
-        getattr(library, name).restype = ctypes.c_uint32
+    structures.declared(library, structures.CALLS)
     return library
 
 
-def options_of(options: Options, asked: Asked) -> TardisOptions:
+@functools.cache
+def calls_of_systems() -> dict[str, Any]:
+    """The library's calls of machines, by their names. Each takes microseconds, and keeps the interpreter's lock."""
+    return structures.declared(ctypes.PyDLL(loaded()._name), structures.CALLS_OF_SYSTEMS, "tardis_c_system_")
+
+
+def options_of(options: Options, asked: Asked) -> structures.Options:
     """The options as the library takes them."""
     named = {name: int(getattr(options, name)) for name in FIELDS if hasattr(options, name)}
-    return TardisOptions(**named, by_seed=options.schedule == "seed", records=asked.records, json=asked.json,
+    return structures.Options(**named, by_seed=options.schedule == "seed", records=asked.records, json=asked.json,
                          counts=asked.counts, every=asked.every or 0)
 
 
@@ -65,7 +50,7 @@ def told(call: Any, size: int, *arguments: Any) -> tuple[int, str]:
     the text doesn't fit."""
     while True:
         buffer, length = ctypes.create_string_buffer(size), ctypes.c_size_t(0)
-        number = call(*arguments, buffer, ctypes.c_size_t(size), ctypes.byref(length))
+        number = call(*arguments, buffer, size, length)
         if length.value <= size:
             break
         size = length.value
@@ -82,26 +67,22 @@ def room(text: bytes) -> int:
     return (1 << 20) + 12 * len(text)
 
 
-def text_argument(text: bytes) -> tuple[bytes, ctypes.c_size_t]:
-    return text, ctypes.c_size_t(len(text))
-
-
 def run(kind: str, text: bytes, options: Options, asked: Asked) -> tuple[bool, str]:
     """Whether all runs ended all done, and the report of a litmus test or a trace, or a trace's records."""
     call = getattr(loaded(), f"tardis_c_{kind}")
-    number, report = told(call, room(text), *text_argument(text), ctypes.byref(options_of(options, asked)))
+    number, report = told(call, room(text), text, len(text), options_of(options, asked))
     return number == DONE, report
 
 
 def check(opening: bytes, trace: bytes, records: bytes, complete: bool, json: bool) -> str:
     """The verdict on records: a line, or a JSON object."""
-    return told(loaded().tardis_c_check_opened, 200, *text_argument(opening), *text_argument(trace),
-                *text_argument(records), ctypes.c_uint32(complete), ctypes.c_uint32(json))[1]
+    return told(loaded().tardis_c_check_opened, 200, opening, len(opening), trace, len(trace), records, len(records),
+                complete, json)[1]
 
 
-def items_argument(items: bytearray, size: int) -> tuple[Any, ctypes.c_size_t]:
+def items_argument(items: bytearray, size: int) -> tuple[Any, int]:
     """An array of structures of this size, whose bytes these are."""
-    return ctypes.byref((ctypes.c_char * len(items)).from_buffer(items)), ctypes.c_size_t(len(items) // size)
+    return ctypes.byref((ctypes.c_char * len(items)).from_buffer(items)), len(items) // size
 
 
 def is_done(number: int) -> bool:
@@ -116,16 +97,15 @@ def is_done(number: int) -> bool:
 def check_history(opening: bytearray, operations: bytearray, records: bytearray) -> tuple[int, int, int, int, int]:
     """What is found of a history, as arrays of struct tardis_word, tardis_operation and tardis_record: kind, number,
     expected, source and writer."""
-    found = TardisFound()
+    found = structures.Found()
     is_done(loaded().tardis_c_check_history(*items_argument(opening, 16), *items_argument(operations, 24),
-                                            *items_argument(records, 56), ctypes.byref(found)))
+                                            *items_argument(records, 56), found))
     return found.kind, found.number, found.expected, found.source, found.writer
 
 
 def first_lack(operations: bytearray, records: bytearray) -> tuple[int, int] | None:
     """The first core that hasn't as many records as operations, and how many it has; None if there is none."""
-    lack = TardisLack()
-    if is_done(loaded().tardis_c_first_lack(*items_argument(operations, 24), *items_argument(records, 56),
-                                            ctypes.byref(lack))):
+    lack = structures.Lack()
+    if is_done(loaded().tardis_c_first_lack(*items_argument(operations, 24), *items_argument(records, 56), lack)):
         return None
     return lack.core, lack.place

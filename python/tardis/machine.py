@@ -1,202 +1,179 @@
-"""The machine, event by event. Each call is one line of docs/EVENTS.md, which the player of events answers at once."""
-import contextlib
-import subprocess
-from collections.abc import Iterator, Mapping
-from dataclasses import dataclass
+"""The machine, event by event."""
+from collections.abc import Callable, Iterator, Mapping
+from functools import partial
 from typing import Any
 
-from tardis import found
-from tardis.errors import NoMemory, TardisError
-from tardis.options import OF_MACHINE, Options, given_options, within
-from tardis.reports import Record, Records, record_of
+from tardis import library
+from tardis.events import Answer, Driver, Message, Totals
+from tardis.history import History, byte_address, operation, ranged
+from tardis.options import MOST, OF_MACHINE, given_options, within
+from tardis.player import Second
+from tardis.reports import Record, Records
+from tardis.system import System
+
+MOST_SEAT = 2 ** 32 - 1
 
 
-@dataclass(frozen=True)
-class Answer:
-    """The answer to an event: issued, completed, requested, waiting, idle, delivered, dropped, held, started, evicted,
-    recalled, advanced or refused; the cause of a refusal; and the record of a completion."""
-
-    name: str
-    cause: str | None = None
-    record: Record | None = None
-
-
-def answer_of(text: str) -> Answer:
-    """One answer to an event, from its text."""
-    name, _, rest = text.partition(" ")
-    return Answer(name, rest if name == "refused" else None, record_of(rest) if name == "completed" else None)
-
-
-def answers_of(text: str) -> list[Answer]:
-    """The answers to the events of a line `run EVENT; EVENT; ..`, each in its parts; or the answer to one event."""
-    return [answer_of(each) for each in text.split("; ")]
-
-
-@dataclass(frozen=True)
-class Message:
-    """A message in flight: its kind (ShReq, ExReq, ..), its ends (`core 1`, `bank 0`, `dram 0`), the byte address of
-    its line's first word, and what it carries."""
-
-    number: int
-    kind: str
-    sender: str
-    receiver: str
-    address: int
-    carries: str
+def seat(name: str, number: Any) -> int:
+    """The number of a core or a bank, which may be one that there isn't."""
+    return ranged(name, number, MOST_SEAT)
 
 
 class Machine:
     """A machine of the proved simulator, which you drive: you say which core attempts, and when each message arrives.
 
-    Addresses are in bytes, multiples of 8; times in ticks. An event that is refused changes nothing (but `Exhausted`,
-    which stops the machine). `is_proved` says whether the proved player answers. Close it, or use it in a `with`. A
-    call that is interrupted ends the player, since its answer would be taken for the next call's.
-    For the same reason one thread at a time may call it."""
+    Addresses are in bytes, multiples of 8; a line is named by the address of any of its words, and told by that of its
+    first. Times are in ticks. An event that is refused changes nothing (but `Exhausted`, which stops the machine).
+
+    `is_proved` says whether the proved library answers, in this process; else the second program does. One thread at a
+    time may use a machine; threads may have machines of their own. It is closed by `close`, behind a `with`, or when
+    nothing refers to it any more. A call of a closed one is a TardisError, and so is one of the second program's that
+    was interrupted. A number out of its range is a ValueError that names it."""
 
     def __init__(self, cores: int = 2, memory: Mapping[int, int] | None = None, **options: Any) -> None:
+        """A machine with 1 to 64 cores over a memory whose words open with these values, by byte address, and with 0
+        elsewhere. `options` are those fields of `Options` that say how it is built: `lease` to `private_write`.
+
+        Raises BadConfiguration, ValueError or NoMemory."""
         built = given_options("Machine", OF_MACHINE, options, "cores", "memory")
         within("cores", cores, 1, 64)
-        path = found.player()
-        self.is_proved = path is not None
-        command = [path] if path else found.second("play.py", "the player of events")
-        # In a process group of its own, so that Ctrl-C doesn't end it.
-        self._player = subprocess.Popen([*command, "--live"], stdin=subprocess.PIPE, stdout=subprocess.PIPE, text=True,
-                                        bufsize=1, process_group=0)
-        try:
-            self._open(cores, built, memory or {})
-        except BaseException:
-            self.close()
-            raise
-
-    def _open(self, cores: int, built: Options, memory: Mapping[int, int]) -> None:
-        words = " ".join(f"{name.replace('_', '-')} {getattr(built, name)}" for name in OF_MACHINE
-                         if name != "private_write")
-        opening = " ".join(f"{address:#x} {value}" for address, value in memory.items())
-        opened = self.call(f"machine cores {cores} {words} private-write {'yes' if built.private_write else 'no'}"
-                           + (f" with {opening}" if opening else ""))
-        if opened != "opened":
-            raise NoMemory(opened) if "NoMemory" in opened else TardisError(opened)
-
-    def call(self, line: str) -> str:
-        """The answer to a line of docs/EVENTS.md."""
-        if "\n" in line or not line.isascii() or not line.strip():
-            raise ValueError("one call, in one line of ASCII")
-        sent, answers = self._player.stdin, self._player.stdout
-        assert sent and answers
-        if sent.closed:
-            raise TardisError("the machine is closed")
-        try:
-            sent.write(line + "\n")
-            answer = answers.readline()
-        except BrokenPipeError:
-            answer = ""
-        except BaseException:
-            self._player.kill()
-            self.close()
-            raise
-        if not answer:
-            raise TardisError("the player ended")
-        if answer.startswith("unread: "):
-            raise ValueError(f"{line}: {answer.removeprefix('unread: ').strip()}")
-        return answer.rstrip("\n")
-
-    def _event(self, line: str) -> Answer:
-        return answer_of(self.call(line))
+        self._line_bytes = 8 * built.line_words
+        self._checked = History(memory)
+        self._records = 0  # that are in the history
+        self.is_proved = library.loaded() is not None
+        self._driver: Driver
+        if self.is_proved:
+            self._driver = System(cores, built, self._checked._opening)
+        else:
+            self._driver = Second(cores, built, memory or {})
 
     # Events.
     def run(self, *events: str) -> list[Answer]:
-        """Makes events in one call, as `run("issue 1 R 0x8", "attempt 1")` (docs/EVENTS.md): the answer to each."""
-        return answers_of(self.call("run " + "; ".join(events)))
+        """Makes events in their order, as `run("issue 1 R 0x8", "attempt 1")` (docs/EVENTS.md): the answer to each.
+        None is made if one can't be read: that is a ValueError."""
+        return [make() for make in [self._event(each) for event in events for each in event.split(";")]]
+
+    def _event(self, text: str) -> Callable[[], Answer]:
+        """What makes an event."""
+        match text.split():
+            case ["issue", core, "R", address]:
+                return partial(self.load, number_of(core), address_of(address))
+            case ["issue", core, "W" | "S" as kind, address, value]:
+                make = self.store if kind == "W" else self.swap
+                return partial(make, number_of(core), address_of(address), number_of(value))
+            case ["attempt", core]:
+                return partial(self.attempt, number_of(core))
+            case ["advance", core]:
+                return partial(self.advance, number_of(core))
+            case ["deliver", message] if message.startswith("m"):
+                return partial(self.deliver, number_of(message[1:]))
+            case ["evict", "core" | "bank" as part, number, line]:
+                evict = self.evict_copy if part == "core" else self.evict_entry
+                at = address_of(line) if line.startswith("0x") else self._line_bytes * number_of(line)
+                return partial(evict, number_of(number), at)
+        raise ValueError(f"{text!r} is no event")
+
+    def _issue(self, core: int, kind: str, address: int, value: int | None) -> Answer:
+        operation(core, kind, address, value)
+        answer = self._driver.issue(core, kind, address, value)
+        if answer.name == "issued":
+            self._checked.issue(core, kind, address, value)
+        return answer
 
     def load(self, core: int, address: int) -> Answer:
         """Issues a load: it is attempted later."""
-        return self._event(f"issue {core} R {address:#x}")
+        return self._issue(core, "R", address, None)
 
     def store(self, core: int, address: int, value: int) -> Answer:
         """Issues a store."""
-        return self._event(f"issue {core} W {address:#x} {value}")
+        return self._issue(core, "W", address, value)
 
     def swap(self, core: int, address: int, value: int) -> Answer:
         """Issues a swap, which stores a value and receives the old one."""
-        return self._event(f"issue {core} S {address:#x} {value}")
+        return self._issue(core, "S", address, value)
 
     def attempt(self, core: int) -> Answer:
         """The core attempts its open operation: completed, requested, waiting, idle, or refused (NoRoom: evict
         `victim`)."""
-        return self._event(f"attempt {core}")
+        return self._driver.event("attempt", seat("core", core))
 
     def deliver(self, number: int) -> Answer:
-        """The message of this number arrives."""
-        return self._event(f"deliver m{number}")
+        """The message of this number arrives: delivered, dropped, held (deliver it again later) or started."""
+        return self._driver.event("deliver", ranged("number", number, MOST))
 
     def evict_copy(self, core: int, address: int) -> Answer:
         """The core gives up its copy of a line."""
-        return self._event(f"evict core {core} {address:#x}")
+        return self._driver.evict("core", seat("core", core), byte_address(address))
 
     def evict_entry(self, bank: int, address: int) -> Answer:
         """The bank gives up its entry of a line, or recalls the line first."""
-        return self._event(f"evict bank {bank} {address:#x}")
+        return self._driver.evict("bank", seat("bank", bank), byte_address(address))
 
     def advance(self, core: int) -> Answer:
         """The core's time goes on by one tick."""
-        return self._event(f"advance {core}")
+        return self._driver.event("advance", seat("core", core))
 
     # Look-ups.
     def in_flight(self) -> list[int]:
         """The numbers of the messages in flight, in the order of sending."""
-        told = self.call("flight")
-        if told == "refused NoMemory":
-            raise NoMemory(told)
-        return [int(word[1:]) for word in told.split() if word != "none"]
+        return self._driver.in_flight()
 
     def message(self, number: int) -> Message | None:
         """The message in flight that has this number."""
-        told = self.call(f"message m{number}")
-        if told == "none":
-            return None
-        kind, sender, sent_by, _, receiver, sent_to, address, *carries = told.split()
-        return Message(number, kind, f"{sender} {sent_by}", f"{receiver} {sent_to}", int(address, 16),
-                       " ".join(carries))
+        return self._driver.message(ranged("number", number, MOST))
 
     def victim(self, core: int, address: int) -> int | None:
-        """The line to evict so that the core has a place for this one."""
-        told = self.call(f"victim {core} {address:#x}")
-        return None if told == "none" else int(told, 16)
+        """The line to evict so that the core has a place for this one; None if it has one."""
+        return self._driver.victim(seat("core", core), byte_address(address))
 
     def room(self, number: int) -> tuple[int, int] | None:
-        """Bank and line to evict so that this message, which was held, finds room."""
-        told = self.call(f"room m{number}").split()
-        return (int(told[1]), int(told[2], 16)) if told[0] == "bank" else None
+        """Bank and line to evict so that this message, which was held, finds room; None if that is of no use."""
+        return self._driver.room(ranged("number", number, MOST))
 
     def open_operation(self, core: int) -> str | None:
-        """The operation that the core was issued and hasn't completed."""
-        told = self.call(f"open {core}")
-        return None if told == "none" else told
+        """The operation that the core was issued and hasn't completed, as `R 0x8`; and `requested` behind it if its
+        request is out."""
+        return self._driver.open_operation(seat("core", core))
+
+    def copies(self, core: int) -> list[int]:
+        """The lines that the core has copies of, rising; none of a core that there isn't."""
+        return self._driver.lines("copies", seat("core", core))
+
+    def entries(self, bank: int) -> list[int]:
+        """The lines that the bank has Shared or Exclusive, rising; none of a bank that there isn't."""
+        return self._driver.lines("entries", seat("bank", bank))
+
+    def owners(self, address: int) -> int:
+        """How many own a line, 0 or 1: its Exclusive copy, or a grant or a return of it in flight."""
+        return self._driver.owners(byte_address(address))
 
     def value(self, address: int) -> int:
         """The word's value, where its line now is."""
-        return int(self.call(f"word {address:#x}"))
+        return self._driver.value(byte_address(address))
+
+    def totals(self) -> Totals:
+        """What the machine has counted."""
+        return self._driver.totals()
 
     def records(self, first: int = 0) -> Records:
         """The completed operations, from this number on."""
-        return Records(record_of(self.call(f"record {number}")) for number in range(first, int(self.call("records"))))
+        records = Records()
+        while (record := self._driver.record(ranged("first", first, MOST) + len(records))) is not None:
+            records.append(record)
+        return records
 
     def check(self) -> str:
-        """The checker's verdict on the records: always legal."""
-        return self.call("check")
+        """The checker's verdict on the records, against what was issued: always legal. Each call goes through all of
+        them."""
+        for record in self.records(self._records):
+            self._checked.add(record)
+            self._records += 1
+        return self._checked.verdict().text
 
-    # The player.
+    # The machine itself.
     def close(self) -> None:
-        """Ends the player; a call is then a TardisError."""
-        for pipe in (self._player.stdin, self._player.stdout):
-            with contextlib.suppress(BrokenPipeError):
-                if pipe:
-                    pipe.close()
-        self._player.wait()
-
-    def __del__(self) -> None:
-        if hasattr(self, "_player"):
-            self.close()
+        """Gives the machine's memory back; a call is then a TardisError."""
+        self._driver.close()
 
     def __enter__(self) -> "Machine":
         return self
@@ -207,3 +184,18 @@ class Machine:
     def __iter__(self) -> Iterator[Message]:
         """The messages in flight."""
         return iter([message for number in self.in_flight() if (message := self.message(number))])
+
+
+def number_of(word: str) -> int:
+    """A decimal number of an event."""
+    if not (word.isascii() and word.isdecimal()):
+        raise ValueError(f"{word!r} is no number")
+    return int(word)
+
+
+def address_of(word: str) -> int:
+    """A byte address of an event, as 0x28."""
+    digits = word.removeprefix("0x")
+    if digits == word or not digits or set(digits) - set("0123456789abcdef"):
+        raise ValueError(f"{word!r} is no address")
+    return int(digits, 16)

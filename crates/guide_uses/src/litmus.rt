@@ -4,11 +4,12 @@ ghost use Rattle.report.specs.Litmus.{IsLitmusReport};
 
 use report::{Done, FromRead, LitmusOptions, RunError, ToWrite, run_litmus};
 use std::alloc::Global;
+use std::rt::Clock;
 use std::thread::Threads;
 
 /// Runs the test as the options say; threads may share runs by seeds. Answers whether every run was all done, and the
 /// report: each end state in it is one that sequential consistency allows.
-pub fn run_text<R: Threads + Sync>(
+pub fn run_text<R: Threads + Clock + Sync>(
     rt: &R,
     alloc: Global,
     text: &[u8],

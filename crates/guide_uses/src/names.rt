@@ -19,6 +19,7 @@ use report::{
     run_trace, trace_text,
 };
 use std::alloc::{AllocError, Global};
+use std::rt::Clock;
 use std::thread::Threads;
 use trace_reader::{FromRead, Source, Trace, TraceError, read, read_records};
 use worker_driver::{
@@ -70,7 +71,7 @@ pub fn ends_by_a_seed<P: Program>(
 }
 
 /// All seats of a machine after two workers gave each at most 1,000 turns.
-pub fn ends_by_threads<R: Threads + Sync, P: Program + Send + Drop>(
+pub fn ends_by_threads<R: Threads + Clock + Sync, P: Program + Send + Drop>(
     rt: &R,
     alloc: Global,
     machine: &Machine,
@@ -140,7 +141,7 @@ pub fn counts(alloc: Global, trace: &[u8], records: &[u8]) -> Result<(u32, usize
 }
 
 /// Whether the records that a run of this trace leaves are legal.
-pub fn is_checked<R: Threads + Sync>(
+pub fn is_checked<R: Threads + Clock + Sync>(
     rt: &R,
     alloc: Global,
     trace: &[u8],

@@ -1,6 +1,6 @@
 -- What C has of answers, messages and what else a machine shows.
 use Rattle.std.specs.Prelude.{ℕ, ◌-◌, ◌*◌, ◌^◌, nat_lt, Bool, true, false, Option, Some, None, if◌then◌else◌}
-use Rattle.std.specs.Prelude.{is_some, unwrap_or}
+use Rattle.std.specs.Prelude.{is_some, unwrap_or, List, replicate}
 use Rattle.physiological_order.specs.declared.operation.Op.{Op}
 use Rattle.physiological_order.specs.declared.operation.Op.TheVariants.{Load, Store, Swap}
 use Rattle.physiological_order.specs.declared.operation.Record.{Record}
@@ -11,6 +11,7 @@ use Rattle.network.specs.declared.message.Body.TheVariants.{DramStRep}
 use Rattle.network.specs.declared.message.Message.{Message}
 use Rattle.network.specs.declared.message.Node.{Node}
 use Rattle.network.specs.declared.message.Node.TheVariants.{Core, Bank, Dram}
+use Rattle.network.specs.declared.message.TimedLine.{TimedLine}
 use Rattle.machine_table.specs.declared.event.Answer.{Answer}
 use Rattle.machine_table.specs.declared.event.Answer.TheVariants.{Issued, Completed, Requested, Waiting, Idle}
 use Rattle.machine_table.specs.declared.event.Answer.TheVariants.{Delivered, Dropped, Held, Started, Evicted, Recalled}
@@ -73,22 +74,30 @@ answer_of Recalled = bare 10 0
 answer_of Advanced = bare 11 0
 answer_of (Refused refusal) = bare 12 (number_of refusal)
 
--- the kind of a message, and the times that it carries; a line has those of its last write and of its lease's end
+-- a message of this kind that carries nothing
+abbrev pub bare_of : ℕ → Carried
+bare_of kind = record { kind = kind; pts = 0; version = None; wts = 0; rts = 0; words = replicate 8 0 }
+
+-- a line has the times of its last write and of its lease's end
+abbrev pub timed : ℕ → TimedLine → Carried
+timed kind line = record (bare_of kind) { wts = line.wts; rts = line.rts; words = line.words }
+
+-- the kind of a message, and what it carries
 abbrev pub said : Body → Carried
-said (ShReq pts version) = record { kind = 0; pts = pts; version = version; wts = 0; rts = 0 }
-said (ExReq version) = record { kind = 1; pts = 0; version = version; wts = 0; rts = 0 }
-said (ShRep line) = record { kind = 2; pts = 0; version = None; wts = line.wts; rts = line.rts }
-said (ExRep line) = record { kind = 3; pts = 0; version = None; wts = line.wts; rts = line.rts }
-said (RenewRep rts) = record { kind = 4; pts = 0; version = None; wts = 0; rts = rts }
-said (UpgradeRep rts) = record { kind = 5; pts = 0; version = None; wts = 0; rts = rts }
-said FlushReq = record { kind = 6; pts = 0; version = None; wts = 0; rts = 0 }
-said (WbReq rts) = record { kind = 7; pts = 0; version = None; wts = 0; rts = rts }
-said (FlushRep line) = record { kind = 8; pts = 0; version = None; wts = line.wts; rts = line.rts }
-said (WbRep line) = record { kind = 9; pts = 0; version = None; wts = line.wts; rts = line.rts }
-said DramLd = record { kind = 10; pts = 0; version = None; wts = 0; rts = 0 }
-said (DramLdRep words) = record { kind = 11; pts = 0; version = None; wts = 0; rts = 0 }
-said (DramSt words) = record { kind = 12; pts = 0; version = None; wts = 0; rts = 0 }
-said DramStRep = record { kind = 13; pts = 0; version = None; wts = 0; rts = 0 }
+said (ShReq pts version) = record (bare_of 0) { pts = pts; version = version }
+said (ExReq version) = record (bare_of 1) { version = version }
+said (ShRep line) = timed 2 line
+said (ExRep line) = timed 3 line
+said (RenewRep rts) = record (bare_of 4) { rts = rts }
+said (UpgradeRep rts) = record (bare_of 5) { rts = rts }
+said FlushReq = bare_of 6
+said (WbReq rts) = record (bare_of 7) { rts = rts }
+said (FlushRep line) = timed 8 line
+said (WbRep line) = timed 9 line
+said DramLd = bare_of 10
+said (DramLdRep words) = record (bare_of 11) { words = words }
+said (DramSt words) = record (bare_of 12) { words = words }
+said DramStRep = bare_of 13
 
 -- what an end is, and its number
 abbrev pub end_of : Node → ℕ × ℕ
@@ -114,6 +123,7 @@ message_of number message = record {
   version = unwrap_or (said message.body).version 0;
   wts = (said message.body).wts;
   rts = (said message.body).rts;
+  words = (said message.body).words;
 }
 
 -- 0 without an open operation, 2 if its request is out, 1 if it isn't

@@ -1,5 +1,8 @@
 -- What calls of a machine do: `old` is the machine that the handle had before the call, `new` the one after it.
-use Rattle.std.specs.Prelude.{◌≡◌, ◌≢◌, ◌⊎◌, ℕ, true, false, List, length, nat_lt}
+use Rattle.std.specs.Prelude.{◌≡◌, ◌≢◌, ◌⊎◌, ℕ, true, false, List, ◌++◌, take, drop, length, nat_lt}
+use Rattle.std.specs.Prelude.{Result, Ok, Err, IfOk}
+use Rattle.std.specs.declared.alloc.Global.{Global}
+use Rattle.std.specs.declared.vec.Vec.{Vec}
 use Rattle.std.specs.Prelude.{Option, Some, None, MatchOption, if◌then◌else◌, option_map}
 use Rattle.network.specs.NumberedMessages.{at_number}
 use Rattle.machine_table.specs.declared.event.Answer.{Answer}
@@ -39,10 +42,33 @@ abbrev pub Tells : {Out : Type 0} → (old new : Option Machine) → (before aft
 Tells old new before after number look = Asked old new before after number (λ machine.
     (new ≡ Some machine) × ((after, number) ≡ told before (look machine)))
 
--- the same of a line's number; or an allocation failed, 3, and what was told stays
-abbrev pub TellsLine : (old new : Option Machine) → (before after number : ℕ) → (Machine → Option ℕ) → Type 0
-TellsLine old new before after number look = Asked old new before after number (λ machine. (new ≡ Some machine)
-    × (((after, number) ≡ told before (look machine)) ⊎ ((after ≡ before) × (number ≡ 3))))
+-- lines are written over the front of others, as far as there are any
+abbrev pub put_over : (lines old : List ℕ) → List ℕ
+put_over lines old = take (length old) lines ++ drop (length lines) old
+
+-- where there is a part of this number its lines, unless an allocation failed; nothing where there is none
+abbrev pub AreLines : {E : Type 0} → Option (Result (Vec ℕ Global) E) → (seat seats : ℕ) → List ℕ → Type 0
+AreLines None seat seats lines = nat_lt seat seats ≡ false
+AreLines (Some found) seat seats lines = (nat_lt seat seats ≡ true) × IfOk found (λ all. all.items ≡ lines)
+
+-- 18 where nothing is found, 3 where an allocation failed, and what was told stays; else as many lines as there is room
+-- for, and how many there are
+abbrev pub TellsFound : {E : Type 0} → Option (Result (Vec ℕ Global) E) → (before after : List ℕ × ℕ) → (number : ℕ) →
+    Type 0
+TellsFound None before after number = (after ≡ before) × (number ≡ 18)
+TellsFound (Some (Err e)) before after number = (after ≡ before) × (number ≡ 3)
+TellsFound (Some (Ok lines)) before after number =
+    (after ≡ (put_over lines.items before.0, length lines.items)) × (number ≡ 0)
+
+-- the machine stays; a part that isn't there is 18; of one that is there the lines are told, or an allocation failed
+abbrev pub TellsLines : (old new : Option Machine) → (before after : List ℕ × ℕ) → (number seat : ℕ) →
+    (Machine → ℕ) → (Machine → List ℕ) → Type 0
+TellsLines old new before after number seat seats look =
+    Asked old new before after number (λ machine. (new ≡ Some machine)
+    × (((nat_lt seat (seats machine) ≡ false) × (after ≡ before) × (number ≡ 18))
+    ⊎ ((nat_lt seat (seats machine) ≡ true)
+    × (after ≡ (put_over (look machine) before.0, length (look machine))) × (number ≡ 0))
+    ⊎ ((nat_lt seat (seats machine) ≡ true) × (after ≡ before) × (number ≡ 3))))
 
 -- one event, and its answer
 abbrev pub Steps : (old new : Option Machine) → (before after : PlainAnswer) → (number : ℕ) → Event → Type 0

@@ -1,11 +1,12 @@
 //! What a caller in C looks up in its machine.
-ghost use Rattle.std.specs.Prelude.{◌≡◌, ◌/◌, IfOk, MatchResult, Some, length, map, option_map, slice_get};
+ghost use Rattle.std.specs.Prelude.{◌≡◌, ◌≤◌, ◌⊎◌, ◌/◌, Some, length, map, option_map, slice_get};
 ghost use Rattle.machine_table.specs.Machine.{open_op};
 ghost use Rattle.machine_theorem.specs.Coherence.{coherent, owners};
 ghost use Rattle.interleaving_core.specs.LookUps.{copies, entries, make_room, victim};
 ghost use Rattle.ranked_lines.specs.Rising.{sorted};
 ghost use Rattle.tardis_c.specs.SystemParts.{open_of, place_of, plain_record, victim_of};
-ghost use Rattle.tardis_c.specs.Systems.{Tells, TellsLine, if_below, message_at, told, totals_of};
+ghost use Rattle.tardis_c.specs.Systems.{AreLines, Tells, TellsFound, TellsLines, if_below, message_at, put_over};
+ghost use Rattle.tardis_c.specs.Systems.{told, totals_of};
 
 use crate::plain::PlainRecord;
 use crate::system_parts::{
@@ -101,36 +102,59 @@ fn victim(system: &System, core: u32, line: u64) -> Option<Place>
     Some(victim_of(system.victim(core, LineNo(line))))
 }
 
-// The line at an index of a core's copies.
-fn copy_at(system: &System, core: u32, index: usize) -> Result<Option<u64>, AllocError>
-    ensures { IfOk result (λ line. line ≡ slice_get (sorted (copies system.now core)) index) }
+// The lines of a core's copies, if there is the core.
+fn copies_of(system: &System, core: u32) -> Option<Result<Vec<LineNo>, AllocError>>
+    ensures { AreLines result core (length system.now.cores) (sorted (copies system.now core)) }
 {
-    let lines = system.copies(core)?;
-    match lines.get(index) {
-        None => Ok(None),
-        Some(line) => Ok(Some(line.0)),
+    if core >= system.cores() {
+        return None;
+    }
+    Some(system.copies(core))
+}
+
+// The lines of a bank's entries, if there is the bank.
+fn entries_of(system: &System, bank: u32) -> Option<Result<Vec<LineNo>, AllocError>>
+    ensures { AreLines result bank (length system.now.banks) (sorted (entries system.now bank)) }
+{
+    if bank >= system.banks() {
+        return None;
+    }
+    Some(system.entries(bank))
+}
+
+// The smaller of two lengths.
+fn smaller(first: usize, second: usize) -> usize
+    ensures { (result ≡ first) × (first ≤ second) ⊎ (result ≡ second) × (second ≤ first) }
+{
+    if first < second { first } else { second }
+}
+
+// Writes lines over the front of others, as far as there are any.
+fn put_over(found: &[LineNo], lines: &mut [u64])
+    ensures { lines.new ≡ put_over found.now lines.old }
+{
+    for at in 0..smaller(found.len(), lines.len()) {
+        let line = found[at];
+        lines[at] = line.0;
     }
 }
 
-// The line at an index of those that a bank has.
-fn entry_at(system: &System, bank: u32, index: usize) -> Result<Option<u64>, AllocError>
-    ensures { IfOk result (λ line. line ≡ slice_get (sorted (entries system.now bank)) index) }
-{
-    let lines = system.entries(bank)?;
-    match lines.get(index) {
-        None => Ok(None),
-        Some(line) => Ok(Some(line.0)),
-    }
-}
-
-// Writes a line that was found: 0, 18 if there is none, or 3 if an allocation failed.
-fn tell_line(found: Result<Option<u64>, AllocError>, out: &mut u64) -> u32
-    ensures { MatchResult found (λ line. (out.new, result) ≡ told out.old line)
-        (λ _. (out.new ≡ out.old) × (result ≡ 3)) }
+// Writes what lines there are, and how many: 0, 18 if there is no such part, or 3 if an allocation failed.
+fn tell_lines(
+    found: Option<Result<Vec<LineNo>, AllocError>>,
+    lines: &mut [u64],
+    count: &mut usize,
+) -> u32
+    ensures { TellsFound found (lines.old, count.old) (lines.new, count.new) result }
 {
     match found {
-        Ok(line) => tell(line, out),
-        Err(AllocError) => 3,
+        None => 18,
+        Some(Err(AllocError)) => 3,
+        Some(Ok(found)) => {
+            *count = found.len();
+            put_over(&found, lines);
+            0
+        }
     }
 }
 
@@ -318,43 +342,43 @@ pub extern "C" fn tardis_c_system_value(
     0
 }
 
-/// The number of the line at an index of a core's copies, in rising order; 18 past the last one, or if there is no such
-/// core, and 3 if an allocation failed.
+/// The numbers of the lines that a core has copies of, in rising order: as many as there is room for, and how many there
+/// are. 18 if there is no such core, else 3 if an allocation failed; nothing is written then.
 #[unsafe(no_mangle)]
-pub extern "C" fn tardis_c_system_copy(
+pub extern "C" fn tardis_c_system_copies(
     alloc: Global,
     machine: &mut Handle,
     core: u32,
-    index: usize,
-    out: &mut u64,
+    lines: &mut [u64],
+    count: &mut usize,
 ) -> u32
-    ensures { TellsLine machine.old.owner.held machine.new.owner.held out.old out.new result
-        (λ m. slice_get (sorted (copies m core)) index) }
+    ensures { TellsLines machine.old.owner.held machine.new.owner.held (lines.old, count.old)
+        (lines.new, count.new) result core (λ m. length m.cores) (λ m. sorted (copies m core)) }
 {
     let Some(system) = take_out(alloc, machine) else {
         return 16;
     };
-    let found = copy_at(&system, core, index);
+    let found = copies_of(&system, core);
     put_back(machine, system);
-    tell_line(found, out)
+    tell_lines(found, lines, count)
 }
 
-/// The number of the line at an index of those that a bank has Shared or Exclusive, in the same way.
+/// The numbers of the lines that a bank has Shared or Exclusive, in the same way.
 #[unsafe(no_mangle)]
-pub extern "C" fn tardis_c_system_entry(
+pub extern "C" fn tardis_c_system_entries(
     alloc: Global,
     machine: &mut Handle,
     bank: u32,
-    index: usize,
-    out: &mut u64,
+    lines: &mut [u64],
+    count: &mut usize,
 ) -> u32
-    ensures { TellsLine machine.old.owner.held machine.new.owner.held out.old out.new result
-        (λ m. slice_get (sorted (entries m bank)) index) }
+    ensures { TellsLines machine.old.owner.held machine.new.owner.held (lines.old, count.old)
+        (lines.new, count.new) result bank (λ m. length m.banks) (λ m. sorted (entries m bank)) }
 {
     let Some(system) = take_out(alloc, machine) else {
         return 16;
     };
-    let found = entry_at(&system, bank, index);
+    let found = entries_of(&system, bank);
     put_back(machine, system);
-    tell_line(found, out)
+    tell_lines(found, lines, count)
 }

@@ -1,10 +1,10 @@
 //! Answers, messages and what else a machine shows, as C has them.
-ghost use Rattle.std.specs.Prelude.{◌≡◌, None};
-ghost use Rattle.tardis_c.specs.SystemParts.{answer_of, bare, capped, end_of, message_of, open_of};
-ghost use Rattle.tardis_c.specs.SystemParts.{place_of, plain_op, plain_record, said, victim_of};
+ghost use Rattle.std.specs.Prelude.{◌≡◌};
+ghost use Rattle.tardis_c.specs.SystemParts.{answer_of, bare, bare_of, capped, end_of, message_of, open_of};
+ghost use Rattle.tardis_c.specs.SystemParts.{place_of, plain_op, plain_record, said, timed, victim_of};
 
 use crate::plain::{PlainOperation, PlainRecord};
-use interleaving_core::{Answer, Body, LineNo, Message, Node, TimedLine};
+use interleaving_core::{Answer, Body, LineNo, Message, Node, TimedLine, Words};
 use physiological_order::{Op, Record};
 
 /// The answer to an event, as `tardis.h` has it.
@@ -44,6 +44,8 @@ pub struct PlainMessage {
     pub wts: u64,
     /// The time up to which the line may be read.
     pub rts: u64,
+    /// The line's words: all eight, or the first where lines have one.
+    pub words: [u64; 8],
 }
 
 /// A core's open operation, as `tardis.h` has it.
@@ -68,7 +70,7 @@ pub struct Place {
     pub line: u64,
 }
 
-/// What a message says, without the words that it carries.
+/// What a message says.
 #[derive(Clone, Copy)]
 struct Carried {
     kind: u64,
@@ -76,6 +78,7 @@ struct Carried {
     version: Option<u64>,
     wts: u64,
     rts: u64,
+    words: [u64; 8],
 }
 
 /// A count in 64 bits: the greatest such number if it is past that.
@@ -177,36 +180,76 @@ pub(crate) fn answer_of(answer: &Answer) -> PlainAnswer
     }
 }
 
-// What a line in a message says.
-fn timed(kind: u64, line: &TimedLine) -> Carried
-    ensures { result ≡ record {
-      kind = kind;
-      pts = 0;
-      version = None;
-      wts = line.now.wts;
-      rts =
-          line.now.rts;
-    } }
+// The words of a line.
+fn all_words(words: &Words) -> [u64; 8]
+    ensures { result ≡ words.now }
 {
-    Carried {
-        kind,
-        pts: 0,
-        version: None,
-        wts: line.wts,
-        rts: line.rts,
-    }
+    [
+        words.get(0),
+        words.get(1),
+        words.get(2),
+        words.get(3),
+        words.get(4),
+        words.get(5),
+        words.get(6),
+        words.get(7),
+    ]
 }
 
-// What a message says up to which time.
-fn until(kind: u64, rts: u64) -> Carried
-    ensures { result ≡ record { kind = kind; pts = 0; version = None; wts = 0; rts = rts } }
+// What a message says that carries nothing.
+fn bare_of(kind: u64) -> Carried
+    ensures { result ≡ bare_of kind }
 {
     Carried {
         kind,
         pts: 0,
         version: None,
         wts: 0,
+        rts: 0,
+        words: [0; 8],
+    }
+}
+
+// What a line in a message says.
+fn timed(kind: u64, line: &TimedLine) -> Carried
+    ensures { result ≡ timed kind line.now }
+{
+    Carried {
+        wts: line.wts,
+        rts: line.rts,
+        words: all_words(&line.words),
+        ..bare_of(kind)
+    }
+}
+
+// What a message says up to which time.
+fn until(kind: u64, rts: u64) -> Carried
+    ensures { result ≡ record (bare_of kind) { rts = rts } }
+{
+    Carried {
         rts,
+        ..bare_of(kind)
+    }
+}
+
+// What a message from or to DRAM says that brings words.
+fn bringing(kind: u64, words: &Words) -> Carried
+    ensures { result ≡ record (bare_of kind) { words = words.now } }
+{
+    Carried {
+        words: all_words(words),
+        ..bare_of(kind)
+    }
+}
+
+// What a request says.
+fn asking(kind: u64, pts: u64, version: Option<u64>) -> Carried
+    ensures { result ≡ record (bare_of kind) { pts = pts; version = version } }
+{
+    Carried {
+        pts,
+        version,
+        ..bare_of(kind)
     }
 }
 
@@ -215,32 +258,20 @@ fn said(body: &Body) -> Carried
     ensures { result ≡ said body.now }
 {
     match body {
-        Body::ShReq { pts, version } => Carried {
-            kind: 0,
-            pts: *pts,
-            version: *version,
-            wts: 0,
-            rts: 0,
-        },
-        Body::ExReq { version } => Carried {
-            kind: 1,
-            pts: 0,
-            version: *version,
-            wts: 0,
-            rts: 0,
-        },
+        Body::ShReq { pts, version } => asking(0, *pts, *version),
+        Body::ExReq { version } => asking(1, 0, *version),
         Body::ShRep(line) => timed(2, line),
         Body::ExRep(line) => timed(3, line),
         Body::RenewRep { rts } => until(4, *rts),
         Body::UpgradeRep { rts } => until(5, *rts),
-        Body::FlushReq => until(6, 0),
+        Body::FlushReq => bare_of(6),
         Body::WbReq { rts } => until(7, *rts),
         Body::FlushRep(line) => timed(8, line),
         Body::WbRep(line) => timed(9, line),
-        Body::DramLd => until(10, 0),
-        Body::DramLdRep(_) => until(11, 0),
-        Body::DramSt(_) => until(12, 0),
-        Body::DramStRep => until(13, 0),
+        Body::DramLd => bare_of(10),
+        Body::DramLdRep(words) => bringing(11, words),
+        Body::DramSt(words) => bringing(12, words),
+        Body::DramStRep => bare_of(13),
     }
 }
 
@@ -275,6 +306,7 @@ pub(crate) fn message_of(number: u64, message: &Message) -> PlainMessage
         version: said.version.unwrap_or(0),
         wts: said.wts,
         rts: said.rts,
+        words: said.words,
     }
 }
 

@@ -1,5 +1,4 @@
 mod Pieces
-mod Lines
 mod Fronts
 mod Titles
 mod NameIndex

@@ -60,7 +60,7 @@ word-first p kind b (c ∷ bytes) h =
           ∙ ap (λ (x : Piece). x ∷ pieces_of (c ∷ bytes)) (kind.lone b h))
     ]
 
-blank-cases : (P : ℕ → Type 0) → P 32 → P 9 → P 13 → (b : ℕ) → is_blank b ≡ true → P b
+pub blank-cases : (P : ℕ → Type 0) → P 32 → P 9 → P 13 → (b : ℕ) → is_blank b ≡ true → P b
 blank-cases P x y z b h =
     elim (or_cases (eqb b 32 || eqb b 9) (eqb b 13) h) [
       | inl h' ↦ elim (or_cases (eqb b 32) (eqb b 9) h') [

@@ -1,11 +1,10 @@
 -- The first line, both ways.
-use Rattle.std.proofs.Common.{◌≡◌, ◌≢◌, ℕ, ◌<◌, ◌≤◌, Bool, true, false, cond, eqb, ltb, ◌||◌, ◌&&◌, List, [], ◌∷◌}
-use Rattle.std.proofs.Common.{◌++◌, length, take, drop, Option, Some, None, refl, sym, ap, subst, ◌∙◌, inl, inr}
-use Rattle.std.proofs.Common.{arith, codes}
+use Rattle.std.proofs.Common.{◌≡◌, ◌≢◌, ℕ, ◌<◌, ◌≤◌, Bool, true, false, cond, eqb, ltb, ◌&&◌, List, [], ◌∷◌, ◌++◌}
+use Rattle.std.proofs.Common.{length, take, drop, Option, Some, None, refl, sym, ap, subst, ◌∙◌, arith, codes}
 use Rattle.std.specs.Prelude.{option_and_then, option_map, MatchOption}
 use denote.Bor.{Bor}
 use Rattle.std.specs.List.{list_all, prefix_len}
-use Rattle.std.proofs.lemmas.Bool.{and_parts, eqb-true, eqb-false, eq-eqb, ne_eqb, ltb-false, le-ltb, or_cases}
+use Rattle.std.proofs.lemmas.Bool.{and_parts, eqb-true, eqb-false, eq-eqb, ne_eqb, ltb-false, le-ltb}
 use Rattle.std.proofs.lemmas.Bool.{false_from_ne_true, both_ways}
 use Rattle.std.proofs.lemmas.List.{take-append-drop, take_at, drop_at, length-take}
 use Rattle.litmus_lexer.specs.Pieces.{is_blank}
@@ -13,16 +12,7 @@ use Rattle.litmus_lexer.specs.FirstLines.{IsTitle, is_title_byte, behind_riscv, 
 use Rattle.std.proofs.lemmas.List.Sums.{prefix_len-le-length}
 use Rattle.litmus_lexer.proofs.Fronts.{front-all, whole-front, front-append, front-whole, other-front}
 use Rattle.litmus_lexer.proofs.Fronts.{other-front-append}
-
-blank-cases : (P : ℕ → Type 0) → P 32 → P 9 → P 13 → (b : ℕ) → is_blank b ≡ true → P b
-blank-cases P x y z b h =
-    elim (or_cases (eqb b 32 || eqb b 9) (eqb b 13) h) [
-      | inl h' ↦ elim (or_cases (eqb b 32) (eqb b 9) h') [
-        | inl e ↦ subst P (sym (eqb-true b 32 e)) x
-        | inr e ↦ subst P (sym (eqb-true b 9 e)) y
-      ]
-      | inr e ↦ subst P (sym (eqb-true b 13 e)) z
-    ]
+use Rattle.litmus_lexer.proofs.Pieces.{blank-cases}
 
 blank-apart : (b : ℕ) → is_blank b ≡ true → is_title_byte b ≡ false
 blank-apart b h = blank-cases (λ b. is_title_byte b ≡ false) refl refl refl b h

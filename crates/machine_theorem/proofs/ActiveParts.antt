@@ -1,13 +1,13 @@
 -- Which messages, attempts and evictions a part always does something with.
-use Rattle.std.proofs.Common.{◌≡◌, ℕ, ◌+◌, ◌<◌, Bool, true, false, cond, eqb, List, [], ◌∷◌, ◌≤◌, length, Option, Some}
-use Rattle.std.proofs.Common.{None, inl, inr, ◌⊎◌, refl, sym, ap, ◌∙◌, subst, arith, is_some, option_map, nat_cmp}
+use Rattle.std.proofs.Common.{◌≡◌, Bool, true, false, length, Option, subst, arith, is_some, option_map, nat_cmp, rules}
+use Rattle.std.proofs.Common.{ℕ, ◌+◌, ◌<◌, cond, eqb, List, [], ◌∷◌, ◌≤◌, Some, None, inl, inr, ◌⊎◌, refl, sym, ap, ◌∙◌}
 use Rattle.std.specs.List as list
 use Rattle.std.specs.List.{list_all}
 use Rattle.std.specs.FinMap.{FinMap}
 use Rattle.std.proofs.lemmas.Bool.Decides.{nat_tests}
 use Rattle.std.proofs.lemmas.Bool.{and_parts, cond-true, cond-false, eqb-true, eq-eqb}
 use Rattle.physiological_order.specs.declared.operation.Op.{Op}
-use Rattle.physiological_order.specs.declared.operation.Op.TheVariants.{Load, Store, Swap}
+use Rattle.physiological_order.specs.declared.operation.Op.TheVariants.{Load}
 use Rattle.network.specs.declared.message.Body.{Body}
 use Rattle.network.specs.declared.message.Body.TheVariants as body
 use Rattle.network.specs.declared.message.Message.{Message}
@@ -81,8 +81,7 @@ pub pinned_op : (core : CoreState) (line : ℕ) → is_pinned (core_table.pinned
     (op : Op) × (core.open_op ≡ Some op) × (core_table.line_of core op ≡ line)
 pinned_op core line pinned = go core.open_op refl
   where
-    go : (o : Option Op) → core.open_op ≡ o →
-        (op : Op) × (core.open_op ≡ Some op) × (core_table.line_of core op ≡ line)
+    go : (o : Option Op) → core.open_op ≡ o → (op : Op) × (core.open_op ≡ Some op) × (core_table.line_of core op ≡ line)
     go None opens = grind arith
     go (Some op) opens = (
       op,
@@ -161,18 +160,13 @@ module _ (core : CoreState) (op : Op) where
   pub needs : (version : Option ℕ) (p : Op) → IsTrying true (attempted core op
       (Some (core_table.need core.pts p version), core))
   needs version (Load a) = tt
-  needs version (Store a v) = tt
-  needs version (Swap a v) = tt
+  needs version _ = tt
 
   -- a core whose request isn't out completes its operation or asks, where a copy finds a place
   pub quiet_tries : core.is_out ≡ false → (o : Option LineCopy) →
       (o ≡ None → place_for core.cache (core_table.line_of core op) ≡ true) →
       IsTrying true (attempted core op (core_table.attempt_on core op o))
-  quiet_tries quiet None place =
-      subst (λ (t : Attempt). IsTrying true (attempted core op (Some t, core)))
-      (sym (cond-false core.is_out attempt.Waiting _ quiet
-      ∙ cond-true (place_for core.cache (core_table.line_of core op)) _ attempt.NoRoom (place refl)))
-      (needs None op)
+  quiet_tries quiet None place = search (rules, cond-false, cond-true, needs)
   quiet_tries quiet (Some held) place = go (on_copy.serves op core.pts held)
     where
       go : (b : Bool) → IsTrying true (attempted core op (cond b

@@ -135,7 +135,6 @@ module _ (config : Config) (opening : FinMap nat_cmp ℕ) (a : State) (s : IsKep
   pub entry_goes : (o : Option Entry) → entry_of bank l ≡ o →
       Goes config opening turns.delivering a (with_bank a b) a.bag
       (entry_evicted (after_eviction bank l (on_entry.evicted o)))
-  entry_goes None e = tt
   entry_goes (Some (entry.Shared false line)) e =
       step (max bank.mts line.rts) (without_entry bank l).table None (messages_of a.bag l) a.bag a.counts
       (drop_now own_set bank.table.sets is.sets l) tt refl (λ k ne. refl) s.shape.each_message

@@ -1,7 +1,8 @@
 -- The moves of a core keep the invariant: issues, attempts, evictions and advances.
 use Rattle.std.proofs.Common.{◌≡◌, ◌≢◌, ℕ, ◌+◌, ◌-◌, ◌%◌, ◌/◌, ◌<◌, ◌≤◌, Bool, true, false, cond, eqb, List, [], ◌∷◌}
 use Rattle.std.proofs.Common.{◌++◌, length, Option, Some, None, refl, sym, ap, ◌∙◌, subst, arith, ⊎_elim, length-append}
-use Rattle.std.specs.Prelude.{Result, Ok, Err, option_map}
+use Rattle.std.proofs.Common.{rules}
+use Rattle.std.specs.Prelude.{Result, Ok, Err}
 use Rattle.std.specs.Ordering.{nat_cmp}
 use Rattle.std.specs.FinMap.{FinMap}
 use Rattle.std.specs.List.{AllByRecursion as Each}
@@ -31,9 +32,8 @@ use Rattle.machine_table.specs.declared.config.Config.{Config}
 use Rattle.machine_table.specs.Step as step
 use Rattle.machine_table.specs.Step.{record_of}
 use Rattle.protocol.specs.Machine as by_line
-use Rattle.protocol.specs.Machine.{Copy, Line, Core, ShReq, ExReq, version_of, line_of, with_at, IsPinned, CannotUse}
-use Rattle.protocol.specs.Machine.{Asks, to_read, to_write, Uses, issue, advance, ask, complete, evict_shared}
-use Rattle.protocol.specs.Machine.{evict_exclusive}
+use Rattle.protocol.specs.Machine.{version_of, IsPinned, CannotUse, to_write, complete, evict_shared, evict_exclusive}
+use Rattle.protocol.specs.Machine.{Copy, Line, ShReq, ExReq, line_of, with_at, Asks, to_read, Uses, issue, advance, ask}
 use Rattle.protocol.proofs.Lemmas.{with_at_same, with_at_other, with_at_cases, with_at_id, reachable_ok}
 use Rattle.protocol.proofs.Lemmas.{reachable_blocked, Some_injective}
 use Rattle.machine_theorem.specs.States.{State}
@@ -128,23 +128,11 @@ module _ (config : Config) (opening : FinMap nat_cmp ℕ) (a : State) (s : IsKep
     -- and so are the messages, records and counts
     pub shape : (bag : List Message) (rs : List Record) (counts : Counts) → Each (GoesHome config) bag →
         HasShape config opening (record a { cores = with_at a.cores c new; bag = bag; records = rs; counts = counts })
-    shape bag rs counts each =
-        shape_by s.shape.some_words s.shape.some_banks
-        (with_at_cases (λ j y. IsCore config j (a.issued j) y) a.cores c new is_core (λ j ne. s.shape.each_core j))
-        s.shape.each_bank each
-        (λ j le. with_at_other a.cores c new j (apart j le) ∙ s.shape.cores_beyond j le)
-        s.shape.banks_beyond s.shape.drams_beyond s.shape.lists_beyond
+    shape bag rs counts each = search (rules, shape_by, with_at_cases, is_core, with_at_other, apart)
 
   -- a message to the bank of a line goes home
   pub home : (l : ℕ) (b : Body) → GoesUp b → GoesHome config (to_bank core l b)
-  home l b up =
-      let home_is : l % core.banks ≡ l % config.banks = ap (λ (k : ℕ). l % k) is.banks in
-      let there : l % core.banks < config.banks = rw home_is (mod-lt l s.shape.some_banks) in (
-        tt,
-        home_is,
-        up config.cores config.banks (node.Core core.number) (node.Bank (l % core.banks))
-            ∙ core_and_bank config.cores config.banks core.number (l % core.banks) (rw is.numbered below) there,
-      )
+  home l b up = search (rules, is, mod-lt, shape, core_and_bank)
 
   -- it is sent, among these messages
   pub sent : (l : ℕ) (b : Body) (bag : List Message) →
@@ -158,11 +146,7 @@ module _ (config : Config) (opening : FinMap nat_cmp ℕ) (a : State) (s : IsKep
 
   pub off_line : (l : ℕ) → is_pinned (pinned_line core) l ≡ false → (op : Op) → core.open_op ≡ Some op →
       core_table.line_of core op ≢ l
-  off_line l off op opens q =
-      let z : eqb (core_table.line_of core op) l ≡ true = eq-eqb _ _ q in
-      let w : eqb (core_table.line_of core op) l ≡ false =
-      sym (ap (λ (o : Option Op). is_pinned (option_map (core_table.line_of core) o) l) opens) ∙ off in
-      cc
+  off_line l off op opens q = search (rules, eqb, eq-eqb)
 
   pub unpinned : (l : ℕ) → is_pinned (pinned_line core) l ≡ false → IsPinned f v.cores l c → ⊥
   unpinned l off p = off_line l off p.0 p.1 (ap (λ (k : ℕ). address p.0 / k) is.line_words ∙ p.2)
@@ -230,8 +214,7 @@ module _ (config : Config) (opening : FinMap nat_cmp ℕ) (a : State) (s : IsKep
         let n = k.0 in let i = is.count in omega arith
 
     -- an operation that its copy serves has no request out
-    quiet : (copy : LineCopy) → copy_of core.cache l ≡ Some copy → serves op core.pts copy ≡ true →
-        core.is_out ≡ false
+    quiet : (copy : LineCopy) → copy_of core.cache l ≡ Some copy → serves op core.pts copy ≡ true → core.is_out ≡ false
     quiet copy there can = ⊎_elim
         (λ (o : core.is_out ≡ true). absurd (serves_clash op core.pts copy can
         (rw (on, there) at ((reachable_blocked f v s.reached.reachable).blocked c op opens o))))

@@ -9,7 +9,7 @@ use Rattle.network.specs.declared.message.Body.{Body}
 use Rattle.network.specs.declared.message.Body.TheVariants as body
 use Rattle.network.specs.declared.message.Message.{Message}
 use Rattle.physiological_order.specs.declared.operation.Op.{Op}
-use Rattle.physiological_order.specs.declared.operation.Op.TheVariants.{Load, Store, Swap}
+use Rattle.physiological_order.specs.declared.operation.Op.TheVariants.{Load}
 use Rattle.private_cache.specs.declared.line_copy.LineCopy.{LineCopy}
 use Rattle.private_cache.specs.CopyTable.{copy_of, is_pinned, with_used}
 use Rattle.core_pts.specs.declared.decision.CoreReaction.{CoreReaction}
@@ -219,8 +219,7 @@ served config a c below p held opens is serves (Some ts) t =
 pub owner_serves : (pts : ℕ) (held : LineCopy) → is_exclusive held.state ≡ true → (p : Op) →
     on_copy.serves p pts held ≡ true
 owner_serves pts held ex (Load a) = ap (λ (b : Bool). b || leb pts held.rts) ex
-owner_serves pts held ex (Store a v) = ex
-owner_serves pts held ex (Swap a v) = ex
+owner_serves pts held ex _ = ex
 
 -- a copy that owns its line
 pub owned_copy : (held : Option LineCopy) → by_line.owns (copy_or_none held) ≡ 1 →

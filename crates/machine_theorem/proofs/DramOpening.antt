@@ -1,7 +1,7 @@
 -- A DRAM opens with the words of the opening memory, eight to a line.
-use Rattle.std.proofs.Common.{◌≡◌, ◌≢◌, ℕ, zero, suc, ◌+◌, ◌*◌, ◌/◌, ◌%◌, ◌<◌, ◌≤◌, Bool, true, cond, eqb, List, []}
-use Rattle.std.proofs.Common.{◌∷◌, length, replicate, set, get_or, Option, Some, refl, sym, ap, ◌∙◌, arith, ⊎_elim, inl}
-use Rattle.std.proofs.Common.{inr, get_or-set_same, get_or-set_other, length-set, unwrap_or, mod-lt, div-add-mod'}
+use Rattle.std.proofs.Common.{◌≡◌, ◌≢◌, ℕ, suc, ◌/◌, ◌%◌, ◌<◌, ◌≤◌, Bool, true, cond, eqb, List, [], ◌∷◌, length}
+use Rattle.std.proofs.Common.{replicate, set, get_or, Option, Some, refl, sym, ap, ◌∙◌, arith, ⊎_elim, inl, inr}
+use Rattle.std.proofs.Common.{get_or-set_same, get_or-set_other, length-set, unwrap_or, mod-lt, div-add-mod', rules}
 use Rattle.std.specs.Ordering.{nat_cmp, eq_by_cmp}
 use Rattle.std.specs.FinMap.{FinMap, empty, find, get-empty}
 use Rattle.std.specs.Cmp.{unsigned_tied}
@@ -12,9 +12,8 @@ use Rattle.machine_table.specs.Opening.{with_word, dram_of}
 use Rattle.machine_theorem.proofs.DramWords.{words-insert_same, words-insert_other}
 
 pub get_replicate : {X : Type 0} (n i : ℕ) (x : X) → get_or (replicate n x) i x ≡ x
-get_replicate zero i x = refl
-get_replicate (suc n) zero x = refl
 get_replicate (suc n) (suc i) x = get_replicate n i x
+get_replicate _ _ x = refl
 
 empty_words : (l : ℕ) → words_of empty l ≡ replicate 8 0
 empty_words l = ap (λ (o : Option (List ℕ)). unwrap_or o (replicate 8 0)) (get-empty nat_cmp l)
@@ -68,18 +67,11 @@ module _ (c : Config) (bank : ℕ) where
 
     written : (lines : FinMap nat_cmp (List ℕ)) (a v : ℕ) → length (words_of lines (a / c.line_words)) ≡ 8 →
         word (with_word lines (a / c.line_words) (a % c.line_words) v) a ≡ v
-    written lines a v long =
-        ap (λ ws. get_or ws (a % c.line_words) 0) (words-insert_same lines (a / c.line_words)
-        (set (words_of lines (a / c.line_words)) (a % c.line_words) v))
-        ∙ get_or-set_same (words_of lines (a / c.line_words)) (a % c.line_words) v 0 (let lt =
-        mod-lt a some in omega arith)
+    written lines a v long = search (rules, words-insert_same, get_or-set_same, mod-lt)
 
     others : (lines : FinMap nat_cmp (List ℕ)) (a d v : ℕ) → a ≢ d →
         word (with_word lines (d / c.line_words) (d % c.line_words) v) a ≡ word lines a
-    others lines a d v ne =
-        word_stays lines (d / c.line_words) (d % c.line_words) v (a / c.line_words) (a % c.line_words)
-        (λ e q. ne (sym (div-add-mod' a c.line_words) ∙ ap (λ (n : ℕ). n * c.line_words + a % c.line_words) e
-        ∙ ap (λ (n : ℕ). d / c.line_words * c.line_words + n) q ∙ div-add-mod' d c.line_words))
+    others lines a d v ne = search (rules, word_stays, div-add-mod')
 
     pub dram_word : (es : List (ℕ × ℕ)) (a : ℕ) → (a / c.line_words) % c.banks ≡ bank → word (dram_of c bank es)
         a ≡ unwrap_or (find nat_cmp a es) 0

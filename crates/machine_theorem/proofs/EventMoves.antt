@@ -61,8 +61,7 @@ module _ (m : Machine) (s : Invariant m) where
       AreBeside a.bag to (has_case x) message (rest n)
   beside to has_case x part e None None given = refl
   beside to has_case x part e (Some message) (Some n) given = grind (arith, bag-taken n m.mail.messages message given.0)
-  beside to has_case x part e None (Some n) given = absurd given
-  beside to has_case x part e (Some message) None given = absurd given
+  beside to has_case x part e _ _ given = absurd given
 
   -- a step of a part of any kind, if it is a move
   step_goes : {S : Type 0} (n : Option ℕ) (put : S → Machine) (puts : S → State) →

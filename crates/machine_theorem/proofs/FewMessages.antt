@@ -147,8 +147,7 @@ module _ {more : Bool} (m : Machine) (able : CanSend more m) (s : Invariant m)
       (λ n x low number. ⊎_elim (λ (moves : MovesOn m). inl moves) (stays n x number)
       (message_moves m able s rising n x number))
     where
-      stays : (n : ℕ) (x : Message) → at_number n m.mail.messages ≡ Some x → Stays m n x →
-          MovesOn m ⊎ IsRequest x.body
+      stays : (n : ℕ) (x : Message) → at_number n m.mail.messages ≡ Some x → Stays m n x → MovesOn m ⊎ IsRequest x.body
       stays n x number (a_request b to at reacts is) = inr is
       stays n x number (a_recall c to at pinned is) = inl (held_moves n x number c to at pinned is)
 

@@ -29,8 +29,7 @@ case_found true x y is p = p
 case_found false x y is p = absurd (let z : false ≡ true = is in cc)
 
 module _ (m : Machine) (n : ℕ) where
-  tested_found : (b : Bool) (done other : Answer × Machine) → IsFound done → IsFound other →
-      IsFound (cond b done other)
+  tested_found : (b : Bool) (done other : Answer × Machine) → IsFound done → IsFound other → IsFound (cond b done other)
   tested_found true done other p q = p
   tested_found false done other p q = q
 

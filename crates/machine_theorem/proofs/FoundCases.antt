@@ -1,6 +1,6 @@
 -- Every message in flight has a case in the table of the part that it goes to.
-use Rattle.std.proofs.Common.{◌≡◌, ℕ, ◌%◌, ◌/◌, ◌<◌, Bool, true, false, cond, eqb, List, [], ◌∷◌, get_or, Option, Some}
-use Rattle.std.proofs.Common.{None, refl, sym, ap, ◌∙◌, subst, arith, option_map, nat_cmp, eq-eqb}
+use Rattle.std.proofs.Common.{◌≡◌, ℕ, ◌/◌, Bool, true, false, cond, eqb, List, [], ◌∷◌, get_or, Option, Some, None}
+use Rattle.std.proofs.Common.{refl, sym, ap, ◌∙◌, subst, arith, option_map, nat_cmp, eq-eqb, rules}
 use Rattle.std.specs.List.{slice_get, AllByRecursion as Each}
 use Rattle.std.specs.FinMap.{FinMap, entries}
 use Rattle.std.proofs.lemmas.Option.{slice_get-get_or, get_or_from_slice_get}
@@ -16,13 +16,12 @@ use Rattle.network.specs.Routes.{has_route, is_bank_to_dram, is_core_to_bank}
 use Rattle.private_cache.specs.declared.line_copy.LineCopy.{LineCopy}
 use Rattle.private_cache.specs.CopyTable.{copy_of, place_for}
 use Rattle.core_pts.specs.CoreTable as core_table
-use Rattle.core_pts.specs.CoreTable.{CoreState, is_pinned, waits_for, is_shared_copy, is_this_core, comes_to_core}
-use Rattle.core_pts.specs.CoreTable.{core_has_case}
+use Rattle.core_pts.specs.CoreTable.{CoreState, is_pinned, waits_for, is_shared_copy, comes_to_core, core_has_case}
 use Rattle.llc_bank.specs.declared.entry.Entry.{Entry}
 use Rattle.llc_bank.specs.declared.entry.Entry.TheVariants as entry
-use Rattle.llc_bank.specs.BankTable.{BankState, core_of, entry_of, is_core, is_owned, is_this_bank, comes_to_bank}
-use Rattle.llc_bank.specs.BankTable.{bank_has_case, bank_table}
-use Rattle.dram_mts.specs.Table.{is_dram, comes_to_dram, dram_has_case, dram_table}
+use Rattle.llc_bank.specs.BankTable.{BankState, core_of, entry_of, is_core, is_owned, comes_to_bank, bank_has_case}
+use Rattle.llc_bank.specs.BankTable.{bank_table}
+use Rattle.dram_mts.specs.Table.{comes_to_dram, dram_has_case, dram_table}
 use Rattle.machine_table.specs.declared.config.Config.{Config}
 use Rattle.machine_table.specs.declared.event.Event.TheVariants.{Deliver}
 use Rattle.machine_table.specs.Machine.{Machine, with_core, with_bank, with_dram}
@@ -38,7 +37,7 @@ use Rattle.machine_theorem.specs.States.{State, seen}
 use Rattle.machine_theorem.specs.Consistent.{FindsCase, FindsPart}
 use Rattle.machine_theorem.specs.View.{copy_or_none, copy_in, entry_seen, body_seen, message_seen, messages_of, set_up}
 use Rattle.machine_theorem.specs.View.{line_seen, view}
-use Rattle.machine_theorem.specs.Shape.{IsHome, IsCore, GoesHome}
+use Rattle.machine_theorem.specs.Shape.{IsCore, GoesHome}
 use Rattle.machine_theorem.specs.Kept.{IsKept, Invariant}
 use Rattle.machine_theorem.proofs.Lookups.{each_at_number, messages_here}
 use Rattle.machine_theorem.specs.Cases.{takes, has_case_at, has_case}
@@ -97,13 +96,6 @@ module _ (config : Config) (opening : FinMap nat_cmp ℕ) (a : State) (s : IsKep
     shared h = is_shared (copy_of core.cache x.line)
         (subst (λ (k : ℕ). IsShared (copy_in (a.cores k) x.line)) (ap core_of to) h)
 
-    core_end : (b : Body) → x.body ≡ b → c < config.cores → comes_to_core core x.line b ≡ true → Finds x.to
-    core_end b e below comes = subst Finds (sym to) (
-      below,
-      both _ _ (ap (is_this_core core.number) to ∙ eq-eqb c core.number (sym is.numbered))
-          (ap (comes_to_core core x.line) e ∙ comes),
-    )
-
   -- at a bank
   module _ (b : ℕ) (to : x.to ≡ node.Bank b) where
     abbrev bank : BankState
@@ -111,14 +103,6 @@ module _ (config : Config) (opening : FinMap nat_cmp ℕ) (a : State) (s : IsKep
 
     entry_is : (line_seen config a x.line).entry ≡ entry_seen (entry_of bank x.line)
     entry_is = grind arith
-
-    bank_end : (c : Body) → x.body ≡ c → b < config.banks → comes_to_bank x.from c (entry_of bank x.line) ≡ true →
-        Finds x.to
-    bank_end c e below comes = subst Finds (sym to) (
-      below,
-      both _ _ (ap (is_this_bank bank.number) to ∙ eq-eqb b bank.number (sym (s.shape.each_bank b).numbered))
-          (ap (λ k. comes_to_bank x.from k (entry_of bank x.line)) e ∙ comes),
-    )
 
   abbrev Waits : Body → Type 0
   Waits b = HasCase (set_up config opening) (view config a) x.line (body_seen (core_of x.from) (core_of x.to) b)
@@ -135,12 +119,7 @@ module _ (config : Config) (opening : FinMap nat_cmp ℕ) (a : State) (s : IsKep
 
   stored : (b : Body) → x.body ≡ b → is_bank_to_dram config.banks x.from x.to ≡ true → comes_to_dram b ≡ true →
       Finds x.to
-  stored b e r comes =
-      let u = back_ends _ x.from x.to r in
-      let h = subst (IsHome (x.line % config.banks)) u.from_bank goes.0 in
-      let d = subst (IsHome (x.line % config.banks)) u.to_dram goes.1 in
-      let below : u.dram < config.banks = (let k = u.some_bank in omega arith) in
-      subst Finds (sym u.to_dram) (below, both _ _ (ap is_dram u.to_dram) (ap comes_to_dram e ∙ comes))
+  stored b e r comes = search (rules, back_ends, both)
 
   fetched : (b : Body) → x.body ≡ b → is_bank_to_dram config.banks x.to x.from ≡ true →
       ((k : ℕ) (to : x.to ≡ node.Bank k) → comes_to_bank x.from b (entry_of (a.banks k) x.line) ≡ true) → Finds x.to
@@ -151,10 +130,6 @@ module _ (config : Config) (opening : FinMap nat_cmp ℕ) (a : State) (s : IsKep
   case_of (body.ExReq v) e r w = up _ e r (λ k to core. core)
   case_of (body.FlushRep y) e r w = up _ e r (λ k to core. is_granted _ (subst IsGranted (entry_is k to) w))
   case_of (body.WbRep y) e r w = up _ e r (λ k to core. is_granted _ (subst IsGranted (entry_is k to) w))
-  case_of (body.ShRep y) e r w =
-      down _ e r (λ c to. both _ _ (waiting c to (here c to w)) (place c to (here c to w)))
-  case_of (body.ExRep y) e r w =
-      down _ e r (λ c to. both _ _ (waiting c to (here c to w)) (place c to (here c to w)))
   case_of (body.RenewRep rts) e r w = down _ e r (λ c to. both _ _ (waiting c to (here c to w.0)) (shared c to w.1))
   case_of (body.UpgradeRep rts) e r w = down _ e r (λ c to. both _ _ (waiting c to (here c to w.0)) (shared c to w.1))
   case_of body.FlushReq e r w = down _ e r (λ c to. refl)
@@ -163,6 +138,7 @@ module _ (config : Config) (opening : FinMap nat_cmp ℕ) (a : State) (s : IsKep
   case_of (body.DramSt ws) e r w = stored _ e r refl
   case_of (body.DramLdRep ws) e r w = fetched _ e r (λ k to. is_loaded x.from ws _ (sym (entry_is k to) ∙ w))
   case_of body.DramStRep e r w = fetched _ e r (λ k to. is_stored x.from _ (sym (entry_is k to) ∙ w))
+  case_of _ e r w = down _ e r (λ c to. both _ _ (waiting c to (here c to w)) (place c to (here c to w)))
 
   -- it goes between nodes of its kind, to a part with a case for it
   pub finds_part : Waits x.body → FindsPart config a x
@@ -182,8 +158,7 @@ bag_finds config opening a s =
         Each (FindsPart config a) ms
     each [] goes waits = tt
     each (x ∷ xs) goes waits = (
-      finds_part config opening a s x goes.0
-          (subst (Each (Case x.line)) (messages_here x xs) (waits x.line)).0,
+      finds_part config opening a s x goes.0 (subst (Each (Case x.line)) (messages_here x xs) (waits x.line)).0,
       each xs goes.1 (λ line. rest line (eqb x.line line) (waits line)),
     )
       where

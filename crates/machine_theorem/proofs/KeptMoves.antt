@@ -1,5 +1,5 @@
 -- Every move keeps the invariant.
-use Rattle.std.proofs.Common.{arith, ◌≡◌, ℕ, ◌+◌, ◌%◌, ◌<◌, true, List, ◌∷◌, refl, ap, nat_cmp}
+use Rattle.std.proofs.Common.{arith, ◌≡◌, ℕ, ◌+◌, ◌%◌, ◌<◌, true, List, ◌∷◌, refl, ap, nat_cmp, rules}
 use Rattle.std.specs.FinMap.{FinMap}
 use Rattle.network.specs.declared.message.Node.{Node}
 use Rattle.network.specs.declared.message.Node.TheVariants as node
@@ -38,10 +38,7 @@ module _ (config : Config) (opening : FinMap nat_cmp ℕ) (a : State) (s : IsKep
       SameBag a.bag (message ∷ rest) →
       Goes config opening delivering (record a { bag = message ∷ rest }) (λ x. record (put x) { bag = message ∷ rest })
       rest done → Comes config opening Kept a put rest done
-  delivered put message rest done same goes = found_anywhere config opening a put message rest same done
-      (goes_kept config opening delivering (record a { bag = message ∷ rest })
-      (λ x. record (put x) { bag = message ∷ rest }) rest
-      done (came message rest same) goes)
+  delivered put message rest done same goes = search (rules, found_anywhere, goes_kept, delivering, came)
 
   core_goes : (c : ℕ) → c < config.cores → (act : Act) (rest : List Message) →
       AreBeside a.bag (node.Core c) (core_has_case (a.cores c)) (message_of act) rest →

@@ -142,8 +142,6 @@ module _ (config : Config) (opening : FinMap nat_cmp ℕ) where
       SameBag a.bag (message ∷ rest) → (step : Step S) →
       Comes (IsKept config opening) (record a { bag = message ∷ rest }) (λ x. record (put x) { bag = message ∷ rest })
       rest step → Comes (IsKept config opening) a put rest step
-  found_anywhere a put message rest same (Makes did true None part) goes = goes
-  found_anywhere a put message rest same (Makes did true (Some q) part) goes = goes
   found_anywhere a put message rest same (Makes did false None part) goes =
       kept_reordered _ a.bag (λ h. sym (same h)) goes
   found_anywhere a put message rest same (Makes did false (Some q) part) goes =

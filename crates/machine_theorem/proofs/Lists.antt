@@ -23,8 +23,7 @@ module _ {X : Type 0} where
   first_at f (suc n) (suc k) below = first_at (λ i. f (suc i)) n k (omega (arith, below))
 
   -- the first of some parts, of which the others are these
-  pub first_listed : (f d : ℕ → X) (n : ℕ) → ((i : ℕ) → n ≤ i → f i ≡ d i) → (i : ℕ) →
-      f i ≡ get_or (first f n) i (d i)
+  pub first_listed : (f d : ℕ → X) (n : ℕ) → ((i : ℕ) → n ≤ i → f i ≡ d i) → (i : ℕ) → f i ≡ get_or (first f n) i (d i)
   first_listed f d zero beyond i = beyond i (omega arith)
   first_listed f d (suc n) beyond zero = refl
   first_listed f d (suc n) beyond (suc i) =

@@ -1,7 +1,8 @@
 -- Every move of a state is an event of a machine in the state.
+use Rattle.std.proofs.lemmas.Bool.Decides.{nat_tests}
 use Rattle.std.proofs.Common.{◌≡◌, ℕ, suc, ◌-◌, ◌^◌, ◌<◌, true, false, length, inr, refl, sym, ap, ◌∙◌, arith, nat_cmp}
+use Rattle.std.proofs.Common.{rules}
 use Rattle.std.specs.FinMap.{FinMap}
-use Rattle.std.proofs.lemmas.Bool.{lt-ltb}
 use Rattle.network.specs.Mail.{has_capacity}
 use Rattle.machine_table.specs.declared.config.Config.{Config}
 use Rattle.machine_table.specs.Machine.{Machine}
@@ -13,7 +14,6 @@ use Rattle.machine_theorem.proofs.Bags.{kept_bag, rising, as_many}
 use Rattle.machine_theorem.proofs.Lists.{length-first}
 use Rattle.machine_theorem.proofs.NumberedStates.{numbered_same, numbered_invariant}
 use Rattle.machine_theorem.proofs.Renumberings.{renumbered}
-use Rattle.machine_theorem.proofs.Routes.{both}
 use Rattle.machine_theorem.proofs.ServiceEvents.{IsIn, bag_length, move_leads}
 use Rattle.machine_theorem.proofs.SetUps.{transition_same}
 
@@ -35,23 +35,12 @@ module _ (config : Config) (opening : FinMap nat_cmp ℕ) (a : State) (s : IsKep
   of_ready (dram_steps i act rest done lt beside is to) = dram_steps i act rest done lt beside is to
 
   is_in : IsIn (record config { messages = capacity }) a ready 1
-  is_in = record {
-    same = numbered_same config opening a s;
-    runs = refl;
-    set_up = refl;
-    cores = length-first a.cores config.cores;
-    banks = length-first a.banks config.banks;
-    drams = length-first a.drams config.banks;
-    rising = rising 0 (length a.bag) a.bag (omega arith);
-    numbers = omega (arith, some);
-  }
+  is_in = search (rules, numbered_same, length-first, rising)
 
   free : has_capacity capacity ready.mail ≡ true
   free =
       let z = as_many a.bag _ (λ h. sym (kept_bag 0 a.bag h)) in
-      let e = bag_length (numbered_from 0 a.bag) in
-      both _ _ (lt-ltb (length (numbered_from 0 a.bag)) capacity (omega (arith, z, e)))
-      (lt-ltb (length a.bag) (2 ^ 64 - 1) some)
+      let e = bag_length (numbered_from 0 a.bag) in grind (arith, nat_tests)
 
   pub move_event : (b : State) → Move config a b → IsEvent config opening a b
   move_event b move =

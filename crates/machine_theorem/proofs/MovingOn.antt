@@ -147,8 +147,7 @@ module _ {more : Bool} (m : Machine) (able : CanSend more m) (s : Invariant m)
 
   pub asks : (h c : ℕ) → tally (about c) (messages_of bag h)
       ≡ by_line.waits f h ((seen m).cores c).is_out ((seen m).cores c).open_op
-  asks h =
-      ((reachable_ok f s.kept.shape.some_words (view m.config (seen m)) s.kept.reached.reachable).lines h).2.asks
+  asks h = ((reachable_ok f s.kept.shape.some_words (view m.config (seen m)) s.kept.reached.reachable).lines h).2.asks
 
   -- the owner's operation on its own line is completed
   pub owner_moves : (c : ℕ) → slice_get m.cores c ≡ Some ((seen m).cores c) → (h : ℕ) →

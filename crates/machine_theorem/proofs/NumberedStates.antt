@@ -1,5 +1,5 @@
 -- A state in lists, with its messages numbered, is a machine that keeps the invariant.
-use Rattle.std.proofs.Common.{ℕ, [], refl, sym, nat_cmp}
+use Rattle.std.proofs.Common.{ℕ, [], refl, sym, nat_cmp, rules}
 use Rattle.std.specs.FinMap.{FinMap, entries}
 use Rattle.machine_table.specs.declared.config.Config.{Config}
 use Rattle.machine_table.specs.Machine.{Machine}
@@ -28,10 +28,4 @@ module _ (config : Config) (opening : FinMap nat_cmp ℕ) (a : State) (s : IsKep
   numbered_shows = record { set_up = refl; opened = refl; same = numbered_same; runs = refl }
 
   pub numbered_invariant : Invariant m
-  numbered_invariant = record {
-    core_count = length-first a.cores config.cores;
-    bank_count = length-first a.banks config.banks;
-    dram_count = length-first a.drams config.banks;
-    lists = length-first a.issued config.cores;
-    kept = kept_same config opening a (seen m) numbered_same s;
-  }
+  numbered_invariant = search (rules, length-first, kept_same, numbered_same)

@@ -54,14 +54,12 @@ module _ (f : Config) (pts : ℕ) (copy : LineCopy) where
 pub serves_not : (op : Op) (pts : ℕ) (copy : LineCopy) → serves op pts copy ≡ false →
     CannotUse op pts (Some (copy_seen copy))
 serves_not (Load a) pts copy h = grind (arith, or_parts (is_exclusive copy.state) (leb pts copy.rts) h)
-serves_not (Store a v) pts copy h = (h, tt)
-serves_not (Swap a v) pts copy h = (h, tt)
+serves_not _ pts copy h = (h, tt)
 
 pub serves_clash : (op : Op) (pts : ℕ) (copy : LineCopy) → serves op pts copy ≡ true →
     CannotUse op pts (Some (copy_seen copy)) → ⊥
 serves_clash (Load a) pts copy h k = omega (arith, leb-true pts copy.rts (rw k.0 at h))
-serves_clash (Store a v) pts copy h k = let z : true ≡ false = sym h ∙ k.0 in cc
-serves_clash (Swap a v) pts copy h k = let z : true ≡ false = sym h ∙ k.0 in cc
+serves_clash _ pts copy h k = let z : true ≡ false = sym h ∙ k.0 in cc
 
 -- what a reaction is: a reply to the core, or a move
 abbrev IsThere : Option LineCopy → Type 0
@@ -75,8 +73,7 @@ CoreFits lease pinned t c x rest b o (Grants copy) =
 CoreFits lease pinned t c x rest b o (Returns kept sent) = IsThere o × (b ≡ false) × GoesUp sent ×
     Changes lease pinned None t x t (record x {
       copies = with_at x.copies c (copy_or_none kept);
-      messages =
-          body_seen c 0 sent ∷ rest;
+      messages = body_seen c 0 sent ∷ rest;
     })
 CoreFits lease pinned t c x rest b o Drops = Changes lease pinned None t x t (record x { messages = rest })
 CoreFits lease pinned t c x rest b o NoCase = ⊥
@@ -132,8 +129,7 @@ module _ (lease : ℕ) (pinned : ℕ → Type 0) (t c : ℕ) (x : Line) (rest : 
       m ≡ true → x.copies c ≡ copy_or_none (copy_of core.cache line) → IsPermutation x.messages
       (body_seen 0 c m ∷ rest) →
       CoreFits lease pinned t c x rest b (copy_of core.cache line) (at_core lease b (copy_of core.cache line) m)
-  core_fits core line (body.ShRep y) un has is p =
-      shared (record { wts = y.wts; rts = y.rts; words = y.words }) rest p
+  core_fits core line (body.ShRep y) un has is p = shared (record { wts = y.wts; rts = y.rts; words = y.words }) rest p
   core_fits core line (body.ExRep y) un has is p =
       exclusive (record { wts = y.wts; rts = y.rts; words = y.words }) rest p
   core_fits core line (body.RenewRep rts) un has is p =

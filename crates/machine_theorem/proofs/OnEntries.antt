@@ -45,15 +45,13 @@ module _ (lease : ℕ) (pinned : ℕ → Type 0) (t : ℕ) (x : Line) (rest : Li
     (recalls : (owner : ℕ) (sent : Body) → GoesDown sent → entry_of bank m.line ≡ Some (entry.Exclusive owner) →
     Changes lease pinned None t x t (record x {
       entry = Recalling owner;
-      messages =
-          body_seen 0 owner sent ∷ x.messages;
+      messages = body_seen 0 owner sent ∷ x.messages;
     }) →
     P (Some (HeldAfter (from_bank bank m.line (Core owner) sent), with_changed bank m.line (entry.Recalling owner))))
     (grants : (e : Entry) (sent : Body) → GoesDown sent → IsFor c e → Up →
     Changes lease pinned None t x t (record x {
       entry = entry_seen (Some e);
-      messages =
-          body_seen 0 c sent ∷ rest;
+      messages = body_seen 0 c sent ∷ rest;
     }) →
     P (Some (Done (Some (from_bank bank m.line m.from sent)), with_used bank m.line e)))
     (becomes : (dirty : Bool) (line : TimedLine) (old : Entry) → entry_of bank m.line ≡ Some old →

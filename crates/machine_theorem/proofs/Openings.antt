@@ -1,6 +1,6 @@
 -- The invariant holds of the initial state and of a machine as it opens.
-use Rattle.std.proofs.Common.{◌≡◌, ℕ, ◌/◌, ◌%◌, ◌<◌, ◌≤◌, Bool, true, false, ◌&&◌, ◌||◌, eqb, leb, List, [], length}
-use Rattle.std.proofs.Common.{replicate, Option, Some, None, refl, sym, ap, ◌∙◌, subst, arith, unwrap_or, nat_cmp}
+use Rattle.std.proofs.Common.{Bool, true, false, [], length, replicate, Option, subst, arith, unwrap_or, nat_cmp, rules}
+use Rattle.std.proofs.Common.{◌≡◌, ℕ, ◌/◌, ◌%◌, ◌<◌, ◌≤◌, ◌&&◌, ◌||◌, eqb, leb, List, Some, None, refl, sym, ap, ◌∙◌}
 use Rattle.std.specs.FinMap.{FinMap, entries, get-entries}
 use Rattle.std.proofs.lemmas.List.{length-replicate}
 use Rattle.std.proofs.lemmas.Bool.{and_parts, or_cases, leb-true}
@@ -15,7 +15,7 @@ use Rattle.machine_table.proofs.Lemmas.{row_many}
 use Rattle.protocol.specs.Machine as by_line
 use Rattle.protocol.specs.Machine.{OpensWith, at_first}
 use Rattle.machine_theorem.specs.PastWords.{IsReached}
-use Rattle.machine_theorem.specs.States.{State, initial_state, seen}
+use Rattle.machine_theorem.specs.States.{State, initial_state}
 use Rattle.machine_theorem.specs.View.{entry_seen, copy_or_none, copy_in, set_up, view}
 use Rattle.machine_theorem.specs.Kept.{IsKept, Invariant}
 use Rattle.machine_theorem.proofs.Turns.{machine_same, line_same}
@@ -68,8 +68,7 @@ module _ (c : Config) where
   no_copy i l = ap (λ ps. copy_or_none (find ps l)) (get_replicate c.sets (l % length (replicate c.sets [])) [])
 
   pub no_entry : (i l : ℕ) → entry_of (open_bank c i) l ≡ None
-  no_entry i l =
-      ap (λ ps. find ps l) (get_replicate c.bank_sets ((l / c.banks) % length (replicate c.bank_sets [])) [])
+  no_entry i l = ap (λ ps. find ps l) (get_replicate c.bank_sets ((l / c.banks) % length (replicate c.bank_sets [])) [])
 
   module _ (opening : FinMap nat_cmp ℕ) (f : Fair c) where
     abbrev a : State
@@ -116,10 +115,4 @@ module _ (c : Config) where
     }
 
     pub at_start_invariant : Invariant (at_start c opening)
-    at_start_invariant = record {
-      core_count = row_many (open_core c) 0 c.cores;
-      bank_count = row_many (open_bank c) 0 c.banks;
-      dram_count = row_many (λ b. dram_of c b (entries opening)) 0 c.banks;
-      lists = length-replicate c.cores [];
-      kept = kept_same c opening a (seen (at_start c opening)) (opening_same c opening) initial_kept;
-    }
+    at_start_invariant = search (rules, row_many, length-replicate, kept_same, opening_same, initial_kept)

@@ -26,6 +26,5 @@ pub owners_numbered : (config : Config) (opening : FinMap nat_cmp ℕ) (a : Stat
 owners_numbered config opening a line =
     cc (copies_sum a.cores config.cores line, owners_are (numbered_from 0 a.bag) line, bag-numbered 0 a.bag)
 
-pub owners_same : (config : Config) (a b : State) → Same a b → (line : ℕ) →
-    owners config a line ≡ owners config b line
+pub owners_same : (config : Config) (a b : State) → Same a b → (line : ℕ) → owners config a line ≡ owners config b line
 owners_same config a b k line = grind (arith, fun_ext k.cores, owners_weigh a.bag line, owners_weigh b.bag line)

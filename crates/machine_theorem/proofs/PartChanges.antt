@@ -1,18 +1,16 @@
 -- A machine and its state: one part put into both, and the messages in flight afterwards.
 use Rattle.std.proofs.Common.{◌≡◌, ℕ, ◌<◌, Bool, true, false, cond, List, [], ◌∷◌, ◌++◌, length, set, get_or, Option}
-use Rattle.std.proofs.Common.{Some, None, refl, ap, arith, nat_cmp}
-use Rattle.std.specs.FinMap.{FinMap, entries}
+use Rattle.std.proofs.Common.{Some, None, refl, arith, nat_cmp, rules}
+use Rattle.std.specs.FinMap.{FinMap}
 use Rattle.physiological_order.specs.declared.operation.Op.{Op}
-use Rattle.network.specs.declared.counts.Counts.{Counts}
 use Rattle.network.specs.declared.message.Message.{Message}
-use Rattle.network.specs.Mail.{Mail, counted, sent}
+use Rattle.network.specs.Mail.{Mail, sent}
 use Rattle.core_pts.specs.CoreTable.{CoreState}
 use Rattle.llc_bank.specs.BankTable.{BankState}
 use Rattle.machine_table.specs.Machine as table
 use Rattle.machine_table.specs.Machine.{Machine}
 use Rattle.machine_table.specs.Step.{record_of}
 use Rattle.machine_table.specs.Posted.{left, posted}
-use Rattle.machine_table.specs.Opening.{dram_of, open_bank, open_core}
 use Rattle.machine_theorem.specs.Bags.{SameBag, bag_of}
 use Rattle.protocol.specs.Machine.{with_at}
 use Rattle.machine_theorem.specs.States.{State, Same, seen}
@@ -28,43 +26,27 @@ itself a = same_by (λ c. refl) (λ b. refl) (λ b. refl) (λ h. refl) (λ c. re
 module _ (a : State) (m : Machine) (k : Same a (seen m)) where
   pub core_put : (c : ℕ) (core : CoreState) → c < length m.cores →
       Same (with_core a c core) (seen (table.with_core m c core))
-  core_put c core lt =
-      same_by
-      (part_put a.cores m.cores (open_core m.config) c core core k.cores refl lt)
-      k.banks k.drams k.bag k.issued k.records k.counts
+  core_put c core lt = search (rules, same_by, part_put)
 
   pub bank_put : (b : ℕ) (bank : BankState) → b < length m.banks →
       Same (with_bank a b bank) (seen (table.with_bank m b bank))
-  bank_put b bank lt =
-      same_by k.cores
-      (part_put a.banks m.banks (open_bank m.config) b bank bank k.banks refl lt)
-      k.drams k.bag k.issued k.records k.counts
+  bank_put b bank lt = search (rules, same_by, part_put)
 
   pub dram_put : (b : ℕ) (lines : FinMap nat_cmp (List ℕ)) → b < length m.drams →
       Same (with_dram a b lines) (seen (table.with_dram m b lines))
-  dram_put b lines lt =
-      same_by k.cores k.banks
-      (part_put a.drams m.drams (λ j. dram_of m.config j (entries m.opening)) b lines lines k.drams refl lt)
-      k.bag k.issued k.records k.counts
+  dram_put b lines lt = search (rules, same_by, part_put)
 
   pub issue_put : (c : ℕ) (op : Op) (core : CoreState) → c < length m.cores → c < length m.issued →
       Same (record (with_core a c core) { issued = with_at a.issued c (a.issued c ++ op ∷ []) })
       (seen (record (table.with_core m c core) { issued = set m.issued c (get_or m.issued c [] ++ op ∷ []) }))
-  issue_put c op core lt there =
-      let put = core_put c core lt in
-      same_by put.cores k.banks k.drams k.bag
-      (part_put a.issued m.issued (λ j. []) c (a.issued c ++ op ∷ []) (get_or m.issued c [] ++ op ∷ []) k.issued
-      (ap (λ (ops : List Op). ops ++ op ∷ []) (k.issued c)) there)
-      k.records k.counts
+  issue_put c op core lt there = search (rules, core_put, same_by, part_put)
 
   pub completion_put : (c : ℕ) (op : Op) (received : Option ℕ) (ts : ℕ) (old core : CoreState) → c < length m.cores →
       Same (record (with_core a c core) {
-        records = a.records ++ record_of c
-            (length a.records) old op received ts ∷ [];
+        records = a.records ++ record_of c (length a.records) old op received ts ∷ [];
       })
       (seen (record (table.with_core m c core) {
-        records = m.records ++ record_of c
-            (length m.records) old op received ts ∷ [];
+        records = m.records ++ record_of c (length m.records) old op received ts ∷ [];
       }))
   completion_put c op received ts old core lt = grind (arith, core_put c core lt)
 
@@ -81,10 +63,7 @@ module _ (b : State) (m : Machine) (k : Same b (seen m)) (bag : List Message) (m
   answer_put : (answer : Option Message) →
       Same (with_answer b bag answer) (seen (record m { mail = replied mail answer }))
   answer_put None = bag_put
-  answer_put (Some message) =
-      same_by k.cores k.banks k.drams
-      (λ h. (let s = same h in let t = bag-sent mail.messages mail.next message h in omega arith)) k.issued
-      k.records (ap (λ (n : Counts). counted n message.body) counts)
+  answer_put (Some message) = search (rules, same_by, bag-sent)
 
 -- so after a step that consumes a message, beside which are the rest, or not, and sends this, if anything
 pub posted_put : (b : State) (m : Machine) → Same b (seen m) → (all rest : List Message) (mail : Mail)

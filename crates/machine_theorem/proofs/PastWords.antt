@@ -1,6 +1,6 @@
 -- No turn of the protocol writes a word that lines don't have.
 use Rattle.std.proofs.Common.{◌≡◌, ◌≢◌, ℕ, ◌%◌, ◌<◌, Bool, true, List, set, Option, Some, None, ◌∙◌, subst, arith}
-use Rattle.std.proofs.Common.{get_or-set_other, IsPermutation, mod-lt}
+use Rattle.std.proofs.Common.{get_or-set_other, IsPermutation, mod-lt, rules}
 use Rattle.std.specs.List.{AllByRecursion as Each}
 use Rattle.std.proofs.lemmas.List.Sorted.{All-permutation}
 use Rattle.std.proofs.lemmas.List.Elements.{All-from_recursion, recursion_from_All}
@@ -11,7 +11,7 @@ use Rattle.protocol.specs.Machine.{LineTransition, evict_shared, evict_exclusive
 use Rattle.protocol.specs.Machine.{written_back, renewed, leased, upgraded, granted, flush_returns, wb_returns, loaded}
 use Rattle.protocol.specs.Machine.{stored, evict_clean, evict_dirty, shuffled, dram_loads, dram_stores, Answers, shared}
 use Rattle.protocol.specs.Machine.{exclusive, renews, upgrades, Asks, to_read, to_write, Uses, load_hit, load_own}
-use Rattle.protocol.specs.Machine.{store_own, swap_own, Transition, issue, advance, ask, answer, complete, line_changes}
+use Rattle.protocol.specs.Machine.{store_own, swap_own, Transition, ask, answer, complete, line_changes}
 use Rattle.protocol.specs.Machine as by_line
 use Rattle.protocol.proofs.Lemmas.{with_at_cases, Some_injective}
 use Rattle.machine_theorem.specs.PastWords.{ZerosFrom, EntryEnds, MessageEnds, HasZeros, IsReached}
@@ -24,10 +24,7 @@ module _ (n : ℕ) where
   -- a core's copies after one changed
   copied : {x : Line} (c : ℕ) (new : Copy) → ZerosFrom n new.line.words → HasZeros n x → (d : ℕ) (copy : Copy) →
       with_at x.copies c (Some new) d ≡ Some copy → ZerosFrom n copy.line.words
-  copied {x} c new zeros k = with_at_cases (λ d (y : Option Copy). (copy : Copy) → y ≡ Some copy →
-      ZerosFrom n copy.line.words) x.copies c (Some new)
-      (λ copy e. subst (λ (y : Copy). ZerosFrom n y.line.words) (Some_injective new copy e) zeros)
-      (λ d ne. k.copies d)
+  copied {x} c new zeros k = search (rules, with_at_cases, Some_injective)
 
   left : {x : Line} (c : ℕ) → HasZeros n x → (d : ℕ) (copy : Copy) → with_at x.copies c None d ≡ Some copy →
       ZerosFrom n copy.line.words
@@ -110,8 +107,6 @@ module _ (f : Config) (some : 0 < f.line_words) where
   changed m l y zeros k = with_at_cases (λ j (x : Line). HasZeros f.line_words x) m.lines l y zeros (λ j ne. k j)
 
   kept : (m n : by_line.Machine) → Transition f m n → All m → All n
-  kept m n (issue c op none) k = k
-  kept m n (advance c) k = k
   kept m n (ask c op y opens quiet a) k =
       changed m (line_of f (address op)) y (asked f.line_words a (k (line_of f (address op)))) k
   kept m n (answer c l y a) k = changed m l y (answered f.line_words a (k l)) k
@@ -121,6 +116,7 @@ module _ (f : Config) (some : 0 < f.line_words) where
       changed m l _ (zeros_by f.line_words (copied f.line_words c new (used u (x.copies c copy is)) x)
       x.entry x.messages x.dram) k
   kept m n (line_changes l t y move) k = changed m l y (moved f.line_words move (k l)) k
+  kept m n _ k = k
 
 -- one more turn of the protocol
 pub goes_on : {f : Config} {m n : by_line.Machine} → IsReached f m → Transition f m n → IsReached f n

@@ -1,6 +1,6 @@
 -- The records of a reached state: how many each core has, and their order.
 use Rattle.std.proofs.Common.{◌≡◌, ℕ, zero, suc, ◌+◌, cond, List, [], ◌∷◌, ◌++◌, length, length-append, map, Option}
-use Rattle.std.proofs.Common.{Some, None, ◌⊎◌, inl, refl, sym, ap, ◌∙◌, subst, arith, ⊎_elim, slice_get, nat_cmp}
+use Rattle.std.proofs.Common.{Some, None, ◌⊎◌, inl, refl, sym, ap, ◌∙◌, subst, arith, ⊎_elim, slice_get, nat_cmp, rules}
 use Rattle.std.proofs.lemmas.List.{length-map}
 use Rattle.std.specs.FinMap.{FinMap}
 use Rattle.physiological_order.specs.declared.operation.Op.{Op}
@@ -28,15 +28,11 @@ module _ (config : Config) (opening : FinMap nat_cmp ℕ) (a : State) (s : IsKep
 
   pub next_place : (op : Op) (received : Option ℕ) (ts : ℕ) → (a.cores c).open_op ≡ Some op →
       (record_of c (length a.records) (a.cores c) op received ts).place ≡ length (of_core c a.records)
-  next_place op received ts is =
-      let one : length (listed (a.cores c).open_op) ≡ 1 = ap (λ o. length (listed o)) is in
-      let n = issued_count in
-      omega arith
+  next_place op received ts is = search (rules, issued_count)
 
 -- what a move does to the records: none, or one more with the next number
 abbrev Adds : State → State → Type 0
-Adds a b = (b.records ≡ a.records) ⊎
-    ((r : Record) × (r.number ≡ length a.records) × (b.records ≡ a.records ++ r ∷ []))
+Adds a b = (b.records ≡ a.records) ⊎ ((r : Record) × (r.number ≡ length a.records) × (b.records ≡ a.records ++ r ∷ []))
 
 step_adds : {S : Type 0} (a b : State) (put : S → State) → ((part : S) → (put part).records ≡ a.records) →
     (rest : List Message) (s : Step S) → StepsTo a put rest s b → Adds a b
@@ -53,19 +49,15 @@ step_adds a b put keeps rest _ to = absurd to
 move_adds : (config : Config) (a b : State) → Move config a b → Adds a b
 move_adds config a b (issues c op core lt e) = inl refl
 move_adds config a b (completes c op received ts core lt e) = grind arith
-move_adds config a b (core_steps c act rest s lt beside is to) =
-    step_adds a b (with_core a c) (λ part. refl) rest s to
-move_adds config a b (bank_steps i act rest s lt beside is to) =
-    step_adds a b (with_bank a i) (λ part. refl) rest s to
-move_adds config a b (dram_steps i act rest s lt beside is to) =
-    step_adds a b (with_dram a i) (λ part. refl) rest s to
+move_adds config a b (core_steps c act rest s lt beside is to) = step_adds a b (with_core a c) (λ part. refl) rest s to
+move_adds config a b (bank_steps i act rest s lt beside is to) = step_adds a b (with_bank a i) (λ part. refl) rest s to
+move_adds config a b (dram_steps i act rest s lt beside is to) = step_adds a b (with_dram a i) (λ part. refl) rest s to
 
 -- each record's number is its index
 abbrev InOrder : ℕ → List Record → Type 0
 InOrder n rs = (k : ℕ) (r : Record) → slice_get rs k ≡ Some r → r.number ≡ n + k
 
-one_more : (n : ℕ) (rs : List Record) (x : Record) → x.number ≡ n + length rs → InOrder n rs →
-    InOrder n (rs ++ x ∷ [])
+one_more : (n : ℕ) (rs : List Record) (x : Record) → x.number ≡ n + length rs → InOrder n rs → InOrder n (rs ++ x ∷ [])
 one_more n [] x next all zero r is = ap (λ (y : Record). y.number) (sym (Some_injective x r is)) ∙ next
 one_more n [] x next all (suc k) r is = absurd (let e : ◌≡◌ {A = Option Record} None (Some r) = is in cc)
 one_more n (y ∷ rs) x next all zero r is = all 0 r is

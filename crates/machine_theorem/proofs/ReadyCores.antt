@@ -2,7 +2,7 @@
 -- once a reply has come.
 use Rattle.std.proofs.Common.{arith, ◌+◌, ◌≡◌, ◌≢◌, ℕ, ◌-◌, ◌^◌, ◌<◌, Bool, true, false, ◌&&◌, cond, eqb, nat_lt, List}
 use Rattle.std.proofs.Common.{[], ◌∷◌, length, Option, Some, None, Ok, Err, ◌⊎◌, inl, inr, refl, sym, ap, ◌∙◌, subst}
-use Rattle.std.proofs.Common.{⊎_elim, set, option_map, nat_cmp, slice_get}
+use Rattle.std.proofs.Common.{⊎_elim, set, option_map, nat_cmp, slice_get, rules}
 use Rattle.std.specs.FinMap.{FinMap}
 use Rattle.std.proofs.lemmas.Bool.{and_parts, cases_eq, cond_both, cond-false, eq-eqb, eqb-true}
 use Rattle.std.proofs.lemmas.Option.{get_or_from_slice_get, slice_get_within}
@@ -113,34 +113,22 @@ module _ (c : ℕ) (op : Op) where
     Stays o = Ready c op o.1.cores
 
     other : (d : ℕ) → d ≢ c → (part : CoreState) → Ready c op (set m.cores d part)
-    other d ne part = record {
-      core = k.core;
-      at = get-set_other m.cores d c part (λ e. ne (sym e)) ∙ k.at;
-      opens = k.opens;
-      quiet = k.quiet;
-      held = k.held;
-      has = k.has;
-      serves = k.serves;
-    }
+    other d ne part = search (rules, get-set_other)
 
     step_stays : {S : Type 0} (put : S → Machine) (n : Option ℕ) (done : Step S) →
         IfMakes (λ part. Ready c op (put part).cores) done → Stays (changed m put n done)
-    step_stays put n step.Exhausts makes = k
-    step_stays put n (step.Keeps why) makes = k
-    step_stays put n step.Drops makes = k
     step_stays put n (step.Makes why consumes sends part) makes =
         cond_both (can_post m.config.messages m.mail consumes sends)
         (why, record (put part) { mail = posted m.mail n consumes sends }) (refused m refusal.NetworkFull) Stays
         (λ e. makes) (λ e. k)
+    step_stays put n _ makes = k
 
     -- whatever a part does, if it is another
     any_step : {S : Type 0} (put : S → Machine) → ((part : S) → Ready c op (put part).cores) → (n : Option ℕ)
         (done : Step S) → Stays (changed m put n done)
     any_step put puts n (step.Makes why consumes sends part) =
         step_stays put n (step.Makes why consumes sends part) (puts part)
-    any_step put puts n step.Exhausts = k
-    any_step put puts n (step.Keeps why) = k
-    any_step put puts n step.Drops = k
+    any_step put puts n _ = k
 
     try_stays : (d : ℕ) → d ≢ c → (core : CoreState) (t : Tried) → Stays (tried m d core t)
     try_stays d ne core (Completes p received ts after) = other d ne after
@@ -351,20 +339,13 @@ module _ (config : Config) (good : is_good config ≡ true) (opening : FinMap na
           go (body.UpgradeRep rts) is k = tt
           go _ is k = absurd is
 
-      pinned : (o : Option Op) → core.open_op ≡ o →
-          is_pinned (option_map (core_table.line_of core) o) x.line ≡ true
+      pinned : (o : Option Op) → core.open_op ≡ o → is_pinned (option_map (core_table.line_of core) o) x.line ≡ true
       pinned o opens = sym (ap (λ (i : Option Op). is_pinned (option_map (core_table.line_of core) i) x.line) opens)
           ∙ and_right core.is_out _ waiting
 
       waits_for_it : (o : Option Op) → core.open_op ≡ o → Waits m c
       waits_for_it None opens = absurd (let z : false ≡ true = pinned None opens in cc)
-      waits_for_it (Some op) opens = record {
-        core = core;
-        at = at;
-        out = (and_parts core.is_out _ waiting).0;
-        op = op;
-        opens = opens;
-      }
+      waits_for_it (Some op) opens = search (rules, and_parts, waiting)
 
       replied : m.is_stopped ≡ false → (op : Op) → core.open_op ≡ Some op → Replied m n c
       replied runs op opens = record {
@@ -397,8 +378,7 @@ module _ (config : Config) (good : is_good config ≡ true) (opening : FinMap na
           on_line : core_table.line_of core op ≡ x.line
           on_line = eqb-true (core_table.line_of core op) x.line (pinned (Some op) opens)
 
-          happens : transition m (Deliver n)
-              ≡ changed m (with_core m c) (Some n) (step.Makes Delivered true None part)
+          happens : transition m (Deliver n) ≡ changed m (with_core m c) (Some n) (step.Makes Delivered true None part)
           happens = cond-false m.is_stopped (refused m refusal.Stopped) (on_event m (Deliver n)) runs
               ∙ core_acts m c core at (Getting x) (Some n) (step.Makes Delivered true None part) (number, to, has)
               t.done
@@ -420,10 +400,7 @@ module _ (config : Config) (good : is_good config ≡ true) (opening : FinMap na
     reply_waits = waits_for_it found.1 found.0 core.open_op refl
 
     pub reply_comes : m.is_stopped ≡ false → Replied m n c
-    reply_comes runs =
-        let w = reply_waits in
-        let same : core ≡ w.core = Some_injective core w.core (sym found.1 ∙ w.at) in
-        replied found.1 found.0 runs w.op (ap (λ (k : CoreState). k.open_op) same ∙ w.opens)
+    reply_comes runs = search (rules, reply_waits, Some_injective, found, replied)
 
     pub reply_completes : m.is_stopped ≡ false → (op : Op) × (operation_of (slice_get m.cores c) ≡ Some op)
         × ((transition m (Deliver n)).0 ≡ Delivered) × IsAnswered c op (transition m (Deliver n)).1

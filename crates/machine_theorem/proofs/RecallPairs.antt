@@ -1,5 +1,5 @@
 -- What rounds keep of the recalls and returns of a line that go to and come from one core.
-use Rattle.std.proofs.Common.{◌≡◌, ◌≢◌, ℕ, ◌+◌, ◌≤◌, Option, Some, inl, inr, ◌⊎◌, sym, ◌∙◌, ⊎_elim, arith}
+use Rattle.std.proofs.Common.{◌≡◌, ◌≢◌, ℕ, ◌+◌, ◌≤◌, Option, Some, inl, inr, ◌⊎◌, sym, ◌∙◌, ⊎_elim, arith, rules}
 use Rattle.physiological_order.specs.declared.operation.Op.{Op}
 use Rattle.physiological_order.specs.Order.{address}
 use Rattle.protocol.specs.Machine.{Config, Entry, Exclusive, Recalling, Line, line_of, tally}
@@ -40,10 +40,7 @@ module _ (f : Config) (l c : ℕ) where
 
   pub listed_by : (x : Line) (o : Option Op) (qr qb pr pb : ℕ) → (recalls c x ≤ qr → recalls c x ≤ pr) →
       (returns c x ≤ qb → returns c x ≤ pb) → Listed x o qr qb → Listed x o pr pb
-  listed_by x o qr qb pr pb r b s = record {
-    recalls_listed = ⊎_elim (λ (z : recalls c x ≤ qr). inl (r z)) (λ z. inr z) s.recalls_listed;
-    returns_listed = λ is. b (s.returns_listed is);
-  }
+  listed_by x o qr qb pr pb r b s = search rules
 
   -- the entry is another, and doesn't name the core
   abbrev pub IsOther : Entry → Type 0
@@ -70,10 +67,7 @@ module _ (f : Config) (l c : ℕ) where
   pub eased_list : (x y : Line) (o : Option Op) (qr qb pr pb : ℕ) → Eased x y →
       (recalls c x ≤ qr → recalls c y ≤ pr) → (returns c x ≤ qb → returns c y ≤ pb) → Listed x o qr qb →
       Listed y o pr pb
-  eased_list x y o qr qb pr pb e r b s = record {
-    recalls_listed = grind arith;
-    returns_listed = λ is. b (s.returns_listed (still_exclusive x y e is));
-  }
+  eased_list x y o qr qb pr pb e r b s = search (rules, still_exclusive)
 
   -- nothing is left to be delivered
   abbrev pub Settled : Line → Option Op → Type 0

@@ -1,10 +1,10 @@
 -- A line that is recalled is brought back, though its owner must be granted it first, or completes its own operation.
 use Rattle.std.proofs.Common.{◌≡◌, ◌≢◌, ℕ, suc, ◌+◌, ◌/◌, ◌%◌, ◌<◌, ◌≤◌, max, Bool, true, false, cond, eqb, List, ◌∷◌}
 use Rattle.std.proofs.Common.{length, Option, Some, None, ◌⊎◌, inl, inr, refl, sym, ap, ◌∙◌, subst, arith, ⊎_elim}
-use Rattle.std.proofs.Common.{le_trans, option_map}
+use Rattle.std.proofs.Common.{le_trans, option_map, rules}
 use Rattle.std.proofs.lemmas.Bool.{cases_eq, cond-true, eq-eqb, eqb-true}
 use Rattle.physiological_order.specs.declared.operation.Op.{Op}
-use Rattle.physiological_order.specs.declared.operation.Op.TheVariants.{Load, Store, Swap}
+use Rattle.physiological_order.specs.declared.operation.Op.TheVariants.{Load, Store}
 use Rattle.physiological_order.specs.Order.{address, of_core}
 use Rattle.network.specs.declared.message.Node.TheVariants as node
 use Rattle.network.specs.declared.message.Body.{Body}
@@ -13,7 +13,7 @@ use Rattle.network.specs.declared.message.Message.{Message}
 use Rattle.network.specs.declared.message.TimedLine.{TimedLine}
 use Rattle.llc_bank.specs.declared.entry.Entry.{Entry}
 use Rattle.llc_bank.specs.declared.entry.Entry.TheVariants as entry
-use Rattle.llc_bank.specs.BankTable.{BankState, core_of, entry_of}
+use Rattle.llc_bank.specs.BankTable.{core_of, entry_of}
 use Rattle.private_cache.specs.declared.line_copy.LineCopy.{LineCopy}
 use Rattle.private_cache.specs.CopyTable.{copy_of, is_pinned, downgraded}
 use Rattle.timestamp_manager.specs.Lease.{returned_lease}
@@ -70,8 +70,7 @@ module _ (who : Setting) where
     abbrev core : CoreState
     core = a.cores o
 
-    seen_still : (new : CoreState) → (c ≡ o → core_seen new ≡ core_seen core) →
-        core_seen (with_at a.cores o new c) ≡ K
+    seen_still : (new : CoreState) → (c ≡ o → core_seen new ≡ core_seen core) → core_seen (with_at a.cores o new c) ≡ K
     seen_still new same =
         ⊎_elim
         (λ (e : c ≡ o). ap core_seen (ap (λ (i : ℕ). with_at a.cores o new i) e ∙ with_at_same a.cores o new)
@@ -81,10 +80,7 @@ module _ (who : Setting) where
 
     cores_beside : (h : ℕ) (b : State) → b.banks ≡ a.banks → of_core c b.records ≡ of_core c a.records →
         Beside who h a b
-    cores_beside h b banks records = record {
-      others = λ k ne. ap (λ (g : ℕ → BankState). entry_of (g (home k)) k) banks;
-      records = records;
-    }
+    cores_beside h b banks records = search rules
 
     -- it consumes a message, and answers with another, or not
     core_gets : {h k : ℕ} {Goal : State → Type 0} {sends : Option Message} {new : CoreState} (x : Message)
@@ -185,8 +181,7 @@ module _ (who : Setting) where
       is_exclusive (on_copy.copy_after i ts p held).state ≡ true
   exclusive_still i ts (Load a) held ex = ap (λ (x : LineCopy). is_exclusive x.state)
       (cond-true (is_exclusive held.state) (record held { rts = max ts held.rts }) held ex) ∙ ex
-  exclusive_still i ts (Store a v) held ex = ex
-  exclusive_still i ts (Swap a v) held ex = ex
+  exclusive_still i ts _ held ex = ex
 
   module _ (how : Waits who) where
     open how use {op, is_out, opens, on}

@@ -58,8 +58,7 @@ module _ (who : Setting) where
 
   -- services that bring a reply
   abbrev pub Answered : (Body → Type 0) → ℕ → State → Type 0
-  Answered Suits k a =
-      LeadsTo config (suc n) k (λ b. Replied Suits b × (of_core c b.records ≡ of_core c a.records)) a
+  Answered Suits k a = LeadsTo config (suc n) k (λ b. Replied Suits b × (of_core c b.records ≡ of_core c a.records)) a
 
 module _ (who : Setting) (how : Waits who) where
   open who use {config, good, opening, n, c, l, w}
@@ -228,8 +227,7 @@ module _ (who : Setting) (how : Waits who) where
       by_entry None is = leads_within (loaded a st size is) (omega arith)
       by_entry (Some entry.Loading) is = leads_within (way (by_loading who a st (omega arith) l is)) (omega arith)
       by_entry (Some (entry.Shared dirty line)) is = way (way_here who st size (dirty, line, is))
-      by_entry (Some (entry.Exclusive o)) is =
-          leads_within (way (by_exclusive who how a st size l o is)) (omega arith)
+      by_entry (Some (entry.Exclusive o)) is = leads_within (way (by_exclusive who how a st size l o is)) (omega arith)
       by_entry (Some (entry.Recalling o)) is =
           leads_within (way (by_recalling who how a st (omega arith) l o is)) (omega arith)
       by_entry (Some entry.Storing) is =

@@ -1,6 +1,6 @@
 -- A place for a line stays where other lines of a cache are changed or leave.
 use Rattle.std.proofs.Common.{◌≡◌, ◌≢◌, ℕ, ◌<◌, ◌≤◌, true, ltb, List, length, length-set, set, Some, arith, inl, inr}
-use Rattle.std.proofs.Common.{mod-lt}
+use Rattle.std.proofs.Common.{mod-lt, rules}
 use Rattle.std.proofs.lemmas.Bool.{cases_eq}
 use Rattle.line_sets.specs.Order.{without, put_in_place}
 use Rattle.line_sets.specs.SetTable.{Sets, set_at}
@@ -23,13 +23,7 @@ module _ (cache : Sets LineCopy) (some : 0 < length cache.sets) (line k : ℕ) (
   place-kept : (ps : List (ℕ × LineCopy)) → length ps ≤ length (set_at cache.sets (set_of cache line)) →
       let new = record cache { sets = set cache.sets (set_of cache line) ps } in
       copy_of new k ≡ copy_of cache k → place_for new k ≡ true
-  place-kept ps le same =
-      grind (
-        arith,
-        length-set cache.sets (set_of cache line) ps,
-        set_le cache.sets (set_of cache line) (set_of cache k)
-            ps (mod-lt line some) le,
-      )
+  place-kept ps le same = search (rules, length-set, set_le, mod-lt)
 
   pub place-changed : (copy old : LineCopy) → copy_of cache line ≡ Some old →
       place_for (with_changed cache line copy) k ≡ true

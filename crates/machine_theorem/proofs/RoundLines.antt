@@ -1,6 +1,7 @@
 -- Deliveries and banks' evictions keep what rounds keep of recalls, line by line and core by core.
-use Rattle.std.proofs.Common.{◌≡◌, ◌≢◌, ℕ, ◌+◌, ◌≤◌, Bool, true, false, cond, eqb, List, [], ◌∷◌, Option, Some, None}
-use Rattle.std.proofs.Common.{inl, inr, ◌⊎◌, refl, sym, ap, ◌∙◌, subst, ⊎_elim, arith, ◌<◌, IsPermutation, sum_by}
+use Rattle.std.proofs.lemmas.Bool.Decides.{nat_tests}
+use Rattle.std.proofs.Common.{Bool, true, false, cond, List, Option, subst, ⊎_elim, arith, IsPermutation, sum_by, rules}
+use Rattle.std.proofs.Common.{◌≡◌, ◌≢◌, ℕ, ◌+◌, ◌≤◌, eqb, [], ◌∷◌, Some, None, inl, inr, ◌⊎◌, refl, sym, ap, ◌∙◌, ◌<◌}
 use Rattle.std.proofs.lemmas.Bool.{cases_eq, cond-true, cond-false, eqb-true, eq-eqb, ne_eqb}
 use Rattle.std.proofs.lemmas.List.Sums.{sum_by-cons}
 use Rattle.std.proofs.lemmas.List.Sorted.{sum_by-IsPermutation}
@@ -53,19 +54,10 @@ module _ (f : Config) where
   owned_alike m n k l c (inr grant) = inr (let z = k.weighs l (grant_to c) in omega (arith, z, grant))
 
   pub eased_alike : (m n : Machine) → Alike m n → (l c : ℕ) → Eased f l c (m.lines l) (n.lines l)
-  eased_alike m n k l c = record {
-    entry = inl (k.entry l);
-    recalled = let z = k.weighs l (recall_to c) in omega (arith, z);
-    returned = let z = k.weighs l (return_of c) in omega (arith, z);
-    owned = owned_alike m n k l c;
-  }
+  eased_alike m n k l c = search (rules, owned_alike)
 
   pub good_alike : (p : ℕ → (Message → ℕ) → ℕ) (m n : Machine) → Alike m n → Good p m → Good p n
-  good_alike p m n k good l c = let e = eased_alike m n k l c in rw (k.opens c) (
-    eased f l c _ _ _ e (good l c).0,
-    eased_list f l c _ _ _ _ _ _ _ e (λ z. let y = k.weighs l (recall_to c) in omega (arith, z, y))
-        (λ z. let y = k.weighs l (return_of c) in omega (arith, z, y)) (good l c).1,
-  )
+  good_alike p m n k good l c = let e = eased_alike m n k l c in grind (arith, nat_tests)
 
 module _ (f : Config) (good : 0 < f.line_words) (strict : f.loses_recalls ≡ false) where
   module _ (m : Machine) (r : Reachable f m) (l c : ℕ) where
@@ -124,30 +116,16 @@ module _ (f : Config) (good : 0 < f.line_words) (strict : f.loses_recalls ≡ fa
     }
 
     by_sending : (sent : Message) → recall_to c sent ≡ 0 → return_of c sent ≡ 0 → Fewer (sent ∷ x.messages)
-    by_sending sent no_recall no_return = record {
-      recalled = omega (arith, no_recall);
-      returned = omega (arith, no_return);
-      granted = omega arith;
-    }
+    by_sending sent no_recall no_return = search rules
 
     by_swapping : {first : Message} {rest : List Message} (sent : Message) →
         IsPermutation x.messages (first ∷ rest) → recall_to c sent ≡ 0 → return_of c sent ≡ 0 →
         grant_to c first ≡ 0 → Fewer (sent ∷ rest)
-    by_swapping sent p no_recall no_return no_grant = let k = by_taking p no_grant in record {
-      recalled = let z = k.recalled in omega (arith, z, no_recall);
-      returned = let z = k.returned in omega (arith, z, no_return);
-      granted = let z = k.granted in omega (arith, z);
-    }
+    by_swapping sent p no_recall no_return no_grant = let k = by_taking p no_grant in grind (arith, nat_tests)
 
     -- the entry becomes another one
-    leaves : (e : Entry) (ms : List Message) → IsOther f l c e → Fewer ms →
-        Kept (record x { entry = e; messages = ms })
-    leaves e ms other k = inl (record {
-      entry = inr other;
-      recalled = k.recalled;
-      returned = k.returned;
-      owned = λ has. grind arith;
-    })
+    leaves : (e : Entry) (ms : List Message) → IsOther f l c e → Fewer ms → Kept (record x { entry = e; messages = ms })
+    leaves e ms other k = search (rules, other)
 
     -- one that names no owner, or another than this core
     abbrev IsUnowned : Entry → Type 0
@@ -219,8 +197,7 @@ module _ (f : Config) (good : 0 < f.line_words) (strict : f.loses_recalls ≡ fa
     moved (evict_shared d copy un is sh) none after = absurd (let z : Some d ≡ None = none in cc)
     moved (evict_exclusive d copy un is ex) none after = absurd (let z : Some d ≡ None = none in cc)
     moved (dropped d rest p may) none after = stays _ after refl (less (recall_to c) p) (less (return_of c) p)
-    moved (wb_dropped d until rest p may) none after =
-        stays _ after refl (less (recall_to c) p) (less (return_of c) p)
+    moved (wb_dropped d until rest p may) none after = stays _ after refl (less (recall_to c) p) (less (return_of c) p)
     moved (flushed d rest copy p un is ex) none after = gives_back d _ _ copy p refl refl refl is ex after
     moved (written_back d until rest copy p un is ex) none after = gives_back d _ _ copy p refl refl refl is ex after
     moved (load_starts absent) none after = leaves _ _ (other Loading tt) (by_sending DramLd refl refl)

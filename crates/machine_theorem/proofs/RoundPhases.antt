@@ -1,6 +1,7 @@
 -- What a machine makes of the events of a round, with the messages that are still to be delivered.
 use Rattle.std.proofs.Common.{◌≡◌, ◌≢◌, ℕ, ◌+◌, ◌-◌, ◌^◌, ◌<◌, ◌≤◌, Bool, true, false, eqb, nat_lt, List, [], ◌∷◌, ◌++◌}
 use Rattle.std.proofs.Common.{Option, Some, None, inl, inr, ◌⊎◌, refl, sym, ap, ◌∙◌, subst, ⊎_elim, arith, nat_cmp}
+use Rattle.std.proofs.Common.{rules}
 use Rattle.std.specs.List.{slice_get, AllByRecursion as Each}
 use Rattle.std.specs.FinMap.{FinMap}
 use Rattle.std.proofs.lemmas.Bool.{cases_Bool, cond_both, cond-true, cond-false, eq-eqb, ne_eqb, ltb-true, ltb-false}
@@ -260,26 +261,11 @@ line_lasts i line ys m = lasts (Pends ys) (Pends ys) (EvictBank i line) m (λ ru
 listed_there : (low high : ℕ) (ms : List (ℕ × Message)) → IsRising low ms high →
     Each (λ y. (low ≤ y.0) × (at_number y.0 ms ≡ Some y.1)) ms
 listed_there low high [] rising = tt
-listed_there low high (y ∷ ys) rising = let k = listed_there (y.0 + 1) high ys rising.1 in (
-  (rising.0, cond-true (eqb y.0 y.0) (Some y.1) (at_number y.0 ys) (eq-eqb y.0 y.0 refl)),
-  both (λ z. (y.0 + 1 ≤ z.0) × (at_number z.0 ys ≡ Some z.1)) (λ z. (y.0 + 1 ≤ z.0) × (at_number z.0 ys ≡ Some z.1))
-      (λ z. (low ≤ z.0) × (at_number z.0 (y ∷ ys) ≡ Some z.1))
-      (λ z k same. (
-        let r = rising.0 in let q = k.0 in omega (arith, r, q),
-        cond-false (eqb y.0 z.0) (Some y.1) (at_number z.0 ys)
-            (ne_eqb y.0 z.0 (λ e. let q = k.0 in omega (arith, e, q))) ∙ k.1,
-      )) ys k k,
-)
+listed_there low high (y ∷ ys) rising =
+    search (rules, cond-true, eqb, eq-eqb, both, cond-false, ne_eqb, listed_there (y.0 + 1) high ys rising.1)
 
 pub delivery_begins : (next : ℕ) (m : Machine) → Lasting (InTurn next) m → Lasting (Pends m.mail.messages) m
-delivery_begins next m = follows (InTurn next) (Pends m.mail.messages) m (λ fit turns.
-    let l = listed_there 0 m.mail.next m.mail.messages fit.rises in record {
-      good = delivers_next (set_up m.config m.opening) (per_line (λ h. weigh h (bag_of m.mail.messages))) next
-          (view m.config (seen m)) (λ l w. let z = line_weighs l w (bag_of m.mail.messages) in omega (arith, z)) turns;
-      there = both (λ z. (0 ≤ z.0) × (at_number z.0 m.mail.messages ≡ Some z.1))
-          (λ z. (0 ≤ z.0) × (at_number z.0 m.mail.messages ≡ Some z.1))
-          (λ z. at_number z.0 m.mail.messages ≡ Some z.1) (λ z p q. p.1) m.mail.messages l l;
-    })
+delivery_begins next m = search (rules, follows, listed_there, delivers_next, per_line, line_weighs, both)
 
 pub delivery_ends : (m : Machine) → Lasting (Pends []) m → Lasting Rested m
 delivery_ends m = follows (Pends []) Rested m (λ fit k. k.good)

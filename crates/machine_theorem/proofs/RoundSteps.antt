@@ -1,12 +1,12 @@
 -- What a machine makes of the events of a round keeps what rounds keep of recalls.
-use Rattle.std.proofs.Common.{◌≡◌, ◌≢◌, ℕ, ◌+◌, ◌-◌, ◌/◌, ◌%◌, ◌^◌, ◌<◌, ◌≤◌, Bool, true, false, cond, eqb, List, ◌∷◌}
-use Rattle.std.proofs.Common.{zero, suc, length, Option, Some, None, Ok, Err, inl, inr, ◌⊎◌, refl, sym, ap, ◌∙◌, subst}
-use Rattle.std.proofs.Common.{⊎_elim, arith, Result, slice_get, nat_cmp}
+use Rattle.std.proofs.lemmas.Bool.Decides.{nat_tests}
+use Rattle.std.proofs.Common.{◌≡◌, ◌≢◌, ℕ, ◌+◌, ◌-◌, ◌^◌, ◌<◌, ◌≤◌, Bool, true, false, cond, eqb, List, ◌∷◌, zero, suc}
+use Rattle.std.proofs.Common.{length, Option, Some, None, Ok, Err, inl, inr, ◌⊎◌, refl, sym, ap, ◌∙◌, subst, ⊎_elim}
+use Rattle.std.proofs.Common.{arith, Result, slice_get, nat_cmp, rules}
 use Rattle.std.specs.FinMap.{FinMap}
 use Rattle.std.proofs.lemmas.Bool.{cond_both, cond-true, eqb-true, lt-ltb}
 use Rattle.std.proofs.lemmas.Option.{get_or_from_slice_get, slice_get_within}
 use Rattle.physiological_order.specs.declared.operation.Op.{Op}
-use Rattle.physiological_order.specs.Order.{address}
 use Rattle.network.specs.declared.message.Body.{Body}
 use Rattle.network.specs.declared.message.Body.TheVariants as body
 use Rattle.network.specs.declared.message.Message.{Message}
@@ -54,8 +54,7 @@ use Rattle.machine_theorem.specs.Moves as moves
 use Rattle.machine_theorem.specs.Moves.{with_answer}
 use Rattle.machine_theorem.specs.Rounds.{IsMoving, IsRequest}
 use Rattle.machine_theorem.specs.States.{State, Same, seen}
-use Rattle.machine_theorem.specs.View.{body_seen, copy_in, copy_or_none, entry_in, line_seen, message_seen, set_up}
-use Rattle.machine_theorem.specs.View.{view}
+use Rattle.machine_theorem.specs.View.{body_seen, line_seen, message_seen, set_up, view}
 use Rattle.machine_theorem.proofs.ActiveParts.{IsRecall, core_active, bank_active, dram_active, no_request, no_recall}
 use Rattle.machine_theorem.proofs.ActiveParts.{served_tries, needs, recalled_core, pinned_here}
 use Rattle.machine_theorem.proofs.Bags.{bag-taken}
@@ -95,12 +94,7 @@ module _ (config : Config) (opening : FinMap nat_cmp ℕ) where
   Turns next a = turns.Turns (set_up config opening) next (view config a)
 
   alike : (a b : State) → Same a b → Alike (set_up config opening) (view config a) (view config b)
-  alike a b k = record {
-    entry = λ l. ap (λ (z : BankState). entry_in z l) (sym (k.banks (l % config.banks)));
-    copies = λ l c. ap (λ (z : CoreState). copy_in z l) (sym (k.cores c));
-    weighs = λ l w. line_weighs l w b.bag ∙ sym (k.bag (of_line l w)) ∙ sym (line_weighs l w a.bag);
-    opens = λ c. ap (λ (z : CoreState). z.open_op) (sym (k.cores c));
-  }
+  alike a b k = search (rules, line_weighs, of_line)
 
   pub good_same : (p : (Message → ℕ) → ℕ) (a b : State) → Same a b → Good p a → Good p b
   good_same p a b k = good_alike (set_up config opening) (per_line p) _ _ (alike a b k)
@@ -179,10 +173,7 @@ module _ (config : Config) (opening : FinMap nat_cmp ℕ) (a b : State) (s : IsK
       ((l d : ℕ) → (weigh_of (of_line l (w d)) taken ≡ 0) ⊎ (weigh_of (of_line l (w d)) sent ≡ 0)) → (d : ℕ) →
       Settles g s.shape.some_words refl (view config a) s.reached.reachable (per_line (λ h. weigh_of h taken + p h))
       (per_line p) (view config b) (w d)
-  settles w one d l fewer le =
-      let u = line_weighs l (w d) a.bag in let v = line_weighs l (w d) b.bag in let z = bags (of_line l (w d)) in
-      ⊎_elim (λ (none : weigh_of (of_line l (w d)) taken ≡ 0). omega (arith, u, v, z, fewer, le, none))
-      (λ (none : weigh_of (of_line l (w d)) sent ≡ 0). omega (arith, u, v, z, fewer, le, none)) (one l d)
+  settles w one d l fewer le = search (rules, line_weighs, of_line, taken)
 
   made : ((l d : ℕ) → (weigh_of (of_line l (recall_to d)) taken ≡ 0)
       ⊎ (weigh_of (of_line l (recall_to d)) sent ≡ 0)) →
@@ -234,18 +225,17 @@ module _ (m : Machine) (s : Invariant m) where
         Turned m.config m.opening kind b (with_answer (puts part) b.bag sends) →
         Q (with_answer (puts part) b.bag sends)) → Lasts (changed m put n done)
     happens X step.Exhausts x goes stays drops takes keeps = inl refl
-    happens X (step.Keeps why) x goes (inl active) drops takes keeps = absurd active
     happens X (step.Keeps why) x goes (inr so) drops takes keeps = inr (respects b (seen m) same so)
     happens X step.Drops x goes stays drops takes keeps =
         inr (respects _ _ (bag_put b m same rest (left m.mail n) (λ h. refl) same.counts) (drops goes))
     happens X (step.Makes why true sends part) x goes stays drops takes keeps =
         subst Lasts (sym (cond-true (can_post m.config.messages m.mail true sends) _ _ (can sends)))
         (posts why true sends part (takes why sends part x goes))
-    happens X (step.Makes why false sends part) x goes (inl active) drops takes keeps = absurd active
     happens X (step.Makes why false sends part) x goes (inr so) drops takes keeps =
         cond_both (can_post m.config.messages m.mail false sends)
         (why, record (put part) { mail = posted m.mail n false sends }) (refused m refusal.NetworkFull) Lasts
         (λ e. posts why false sends part (keeps so sends part goes)) (λ e. inr (respects b (seen m) same so))
+    happens X _ x goes (inl active) drops takes keeps = absurd active
 
   module _ (numbers : m.mail.next < 2 ^ 64 - 1) (p : (Message → ℕ) → ℕ) where
     abbrev pub GoodAt : ((Message → ℕ) → ℕ) → Machine → Type 0
@@ -317,11 +307,7 @@ module _ (m : Machine) (s : Invariant m) where
       -- it is still in flight, and weighs nothing
       waits : ((l d : ℕ) → of_line l (recall_to d) x ≡ 0) → ((l d : ℕ) → of_line l (return_of d) x ≡ 0) →
           Good m.config m.opening p b
-      waits no_recall no_return l d = let k = good_b l d in (
-        k.0,
-        listed_by (set_up m.config m.opening) l d _ _ _ _ _ _
-            (λ z. let y = no_recall l d in omega (arith, z, y)) (λ z. let y = no_return l d in omega (arith, z, y)) k.1,
-      )
+      waits no_recall no_return l d = let k = good_b l d in grind (arith, nat_tests)
 
       by_part : {S : Type 0} (put : S → Machine) (puts : S → State)
           (here : (part : S) → Same (puts part) (seen (put part)))
@@ -479,10 +465,7 @@ module _ (m : Machine) (s : Invariant m) where
 
       -- where the machine has no room for a line, there is no copy of it
       refuses : (t : Tried) → IsTrying true t → (tried m c (a.cores c) t).0 ≢ answer.Refused refusal.NoRoom
-      refuses (Completes op received ts after) active e = absurd (cc)
-      refuses (Does step.Exhausts) active e = absurd (cc)
       refuses (Does (step.Keeps why)) active e = absurd active
-      refuses (Does step.Drops) active e = absurd (cc)
       refuses (Does (step.Makes why true sends part)) active e =
           cond_both (can_post m.config.messages m.mail true sends) _ (refused m refusal.NetworkFull)
           (λ (o : Answer × Machine). o.0 ≢ answer.Refused refusal.NoRoom) (λ f z. subst IsMoving z active)
@@ -491,6 +474,7 @@ module _ (m : Machine) (s : Invariant m) where
           cond_both (can_post m.config.messages m.mail false sends) _ (refused m refusal.NetworkFull)
           (λ (o : Answer × Machine). o.0 ≢ answer.Refused refusal.NoRoom) (λ f z. subst IsMoving z active)
           (λ f z. absurd (cc)) e
+      refuses _ active e = absurd (cc)
 
       abbrev Lacks : Type 0
       Lacks = LacksCopy f (view m.config a).lines (view m.config a).cores c
@@ -499,12 +483,7 @@ module _ (m : Machine) (s : Invariant m) where
           copy_of (a.cores c).cache (core_table.line_of (a.cores c) op) ≡ o →
           (tried m c (a.cores c) (attempted (a.cores c) op (core_table.attempt_on (a.cores c) op o))).0
           ≡ answer.Refused refusal.NoRoom → Lacks
-      by_copy op opens None there is = (
-        op,
-        opens,
-        ap copy_or_none (ap (λ (k : ℕ). copy_of (a.cores c).cache (address op / k))
-            (sym (s.kept.shape.each_core c).line_words) ∙ there),
-      )
+      by_copy op opens None there is = search rules
       by_copy op opens (Some held) there is = absurd (cond_both (serves op (a.cores c).pts held) _ _
           (λ t. (tried m c (a.cores c) (attempted (a.cores c) op t)).0 ≢ answer.Refused refusal.NoRoom)
           (λ can. refuses (attempted (a.cores c) op (core_table.completed_at (a.cores c) op held (time held)))

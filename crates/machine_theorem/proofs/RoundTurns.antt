@@ -1,6 +1,7 @@
 -- The turns of cores in a round keep what rounds keep of recalls, line by line and core by core.
+use Rattle.std.proofs.lemmas.Bool.Decides.{nat_tests}
 use Rattle.std.proofs.Common.{◌≡◌, ◌≢◌, ℕ, ◌+◌, ◌≤◌, Bool, false, ◌∷◌, Option, Some, None, inl, inr, ◌⊎◌, refl, sym, ap}
-use Rattle.std.proofs.Common.{◌∙◌, subst, arith, le_refl}
+use Rattle.std.proofs.Common.{◌∙◌, subst, arith, le_refl, rules}
 use Rattle.std.proofs.lemmas.Bool.{cases_eq}
 use Rattle.physiological_order.specs.declared.operation.Op.{Op}
 use Rattle.physiological_order.specs.Order.{address}
@@ -11,7 +12,7 @@ use Rattle.protocol.specs.Recalls.{recall_to, grant_to, return_of}
 use Rattle.protocol.proofs.Lemmas.{with_at_cases, with_at_other, with_at_same, Some_injective}
 use Rattle.machine_theorem.proofs.RecallPairs.{IsElsewhere, Sound, Listed, Eased, eased, eased_list, recalls, returns}
 use Rattle.machine_theorem.proofs.RecallPairs.{not_both}
-use Rattle.machine_theorem.proofs.RoundLines.{Good, Alike, none_at}
+use Rattle.machine_theorem.proofs.RoundLines.{Good, Alike}
 use Rattle.machine_theorem.proofs.Turns.{Kind, issuing, attempting, advancing, leaving, delivering, leaves_at, kind_at}
 use Rattle.machine_theorem.proofs.Turns.{kind_of, Leads}
 
@@ -51,12 +52,7 @@ module _ (f : Config) where
     -- the line and the core stay as they were
     kept : Eased f l c (xs l) (ys l) → (ys l).entry ≡ (xs l).entry → (es c).open_op ≡ (ds c).open_op →
         (LacksCopy xs ds c → LacksCopy ys es c) → TurnPair next xs ds l c → TurnPair next ys es l c
-    kept e entry opens lacks k = record {
-      sound = rw opens (eased f l c _ _ _ e k.sound);
-      lacks = λ some is. lacks (k.lacks (let z = e.returned in omega (arith, z, some)) (sym entry ∙ is));
-      listed = λ le. rw opens (eased_list f l c _ _ _ 0 0 0 0 e (λ z. let y = e.recalled in omega (arith, z, y))
-          (λ z. let y = e.returned in omega (arith, z, y)) (k.listed le));
-    }
+    kept e entry opens lacks k = search (rules, eased, eased_list)
 
   -- what a core's turn leaves of a line, as another core sees it
   record Beside (c : ℕ) (x y : Line) : Type 0 where
@@ -74,12 +70,7 @@ module _ (f : Config) where
   unchanged c x = beside_by refl refl (le_refl _) (le_refl _) (le_refl _)
 
   eased_beside : (l c : ℕ) (x y : Line) → Beside c x y → Eased f l c x y
-  eased_beside l c x y b = record {
-    entry = inl b.entry;
-    recalled = b.recalled;
-    returned = b.returned;
-    owned = λ own. grind arith;
-  }
+  eased_beside l c x y b = search rules
 
   -- a core's turn, as another core sees it, or this one, if its operation stays
   beside : (next : ℕ) (xs ys : ℕ → Line) (ds es : ℕ → Core) (c : ℕ) → ((l : ℕ) → Beside c (xs l) (ys l)) →
@@ -118,9 +109,7 @@ module _ (f : Config) where
   left_beside d c ne {x = x} (evict_shared e copy un is sh) at = beside_by refl
       (with_at_other x.copies e None c (λ q. ne (q ∙ Some_injective e d at))) (le_refl _) (le_refl _) (le_refl _)
   left_beside d c ne {x = x} (evict_exclusive e copy un is ex) at =
-      let apart : c ≢ e = λ q. ne (q ∙ Some_injective e d at) in
-      beside_by refl (with_at_other x.copies e None c apart) (omega arith)
-      (let z = none_at c e apart in omega (arith, z)) (omega arith)
+      let apart : c ≢ e = λ q. ne (q ∙ Some_injective e d at) in grind (arith, nat_tests)
   left_beside d c ne _ at = absurd (let z : ◌≡◌ {A = Option ℕ} None (Some d) = at in cc)
 
   -- as the core itself sees it

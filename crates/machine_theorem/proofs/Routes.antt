@@ -1,5 +1,5 @@
 -- Between which nodes the messages go that parts send.
-use Rattle.std.proofs.Common.{arith, ◌≡◌, ℕ, ◌<◌, Bool, true, false, ◌&&◌, refl}
+use Rattle.std.proofs.Common.{◌≡◌, ℕ, ◌<◌, Bool, true, false, ◌&&◌, refl, rules}
 use Rattle.std.proofs.lemmas.Bool.{and_parts, lt-ltb, ltb-true}
 use Rattle.network.specs.declared.message.Node.{Node}
 use Rattle.network.specs.declared.message.Node.TheVariants.{Core, Bank, Dram}
@@ -19,8 +19,7 @@ abbrev pub GoesDown : Body → Type 0
 GoesDown sent = (cores banks : ℕ) (from to : Node) → has_route cores banks from to sent ≡ is_core_to_bank
     cores banks to from
 
-pub core_and_bank : (cores banks c b : ℕ) → c < cores → b < banks → is_core_to_bank cores banks
-    (Core c) (Bank b) ≡ true
+pub core_and_bank : (cores banks c b : ℕ) → c < cores → b < banks → is_core_to_bank cores banks (Core c) (Bank b) ≡ true
 core_and_bank cores banks c b p q = both _ _ (lt-ltb c cores p) (lt-ltb b banks q)
 
 -- the endpoints of a message between a core and a bank
@@ -34,14 +33,7 @@ pub record UpEnds (cores banks : ℕ) (from to : Node) : Type 0 where
 
 pub up_ends : (cores banks : ℕ) (from to : Node) → is_core_to_bank cores banks from to ≡ true →
     UpEnds cores banks from to
-up_ends cores banks (Core c) (Bank b) h = record {
-  core = c;
-  bank = b;
-  from_core = refl;
-  to_bank = refl;
-  some_core = grind (arith, ltb-true c cores (and_parts _ _ h).0);
-  some_bank = ltb-true b banks (and_parts _ _ h).1;
-}
+up_ends cores banks (Core c) (Bank b) h = search (rules, ltb-true, and_parts)
 up_ends cores banks _ _ h = absurd (let z : false ≡ true = h in cc)
 
 -- and of one between a bank and its DRAM

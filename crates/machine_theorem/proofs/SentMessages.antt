@@ -1,7 +1,7 @@
 -- What parts send as they get messages, and as lines leave: no request, and a lease only to a reader that asks, for as
 -- long as it asks or longer.
-use Rattle.std.proofs.Common.{◌≡◌, ℕ, ◌+◌, ◌≤◌, Bool, true, false, ◌&&◌, cond, List, Option, Some, None, Ok, refl}
-use Rattle.std.proofs.Common.{arith, nat_cmp}
+use Rattle.std.proofs.Common.{◌≡◌, ℕ, ◌+◌, ◌≤◌, Bool, true, false, cond, List, Option, Some, None, Ok, refl, nat_cmp}
+use Rattle.std.proofs.Common.{rules}
 use Rattle.std.specs.FinMap.{FinMap}
 use Rattle.std.proofs.lemmas.Bool.{cond_both}
 use Rattle.network.specs.declared.message.Body.{Body}
@@ -9,7 +9,7 @@ use Rattle.network.specs.declared.message.Body.TheVariants as body
 use Rattle.network.specs.declared.message.Message.{Message}
 use Rattle.network.specs.declared.message.Node.{Node}
 use Rattle.network.specs.declared.message.TimedLine.{TimedLine}
-use Rattle.timestamp_manager.specs.Lease.{fits, if_fits, is_version, returned_lease, shared_lease}
+use Rattle.timestamp_manager.specs.Lease.{if_fits, is_version, returned_lease, shared_lease}
 use Rattle.timestamp_manager.proofs.Lemmas.{covers}
 use Rattle.private_cache.specs.declared.line_copy.LineCopy.{LineCopy}
 use Rattle.private_cache.specs.CopyTable as cache
@@ -31,7 +31,6 @@ use Rattle.llc_bank.specs.BankTable.{BankState, core_of, entry_of}
 use Rattle.dram_mts.specs.Table.{dram_case}
 use Rattle.machine_table.specs.Step as step
 use Rattle.machine_table.specs.Step.{Step, copy_evicted, entry_evicted, reacted}
-use Rattle.machine_theorem.specs.Rounds.{IsRequest}
 
 abbrev pub AsksFor : Body → ℕ → Type 0
 AsksFor (body.ShReq pts version) time = pts ≤ time
@@ -52,17 +51,6 @@ SentAs asked to _ = Unit {0}
 abbrev pub Sends : {S : Type 0} → Option Message → Step S → Type 0
 Sends asked (step.Makes why consumes (Some q) part) = SentAs asked q.to q.body
 Sends asked _ = Unit {0}
-
-abbrev pub NoRequest : Message → Type 0
-NoRequest q = IsRequest q.body → ⊥
-
-pub no_request : (asked : Option Message) (q : Message) → SentAs asked q.to q.body → NoRequest q
-no_request asked q s = go q.body s
-  where
-    go : (b : Body) → SentAs asked q.to b → IsRequest b → ⊥
-    go (body.ShReq pts version) s is = s
-    go (body.ExReq version) s is = s
-    go _ s is = is
 
 -- a core that gets a message, and one whose copy leaves
 module _ (core : CoreState) (line : ℕ) (asked : Option Message) where
@@ -99,8 +87,7 @@ pub copy_leaves : (core : CoreState) (line : ℕ) → Sends None (copy_evicted (
 copy_leaves core line = go (copy_of core.cache line)
   where
     sends : (copy : LineCopy) (b : Bool) → Sends {S = CoreState} None (copy_evicted (
-      Ok (cond b
-          (Some (to_bank core line (body.FlushRep (on_copy.words_of_copy copy)))) None),
+      Ok (cond b (Some (to_bank core line (body.FlushRep (on_copy.words_of_copy copy)))) None),
       record core { cache = cache.without_copy core.cache line },
     ))
     sends copy true = tt
@@ -125,12 +112,7 @@ module _ (bank : BankState) (x : Message) (lease mts core : ℕ) (room : Bool) w
       (o : Option (ℕ × Bool)) → shared_lease line.wts line.rts pts version lease ≡ o →
       Decides (on_entry.leased dirty line o)
   leases dirty line pts version is None e = tt
-  leases dirty line pts version is (Some l) e =
-      grind (
-        arith,
-        covers (fits (line.wts + lease) && fits (pts + lease)) (is_version line.wts version) line.wts
-            line.rts pts lease l e,
-      )
+  leases dirty line pts version is (Some l) e = search (rules, covers)
 
   asks_back : (owner : ℕ) (o : Option ℕ) → Decides (on_entry.asked_back owner o)
   asks_back owner None = tt
@@ -147,12 +129,10 @@ module _ (bank : BankState) (x : Message) (lease mts core : ℕ) (room : Bool) w
   to_own version None = loads
   to_own version (Some (entry.Shared dirty line)) = cond_both (is_version line.wts version)
       (body.UpgradeRep line.rts) (body.ExRep line) (SentAs (Some x) x.from) (λ e. tt) (λ e. tt)
-  to_own version (Some (entry.Exclusive owner)) = tt
-  to_own version (Some _) = tt
+  to_own version _ = tt
 
   gives : (line : TimedLine) (o : Option Entry) → Decides (on_entry.given_back line o)
   gives line (Some (entry.Exclusive owner)) = tt
-  gives line (Some (entry.Recalling owner)) = tt
   gives line _ = tt
 
   fills : (words : List ℕ) (o : Option Entry) → Decides (on_entry.filled mts words o)
@@ -189,5 +169,4 @@ line_leaves bank line = go (entry_of bank line)
 pub dram_gets : (lines : FinMap nat_cmp (List ℕ)) (x : Message) (b : Body) →
     Sends (Some x) (reacted (dram_case lines x b))
 dram_gets lines x body.DramLd = tt
-dram_gets lines x (body.DramSt words) = tt
 dram_gets lines x _ = tt

@@ -2,7 +2,7 @@
 -- are events that serve.
 use Rattle.std.proofs.Common.{◌≡◌, ◌≢◌, ℕ, zero, suc, ◌+◌, ◌-◌, ◌^◌, ◌<◌, ◌≤◌, Bool, true, false, cond, eqb, List, []}
 use Rattle.std.proofs.Common.{◌∷◌, ◌++◌, length, Option, Some, None, Ok, ◌⊎◌, inl, inr, refl, sym, ap, ◌∙◌, subst}
-use Rattle.std.proofs.Common.{arith, ⊎_elim, unwrap_or, zero-add, suc-add}
+use Rattle.std.proofs.Common.{arith, ⊎_elim, unwrap_or, zero-add, suc-add, rules}
 use Rattle.std.specs.List.{slice_get, AllByRecursion as Each}
 use Rattle.std.proofs.lemmas.Bool.{cases_Bool, cond_both, cond-false, eq-eqb, ne_eqb, lt-ltb}
 use Rattle.std.proofs.lemmas.Option.{slice_get-get_or}
@@ -151,9 +151,7 @@ bag_length (m ∷ ms) = ap suc (bag_length ms)
 -- which of these events serve
 core_serves : (c : ℕ) (act : Act) (n : Option ℕ) → act ≢ step.Advancing → IsServing (core_event c act n)
 core_serves c step.Advancing n serves = absurd (serves refl)
-core_serves c step.Attempting n serves = tt
-core_serves c (step.Getting x) n serves = tt
-core_serves c (step.Evicting line) n serves = tt
+core_serves c _ n serves = tt
 
 bank_serves : (b : ℕ) (act : Act) (n : Option ℕ) → IsServing (bank_event b act n)
 bank_serves b (step.Evicting line) n = tt
@@ -168,11 +166,7 @@ module _ (config : Config) (a : State) (m : Machine) (k : ℕ) (i : IsIn config 
 
   given : (to : Node) (has_case : Message → Bool) (message : Option Message) (rest : List Message) →
       AreBeside a.bag to has_case message rest → Given to has_case message rest
-  given to has_case None rest beside = record {
-    number = None;
-    others = λ h. ap (weigh h) beside ∙ i.same.bag h;
-    is = tt;
-  }
+  given to has_case None rest beside = search rules
   given to has_case (Some x) rest beside =
       let n = number_in m i.rising a.bag i.same.bag x rest beside.0 in
       let taken = bag-taken n.number m.mail.messages x n.at in
@@ -215,8 +209,6 @@ module _ (config : Config) (a : State) (m : Machine) (k : ℕ) (i : IsIn config 
       ((part : S) → (puts part).counts ≡ m.mail.counts) → ((part : S) → (put part).is_stopped ≡ false) →
       (n : Option ℕ) (rest : List Message) → SameBag rest (bag_of (left m.mail n).messages) → (done : Step S)
       (b : State) → StepsTo a puts rest done b → HasRoom b → Led b (changed m put n done)
-  step_led put puts same counts runs n rest others Exhausts b to room = absurd to
-  step_led put puts same counts runs n rest others (Keeps kept) b to room = absurd to
   step_led put puts same counts runs n rest others Drops b to room =
       rw to (bag_put a m i.same rest (left m.mail n) others i.same.counts, i.runs)
   step_led put puts same counts runs n rest others (Makes did consumes sends part) b to room =
@@ -225,6 +217,7 @@ module _ (config : Config) (a : State) (m : Machine) (k : ℕ) (i : IsIn config 
             sends,
         runs part,
       )
+  step_led put puts same counts runs n rest others _ b to room = absurd to
 
   -- an event that serves where the move does, and leads to the state
   pub record Leads (b : State) (serves : Type 0) : Type 0 where

@@ -1,5 +1,5 @@
 -- No event changes how the machine was set up.
-use Rattle.std.proofs.Common.{arith, ◌≡◌, ℕ, List, [], ◌∷◌, length, length-set, Option, refl, ◌∙◌}
+use Rattle.std.proofs.Common.{arith, ◌≡◌, ℕ, List, [], ◌∷◌, length, length-set, Option, refl, rules}
 use Rattle.std.proofs.lemmas.Bool.{cond_both}
 use Rattle.machine_table.specs.declared.event.Answer.{Answer}
 use Rattle.machine_table.specs.declared.event.Event.{Event}
@@ -65,7 +65,4 @@ module _ (m : Machine) where
 
 pub after_all_same : (m : Machine) (events : List Event) → SetUpAs m (after_all m events)
 after_all_same m [] = set_up_same m
-after_all_same m (event ∷ events) =
-    let one = transition_same m event in
-    let more = after_all_same (transition m event).1 events in
-    record { config = more.config ∙ one.config; opening = more.opening ∙ one.opening; cores = more.cores ∙ one.cores }
+after_all_same m (event ∷ events) = search (rules, transition_same, after_all_same (transition m event).1 events)

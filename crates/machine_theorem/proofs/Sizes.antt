@@ -1,6 +1,6 @@
 -- Every reached state's sets have their sizes.
 use Rattle.std.proofs.Common.{◌≡◌, ◌≢◌, ℕ, ◌+◌, ◌/◌, ◌%◌, ◌<◌, ◌≤◌, Bool, true, false, ◌||◌, cond, eqb, List, [], ◌∷◌}
-use Rattle.std.proofs.Common.{length, set, length-set, Option, Some, None, refl, sym, ap, ◌∙◌, arith, inl, inr}
+use Rattle.std.proofs.Common.{length, set, length-set, Option, Some, None, refl, sym, ap, ◌∙◌, arith, inl, inr, rules}
 use Rattle.std.proofs.Common.{length-append, replicate, is_some, mod-lt, ltb-true, eq-eqb, ne_eqb, eqb-true, nat_cmp}
 use Rattle.std.proofs.lemmas.List.{length-replicate}
 use Rattle.std.proofs.lemmas.Bool.{cases_eq, cases_Bool, cond_both, eqb-false, and_parts}
@@ -118,16 +118,10 @@ module _ {X : Type 0} (n ways : ℕ) (some : 0 < n) (home : ℕ → ℕ) (table 
       ]
 
   pub fits-change : (x : X) → Fits n ways home (record table { sets = put_within table.sets its_set line x })
-  fits-change x = rewritten (put_in_place old line x)
-      (let k = length-put_in_place old line x in let m = fits.sizes its_set in omega arith)
-      (IsDistinct-put_in_place old line x (fits.distinct its_set))
-      (λ k n. find-put_in_place_other old line k x n)
+  fits-change x = search (rules, rewritten, length-put_in_place, IsDistinct-put_in_place, find-put_in_place_other)
 
   pub fits-drop : Fits n ways home (record table { sets = drop_line table.sets its_set line })
-  fits-drop = rewritten (without old line)
-      (let k = length-without_le old line in let m = fits.sizes its_set in omega arith)
-      (IsDistinct-without old line (fits.distinct its_set))
-      (λ k n. find-without_other old line k n)
+  fits-drop = search (rules, rewritten, length-without_le, IsDistinct-without, find-without_other)
 
 -- what holds of the part that a step makes
 abbrev Made : {S : Type 0} → (S → Type 0) → Step S → Type 0
@@ -194,8 +188,7 @@ module _ (config : Config) (some : 0 < config.bank_sets) (bank : BankState) (fit
     decided_fits core None (body.ExReq version) = loaded
     decided_fits core (Some (entry.Shared dirty line)) (body.ExReq version) =
         λ is. bank_used m.line (entry.Exclusive core) (rw is refl)
-    decided_fits core (Some (entry.Exclusive o)) (body.ExReq version) =
-        λ is. bank_changed m.line (entry.Recalling o)
+    decided_fits core (Some (entry.Exclusive o)) (body.ExReq version) = λ is. bank_changed m.line (entry.Recalling o)
     decided_fits core (Some e) (body.ExReq version) = λ is. tt
     decided_fits core e (body.FlushRep line) = given line e
     decided_fits core e (body.WbRep line) = given line e
@@ -219,8 +212,7 @@ TriedFits config (Does done) = Made (CoreFits config) done
 module _ (config : Config) (some : 0 < config.sets) (core : CoreState) (fits : CoreFits config core) where
   cache_used : (line : ℕ) (copy : LineCopy) → place_for core.cache line ≡ true →
       Fits config.sets config.ways (λ line. line) (cache.with_used core.cache line copy)
-  cache_used line copy place =
-      fits-put config.sets config.ways some (λ line. line) core.cache fits line copy place
+  cache_used line copy place = fits-put config.sets config.ways some (λ line. line) core.cache fits line copy place
 
   cache_changed : (line : ℕ) (copy : LineCopy) →
       Fits config.sets config.ways (λ line. line) (cache.with_changed core.cache line copy)

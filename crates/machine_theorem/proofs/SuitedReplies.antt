@@ -61,8 +61,7 @@ use Rattle.machine_theorem.proofs.SentMessages.{dram_gets, line_leaves}
 
 -- while its request is out, the core reads at a time that isn't past this one
 abbrev pub Reads : CoreState → ℕ → Type 0
-Reads core time =
-    (op : Op) → core.open_op ≡ Some op → core.is_out ≡ true → (a : ℕ) × (op ≡ Load a) × (core.pts ≤ time)
+Reads core time = (op : Op) → core.open_op ≡ Some op → core.is_out ≡ true → (a : ℕ) × (op ≡ Load a) × (core.pts ≤ time)
 
 -- the core that a message comes from, or the one that it goes to, reads by the time that the message names
 abbrev pub SuitsBy : CoreState → CoreState → Body → Type 0
@@ -201,14 +200,13 @@ module _ (m : Machine) (s : Invariant m) (so : Suited m) where
 
   suited_step : {S : Type 0} (put : S → Machine) (n : Option ℕ) (done : Step S) → Steps put done →
       Suited (changed m put n done).1
-  suited_step put n step.Exhausts k = so
-  suited_step put n (step.Keeps why) k = so
   suited_step put n step.Drops k = left_each (Stands m) m n so
   suited_step put n (step.Makes why consumes sends part) k =
       cond_both (can_post m.config.messages m.mail consumes sends)
       (why, record (put part) { mail = posted m.mail n consumes sends }) (refused m refusal.NetworkFull)
       (λ (o : Answer × Machine). Suited o.1)
       (λ e. posted_each (Stands (put part)) m n k.0 consumes sends k.1) (λ e. so)
+  suited_step put n _ k = so
 
   -- a step of a bank or a DRAM, which changes no core
   part_step : {S : Type 0} (put : S → Machine) → ((part : S) → Each (Stands (put part)) m.mail.messages) →
@@ -220,9 +218,8 @@ module _ (m : Machine) (s : Invariant m) (so : Suited m) where
   part_step put stand same n asked suits (step.Makes why consumes (Some q) part) sent =
       suited_step put n (step.Makes why consumes (Some q) part)
       (stand part, λ i. same part q (sent_suits a.cores asked suits q sent))
-  part_step put stand same n asked suits step.Exhausts sent = so
-  part_step put stand same n asked suits (step.Keeps why) sent = so
   part_step put stand same n asked suits step.Drops sent = suited_step put n step.Drops tt
+  part_step put stand same n asked suits _ sent = so
 
   -- a core
   module _ (c : ℕ) (core : CoreState) (at : slice_get m.cores c ≡ Some core) where
@@ -288,8 +285,7 @@ module _ (m : Machine) (s : Invariant m) (so : Suited m) where
 
     unserved : (op : Op) → core.open_op ≡ Some op → (version : Option ℕ) →
         Suited (tried m c core (attempted core op (
-          Some (cond core.is_out tries.Waiting
-              (core_table.need core.pts op version)),
+          Some (cond core.is_out tries.Waiting (core_table.need core.pts op version)),
           core,
         ))).1
     unserved op opens version = cond_both core.is_out tries.Waiting (core_table.need core.pts op version)
@@ -350,9 +346,8 @@ module _ (m : Machine) (s : Invariant m) (so : Suited m) where
           λ i. eased a.cores (seen (with_core m c part)).cores (put_eased part easier) q
               (sent_suits a.cores asked suits q sent),
         )
-    core_moves n asked suits step.Exhausts sent easier = so
-    core_moves n asked suits (step.Keeps why) sent easier = so
     core_moves n asked suits step.Drops sent easier = suited_step (with_core m c) n step.Drops tt
+    core_moves n asked suits _ sent easier = so
 
     reacts_easier : (line : ℕ) (r : CoreReaction) → Easier (reacted (core_table.after_reaction core line r))
     reacts_easier line (Arrives copy) = λ time k.
@@ -394,8 +389,7 @@ module _ (m : Machine) (s : Invariant m) (so : Suited m) where
 
   event_suits : (e : Event) → IsBetween m e → Suited (on_event m e).1
   event_suits (Issue c op) between = if_found (slice_get m.cores c) _ (λ core at. issues c core at op core.open_op refl)
-  event_suits (AttemptOf c) between =
-      if_found (slice_get m.cores c) _ (λ core at. attempts c core at core.open_op refl)
+  event_suits (AttemptOf c) between = if_found (slice_get m.cores c) _ (λ core at. attempts c core at core.open_op refl)
   event_suits (Deliver n) between = if_found (at_number n m.mail.messages) _
       (λ x at. delivered n x (each_at_number (Stands m) n m.mail.messages x at so (λ k q. q)) x.to)
   event_suits (EvictCache c line) between =

@@ -1,7 +1,7 @@
 -- Nothing is stuck: services complete the open operation of any core, in every reached state, or a time doesn't fit.
 use Rattle.std.proofs.Common.{⊎_elim, ◌≡◌, ◌≢◌, ℕ, suc, ◌+◌, ◌/◌, ◌%◌, ◌<◌, ◌≤◌, Bool, true, false, ◌&&◌, cond, eqb}
-use Rattle.std.proofs.Common.{leb, List, [], ◌∷◌, ◌++◌, length, Option, Some, None, ◌⊎◌, inl, inr, refl, sym, ap, ◌∙◌}
-use Rattle.std.proofs.Common.{subst, arith, le_trans, le_refl, Ok, Err, nat_cmp, is_some, mod-lt}
+use Rattle.std.proofs.Common.{leb, List, ◌∷◌, length, Option, Some, None, ◌⊎◌, inl, inr, refl, sym, ap, ◌∙◌, subst}
+use Rattle.std.proofs.Common.{arith, le_trans, le_refl, nat_cmp, is_some, mod-lt, rules}
 use Rattle.std.specs.FinMap.{FinMap}
 use Rattle.std.proofs.lemmas.Bool.{and_parts, cases_Bool, or_parts, or_right, cond-true, eq-eqb, ne_eqb, eqb-true}
 use Rattle.std.proofs.lemmas.Bool.{lt-ltb, ltb-false, leb-true, le-leb}
@@ -34,7 +34,6 @@ use Rattle.machine_table.specs.declared.event.Answer.TheVariants.{Evicted, Reque
 use Rattle.machine_table.specs.SetUp.{is_good}
 use Rattle.machine_table.specs.Step as step
 use Rattle.machine_table.specs.Step.{Makes, Does, Completes, Attempting, Evicting, core_step, attempted, record_of}
-use Rattle.machine_table.specs.Step.{copy_evicted}
 use Rattle.protocol.specs.Machine as by_line
 use Rattle.protocol.specs.Machine.{tally}
 use Rattle.protocol.proofs.Lemmas.{with_at_same, of_core-own, about, waits_here, one_if}
@@ -81,12 +80,7 @@ module _ (config : Config) (good : is_good config ≡ true) (opening : FinMap na
   -- nothing of the core is completed first
   completes_later : (a b d : State) → of_core c b.records ≡ of_core c a.records → defined.Completes c op b d →
       defined.Completes c op a d
-  completes_later a b d same x = record {
-    completion = x.completion;
-    its_operation = x.its_operation;
-    records = x.records ∙ ap (λ rs. rs ++ x.completion ∷ []) same;
-    closed = x.closed;
-  }
+  completes_later a b d same x = search rules
 
   ends_after : {most k : ℕ} {a b : State} (move : Move config a b) → IsService move → length b.bag ≤ most →
       of_core c b.records ≡ of_core c a.records → Ends most k b → Ends most (suc k) a
@@ -295,10 +289,7 @@ module _ (config : Config) (good : is_good config ≡ true) (opening : FinMap na
 
       evicts : core_step that_core (Evicting v)
           ≡ Does (Makes Evicted false (cond (is_exclusive held.state) (Some back) None) left)
-      evicts = ap (λ (o : Option LineCopy). Does (copy_evicted (core_table.sent_back that_core v
-          (cache.evicted that_core.cache v (pinned_line that_core) o)))) is
-          ∙ ap (λ (b : Bool). Does (copy_evicted (core_table.sent_back that_core v
-          (cond b (Err not_left.Pinned, that_core.cache) (Ok held, cache.without_copy that_core.cache v))))) off
+      evicts = search (rules, off)
 
       gone_still : copy_of left.cache its ≡ None
       gone_still = (drop_now (λ k. k) that_core.cache.sets ((kept a r).shape.each_core c).sets v).there
@@ -332,8 +323,7 @@ module _ (config : Config) (good : is_good config ≡ true) (opening : FinMap na
           (λ d y. completes_later s b d x.beside.records y)) (omega arith))
 
     -- a copy that can leave
-    without_place : copy_of that_core.cache its ≡ None →
-        place_for that_core.cache its ≡ false → Ends (suc (suc n)) 19 a
+    without_place : copy_of that_core.cache its ≡ None → place_for that_core.cache its ≡ false → Ends (suc (suc n)) 19 a
     without_place gone full = by_victim v.0 v.1 (copy_of that_core.cache v.0) refl
       where
         i : ℕ
@@ -355,8 +345,7 @@ module _ (config : Config) (good : is_good config ≡ true) (opening : FinMap na
 
         by_victim : (h : ℕ) → is_there (set_at that_core.cache.sets i) h ≡ true → (o : Option LineCopy) →
             copy_of that_core.cache h ≡ o → Ends (suc (suc n)) 19 a
-        by_victim h there None is =
-            absurd (let z : true ≡ false = sym (has h there) ∙ ap is_some is in cc)
+        by_victim h there None is = absurd (let z : true ≡ false = sym (has h there) ∙ ap is_some is in cc)
         by_victim h there (Some held) is =
             by_state h held is (λ e. let z : true ≡ false = rw (e, gone) at (sym (has h there)) in cc) gone
             (or_right (is_there (set_at without_h.sets (cache.set_of without_h its)) its) _ room)

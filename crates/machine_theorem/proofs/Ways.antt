@@ -1,6 +1,6 @@
 -- Ways: services on one line, one after the other, and what banks and DRAMs do with it on the way.
 use Rattle.std.proofs.Common.{◌≡◌, ◌≢◌, ℕ, zero, suc, ◌+◌, ◌/◌, ◌%◌, ◌<◌, ◌≤◌, Bool, true, false, List, ◌∷◌, length}
-use Rattle.std.proofs.Common.{Option, Some, None, refl, ap, ◌∙◌, subst, arith, cond, le_trans, nat_cmp, mod-lt}
+use Rattle.std.proofs.Common.{Option, Some, None, refl, ap, ◌∙◌, subst, arith, cond, le_trans, nat_cmp, mod-lt, rules}
 use Rattle.std.specs.FinMap.{FinMap}
 use Rattle.physiological_order.specs.Order.{of_core}
 use Rattle.network.specs.declared.message.Node.TheVariants as node
@@ -8,7 +8,7 @@ use Rattle.network.specs.declared.message.Body.{Body}
 use Rattle.network.specs.declared.message.Body.TheVariants as body
 use Rattle.network.specs.declared.message.Message.{Message}
 use Rattle.network.specs.declared.message.TimedLine.{TimedLine}
-use Rattle.line_sets.specs.SetTable.{Sets, has_room}
+use Rattle.line_sets.specs.SetTable.{Sets}
 use Rattle.llc_bank.specs.declared.entry.Entry.{Entry}
 use Rattle.llc_bank.specs.declared.entry.Entry.TheVariants as entry
 use Rattle.llc_bank.specs.declared.decision.Decision.{Decision}
@@ -75,8 +75,7 @@ pub record IsAnswered (w : Message → ℕ) (s : State) (bag : List Message) (b 
 
 pub answered : (w : Message → ℕ) (s : State) (bag : List Message) (sends : Option Message) →
     IsAnswered w s bag (with_answer s bag sends)
-answered w s bag None =
-    record { cores = refl; banks = refl; records = refl; few = omega arith; weighs = omega arith }
+answered w s bag None = record { cores = refl; banks = refl; records = refl; few = omega arith; weighs = omega arith }
 answered w s bag (Some q) =
     record { cores = refl; banks = refl; records = refl; few = omega arith; weighs = omega arith }
 
@@ -106,15 +105,7 @@ module _ (who : Setting) where
   Way h k Goal a = LeadsTo config (suc n) k (Comes h Goal a) a
 
   comes_after : {h : ℕ} {Goal : State → Type 0} {a b d : State} → Beside h a b → Comes h Goal b d → Comes h Goal a d
-  comes_after before x = record {
-    stands = x.stands;
-    beside = record {
-      others = λ k ne. x.beside.others k ne ∙ before.others k ne;
-      records = x.beside.records ∙ before.records;
-    };
-    few = x.few;
-    goal = x.goal;
-  }
+  comes_after before x = search rules
 
   pub way_after : {h k : ℕ} {Goal : State → Type 0} {a b : State} (move : Move config a b) → IsService move →
       length b.bag ≤ suc n → Beside h a b → Way h k Goal b → Way h (suc k) Goal a
@@ -125,12 +116,7 @@ module _ (who : Setting) where
       (λ b x. record { stands = x.stands; beside = x.beside; few = x.few; goal = so b x.goal })
 
   pub way_here : {h k : ℕ} {Goal : State → Type 0} {a : State} → Stands a → length a.bag ≤ n → Goal a → Way h k Goal a
-  way_here st few goal = leads_here (record {
-    stands = st;
-    beside = record { others = λ k ne. refl; records = refl };
-    few = few;
-    goal = goal;
-  })
+  way_here st few goal = search (rules, leads_here)
 
   pub way_then : {h j k i : ℕ} {G H : State → Type 0} {a : State} → Way h j G a →
       ((b : State) → Comes h G a b → Way h k H b) → j + k ≤ i → Way h i H a
@@ -229,8 +215,7 @@ module _ (who : Setting) where
     evicts o is = ap (λ (i : Option Entry). entry_evicted (bank_table.after_eviction bank h (on_entry.evicted i))) is
 
   abbrev pub IsShared : ℕ → State → Type 0
-  IsShared h a = (dirty : Bool) × (line : TimedLine) ×
-      (entry_of (a.banks (home h)) h ≡ Some (entry.Shared dirty line))
+  IsShared h a = (dirty : Bool) × (line : TimedLine) × (entry_of (a.banks (home h)) h ≡ Some (entry.Shared dirty line))
 
   abbrev pub IsGone : ℕ → State → Type 0
   IsGone h a = entry_of (a.banks (home h)) h ≡ None
@@ -240,12 +225,7 @@ module _ (who : Setting) where
       entry_of bank x.line ≡ o →
       ((room : Bool) → on_entry.at_bank bank.lease bank.mts room (core_of x.from) o b ≡ d) →
       bank_step bank (Getting x) ≡ reacted (bank_table.after_decision bank x d)
-  decided bank x b o d is there at =
-      let room = has_room bank.table (bank_table.set_of bank x.line) in
-      ap (λ (e : Decision). reacted (bank_table.after_decision bank x e))
-      (ap (λ (c : Body). on_entry.at_bank bank.lease bank.mts room (core_of x.from) (entry_of bank x.line) c) is
-      ∙ ap (λ (p : Option Entry). on_entry.at_bank bank.lease bank.mts room (core_of x.from) p b) there
-      ∙ at room)
+  decided bank x b o d is there at = search rules
 
   -- a message with this body, which is no request, is delivered to its line's bank, or to the DRAM behind it
   module _ (a : State) (st : Stands a) (size : length a.bag ≤ suc n) (x : Message) (rest : List Message)
@@ -394,8 +374,7 @@ module _ (who : Setting) where
           answered_by_dram a st size x rest taken (body.DramSt words) e (λ z. z) _ _
           (to_dram config opening a (kept a st) x rest taken (body.DramSt words) e (λ k i. refl) (λ f' k i. refl)) refl
           (λ s ss less q same line is'. rw (← line) (by_acknowledgement s ss less q rest same is'))
-      go x rest taken body.DramStRep e weighs =
-          leads_within (by_acknowledgement a st size x rest taken e) (omega arith)
+      go x rest taken body.DramStRep e weighs = leads_within (by_acknowledgement a st size x rest taken e) (omega arith)
       go x rest taken _ e weighs = absurd (omega arith)
 
   -- a shared line leaves its bank

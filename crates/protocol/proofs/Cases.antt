@@ -1,4 +1,4 @@
-use Rattle.std.proofs.Common.{◌≡◌, ℕ, ◌<◌, ◌≤◌, List, [], ◌∷◌, Option, sym, ◌∙◌, subst, arith}
+use Rattle.std.proofs.Common.{◌≡◌, ℕ, ◌<◌, ◌≤◌, List, [], ◌∷◌, Option, sym, ◌∙◌, subst, arith, rules}
 use Rattle.std.proofs.lemmas.Bool.Decides.{nat_tests}
 use Rattle.std.specs.List.{AllByRecursion as Each}
 use Rattle.physiological_order.specs.Order.{Memory}
@@ -44,10 +44,12 @@ module _ (f : Config) (m : Machine) (h : ℕ → Memory) (l t : ℕ) (s : Timed)
       tally store xs ≤ storing (m.lines l).entry → ((c : ℕ) → tally (about c) xs ≤ busy f m.cores l c) →
       Each (MessageOk f h l k.top s (m.lines l).copies (m.lines l).dram) xs → Each (HasCase f m l) xs
   cases_of [] r d w a q = tt
-  cases_of (x ∷ xs) r d w a q = (
-    case_of x (omega arith) (omega arith) (omega arith) (λ c. let z = a c in omega arith) q.0,
-    cases_of xs (omega arith) (omega arith) (omega arith) (λ c. let z = a c in omega arith) q.1,
-  )
+  cases_of (x ∷ xs) r d w a q =
+      search (
+        rules,
+        case_of,
+        cases_of xs (omega arith) (omega arith) (omega arith) (λ c. let z = a c in omega arith) q.1,
+      )
 
 pub messages_have_cases : (f : Config) → 0 < f.line_words → (m : Machine) → Reachable f m → (l : ℕ) →
     Each (HasCase f m l) (m.lines l).messages

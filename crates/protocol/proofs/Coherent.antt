@@ -1,5 +1,5 @@
 use Rattle.std.proofs.Common.{◌≡◌, ℕ, zero, suc, ◌<◌, ◌≤◌, max, List, [], ◌∷◌, map, Option, Some, None, IfSome, refl}
-use Rattle.std.proofs.Common.{sym, ap, ◌∙◌, subst, arith, ⊎_elim}
+use Rattle.std.proofs.Common.{sym, ap, ◌∙◌, arith, ⊎_elim, rules}
 use Rattle.std.specs.List.{AllByRecursion as Each}
 use Rattle.std.proofs.lemmas.Bool.{cond_both, cases_eq, cond-true, cases_lt}
 use Rattle.physiological_order.specs.declared.operation.Record.{Record}
@@ -7,7 +7,7 @@ use Rattle.physiological_order.specs.Order.{Memory, replay_end}
 use Rattle.physiological_order.proofs.Lemmas.{memory_at-end, each_weaker}
 use Rattle.protocol.specs.Machine.{Config, Timed, Copy, Entry, Absent, Loading, Shared, Exclusive, Recalling, Storing}
 use Rattle.protocol.specs.Machine.{Message, ExRep, UpgradeRep, FlushRep, WbRep, DramSt, DramStRep, Line, Machine}
-use Rattle.protocol.specs.Machine.{Reachable, line_of, word_at, or_else, owner_or, owner_words, words_of, granted_words}
+use Rattle.protocol.specs.Machine.{Reachable, line_of, word_at, or_else, owner_or, owner_words, granted_words}
 use Rattle.protocol.specs.Machine.{entry_words, stored_words, coherent_words, coherent, tally}
 use Rattle.protocol.proofs.Lines.{Holder, Bank, At, Flying, flying, right, store, storing, MessageOk, EntryOk, LineOk}
 use Rattle.protocol.proofs.Headline.{reachable_ok}
@@ -34,11 +34,7 @@ module _ (f : Config) (h : ℕ → Memory) (l : ℕ) (records : List Record) (bu
   owner_none zero c lt at none = omega arith
   owner_none (suc n) c lt at none =
       ⊎_elim
-      (λ (e : c ≡ n). let own = k.held c at in
-      let found : owner_words x.copies (suc n) ≡ Some (own.0.line.words) =
-      ap (λ y. owner_or y (owner_words x.copies n)) (sym (ap x.copies e) ∙ own.1) ∙ cond-true own.0.exclusive
-      (Some own.0.line.words) (owner_words x.copies n) own.2 in
-      let z : Some (own.0.line.words) ≡ None = sym found ∙ none in cc)
+      (search (rules, cond-true))
       (λ (ne : c ≡ n → ⊥). owner_none n c (omega arith) at (passed (x.copies n) (owner_words x.copies n) none))
       (cases_eq c n)
     where
@@ -51,8 +47,7 @@ module _ (f : Config) (h : ℕ → Memory) (l : ℕ) (records : List Record) (bu
       IfSome (granted_words x.copies ms) (λ w. w ≡ s.words)
   granted_tells [] e = tt
   granted_tells (ExRep c y ∷ ms) e = ap (λ (z : Timed). z.words) e.0
-  granted_tells (UpgradeRep c r ∷ ms) e = subst (λ (o : Option Copy). IfSome (words_of o) (λ w. w ≡ s.words))
-      (sym e.0.1) (ap (λ (z : Timed). z.words) e.0.3)
+  granted_tells (UpgradeRep c r ∷ ms) e = search rules
   granted_tells (FlushRep c y ∷ ms) e = ap (λ (z : Timed). z.words) e.0
   granted_tells (WbRep c y ∷ ms) e = ap (λ (z : Timed). z.words) e.0
   granted_tells (_ ∷ ms) e = granted_tells ms e.1
@@ -61,8 +56,7 @@ module _ (f : Config) (h : ℕ → Memory) (l : ℕ) (records : List Record) (bu
       ms ≡ None → tally right ms ≡ 0
   granted_none [] e n = refl
   granted_none (ExRep c y ∷ ms) e n = absurd (let z : ◌≡◌ {A = Option (List ℕ)} (Some y.words) None = n in cc)
-  granted_none (UpgradeRep c r ∷ ms) e n =
-      absurd (let z : ◌≡◌ {A = Option (List ℕ)} (Some (e.0.0.line.words)) None = sym (ap words_of e.0.1) ∙ n in cc)
+  granted_none (UpgradeRep c r ∷ ms) e n = cc
   granted_none (FlushRep c y ∷ ms) e n = absurd (let z : ◌≡◌ {A = Option (List ℕ)} (Some y.words) None = n in cc)
   granted_none (WbRep c y ∷ ms) e n = absurd (let z : ◌≡◌ {A = Option (List ℕ)} (Some y.words) None = n in cc)
   granted_none (_ ∷ ms) e n = let i = granted_none ms e.1 n in omega arith
@@ -98,16 +92,12 @@ module _ (f : Config) (h : ℕ → Memory) (l : ℕ) (records : List Record) (bu
       granted_words x.copies x.messages ≡ None → (a : Holder) → b ≡ a → b ≡ Bank
   at_the_bank cores few o g Bank e = e
   at_the_bank cores few o g (At c) e = absurd (owner_none cores c (few c e) e o)
-  at_the_bank cores few o g Flying e =
-      absurd (let z = granted_none x.messages k.messages g in let r = k.owner_count ∙ ap flying e in omega arith)
+  at_the_bank cores few o g Flying e = search (rules, granted_none, flying)
 
   pub current_is : (cores : ℕ) → ((c : ℕ) → b ≡ At c → c < cores) → coherent_words cores x ≡ s.words
   current_is cores few =
-      or_else_is (owner_words x.copies cores) _ s.words (owner_tells cores) (λ o.
-      or_else_is (granted_words x.copies x.messages) _ s.words (granted_tells x.messages k.messages) (λ g.
-      or_else_is (entry_words x.entry) _ s.words (entry_tells x.entry k.entry) (λ e.
-      or_else_is (stored_words x.messages) x.dram s.words (stored_tells x.messages k.messages) (λ d.
-      in_dram x.entry refl k.entry (at_the_bank cores few o g b refl) e d))))
+      or_else_is (owner_words x.copies cores) _ s.words (owner_tells cores)
+      (search (rules, or_else_is, granted_tells, entry_tells, stored_tells, in_dram, at_the_bank))
 
 -- a time that no record passes
 latest : (rs : List Record) → (t : ℕ) × Each (λ r. r.ts ≤ t) rs
@@ -124,10 +114,7 @@ coherent_is f good m r cores none a =
     let last = latest (arranged m.records) in
     let t = max last.0 k.0.wts in
     let few : (c : ℕ) → k.1 ≡ At c → c < cores = λ c at. ⊎_elim (λ (lt : c < cores). lt)
-    (λ (ge : cores ≤ c). absurd (let own = k.2.held c at in let z : Some own.0 ≡ None = sym own.1
-    ∙ none c (line_of f a) ge in cc)) (cases_lt c cores) in
-    ap (λ (ws : List ℕ). word_at f ws a) (current_is f _ (line_of f a) m.records _ _ (m.lines (line_of f a))
-    k.0 k.1 k.2 cores few)
+    (search rules) (cases_lt c cores) in
+    ap (λ (ws : List ℕ). word_at f ws a) (search (rules, current_is))
     ∙ sym (k.2.current.value t a refl (omega arith))
-    ∙ ap (λ (n : Memory). n a) (memory_at-end f.opening (arranged m.records) t (each_weaker (λ q w. omega arith)
-    (arranged m.records) last.1))
+    ∙ ap (λ (n : Memory). n a) (memory_at-end f.opening (arranged m.records) t (search (rules, each_weaker)))

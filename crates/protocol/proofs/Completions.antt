@@ -1,20 +1,18 @@
-use Rattle.std.proofs.Common.{◌≡◌, ◌≢◌, ℕ, ◌+◌, ◌%◌, ◌<◌, ◌≤◌, max, true, List, []}
-use Rattle.std.proofs.Common.{◌∷◌, ◌++◌, set, get_or, Option, Some, None, inl, inr, refl, sym, ap, ◌∙◌, subst, arith}
-use Rattle.std.proofs.Common.{le_trans, le_refl, lt_of_le_of_lt, ⊎_elim, length-set, get_or-set_same, get_or-set_other}
+use Rattle.std.proofs.Common.{◌≡◌, ◌≢◌, ℕ, ◌+◌, ◌%◌, ◌<◌, ◌≤◌, max, true, List, [], rules, ◌∷◌, ◌++◌, Option, Some}
+use Rattle.std.proofs.Common.{None, inl, inr, refl, sym, ap, ◌∙◌, subst, arith, le_trans, le_refl, lt_of_le_of_lt}
+use Rattle.std.proofs.Common.{length-set, get_or-set_same, get_or-set_other}
 use Rattle.std.proofs.lemmas.Bool.Decides.{nat_tests}
 use Rattle.std.proofs.lemmas.Grind.{common_steps}
 use Rattle.std.specs.Prelude.{slice_set}
 use Rattle.std.proofs.Math.Nat.{mod-lt, div-add-mod}
 use Rattle.std.specs.List.{AllByRecursion as Each}
-use Rattle.std.proofs.lemmas.Bool.{cases_eq}
 use Rattle.std.proofs.Math.Path.{fun_ext}
 use Rattle.physiological_order.specs.declared.operation.Op.{Op}
 use Rattle.physiological_order.specs.declared.operation.Op.TheVariants.{Load, Store, Swap}
 use Rattle.physiological_order.specs.declared.operation.Record.{Record}
 use Rattle.physiological_order.specs.Order.{Memory, address, flat_received, flat_after}
-use Rattle.physiological_order.proofs.Lemmas.{Sorted, memory_at-placed_before, memory_at-placed_keeps}
-use Rattle.physiological_order.proofs.Lemmas.{memory_at-placed_writes, each_weaker}
-use Rattle.physiological_order.proofs.Lemmas.{arranged-push, each_push, each_arranged}
+use Rattle.physiological_order.proofs.Lemmas.{memory_at-placed_before, memory_at-placed_keeps, memory_at-placed_writes}
+use Rattle.physiological_order.proofs.Lemmas.{Sorted, each_weaker, arranged-push, each_push, each_arranged}
 use Rattle.protocol.specs.Machine.{Config, Timed, Copy, Line, line_of, word_at, with_at, write_time, Uses, load_hit}
 use Rattle.protocol.specs.Machine.{load_own, store_own, swap_own, tally}
 use Rattle.protocol.proofs.Lease.{Current}
@@ -31,12 +29,7 @@ module _ (f : Config) (h g : ℕ → Memory) (l : ℕ) (records : List Record) (
       LineOk f h l records busy t x s b → LineOk f g l (records ++ r ∷ []) busy t x s b
   ok_beside busy t x s b same late k =
       record {
-        current = record {
-          order = k.current.order;
-          long = k.current.long;
-          value = λ u a on from. same u a on ∙ k.current.value u a on from;
-          past = each_push (λ q. line_of f (address q.op) ≡ l → q.ts ≤ s.rts) records r k.current.past late;
-        };
+        current = search (rules, each_push);
         top = k.top;
         within = k.within;
         copies = λ c cp is. copy_keeps f h g l k.top k.top s s x.copies x.copies x.dram x.dram
@@ -72,16 +65,10 @@ module _ (f : Config) (h g : ℕ → Memory) (l : ℕ) (records : List Record) (
         within = le_trans at_most up;
         copies = with_at_cases (λ d y. (cp : Copy) → y ≡ Some cp → CopyOk f g l k.top new.line b d cp)
             x.copies c (Some new)
-            (λ cp q. subst (λ (y : Copy). CopyOk f g l k.top new.line b c y) (Some_injective new cp q)
-            (λ z. (own.0, refl, fresh.1), λ z. absurd (cc)))
+            (search (rules, Some_injective))
             (λ d ne cp q. copy_keeps f h g l k.top k.top s new.line x.copies x.copies x.dram x.dram fresh.0
             (le_refl _) b b d cp (inl (λ w. ne (sym (At_injective c d (sym own.0 ∙ w))))) (k.copies d cp q));
-        held = λ d at. (
-          new,
-          subst (λ (i : ℕ). with_at x.copies c (Some new) i ≡ Some new)
-              (At_injective c d (sym own.0 ∙ at)) (with_at_same x.copies c (Some new)),
-          nex,
-        );
+        held = search (rules, At_injective, with_at_same);
         messages = messages_keep f h g l k.top k.top s new.line x.copies (with_at x.copies c (Some new)) x.dram x.dram
             fresh.0 (le_refl _) x.messages (inl no_owner) (inl (k.loads ∙ e.0)) (inl (k.stores ∙ e.1))
             (lost f h l records busy x x.messages c (Some new) (k.asks c ∙ free)) k.messages;
@@ -95,18 +82,10 @@ module _ (f : Config) (h g : ℕ → Memory) (l : ℕ) (records : List Record) (
   -- what stands is read, and leased at least up to the read
   Current-read : (s : Timed) (rts : ℕ) → ((t a : ℕ) → line_of f a ≡ l → g t a ≡ h t a) → s.rts ≤ rts → r.ts ≤ rts →
       Current f h records l s → Current f g (records ++ r ∷ []) l (record s { rts = rts })
-  Current-read s rts same up late k =
-      record {
-        order = le_trans k.order up;
-        long = k.long;
-        value = λ u a on from. same u a on ∙ k.value u a on from;
-        past = each_push (λ q. line_of f (address q.op) ≡ l → q.ts ≤ rts) records r
-            (each_weaker (λ q w on. le_trans (w on) up) records k.past) (λ on. late);
-      }
+  Current-read s rts same up late k = search (rules, le_trans, each_push, each_weaker)
 
   -- two words of a line are at two places
-  apart : (a b : ℕ) → 0 < f.line_words → line_of f a ≡ l → line_of f b ≡ l → b ≢ a →
-      b % f.line_words ≢ a % f.line_words
+  apart : (a b : ℕ) → 0 < f.line_words → line_of f a ≡ l → line_of f b ≡ l → b ≢ a → b % f.line_words ≢ a % f.line_words
   apart a b good on_a on_b ne e = grind (arith, nat_tests, common_steps, div-add-mod)
 
   -- what stands is written, above all that came before
@@ -115,24 +94,14 @@ module _ (f : Config) (h g : ℕ → Memory) (l : ℕ) (records : List Record) (
       Current f h records l s → Current f g (records ++ r ∷ []) l (record {
         wts = r.ts;
         rts = r.ts;
-        words =
-            slice_set s.words (a % f.line_words) v;
+        words = slice_set s.words (a % f.line_words) v;
       })
   Current-write s a v good on up at other here k =
       record {
         order = le_refl _;
         long = (let n = length-set s.words (a % f.line_words) v in let le = k.long in omega arith);
-        value = λ u b on_b from. ⊎_elim
-            (λ (e : b ≡ a). ap (g u) e ∙ here u from
-            ∙ sym (ap (λ (i : ℕ). get_or (set s.words (a % f.line_words) v) (i % f.line_words) 0) e
-            ∙ get_or-set_same s.words (a % f.line_words) v 0 (let lt = mod-lt a good in
-            let n = k.long in omega arith)))
-            (λ (ne : b ≡ a → ⊥). other u b ne ∙ k.value u b on_b (let o = k.order in omega arith)
-            ∙ sym (get_or-set_other s.words (a % f.line_words) (b % f.line_words) v 0
-            (apart a b good on on_b ne)))
-            (cases_eq b a);
-        past = each_push (λ q. line_of f (address q.op) ≡ l → q.ts ≤ r.ts) records r
-            (each_weaker (λ q w y. le_trans (w y) (omega arith)) records k.past) (λ y. le_refl _);
+        value = search (rules, get_or-set_same, mod-lt, get_or-set_other, apart);
+        past = search (rules, each_push, each_weaker, le_trans, le_refl);
       }
 
 -- the values by the records so far
@@ -153,10 +122,7 @@ module _ (f : Config) (records : List Record) (r : Record) where
 
   pub values-written : (t a v : ℕ) → Sorted (arranged records) → Each (λ s. address s.op ≡ a → s.ts ≤ r.ts) records →
       ((n : Memory) → flat_after n r.op a ≡ v) → r.ts ≤ t → values f (records ++ r ∷ []) t a ≡ v
-  values-written t a v s past w le =
-      ap (λ (rs : List Record). memory_at f.opening rs t a) (arranged-push records r)
-      ∙ memory_at-placed_writes f.opening r (arranged records) t a v s
-      (each_arranged (λ q. address q.op ≡ a → q.ts ≤ r.ts) records past) w le
+  values-written t a v s past w le = search (rules, arranged-push, memory_at-placed_writes, each_arranged)
 
 -- a table changed at a place to what is there is the same table
 pub with_at_id : {X : Type 0} (g : ℕ → X) (i : ℕ) (x : X) → g i ≡ x → with_at g i x ≡ g
@@ -173,8 +139,7 @@ pub record Completes (f : Config) (l : ℕ) (records : List Record) (busy : ℕ 
 module _ (f : Config) (good : 0 < f.line_words) (records : List Record) (sorted : Sorted (arranged records))
     (busy : ℕ → ℕ) (t : ℕ) (x : Line) (c place number pts : ℕ) (free : busy c ≡ 0) where
   abbrev pub record_of : Op → Option ℕ → ℕ → Record
-  record_of op received ts =
-      record { core = c; place = place; op = op; received = received; ts = ts; number = number }
+  record_of op received ts = record { core = c; place = place; op = op; received = received; ts = ts; number = number }
 
   -- a write's time is above all leases, and not below what came before
   write_late : (copy : Copy) → (copy.line.rts ≤ write_time f pts copy) × (pts ≤ write_time f pts copy) ×
@@ -197,8 +162,7 @@ module _ (f : Config) (good : 0 < f.line_words) (records : List Record) (sorted 
               line = record {
                 wts = ts;
                 rts = ts;
-                words =
-                    slice_set copy.line.words (a % f.line_words) v;
+                words = slice_set copy.line.words (a % f.line_words) v;
               };
             }));
       }) (record_of op received ts)
@@ -217,8 +181,7 @@ module _ (f : Config) (good : 0 < f.line_words) (records : List Record) (sorted 
           k.1,
           ok_own f (values f records) (values f (records ++ r ∷ [])) (line_of f a) records r busy t x k.0 k.1 c copy
               (record copy { written = true; line = u }) free is ex ex
-              (λ top le below. let lt = late.2 top le invariant.order below in
-              (λ d b on_b to. values-before f records r d b (lt_of_le_of_lt to lt), λ z. lt)) late.0
+              (search (rules, values-before, lt_of_le_of_lt)) late.0
               (Current-write f (values f records) (values f (records ++ r ∷ [])) (line_of f a) records r copy.line a
               v good refl late.0 at
               (λ d b ne. values-other f records r d b (λ e. ne (e ∙ at)))

@@ -1,19 +1,18 @@
-use Rattle.std.proofs.Common.{◌≡◌, ◌≢◌, ℕ, ◌+◌, ◌≤◌, true, false, eqb, List, ◌∷◌, Option, Some, None, IfSome, inl, refl}
-use Rattle.std.proofs.Common.{sym, ap, ◌∙◌, subst, arith, le_refl}
+use Rattle.std.proofs.Common.{◌≡◌, ◌≢◌, ℕ, ◌+◌, ◌≤◌, true, false, eqb, List, ◌∷◌, Some, inl, refl, sym, ap, ◌∙◌, arith}
+use Rattle.std.proofs.Common.{le_refl, rules}
 use Rattle.std.proofs.lemmas.Bool.Decides.{nat_tests}
-use Rattle.std.proofs.lemmas.Grind.{common_steps}
 use Rattle.std.specs.List.Sorted.{IsPermutation}
 use Rattle.std.proofs.lemmas.Bool.{ne_eqb}
 use Rattle.physiological_order.specs.declared.operation.Op.{Op}
 use Rattle.physiological_order.specs.declared.operation.Record.{Record}
 use Rattle.physiological_order.specs.Order.{Memory}
-use Rattle.protocol.specs.Machine.{Config, Timed, Copy, Message, ShRep, ExRep, RenewRep, UpgradeRep, Line}
-use Rattle.protocol.specs.Machine.{with_at, version_of, CannotUse, Answers, shared, exclusive, renews, upgrades, Asks}
-use Rattle.protocol.specs.Machine.{to_read, to_write, NotOwned, tally}
+use Rattle.protocol.specs.Machine.{Config, Timed, Copy, Message, ShRep, ExRep, RenewRep, UpgradeRep, Line, with_at}
+use Rattle.protocol.specs.Machine.{Answers, shared, exclusive, renews, upgrades, Asks, to_read, to_write, NotOwned}
+use Rattle.protocol.specs.Machine.{tally}
 use Rattle.protocol.proofs.Lease.{Leased}
-use Rattle.protocol.proofs.Lines.{Holder, Bank, At, Flying, right, load, store, about, one_if, about_itself, HasShared}
-use Rattle.protocol.proofs.Lines.{MessageOk, CopyOk, LineOk, with_at_same, with_at_other, with_at_cases}
-use Rattle.protocol.proofs.Lines.{copy_keeps, flying, loading, storing}
+use Rattle.protocol.proofs.Lines.{Holder, Bank, At, Flying, right, load, store, about, one_if, about_itself, MessageOk}
+use Rattle.protocol.proofs.Lines.{CopyOk, LineOk, with_at_same, with_at_other, with_at_cases, copy_keeps, flying}
+use Rattle.protocol.proofs.Lines.{loading, storing}
 use Rattle.protocol.proofs.LineChanges.{At≢Bank, At_injective, flying_one, at_most_one, owned, keep, lost, Goes}
 use Rattle.protocol.proofs.LineChanges.{ok_shuffled}
 
@@ -41,21 +40,14 @@ module _ (f : Config) (h : ℕ → Memory) (l : ℕ) (records : List Record) whe
         top = k.top;
         within = k.within;
         copies = with_at_cases (λ d y. (cp : Copy) → y ≡ Some cp → CopyOk f h l k.top s b d cp) x.copies c (Some new)
-            (λ cp e. subst (λ (y : Copy). CopyOk f h l k.top s b c y) (Some_injective new cp e)
-            (λ z. absurd (cc), λ z. told.1))
+            (search (rules, Some_injective))
             (λ d ne cp e. k.copies d cp e);
-        held = λ d at.
-            let own = k.held d at in
-            let ne : d ≢ c = λ e. let q : own.0.exclusive ≡ false = told.0 own.0 (sym (ap x.copies e) ∙ own.1) in
-            let r = own.2 in cc in
-            (own.0, with_at_other x.copies c (Some new) d ne ∙ own.1, own.2);
-        messages = keep f h l records busy k.top s x (with_at x.copies c (Some new)) rest
-            (lost f h l records busy x rest c (Some new) no_asks) k.messages.1;
+        held = search (rules, with_at_other);
+        messages = search (rules, keep, lost);
         owner_count = omega arith;
         loads = omega arith;
         stores = omega arith;
-        asks = with_at_cases (λ d n. tally (about d) rest ≡ n) busy c 0 no_asks
-            (λ d ne. let z = others d ne in let r = k.asks d in omega arith);
+        asks = search (rules, with_at_cases, about);
         entry = k.entry;
       }
 
@@ -82,26 +74,15 @@ module _ (f : Config) (h : ℕ → Memory) (l : ℕ) (records : List Record) whe
         within = k.within;
         copies = with_at_cases (λ d y. (cp : Copy) → y ≡ Some cp → CopyOk f h l k.top s (At c) d cp)
             x.copies c (Some new)
-            (λ cp q. subst (λ (y : Copy). CopyOk f h l k.top s (At c) c y) (Some_injective new cp q) (
-              λ z. (refl, tells k.top k.messages.0, λ w. absurd (let y : false ≡ true = sym nw ∙ w in cc)),
-              λ z.
-                  absurd (cc),
-            ))
+            (search (rules, Some_injective))
             (λ d ne cp q. copy_keeps f h h l k.top k.top s s x.copies x.copies x.dram x.dram (λ t a on le. refl)
             (le_refl _) b (At c) d cp (inl (λ w. let z : Flying ≡ At d = sym fl ∙ w in cc)) (k.copies d cp q));
-        held = λ d at. (
-          new,
-          subst (λ (i : ℕ). with_at x.copies c (Some new) i ≡ Some new) (At_injective c d at)
-              (with_at_same x.copies c (Some new)),
-          ex,
-        );
-        messages = keep f h l records busy k.top s x (with_at x.copies c (Some new)) rest
-            (lost f h l records busy x rest c (Some new) no_asks) k.messages.1;
+        held = search (rules, At_injective, with_at_same);
+        messages = search (rules, keep, lost);
         owner_count = omega arith;
         loads = omega arith;
         stores = omega arith;
-        asks = with_at_cases (λ d n. tally (about d) rest ≡ n) busy c 0 no_asks
-            (λ d ne. let z = others d ne in let r = k.asks d in omega arith);
+        asks = search (rules, with_at_cases, about);
         entry = e.2 s (At c) (λ q. At≢Bank c q);
       }
 
@@ -139,12 +120,7 @@ module _ (f : Config) (h : ℕ → Memory) (l : ℕ) (records : List Record) whe
             k.1,
             ok_shared busy t x k.0 k.1 c (record copy { line = record (copy.line) { rts = rts } }) (RenewRep c rts) rest
                 one refl refl refl (about_itself c) (about_other c) sh
-                (λ n q. (
-                  λ z w. ap (λ (y : Copy). y.exclusive) (sym (Some_injective copy z (sym is ∙ w)))
-                      ∙ sh,
-                  subst (λ (y : Copy). Leased f h l n (record (y.line) { rts = rts }))
-                      (Some_injective q.0 copy (sym q.1 ∙ is)) q.3,
-                )) taken,
+                (search (rules, Some_injective)) taken,
           )
       by_answer y (upgrades rts copy rest p is) =
           let u : Timed = record (copy.line) { rts = rts } in (
@@ -152,28 +128,12 @@ module _ (f : Config) (h : ℕ → Memory) (l : ℕ) (records : List Record) whe
             At c,
             ok_owner busy t x k.0 k.1 c (record { exclusive = true; written = false; line = u }) (UpgradeRep c rts) rest
                 one refl refl refl (about_itself c) (about_other c) refl refl
-                (λ n q. ap (λ (y : Copy). record (y.line) { rts = rts })
-                (Some_injective copy q.0 (sym is ∙ q.1)) ∙ q.3)
+                (search (rules, Some_injective))
                 (has _ rest p),
           )
-
-  -- what is asked with
-  wants_shared : (op : Op) (pts : ℕ) (y : Option Copy) → CannotUse op pts y → NotOwned y ×
-      IfSome (version_of y) (λ w. HasShared y (λ x. x.wts ≡ w))
-  wants_shared op pts None k = (λ c e. absurd (cc), tt)
-  wants_shared op pts (Some copy) k =
-      (λ c e. ap (λ (y : Copy). y.exclusive) (sym (Some_injective copy c e)) ∙ k.0, (copy, refl, k.0, refl))
-
-  ok_asks : (busy : ℕ → ℕ) (t : ℕ) (x : Line) (s : Timed) (b : Holder) (c : ℕ) (m : Message) → busy c ≡ 0 →
-      right m ≡ 0 → load m ≡ 0 → store m ≡ 0 → about c m ≡ 1 → ((d : ℕ) → d ≢ c → about d m ≡ 0) →
-      ((top : ℕ) → MessageOk f h l top s x.copies x.dram m) → LineOk f h l records busy t x s b →
-      LineOk f h l records (with_at busy c 1) t (record x { messages = m ∷ x.messages }) s b
-  ok_asks busy t x s b c m free rm dm wm am others fine k = grind (arith, nat_tests)
 
   -- every request keeps the line
   pub asks_keep : (busy : ℕ → ℕ) (t c pts : ℕ) (op : Op) → busy c ≡ 0 → (x y : Line) → Asks c pts op x y →
       Goes f h l records busy t x → Goes f h l records (with_at busy c 1) t y
-  asks_keep busy t c pts op free x y (to_read a w) k =
-      grind (arith, nat_tests, common_steps, about_itself, about_other, ok_asks, wants_shared)
-  asks_keep busy t c pts op free x y (to_write w) k =
-      grind (arith, nat_tests, common_steps, about_itself, about_other, ok_asks, wants_shared)
+  asks_keep busy t c pts op free x y (to_read a w) k = grind (arith, nat_tests)
+  asks_keep busy t c pts op free x y (to_write w) k = grind (arith, nat_tests)

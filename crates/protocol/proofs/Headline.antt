@@ -1,6 +1,6 @@
-use Rattle.std.proofs.Common.{◌≡◌, ◌≢◌, ℕ, ◌+◌, ◌%◌, ◌<◌, ◌≤◌, Bool, true, false, eqb, List, [], ◌∷◌, ◌++◌}
-use Rattle.std.proofs.Common.{length, Option, Some, None, refl, sym, ap, ◌∙◌, subst, arith, le_trans, le_refl, ⊎_elim}
-use Rattle.std.proofs.Common.{append-nil, length-append}
+use Rattle.std.proofs.Common.{◌≡◌, ◌≢◌, ℕ, ◌+◌, ◌%◌, ◌<◌, ◌≤◌, Bool, true, false, eqb, List, [], ◌∷◌, ◌++◌, length}
+use Rattle.std.proofs.Common.{Option, Some, None, refl, sym, ap, ◌∙◌, subst, arith, le_trans, le_refl, append-nil}
+use Rattle.std.proofs.Common.{length-append, rules}
 use Rattle.std.proofs.lemmas.Bool.Decides.{nat_tests}
 use Rattle.std.proofs.lemmas.Grind.{common_steps}
 use Rattle.std.specs.Prelude.{slice_get}
@@ -15,12 +15,12 @@ use Rattle.physiological_order.specs.Order.{Memory, address, of_core, Legal}
 use Rattle.physiological_order.proofs.Lemmas.{each_push, Sorted-from_Ascends, Kept-none, Kept-issue, Kept-push}
 use Rattle.physiological_order.proofs.Lemmas.{Legal-from_Kept}
 use Rattle.protocol.specs.Machine.{Config, Timed, Copy, Entry, Absent, Loading, Storing, Line, Core, Machine, line_of}
-use Rattle.protocol.specs.Machine.{with_at, word_at, waits, OpensWith, opened, IsPinned, LineTransition, evict_clean}
-use Rattle.protocol.specs.Machine.{evict_dirty, Answers, shared, exclusive, renews, upgrades, Asks, Uses, Transition}
-use Rattle.protocol.specs.Machine.{issue, advance, ask, answer, complete, line_changes, Reachable, at_first, goes_on}
+use Rattle.protocol.specs.Machine.{with_at, waits, OpensWith, opened, IsPinned, LineTransition, evict_clean, Answers}
+use Rattle.protocol.specs.Machine.{shared, exclusive, renews, upgrades, Asks, Uses, Transition, issue, advance, ask}
+use Rattle.protocol.specs.Machine.{answer, complete, line_changes, Reachable, at_first, goes_on}
 use Rattle.protocol.proofs.Bags.{tally-taken, each_map}
-use Rattle.protocol.proofs.Lines.{one_at_most, Holder, Bank, about, about_itself, EntryOk, with_at_same, with_at_other}
-use Rattle.protocol.proofs.Lines.{with_at_cases, with_bag}
+use Rattle.protocol.proofs.Lines.{one_at_most, Holder, Bank, about, about_itself, EntryOk, with_at_same, with_at_cases}
+use Rattle.protocol.proofs.Lines.{with_bag}
 use Rattle.protocol.proofs.LineChanges.{Goes, moves_keep}
 use Rattle.protocol.proofs.Cores.{answers_keep, asks_keep}
 use Rattle.protocol.proofs.Completions.{values, values-other, ok_beside, uses_keep}
@@ -47,8 +47,7 @@ pub record MachineOk (f : Config) (m : Machine) : Type 0 where
 -- two tables changed at one place
 with_at_both : {X Y : Type 0} (P : ℕ → X → Y → Type 0) (g : ℕ → X) (k : ℕ → Y) (i : ℕ) (x : X) (y : Y) → P i x y →
     ((j : ℕ) → j ≢ i → P j (g j) (k j)) → (j : ℕ) → P j (with_at g i x j) (with_at k i y j)
-with_at_both P g k i x y here there j =
-    grind (arith, nat_tests, common_steps, with_at_cases, with_at_other, with_at_same)
+with_at_both P g k i x y here there j = grind (arith, nat_tests)
 
 -- what cores wait for
 waits_none : (f : Config) (l : ℕ) (out : Bool) (op : Option Op) → out ≡ false → waits f l out op ≡ 0
@@ -69,8 +68,7 @@ waits_there f l op ne = cond-false (eqb (line_of f (address op)) l) 1 0 (ne_eqb 
 pub waits_unpinned : (f : Config) (l : ℕ) (out : Bool) (p : Option Op) →
     ((op : Op) × (p ≡ Some op) × (line_of f (address op) ≡ l) → ⊥) → waits f l out p ≡ 0
 waits_unpinned f l true None h = refl
-waits_unpinned f l true (Some op) h =
-    cond-false (eqb (line_of f (address op)) l) 1 0 (ne_eqb _ _ (λ e. h (op, refl, e)))
+waits_unpinned f l true (Some op) h = grind (arith, nat_tests)
 waits_unpinned f l false p h = refl
 
 waits_elsewhere : (f : Config) (l k : ℕ) (out : Bool) (p : Option Op) → waits f l out p ≡ 1 → k ≢ l →
@@ -111,7 +109,6 @@ answers_busy {c = c} {x = x} one (upgrades rts copy rest q is) k = let e = tally
 moves_rise : {lease : ℕ} {loses : Bool} {pinned : ℕ → Type 0} {t u : ℕ} {x y : Line} →
     LineTransition lease loses pinned t x u y → t ≤ u
 moves_rise (evict_clean line is) = omega arith
-moves_rise (evict_dirty line is) = omega arith
 moves_rise _ = omega arith
 
 -- the opening
@@ -121,12 +118,7 @@ opened_line f pts mts drams opens l = (
   record { wts = f.opening_time; rts = f.opening_time; words = drams l },
   Bank,
   record {
-    current = record {
-      order = le_refl _;
-      long = opens.long l;
-      value = λ t a on from. sym (opens.same a) ∙ ap (λ (k : ℕ). word_at f (drams k) a) on;
-      past = tt;
-    };
+    current = search (rules, le_refl);
     top = f.opening_time;
     within = le_refl _;
     copies = λ c cp e. absurd (cc);
@@ -153,8 +145,7 @@ opened_ok f pts mts drams at opens =
 issue_ok : (f : Config) (m : Machine) (c : ℕ) (op : Op) → (m.cores c).open_op ≡ None → MachineOk f m →
     MachineOk f (record m {
       cores = with_at m.cores c (record (m.cores c) { open_op = Some op });
-      issued =
-          with_at m.issued c (m.issued c ++ op ∷ []);
+      issued = with_at m.issued c (m.issued c ++ op ∷ []);
     })
 issue_ok f m c op none k =
     let core : Core = record (m.cores c) { open_op = Some op } in
@@ -164,10 +155,7 @@ issue_ok f m c op none k =
       kept = Kept-issue f.opening m.issued (with_at m.issued c (m.issued c ++ op ∷ [])) m.records
           (with_at_cases (λ d ops. (more : List Op) × (ops ≡ m.issued d ++ more)) m.issued c (m.issued c ++ op ∷ [])
           (op ∷ [], refl) (λ d ne. ([], sym (append-nil (m.issued d))))) k.kept;
-      lines = λ l. busy_same
-          (with_at_cases (λ d y. busy f m.cores l d ≡ waits f l y.out y.open_op) m.cores c core
-          (waits_none f l (m.cores c).out (m.cores c).open_op idle
-          ∙ sym (waits_none f l (m.cores c).out (Some op) idle)) (λ d ne. refl)) (k.lines l);
+      lines = λ l. busy_same (search (rules, with_at_cases, waits_none)) (k.lines l);
       cores = with_at_both (λ d y ops. CoreOk d y ops m.records) m.cores m.issued c core (m.issued c ++ op ∷ [])
           (record {
             pts = (k.cores c).pts;
@@ -192,14 +180,7 @@ advance_ok f m c k =
       lines = λ l. busy_same
           (with_at_cases (λ d y. busy f m.cores l d ≡ waits f l y.out y.open_op) m.cores c core refl (λ d ne. refl))
           (k.lines l);
-      cores = with_at_cases (λ d y. CoreOk d y (m.issued d) m.records) m.cores c core
-          (record {
-            pts = each_map (λ r w e. le_trans (w e) (omega arith)) m.records (k.cores c).pts;
-            opened =
-                (k.cores c).opened;
-            idle = (k.cores c).idle;
-          })
-          (λ d ne. k.cores d);
+      cores = search (rules, with_at_cases, each_map, le_trans);
     }
 
 -- the lines after one of them changed and the cores' waits with it
@@ -207,8 +188,7 @@ ask_ok : (f : Config) (m : Machine) (c : ℕ) (op : Op) (y : Line) → (m.cores 
     (m.cores c).out ≡ false → Asks c (m.cores c).pts op (m.lines (line_of f (address op))) y → MachineOk f m →
     MachineOk f (record m {
       cores = with_at m.cores c (record (m.cores c) { out = true });
-      lines =
-          with_at m.lines (line_of f (address op)) y;
+      lines = with_at m.lines (line_of f (address op)) y;
     })
 ask_ok f m c op y opens quiet a k =
     let core : Core = record (m.cores c) { out = true } in
@@ -218,30 +198,21 @@ ask_ok f m c op y opens quiet a k =
       lines = with_at_cases (λ l x. Goes f (values f m.records) l m.records (busy f (with_at m.cores c core) l)
           (m.mts (l % f.banks)) x) m.lines here y
           (busy_same
-          (with_at_both (λ d n z. n ≡ waits f here z.out z.open_op) (busy f m.cores here) m.cores c 1 core
-          (sym (ap (waits f here true) opens ∙ waits_here f op)) (λ d ne. refl))
+          (search (rules, with_at_both, waits_here))
           (asks_keep f (values f m.records) here m.records (busy f m.cores here) (m.mts (here % f.banks)) c
           (m.cores c).pts op (waits_none f here (m.cores c).out (m.cores c).open_op quiet) (m.lines here)
           y a (k.lines here)))
           (λ l ne. busy_same
-          (with_at_cases (λ d z. busy f m.cores l d ≡ waits f l z.out z.open_op) m.cores c core
-          (waits_none f l (m.cores c).out (m.cores c).open_op quiet ∙ sym (ap (waits f l true) opens
-          ∙ waits_there f l op ne)) (λ d nd. refl)) (k.lines l));
+          (search (rules, with_at_cases, waits_none, waits_there)) (k.lines l));
       cores = with_at_cases (λ d z. CoreOk d z (m.issued d) m.records) m.cores c core
-          (record {
-            pts = (k.cores c).pts;
-            opened = (k.cores c).opened;
-            idle = λ e. let z : Some op ≡ None = sym opens
-                ∙ e in absurd (cc);
-          })
+          (search rules)
           (λ d ne. k.cores d);
     }
 
 answer_ok : (f : Config) (m : Machine) (c l : ℕ) (y : Line) → Answers c (m.lines l) y → MachineOk f m →
     MachineOk f (record m {
       cores = with_at m.cores c (record (m.cores c) { out = false });
-      lines =
-          with_at m.lines l y;
+      lines = with_at m.lines l y;
     })
 answer_ok f m c l y a k =
     let core : Core = record (m.cores c) { out = false } in
@@ -252,13 +223,11 @@ answer_ok f m c l y a k =
       lines = with_at_cases (λ i x. Goes f (values f m.records) i m.records (busy f (with_at m.cores c core) i)
           (m.mts (i % f.banks)) x) m.lines l y
           (busy_same
-          (with_at_both (λ d n z. n ≡ waits f l z.out z.open_op) (busy f m.cores l) m.cores c 0 core
-          refl (λ d ne. refl))
+          (search (rules, with_at_both))
           (answers_keep f (values f m.records) l m.records (busy f m.cores l) (m.mts (l % f.banks)) c one
           (m.lines l) y a (k.lines l)))
           (λ i ne. busy_same
-          (with_at_cases (λ d z. busy f m.cores i d ≡ waits f i z.out z.open_op) m.cores c core
-          (waits_elsewhere f l i (m.cores c).out (m.cores c).open_op waited ne) (λ d nd. refl)) (k.lines i));
+          (search (rules, with_at_cases, waits_elsewhere)) (k.lines i));
       cores = with_at_cases (λ d z. CoreOk d z (m.issued d) m.records) m.cores c core
           (record { pts = (k.cores c).pts; opened = (k.cores c).opened; idle = λ e. refl })
           (λ d ne. k.cores d);
@@ -302,15 +271,13 @@ complete_ok : (f : Config) → 0 < f.line_words → (m : Machine) (c : ℕ) (op 
     MachineOk f (record m {
       cores = with_at m.cores c (record { pts = ts; open_op = None; out = false });
       lines = with_at m.lines (line_of f (address op)) (record (m.lines (line_of f (address op))) {
-        copies =
-            with_at ((m.lines (line_of f (address op))).copies) c (Some new);
+        copies = with_at ((m.lines (line_of f (address op))).copies) c (Some new);
       });
       records = m.records ++ record {
         core = c;
         place = length (of_core c m.records);
         op = op;
-        received =
-            received;
+        received = received;
         ts = ts;
         number = length m.records;
       } ∷ [];
@@ -323,8 +290,7 @@ complete_ok f good m c op copy new received ts opens quiet is used k =
       place = length (of_core c m.records);
       op = op;
       received = received;
-      ts =
-          ts;
+      ts = ts;
       number = length m.records;
     } in
     let free = waits_none f here (m.cores c).out (m.cores c).open_op quiet in
@@ -334,26 +300,13 @@ complete_ok f good m c op copy new received ts opens quiet is used k =
     (busy f m.cores here) (m.mts (here % f.banks)) (m.lines here) c (length (of_core c m.records))
     (length m.records) (m.cores c).pts free op copy received ts new is used (k.lines here) in
     record {
-      kept = Kept-push f.opening m.issued m.records r k.kept
-          (record {
-            number = refl;
-            place = refl;
-            issued_there = open_is.1;
-            pts =
-                each_map (λ q w e. le_trans (w e) done.later) m.records (k.cores c).pts;
-            value =
-                done.value;
-            undisturbed = done.undisturbed;
-          });
+      kept = Kept-push f.opening m.issued m.records r k.kept (search (rules, each_map, le_trans));
       lines = with_at_cases (λ i x. Goes f (values f (m.records ++ r ∷ [])) i (m.records ++ r ∷ [])
           (busy f (with_at m.cores c core) i) (m.mts (i % f.banks)) x) m.lines here
           (record (m.lines here) { copies = with_at ((m.lines here).copies) c (Some new) })
-          (busy_same
-          (with_at_cases (λ d z. busy f m.cores here d ≡ waits f here z.out z.open_op) m.cores c core free
-          (λ d nd. refl)) done.line)
+          (search (rules, busy_same, with_at_cases))
           (λ i ne. busy_same
-          (with_at_cases (λ d z. busy f m.cores i d ≡ waits f i z.out z.open_op) m.cores c core
-          (waits_none f i (m.cores c).out (m.cores c).open_op quiet) (λ d nd. refl)) (
+          (search (rules, with_at_cases, waits_none)) (
             (k.lines i).0,
             (k.lines i).1,
             ok_beside f (values f m.records) (values f (m.records ++ r ∷ [])) i m.records r (busy f m.cores i)
@@ -362,20 +315,8 @@ complete_ok f good m c op copy new received ts opens quiet is used k =
                 (λ on. absurd (ne (sym on))) (k.lines i).2,
           ));
       cores = with_at_cases (λ d z. CoreOk d z (m.issued d) (m.records ++ r ∷ [])) m.cores c core
-          (record {
-            pts = each_push (λ q. q.core ≡ c → q.ts ≤ ts) m.records r (each_map (λ q w e. le_trans (w e) done.later)
-                m.records (k.cores c).pts) (λ e. le_refl _);
-            opened = open_is.0 ∙ sym (ap length (of_core-own c m.records r refl)
-                ∙ length-append (of_core c m.records) (r ∷ []));
-            idle = λ e. refl;
-          })
-          (λ d ne. record {
-            pts = each_push (λ q. q.core ≡ d → q.ts ≤ (m.cores d).pts) m.records r (k.cores d).pts
-                (λ e. absurd (ne (sym e)));
-            opened = subst (λ (rs : List Record). Opened (m.issued d) (length rs) (m.cores d).open_op)
-                (sym (of_core-other d m.records r (λ e. ne (sym e)))) (k.cores d).opened;
-            idle = (k.cores d).idle;
-          });
+          (search (rules, each_push, each_map, le_trans, le_refl, of_core-own, length-append))
+          (search (rules, each_push, of_core-other));
     }
 
 -- every change keeps the machine
@@ -384,14 +325,12 @@ transition_ok f good m n (issue c op none) k = issue_ok f m c op none k
 transition_ok f good m n (advance c) k = advance_ok f m c k
 transition_ok f good m n (ask c op y opens quiet a) k = ask_ok f m c op y opens quiet a k
 transition_ok f good m n (answer c l y a) k = answer_ok f m c l y a k
-transition_ok f good m n (complete c op copy new received ts opens quiet is used) k =
-    complete_ok f good m c op copy new received ts opens quiet is used k
+transition_ok f good m n (complete c op copy new received ts opens quiet is used) k = search (rules, complete_ok)
 transition_ok f good m n (line_changes l t y mv) k = move_ok f m l t y mv k
 
 pub reachable_ok : (f : Config) → 0 < f.line_words → (m : Machine) → Reachable f m → MachineOk f m
 reachable_ok f good m (at_first pts mts drams at opens) = opened_ok f pts mts drams at opens
-reachable_ok f good m (goes_on {m = before} r transition) =
-    transition_ok f good before m transition (reachable_ok f good before r)
+reachable_ok f good m (goes_on {m = before} r transition) = search (rules, transition_ok, reachable_ok f good before r)
 
 -- THE HEADLINE
 pub legal : (f : Config) → 0 < f.line_words → (m : Machine) → Reachable f m → Legal f.opening m.issued m.records

@@ -1,17 +1,15 @@
 -- The records of a core, as they complete, are of the operations that it was issued, in their order.
 use Rattle.std.proofs.Common.{◌≡◌, ℕ, zero, suc, ◌+◌, ◌<◌, List, [], ◌∷◌, ◌++◌, length, map, drop, Option, Some, None}
-use Rattle.std.proofs.Common.{refl, sym, ap, ◌∙◌, subst, arith, ⊎_elim}
+use Rattle.std.proofs.Common.{ap, ◌∙◌, subst, arith, rules}
 use Rattle.std.proofs.lemmas.Bool.Decides.{nat_tests}
 use Rattle.std.proofs.lemmas.Grind.{common_steps}
 use Rattle.std.specs.Prelude.{slice_get}
-use Rattle.std.proofs.lemmas.Bool.{cases_eq}
 use Rattle.std.proofs.Math.Seq.{drop-length}
 use Rattle.physiological_order.specs.declared.operation.Op.{Op}
 use Rattle.physiological_order.specs.declared.operation.Record.{Record}
 use Rattle.physiological_order.specs.Order.{Follows, of_core}
 use Rattle.physiological_order.proofs.Lemmas.{Follows-push, Follows-issued}
-use Rattle.protocol.specs.Machine.{Config, Machine, Transition, issue, advance, ask, answer, complete, line_changes}
-use Rattle.protocol.specs.Machine.{Reachable, at_first, goes_on}
+use Rattle.protocol.specs.Machine.{Config, Machine, Transition, issue, complete, Reachable, at_first, goes_on}
 use Rattle.protocol.specs.Issued.{listed, IsIssued}
 use Rattle.protocol.proofs.Lines.{with_at_cases}
 use Rattle.protocol.proofs.Headline.{MachineOk, Opened, of_core-other, of_core-own, reachable_ok}
@@ -22,35 +20,12 @@ InProgram m = (c : ℕ) → Follows 0 (m.issued c) (of_core c m.records)
 completed : (m : Machine) (r : Record) → r.place ≡ length (of_core r.core m.records) → slice_get (m.issued r.core)
     (length (of_core r.core m.records)) ≡ Some r.op → InProgram m →
     (c : ℕ) → Follows 0 (m.issued c) (of_core c (m.records ++ r ∷ []))
-completed m r place there all c =
-    let count : 0 + length (of_core r.core m.records) ≡ length (of_core r.core m.records) = omega arith in
-    ⊎_elim
-    (λ (same : r.core ≡ c). subst (λ (d : ℕ). Follows 0 (m.issued d) (of_core d (m.records ++ r ∷ []))) same
-    (subst (Follows 0 (m.issued r.core)) (sym (of_core-own r.core m.records r refl)) (Follows-push 0 (m.issued r.core)
-    (of_core r.core m.records) r (all r.core) (place ∙ sym count)
-    (subst (λ (n : ℕ). slice_get (m.issued r.core) n ≡ Some r.op) (sym count) there))))
-    (λ (other : r.core ≡ c → ⊥). subst (Follows 0 (m.issued c)) (sym (of_core-other c m.records r other)) (all c))
-    (cases_eq r.core c)
+completed m r place there all c = search (rules, of_core-own, Follows-push, of_core-other)
 
 transition_keeps : (f : Config) (m n : Machine) → MachineOk f m → InProgram m → Transition f m n → InProgram n
-transition_keeps f m n ok all (issue c op none) =
-    with_at_cases (λ d ops. Follows 0 ops (of_core d m.records)) m.issued c (m.issued c ++ op ∷ [])
-    (Follows-issued 0 (m.issued c) (op ∷ []) (of_core c m.records) (all c)) (λ d other. all d)
-transition_keeps f m n ok all (advance c) = all
-transition_keeps f m n ok all (ask c op y opens quiet asks) = all
-transition_keeps f m n ok all (answer c l y answers) = all
-transition_keeps f m n ok all (complete c op copy new received ts opens quiet is used) =
-    completed m (record {
-      core = c;
-      place = length (of_core c m.records);
-      op = op;
-      received = received;
-      ts =
-          ts;
-      number = length m.records;
-    }) refl
-    (subst (Opened (m.issued c) (length (of_core c m.records))) opens (ok.cores c).opened).1 all
-transition_keeps f m n ok all (line_changes l t y moves) = all
+transition_keeps f m n ok all (issue c op none) = search (rules, with_at_cases, Follows-issued)
+transition_keeps f m n ok all (complete c op copy new received ts opens quiet is used) = search (rules, completed)
+transition_keeps f m n ok all _ = all
 
 pub in_program : (f : Config) → 0 < f.line_words → (m : Machine) → Reachable f m → InProgram m
 in_program f some m (at_first pts mts drams at opens) c = tt
@@ -75,8 +50,7 @@ from_place (r ∷ rs) k ops o follows is =
     let count : k + length (r ∷ rs) ≡ k + 1 + length rs = omega arith in
     drop_from ops k r.op follows.1
     ∙ ap (λ (xs : List Op). r.op ∷ xs)
-    (subst (λ (n : ℕ). drop n ops ≡ map (λ (x : Record). x.op) rs ++ listed o) next
-    (from_place rs (k + 1) ops o follows.2 (subst (λ (n : ℕ). Opened ops n o) count is)))
+    (search (rules, map, from_place rs (k + 1) ops o follows.2 (subst (λ (n : ℕ). Opened ops n o) count is)))
 
 pub issued_is : (rs : List Record) (ops : List Op) (o : Option Op) → Follows 0 ops rs → Opened ops (length rs) o →
     ops ≡ map (λ r. r.op) rs ++ listed o

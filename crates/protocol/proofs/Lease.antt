@@ -1,4 +1,4 @@
-use Rattle.std.proofs.Common.{◌≡◌, ℕ, ◌≤◌, List, length, sym, ap, ◌∙◌, subst, arith, le_trans, le_refl}
+use Rattle.std.proofs.Common.{◌≡◌, ℕ, ◌≤◌, List, length, sym, ◌∙◌, arith, le_trans, le_refl, rules}
 use Rattle.std.specs.List.{AllByRecursion as Each}
 use Rattle.protocol.proofs.Bags.{each_map}
 use Rattle.physiological_order.specs.declared.operation.Record.{Record}
@@ -21,47 +21,21 @@ pub record Leased (f : Config) (h : ℕ → Memory) (l bound : ℕ) (s : Timed) 
   pub long : f.line_words ≤ length s.words
   pub value : (t a : ℕ) → line_of f a ≡ l → s.wts ≤ t → t ≤ s.rts → h t a ≡ word_at f s.words a
 
--- a lease under other values and another bound
-pub Leased-keeps : (f : Config) (h g : ℕ → Memory) (l b d : ℕ) (s : Timed) → ((t a : ℕ) → line_of f a ≡ l → t ≤ b →
-    g t a ≡ h t a) → b ≤ d → Leased f h l b s → Leased f g l d s
-Leased-keeps f h g l b d s same le c =
-    record {
-      order = c.order;
-      within = le_trans c.within le;
-      long = c.long;
-      value =
-          λ t a on from to. same t a on (le_trans to c.within) ∙ c.value t a on from to;
-    }
-
 -- what stands may be handed out
 pub Leased-from_Current : (f : Config) (h : ℕ → Memory) (records : List Record) (l : ℕ) (s : Timed) →
     Current f h records l s → Leased f h l s.rts s
-Leased-from_Current f h records l s c =
-    record { order = c.order; within = (le_refl _); long = c.long; value = λ t a on from to. c.value t a on from }
+Leased-from_Current f h records l s c = search (rules, le_refl)
 
 -- and read longer
 pub Current-raise : (f : Config) (h : ℕ → Memory) (records : List Record) (l : ℕ) (s : Timed) (rts : ℕ) →
     s.rts ≤ rts → Current f h records l s → Current f h records l (record s { rts = rts })
-Current-raise f h records l s rts le c =
-    record {
-      order = le_trans c.order le;
-      long = c.long;
-      value = c.value;
-      past =
-          each_map (λ r k on. le_trans (k on) le) records c.past;
-    }
+Current-raise f h records l s rts le c = search (rules, le_trans, each_map)
 
 -- it may be held to begin later
 pub Current-fill : (f : Config) (h : ℕ → Memory) (records : List Record) (l : ℕ) (s : Timed) (t : ℕ)
     (words : List ℕ) → s.rts ≤ t → words ≡ s.words → Current f h records l s →
     Current f h records l (record { wts = t; rts = t; words = words })
-Current-fill f h records l s t words le e c =
-    record {
-      order = (le_refl _);
-      long = subst (λ (ws : List ℕ). f.line_words ≤ length ws) (sym e) c.long;
-      value = λ u a on from. c.value u a on (le_trans c.order (le_trans le from)) ∙ ap (λ ws. word_at f ws a) (sym e);
-      past = each_map (λ r k on. le_trans (k on) le) records c.past;
-    }
+Current-fill f h records l s t words le e c = search (rules, le_refl, le_trans, each_map)
 
 -- an equal version has equal words, so a lease of it may be read as long as what stands
 pub Leased-renew : (f : Config) (h : ℕ → Memory) (records : List Record) (l b : ℕ) (s c : Timed) (rts : ℕ) →

@@ -1,18 +1,17 @@
 use Rattle.std.proofs.Common.{◌≡◌, ◌≢◌, ℕ, ◌+◌, ◌≤◌, max, Bool, true, false, List, ◌∷◌, Option, Some, None, ◌⊎◌, inl}
-use Rattle.std.proofs.Common.{inr, refl, sym, ap, ◌∙◌, subst, arith, le_trans, le_refl, ⊎_elim}
+use Rattle.std.proofs.Common.{inr, refl, sym, ap, ◌∙◌, subst, arith, le_trans, le_refl, ⊎_elim, rules}
 use Rattle.std.proofs.lemmas.Bool.Decides.{nat_tests}
 use Rattle.std.specs.List.{AllByRecursion as Each}
 use Rattle.std.specs.List.Sorted.{IsPermutation}
 use Rattle.std.proofs.lemmas.Bool.{cases_eq}
 use Rattle.physiological_order.specs.declared.operation.Record.{Record}
 use Rattle.physiological_order.specs.Order.{Memory}
-use Rattle.protocol.specs.Machine.{Config, Timed, Copy, Entry, Absent, Loading, Shared, Exclusive, Recalling, Storing}
-use Rattle.protocol.specs.Machine.{Message, ShReq, ExReq, ShRep, ExRep, RenewRep, UpgradeRep, FlushReq, WbReq, FlushRep}
-use Rattle.protocol.specs.Machine.{WbRep, DramLd, DramLdRep, DramSt, DramStRep, Line, with_at, LineTransition}
-use Rattle.protocol.specs.Machine.{evict_shared, evict_exclusive, dropped, wb_dropped, flushed, written_back}
-use Rattle.protocol.specs.Machine.{load_starts, renewed, leased, upgraded, granted, wb_starts, flush_starts}
-use Rattle.protocol.specs.Machine.{flush_returns, wb_returns, loaded, stored, evict_clean, evict_dirty, shuffled}
-use Rattle.protocol.specs.Machine.{dram_loads, dram_stores, tally}
+use Rattle.protocol.specs.Machine.{RenewRep, LineTransition, evict_shared, evict_exclusive, written_back, flush_returns}
+use Rattle.protocol.specs.Machine.{Config, UpgradeRep, load_starts, flush_starts, evict_clean, evict_dirty, dram_stores}
+use Rattle.protocol.specs.Machine.{Copy, Exclusive, Recalling, DramLdRep, DramStRep, wb_dropped, wb_returns, dram_loads}
+use Rattle.protocol.specs.Machine.{Absent, Loading, Storing, Message, FlushReq, FlushRep, upgraded, wb_starts, shuffled}
+use Rattle.protocol.specs.Machine.{Shared, DramLd, DramSt, with_at, dropped, flushed, renewed, leased, granted, loaded}
+use Rattle.protocol.specs.Machine.{Timed, Entry, ShReq, ExReq, ShRep, ExRep, WbReq, WbRep, Line, stored, tally}
 use Rattle.protocol.proofs.Bags.{tally-taken, each_taken}
 use Rattle.protocol.proofs.Lease.{Current, Leased, Leased-from_Current, Current-raise, Current-fill, Leased-renew}
 use Rattle.protocol.proofs.Lease.{Current-upgrade}
@@ -91,10 +90,7 @@ module _ (f : Config) (h : ℕ → Memory) (l : ℕ) (records : List Record) (bu
         within = k.within;
         copies = with_at_cases (λ d y. (cp : Copy) → y ≡ Some cp → CopyOk f h l k.top s b d cp) x.copies c None
             (λ cp e. cc) (λ d ne cp e. k.copies d cp e);
-        held = λ d at.
-            let own = k.held d at in
-            let ne : d ≢ c = λ e. let same : Some own.0 ≡ Some copy = sym own.1 ∙ ap x.copies e ∙ is in cc in
-            (own.0, with_at_other x.copies c None d ne ∙ own.1, own.2);
+        held = search (rules, with_at_other);
         messages = keep k.top s x (with_at x.copies c None) x.messages (lost x x.messages c None (k.asks c ∙ free))
             k.messages;
         owner_count = k.owner_count;
@@ -144,8 +140,7 @@ module _ (f : Config) (h : ℕ → Memory) (l : ℕ) (records : List Record) (bu
         held = λ d at. absurd (cc);
         messages = (
           own.1,
-          keep k.top s x (with_at x.copies c None) x.messages
-              (lost x x.messages c None (k.asks c ∙ free)) k.messages,
+          keep k.top s x (with_at x.copies c None) x.messages (lost x x.messages c None (k.asks c ∙ free)) k.messages,
         );
         owner_count = omega arith;
         loads = zero_more _ _ k.loads;
@@ -160,8 +155,7 @@ module _ (f : Config) (h : ℕ → Memory) (l : ℕ) (records : List Record) (bu
         copies =
             with_at x.copies c
             (Some (record { exclusive = false; written = false; line = record (copy.line) { rts = rts } }));
-        messages =
-            WbRep c (record (copy.line) { rts = rts }) ∷ x.messages;
+        messages = WbRep c (record (copy.line) { rts = rts }) ∷ x.messages;
       }) (record (copy.line) { rts = rts }) Flying
   ok_written_back {t} x {s} {b} c rts copy free is ex le k =
       let own = (k.copies c copy is).0 ex in
@@ -178,12 +172,7 @@ module _ (f : Config) (h : ℕ → Memory) (l : ℕ) (records : List Record) (bu
         top = rts;
         within = le_refl _;
         copies = with_at_cases (λ d y. (cp : Copy) → y ≡ Some cp → CopyOk f h l rts u Flying d cp) x.copies c new
-            (λ cp e. let q : record { exclusive = false; written = false; line = u } ≡ cp = cc in
-            subst (λ (y : Copy). CopyOk f h l rts u Flying c y) q (
-              λ z. cc,
-              λ z. Leased-from_Current
-                  f h records l u st,
-            ))
+            (search (rules, Leased-from_Current))
             (λ d ne cp e. copy_keeps f h h l k.top rts s u x.copies x.copies x.dram x.dram (λ t a on le. refl)
             (le_trans k.within up) b Flying d cp (inl (λ q. ne (sym (At_injective c d (sym own.0 ∙ q)))))
             (k.copies d cp e));
@@ -380,8 +369,7 @@ module _ (f : Config) (h : ℕ → Memory) (l : ℕ) (records : List Record) (bu
         a.0,
         a.1,
         a.2,
-        Leased-renew f h records l bound line (a.0.line) rts st (lease a.0 a.1 a.2) a.3
-            (le_trans st.order le),
+        Leased-renew f h records l bound line (a.0.line) rts st (lease a.0 a.1 a.2) a.3 (le_trans st.order le),
       )
 
   ok_upgraded : {t : ℕ} (x : Line) {s : Timed} {b : Holder} (c : ℕ) (dirty : Bool) (line : Timed)
@@ -440,11 +428,7 @@ module _ (f : Config) (h : ℕ → Memory) (l : ℕ) (records : List Record) (bu
             Bank,
             ok_leases x dirty line rts (ShReq c pts version) (ShRep c (record line { rts = rts })) rest is le
                 refl refl refl refl refl refl (λ d. refl)
-                (λ top st q. (
-                  q.0,
-                  Leased-from_Current f h records l (record line { rts = rts })
-                      (Current-raise f h records l line rts le st),
-                )) (has _ rest p),
+                (search (rules, Leased-from_Current, Current-raise)) (has _ rest p),
           )
       by_move (upgraded c dirty line rest is p) = ok_upgraded x c dirty line rest is (has _ rest p)
       by_move (granted c version dirty line rest is p) =

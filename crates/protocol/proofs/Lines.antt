@@ -1,5 +1,5 @@
 use Rattle.std.proofs.Common.{cond, ◌≡◌, ◌≢◌, ℕ, ◌+◌, ◌<◌, ◌≤◌, Bool, true, false, eqb, List, [], ◌∷◌, Option, Some}
-use Rattle.std.proofs.Common.{IfSome, ◌⊎◌, inl, inr, refl, sym, ap, ◌∙◌, subst, arith, ⊎_elim}
+use Rattle.std.proofs.Common.{IfSome, ◌⊎◌, inl, inr, refl, sym, ap, ◌∙◌, arith, rules}
 use Rattle.std.proofs.lemmas.Bool.Decides.{nat_tests}
 use Rattle.std.specs.List.{AllByRecursion as Each}
 use Rattle.std.proofs.lemmas.Bool.{cond-true, cond-false, eq-eqb, ne_eqb}
@@ -8,7 +8,7 @@ use Rattle.physiological_order.specs.Order.{Memory}
 use Rattle.protocol.specs.Machine.{Config, Timed, Copy, Entry, Absent, Loading, Shared, Exclusive, Recalling, Storing}
 use Rattle.protocol.specs.Machine.{Message, ShReq, ExReq, ShRep, ExRep, RenewRep, UpgradeRep, FlushReq, WbReq, FlushRep}
 use Rattle.protocol.specs.Machine.{WbRep, DramLd, DramLdRep, DramSt, DramStRep, Line, line_of, with_at, NotOwned, tally}
-use Rattle.protocol.proofs.Lease.{Current, Leased, Leased-keeps}
+use Rattle.protocol.proofs.Lease.{Current, Leased}
 
 -- where the right of a line is
 pub data Holder : Type 0 where
@@ -147,12 +147,9 @@ module _ (f : Config) (h g : ℕ → Memory) (l top top' : ℕ) (s u : Timed) (x
   message_keeps : (m : Message) → (right m ≡ 1 → s ≡ u) → (load m ≡ 1 → s.words ≡ u.words) →
       (store m ≡ 1 → (s.words ≡ u.words) × (dram' ≡ dram)) → ((c : ℕ) → about c m ≡ 1 → xs c ≡ ys c) →
       MessageOk f h l top s xs dram m → MessageOk f g l top' u ys dram' m
-  message_keeps (ShReq c p v) r d w b k =
-      subst (λ (y : Option Copy). NotOwned y × IfSome v (λ n. HasShared y (λ x. x.wts ≡ n))) (b c (about_itself c)) k
-  message_keeps (ExReq c v) r d w b k =
-      subst (λ (y : Option Copy). IfSome v (λ n. HasShared y (λ x. x.wts ≡ n))) (b c (about_itself c)) k
-  message_keeps (ShRep c x) r d w b k =
-      (subst NotOwned (b c (about_itself c)) k.0, Leased-keeps f h g l top top' x same bound k.1)
+  message_keeps (ShReq c p v) r d w b k = grind (arith, nat_tests)
+  message_keeps (ExReq c v) r d w b k = grind (arith, nat_tests)
+  message_keeps (ShRep c x) r d w b k = grind (arith, nat_tests)
   message_keeps (ExRep c x) r d w b k = k ∙ r refl
   message_keeps (RenewRep c n) r d w b k = let q0 = about_itself c in grind (arith, nat_tests, q0)
   message_keeps (UpgradeRep c n) r d w b k = (k.0, sym (b c (about_itself c)) ∙ k.1, k.2, k.3 ∙ r refl)
@@ -172,14 +169,16 @@ module _ (f : Config) (h g : ℕ → Memory) (l top top' : ℕ) (s u : Timed) (x
   messages_keep (m ∷ ms) r d w b k =
       let r' = part (right m) (tally right ms) r in
       let d' = part (load m) (tally load ms) d in
-      let w' = part (store m) (tally store ms) w in (
-        message_keeps m r'.0 d'.0 w'.0 (λ c. (part (about c m) (tally (about c) ms) (b c)).0) k.0,
+      let w' = part (store m) (tally store ms) w in
+      (search (
+        rules,
+        message_keeps,
+        part,
         messages_keep ms r'.1 d'.1 w'.1 (λ c. (part (about c m) (tally (about c) ms) (b c)).1) k.1,
-      )
+      ))
 
   -- so do copies
   pub copy_keeps : (a b : Holder) (c : ℕ) (copy : Copy) → ((a ≡ At c → ⊥) ⊎ ((s ≡ u) × (a ≡ b) × (top' ≡ top))) →
       CopyOk f h l top s a c copy → CopyOk f g l top' u b c copy
-  copy_keeps a b c copy (inl never) k =
-      (λ e. absurd (never (k.0 e).0), λ e. Leased-keeps f h g l top top' copy.line same bound (k.1 e))
+  copy_keeps a b c copy (inl never) k = grind (arith, nat_tests)
   copy_keeps a b c copy (inr e) k = grind (arith, nat_tests)

@@ -1,6 +1,6 @@
 use Rattle.std.proofs.Common.{◌≡◌, ◌≢◌, ℕ, zero, suc, ◌+◌, ◌<◌, ◌≤◌, List, [], ◌∷◌, Option, Some, None, refl, sym, ap}
-use Rattle.std.proofs.Common.{ap₂, ◌∙◌, arith, ⊎_elim}
-use Rattle.std.proofs.lemmas.Bool.{cond_both, cases_eq}
+use Rattle.std.proofs.Common.{ap₂, ◌∙◌, arith, rules}
+use Rattle.std.proofs.lemmas.Bool.{cond_both}
 use Rattle.physiological_order.specs.declared.operation.Record.{Record}
 use Rattle.physiological_order.specs.Order.{Memory}
 use Rattle.protocol.specs.Machine.{Config, Timed, Copy, Message, Line, Machine, Reachable, owns, owned_below}
@@ -22,12 +22,7 @@ none_below copies (suc n) h = ap₂ (λ a b. a + b) (h n (omega arith)) (none_be
 
 one_below : (copies : ℕ → Option Copy) (c n : ℕ) → ((d : ℕ) → d ≢ c → owns (copies d) ≡ 0) → owned_below copies n ≤ 1
 one_below copies c zero h = omega arith
-one_below copies c (suc n) h =
-    ⊎_elim
-    (λ (e : n ≡ c). let z = none_below copies n (λ d lt. h d (λ q. absurd (omega arith))) in
-    let o = owns_at_most (copies n) in omega arith)
-    (λ (ne : n ≡ c → ⊥). let z = h n ne in let i = one_below copies c n h in omega arith)
-    (cases_eq n c)
+one_below copies c (suc n) h = search (rules, none_below, owns_at_most, one_below copies c n h)
 
 module _ (f : Config) (h : ℕ → Memory) (l : ℕ) (records : List Record) (busy : ℕ → ℕ) (t : ℕ)
     (x : Line) (s : Timed) where

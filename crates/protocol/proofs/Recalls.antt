@@ -1,5 +1,5 @@
-use Rattle.std.proofs.Common.{◌%◌, ◌≡◌, ◌≢◌, ℕ, ◌+◌, ◌<◌, ◌≤◌, Bool, true, false, cond, eqb, List, [], ◌∷◌, Option}
-use Rattle.std.proofs.Common.{◌⊎◌, Some, None, inl, inr, refl, sym, ap, ◌∙◌, subst, arith, le_trans, le_refl, ⊎_elim}
+use Rattle.std.proofs.Common.{◌%◌, ◌≡◌, ◌≢◌, ℕ, ◌+◌, ◌<◌, ◌≤◌, Bool, true, false, cond, eqb, List, [], ◌∷◌, Option, ◌⊎◌}
+use Rattle.std.proofs.Common.{Some, None, inl, inr, refl, sym, ap, ◌∙◌, subst, arith, le_trans, ⊎_elim, rules}
 use Rattle.std.proofs.lemmas.Bool.Decides.{nat_tests}
 use Rattle.std.proofs.lemmas.Grind.{common_steps}
 use Rattle.std.specs.List.Sorted.{IsPermutation}
@@ -7,20 +7,18 @@ use Rattle.std.proofs.lemmas.Bool.{cases_eq, cond-true, cond-false, eq-eqb, ne_e
 use Rattle.physiological_order.specs.declared.operation.Op.{Op}
 use Rattle.physiological_order.specs.declared.operation.Record.{Record}
 use Rattle.physiological_order.specs.Order.{Memory, address}
-use Rattle.protocol.specs.Machine.{Config, Timed, Copy, Entry, Shared, Exclusive, Recalling, Message, ShRep, ExRep}
-use Rattle.protocol.specs.Machine.{RenewRep, UpgradeRep, FlushReq, WbReq, FlushRep, WbRep, DramLd, DramLdRep, DramSt}
-use Rattle.protocol.specs.Machine.{DramStRep, Line, with_at, tally, owns, LineTransition, evict_shared}
-use Rattle.protocol.specs.Machine.{evict_exclusive, dropped, wb_dropped, flushed, written_back, upgraded, granted}
-use Rattle.protocol.specs.Machine.{wb_starts, flush_starts, shuffled, dram_loads, dram_stores, NotOwned, Answers}
-use Rattle.protocol.specs.Machine.{shared, exclusive, renews, upgrades, Asks, to_read, to_write, Uses, load_hit}
-use Rattle.protocol.specs.Machine.{load_own, store_own, swap_own, Machine, Transition, issue, advance, ask, answer}
-use Rattle.protocol.specs.Machine.{complete, line_changes, Reachable, at_first, goes_on, line_of, IsPinned}
+use Rattle.protocol.specs.Machine.{Exclusive, LineTransition, evict_shared, evict_exclusive, written_back, flush_starts}
+use Rattle.protocol.specs.Machine.{Recalling, UpgradeRep, wb_dropped, dram_loads, dram_stores, Transition, line_changes}
+use Rattle.protocol.specs.Machine.{RenewRep, FlushReq, FlushRep, upgraded, wb_starts, exclusive, Reachable, Copy}
+use Rattle.protocol.specs.Machine.{shuffled, NotOwned, to_write, complete, Message, with_at, dropped, flushed, granted}
+use Rattle.protocol.specs.Machine.{Answers, to_read, at_first, IsPinned, Config, Timed, Shared, shared, renews, Machine}
+use Rattle.protocol.specs.Machine.{advance, answer, goes_on, line_of, Entry, ShRep, ExRep, WbReq, WbRep, Line, tally}
+use Rattle.protocol.specs.Machine.{owns, upgrades, Asks, Uses, issue, ask}
 use Rattle.protocol.specs.Recalls.{recall_to, grant_to, return_of, OwnsOrWill, OwnerAnswers}
 use Rattle.protocol.proofs.Bags.{tally-taken}
 use Rattle.protocol.proofs.Lines.{one_at_most, Holder, Bank, At, flying, right, about, one_if, EntryOk, LineOk}
 use Rattle.protocol.proofs.Lines.{with_at_same, with_at_cases}
 use Rattle.protocol.proofs.LineChanges.{Goes, At_injective, at_most_one, ok_shuffled}
-use Rattle.protocol.proofs.Cores.{Some_injective}
 use Rattle.protocol.proofs.Headline.{MachineOk, reachable_ok, waits_unpinned, busy}
 use Rattle.protocol.proofs.Completions.{values}
 
@@ -97,14 +95,10 @@ answers_stay x y s _ k = tt
 recall_other : (c d : ℕ) → d ≢ c → ◌≡◌ {A = ℕ} (cond (eqb c d) 1 0) 0
 recall_other c d n = cond-false (eqb c d) 1 0 (ne_eqb c d (λ e. n (sym e)))
 
-not_exclusive : (y : Option Copy) (copy : Copy) → y ≡ Some copy → copy.exclusive ≡ false → NotOwned y
-not_exclusive y copy is sh other e = ap (λ (k : Copy). k.exclusive) (Some_injective other copy (sym e ∙ is)) ∙ sh
-
 module _ (f : Config) (h : ℕ → Memory) (l : ℕ) (records : List Record) (busy : ℕ → ℕ) (t : ℕ) (x : Line) (s : Timed)
     (b : Holder) (ok : LineOk f h l records busy t x s b) where
   all_rights : (c : ℕ) → tally (grant_to c) x.messages + tally (return_of c) x.messages ≤ flying b
-  all_rights c = let z = tally_both (grant_to c) (return_of c) right (rights c c) x.messages in
-      let e = ok.owner_count in omega arith
+  all_rights c = search (rules, tally_both, right, rights)
 
   -- the owner is the one that the entry names
   owner_at : (c o : ℕ) (copy : Copy) → x.copies c ≡ Some copy → copy.exclusive ≡ true → OwnsOrWill o x → o ≡ c
@@ -132,8 +126,7 @@ module _ (f : Config) (h : ℕ → Memory) (l : ℕ) (records : List Record) (bu
   -- a core without a right, and without a reply to come, is no owner and won't be
   no_owner : (c : ℕ) → busy c ≡ 0 → NotOwned (x.copies c) → OwnsOrWill c x → ⊥
   no_owner c free not (inl o) = let z = owns_not (x.copies c) not in omega arith
-  no_owner c free not (inr g) =
-      let z = tally_le (grant_to c) (about c) (granted_asks c) x.messages in let e = ok.asks c in omega arith
+  no_owner c free not (inr g) = search (rules, tally_le, about, granted_asks)
 
   -- a bag with one message more, and with one exchanged for another
   more : (m : Message) (e : Entry) → Stays x (record x { entry = e; messages = m ∷ x.messages })
@@ -185,31 +178,23 @@ module _ (f : Config) (h : ℕ → Memory) (l : ℕ) (records : List Record) (bu
     -- every move of one line keeps what the entry says of the owner
     pub moves_answer : {lease : ℕ} {pinned : ℕ → Type 0} → ((c : ℕ) → (pinned c → ⊥) → busy c ≡ 0) →
         {u : ℕ} {y : Line} → LineTransition lease false pinned t x u y → OwnerAnswers y y.entry
-    moves_answer free {y = y} (evict_shared c copy un is sh) =
-        grind (arith, nat_tests, common_steps, answers_stay, le_refl, not_exclusive, owns_not, owns_same)
-    moves_answer free {y = y} (evict_exclusive c copy un is ex) =
-        named c copy is ex x.entry q y (let i = own c in omega arith)
+    moves_answer free {y = y} (evict_shared c copy un is sh) = grind (arith, nat_tests)
+    moves_answer free {y = y} (evict_exclusive c copy un is ex) = grind (arith, nat_tests)
     moves_answer free (dropped c rest p may) =
         without c (FlushReq c) rest p (λ d. refl) (λ d. refl) (recall_other c) (no_owner c (free c may.0) may.1)
         x.entry q
     moves_answer free (wb_dropped c until rest p may) =
         without c (WbReq c until) rest p (λ d. refl) (λ d. refl) (recall_other c) (no_owner c (free c may.0) may.1)
         x.entry q
-    moves_answer free {y = y} (flushed c rest copy p un is ex) =
-        named c copy is ex x.entry q y (let i = own c in omega arith)
-    moves_answer free {y = y} (written_back c until rest copy p un is ex) =
-        named c copy is ex x.entry q y (let i = own c in omega arith)
+    moves_answer free {y = y} (flushed c rest copy p un is ex) = search (rules, named, own)
+    moves_answer free {y = y} (written_back c until rest copy p un is ex) = search (rules, named, own)
     moves_answer free (upgraded c dirty line rest is p) = inr (inr (let i = own c in omega arith))
     moves_answer free (granted c version dirty line rest is p) = inr (inr (let i = own c in omega arith))
     moves_answer free (wb_starts owner until is) = recalled owner (WbReq owner until) is (own owner) q
     moves_answer free (flush_starts owner is) = recalled owner (FlushReq owner) is (own owner) q
     moves_answer free {y = y} (shuffled ms p) = grind (arith, nat_tests, common_steps, answers_stay, tally-taken)
-    moves_answer free {y = y} (dram_loads rest p) =
-        answers_stay x y (exchanged DramLd (DramLdRep x.dram) rest x.dram p (λ c. refl) (λ c. refl) (λ c. refl))
-        x.entry q
-    moves_answer free {y = y} (dram_stores words rest p) =
-        answers_stay x y (exchanged (DramSt words) DramStRep rest words p (λ c. refl) (λ c. refl) (λ c. refl))
-        x.entry q
+    moves_answer free {y = y} (dram_loads rest p) = search (rules, answers_stay, exchanged)
+    moves_answer free {y = y} (dram_stores words rest p) = search (rules, answers_stay, exchanged)
     moves_answer free _ = tt
 
     -- a request is no recall, grant or return
@@ -260,8 +245,7 @@ module _ (f : Config) (h : ℕ → Memory) (l : ℕ) (records : List Record) (bu
             (cases_eq o c)
 
         owns_now : (o : ℕ) → o ≡ c → OwnsOrWill o y
-        owns_now o i = inl (subst (λ (d : ℕ). owns (with_at x.copies c (Some new) d) ≡ 1) (sym i)
-            (ap owns (with_at_same x.copies c (Some new)) ∙ has))
+        owns_now o i = inl (search (rules, with_at_same))
 
         by_entry : (e : Entry) → OwnerAnswers x e → OwnerAnswers y e
         by_entry (Exclusive o) (inl i) = absurd (no_return o i)
@@ -276,32 +260,17 @@ module _ (f : Config) (h : ℕ → Memory) (l : ℕ) (records : List Record) (bu
     pub replies_answer : (c : ℕ) (y : Line) → Answers c x y → OwnerAnswers y y.entry
     replies_answer c y (shared line rest p) =
         let k = ok_shuffled f h l records busy x (ShRep c line ∷ rest) p ok in
-        answers_stay x y (replied c (ShRep c line) rest (record { exclusive = false; written = false; line = line }) p
-        (λ d. refl) (λ d. refl) (λ d. refl) (sym (owns_not (x.copies c) (k.messages.0).0))) x.entry q
+        answers_stay x y (search (rules, replied, owns_not)) x.entry q
     replies_answer c y (renews rts copy rest p is) =
         answers_stay x y (replied c (RenewRep c rts) rest (record copy { line = record (copy.line) { rts = rts } }) p
         (λ d. refl) (λ d. refl) (λ d. refl) (ap owns (sym is))) x.entry q
-    replies_answer c y (exclusive line rest p) =
-        became_owner c (ExRep c line) rest (record { exclusive = true; written = false; line = line }) p refl
-        (recall_other c) (λ d. refl) (λ d. refl) refl x.entry q
-    replies_answer c y (upgrades rts copy rest p is) =
-        became_owner c (UpgradeRep c rts) rest
-        (record { exclusive = true; written = false; line = record (copy.line) { rts = rts } }) p refl
-        (recall_other c) (λ d. refl) (λ d. refl) refl x.entry q
-
-    -- an operation leaves its core the owner, or not, as it was
-    uses_owns : {pts : ℕ} {copy : Copy} {op : Op} {received : Option ℕ} {ts : ℕ} {new : Copy} →
-        Uses f pts copy op received ts new → owns (Some new) ≡ owns (Some copy)
-    uses_owns (load_hit a sh le) = refl
-    uses_owns (load_own a ex) = refl
-    uses_owns (store_own a v ex) = refl
-    uses_owns (swap_own a v ex) = refl
+    replies_answer c y (exclusive line rest p) = search (rules, became_owner, recall_other)
+    replies_answer c y (upgrades rts copy rest p is) = search (rules, became_owner, recall_other)
 
     pub uses_answer : (pts ts c : ℕ) (copy new : Copy) (op : Op) (received : Option ℕ) → x.copies c ≡ Some copy →
         Uses f pts copy op received ts new →
         OwnerAnswers (record x { copies = with_at x.copies c (Some new) }) x.entry
-    uses_answer pts ts c copy new op received is used =
-        grind (arith, nat_tests, common_steps, answers_stay, le_refl, owns_same, uses_owns)
+    uses_answer pts ts c copy new op received is used = grind (arith, nat_tests)
 
 -- a machine whose line answers
 abbrev Answer : Machine → Type 0
@@ -334,8 +303,7 @@ change_answers f strict m n ok so_far change = by_change n change
         strict mv))
 
 -- so in every reached machine, if no recall may be lost
-pub owners_answer : (f : Config) → 0 < f.line_words → f.loses_recalls ≡ false → (m : Machine) → Reachable f m →
-    Answer m
+pub owners_answer : (f : Config) → 0 < f.line_words → f.loses_recalls ≡ false → (m : Machine) → Reachable f m → Answer m
 owners_answer f good strict m (at_first pts mts drams at opens) = λ l. tt
 owners_answer f good strict m (goes_on {m = before} r change) =
     change_answers f strict before m (reachable_ok f good before r) (owners_answer f good strict before r) change

@@ -1,17 +1,13 @@
 -- Lists that are dealt to hands, one item after another.
-use Rattle.std.proofs.Common.{◌≡◌, ℕ, ◌+◌, ◌*◌, ◌/◌, ◌%◌, ◌<◌, List, [], ◌∷◌, ◌++◌, length, All}
-use Rattle.std.proofs.Common.{Some, get_or, sym, ap, ◌∙◌, subst, arith}
-use Rattle.std.proofs.Common.{length-append, get_or-set_same, get_or-set_other}
+use Rattle.std.proofs.Common.{◌≡◌, ℕ, ◌+◌, ◌*◌, ◌/◌, ◌%◌, ◌<◌, List, [], ◌∷◌, ◌++◌, length, Some, get_or, sym, ap, ◌∙◌}
+use Rattle.std.proofs.Common.{arith, length-append, get_or-set_same, get_or-set_other}
 use Rattle.std.specs.Prelude.{slice_get}
-use Rattle.std.specs.List.{AllZip}
 use Rattle.std.proofs.Math.ListN.{set, length-set}
 use Rattle.std.proofs.lemmas.Bool.{cases_eq}
 use Rattle.std.proofs.lemmas.Nat.{mod_below}
-use Rattle.std.proofs.lemmas.Option.{slice_get-get_or, slice_get_within, get_or_from_slice_get}
 use Rattle.round_robin.specs.Dealing.{IsDealtInTurn, HasLengths, hand_of}
 use Rattle.round_robin.proofs.Places.{hand_there, same_hand, same_place, split_place, turn_of, lower_place, lower_row}
-use Rattle.round_robin.proofs.Places.{snoc_here, snoc_there}
-use Rattle.round_robin.proofs.Places.{same_by_get, within_both, nothing_at, BothAt, zip_at, zip_from_places}
+use Rattle.round_robin.proofs.Places.{snoc_here, snoc_there, same_by_get, within_both, nothing_at}
 
 module _ {A : Type 0} where
   -- the hands of a dealt list have the lengths of its items
@@ -134,37 +130,3 @@ module _ {A B : Type 0} where
       λ lt. (let below = (d.at h k hn).1 lt in omega arith),
     ));
   }
-
-  -- where R holds item by item in each hand, it does so in the lists that were dealt
-  pub related : (R : A → B → Type 0) (xs : List A) (ys : List B) (first n : ℕ) (before : List (List A))
-      (after : List (List B)) → IsDealtInTurn xs first n before → IsDealtInTurn ys first n after →
-      ((h : ℕ) → h < n → AllZip R (get_or before (hand_of first n h) []) (get_or after (hand_of first n h) [])) →
-      AllZip R xs ys
-  related R xs ys first n before after d e each =
-      zip_from_places R xs ys (λ i.
-      let r = mod_below i n d.some in
-      let here = zip_at R (get_or before (hand_of first n (i % n)) []) (get_or after (hand_of first n (i % n)) [])
-      (each (i % n) r) (i / n) in
-      subst (λ z. BothAt R z (slice_get ys i)) (sym (item_at xs first n before d i))
-      (subst (BothAt R (slice_get (get_or before (hand_of first n (i % n)) []) (i / n)))
-      (sym (item_at ys first n after e i)) here))
-
-module _ {A : Type 0} (P : A → Type 0) (xs : List A) (first n : ℕ) (lists : List (List A))
-    (d : IsDealtInTurn xs first n lists) where
-  -- what holds of each item of each hand holds of each item
-  pub each_item : ((h : ℕ) → h < n → All P (get_or lists (hand_of first n h) [])) → All P xs
-  each_item each i x lt =
-      let h : ℕ = i % n in
-      let there : slice_get (get_or lists (hand_of first n h) []) (i / n) ≡ Some (get_or xs i x) =
-      sym (item_at xs first n lists d i) ∙ slice_get-get_or xs i x lt in
-      let within = slice_get_within (get_or lists (hand_of first n h) []) (i / n) (get_or xs i x) there in
-      subst P (get_or_from_slice_get (get_or lists (hand_of first n h) []) (i / n) (get_or xs i x) x there)
-      (each h (mod_below i n d.some) (i / n) x within)
-
-  -- what holds of each item holds of each item of each hand
-  pub each_hand : All P xs → (h : ℕ) → h < n → All P (get_or lists (hand_of first n h) [])
-  each_hand all h hn k x lt =
-      let there : slice_get xs (n * k + h) ≡ Some (get_or (get_or lists (hand_of first n h) []) k x) =
-      sym (d.at h k hn) ∙ slice_get-get_or (get_or lists (hand_of first n h) []) k x lt in
-      subst P (get_or_from_slice_get xs (n * k + h) (get_or (get_or lists (hand_of first n h) []) k x) x there)
-      (all (n * k + h) x (slice_get_within xs (n * k + h) (get_or (get_or lists (hand_of first n h) []) k x) there))

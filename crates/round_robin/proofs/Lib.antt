@@ -2,5 +2,4 @@ mod Places
 mod Turned
 mod Deals
 mod Steps
-mod Drives
 pub mod Lemmas

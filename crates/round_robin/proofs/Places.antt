@@ -1,8 +1,7 @@
 -- What stands at places of lists, and places as a row and a column of so many columns.
-use Rattle.std.proofs.Common.{◌≡◌, ◌≢◌, ℕ, zero, suc, ◌+◌, ◌*◌, ◌/◌, ◌%◌, ◌<◌, List, [], ◌∷◌, ◌++◌, length}
-use Rattle.std.proofs.Common.{◌-◌, ◌≤◌, Option, Some, None, get_or, ⊎_elim, sym, refl, ap, ◌∙◌, arith}
+use Rattle.std.proofs.Common.{◌≡◌, ◌≢◌, ℕ, zero, suc, ◌+◌, ◌*◌, ◌/◌, ◌%◌, ◌<◌, List, [], ◌∷◌, ◌++◌, length, ◌-◌, ◌≤◌}
+use Rattle.std.proofs.Common.{Some, None, get_or, ⊎_elim, sym, refl, ap, ◌∙◌, arith}
 use Rattle.std.specs.Prelude.{slice_get}
-use Rattle.std.specs.List.{AllZip}
 use Rattle.std.proofs.lemmas.Bool.{cases_lt}
 use Rattle.std.proofs.lemmas.Nat.{same_from_place, div-add-mod', mod-mul-add, mod_below}
 use Rattle.std.proofs.lemmas.Option.{same_Some, slice_get_cases, slice_get_within}
@@ -92,25 +91,3 @@ module _ {A : Type 0} where
   nothing_at [] i out = refl
   nothing_at (x ∷ xs) zero out = absurd (out (omega arith))
   nothing_at (x ∷ xs) (suc i) out = nothing_at xs i (λ lt. out (omega arith))
-
-module _ {A B : Type 0} (R : A → B → Type 0) where
-  -- there is nothing at both places, or R holds of what there is
-  abbrev pub BothAt : Option A → Option B → Type 0
-  BothAt None None = Unit {0}
-  BothAt None (Some y) = ⊥
-  BothAt (Some x) None = ⊥
-  BothAt (Some x) (Some y) = R x y
-
-  pub zip_at : (xs : List A) (ys : List B) → AllZip R xs ys → (i : ℕ) → BothAt (slice_get xs i) (slice_get ys i)
-  zip_at [] [] z i = tt
-  zip_at [] (y ∷ ys) z i = absurd z
-  zip_at (x ∷ xs) [] z i = absurd z
-  zip_at (x ∷ xs) (y ∷ ys) z zero = z.0
-  zip_at (x ∷ xs) (y ∷ ys) z (suc i) = zip_at xs ys z.1 i
-
-  pub zip_from_places : (xs : List A) (ys : List B) → ((i : ℕ) → BothAt (slice_get xs i) (slice_get ys i)) →
-      AllZip R xs ys
-  zip_from_places [] [] b = tt
-  zip_from_places [] (y ∷ ys) b = b 0
-  zip_from_places (x ∷ xs) [] b = b 0
-  zip_from_places (x ∷ xs) (y ∷ ys) b = (b 0, zip_from_places xs ys (λ i. b (suc i)))

@@ -1,10 +1,7 @@
 -- One item that goes to a hand or comes from one. A hand is whatever has a list f, as a Vec has its items.
 use Rattle.std.specs.Prelude.{slice_get}
-use Rattle.std.proofs.Common.{None}
-use Rattle.std.proofs.Common.{◌≡◌, ℕ, zero, suc, ◌+◌, ◌*◌, ◌/◌, ◌%◌, ◌<◌, ◌≤◌}
-use Rattle.std.proofs.Common.{List, [], ◌∷◌, ◌++◌, length, All, get_or, map}
-use Rattle.std.proofs.Common.{sym, refl, ap, ◌∙◌, subst, arith}
-use Rattle.std.proofs.Common.{get_or-set_same, length-append}
+use Rattle.std.proofs.Common.{None, ◌≡◌, ℕ, zero, suc, ◌+◌, ◌*◌, ◌/◌, ◌%◌, ◌<◌, ◌≤◌, List, [], ◌∷◌, ◌++◌, length, All}
+use Rattle.std.proofs.Common.{get_or, map, sym, refl, ap, ◌∙◌, subst, arith, get_or-set_same, length-append}
 use Rattle.std.proofs.Math.ListN.{set}
 use Rattle.std.proofs.Math.Nat.{div-mul-le_self}
 use Rattle.std.proofs.lemmas.List.{get_or-map, map-set, set-set, set-get_or, length-map}
@@ -46,13 +43,6 @@ module _ {A V : Type 0} (f : V → List A) where
       map f (set vs h w) ≡ set (map f vs) h (get_or (map f vs) h [] ++ x ∷ [])
   hand_put vs h v w x lt e more =
       map-set f vs h w ∙ ap (set (map f vs) h) (more ∙ ap (λ z. z ++ x ∷ []) (sym (hand_read vs h v lt e)))
-
-  -- dealt hands can be gathered
-  pub lengths_of_hands : (all : List A) (first n : ℕ) (vs : List V) → IsDealtInTurn all first n (map f vs) →
-      HasLengths (length all) first (length vs) (map f vs)
-  lengths_of_hands all first n vs d =
-      subst (λ m. HasLengths (length all) first m (map f vs)) (sym d.count ∙ length-map vs f)
-      (lengths_of all first n (map f vs) d)
 
   -- empty hands have no items together
   pub none_held : (vs : List V) (P : V → Type 0) → All (λ v. (f v ≡ []) × P v) vs → total_length (map f vs) ≡ 0

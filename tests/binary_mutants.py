@@ -7,9 +7,12 @@ arguments exchanged, a number one more, a store or a call left out, a branch tak
 each kind as their number allows. One whose switch the optimizer finds without effect isn't one. A change of a function
 that several programs share is in all of them.
 
-The commands that .ci/run lists try it in a copy of what is committed, the quickest first, up to the first that fails:
-those alone that come by its place. Of a mutant that none comes by this says so. A program that takes ten seconds of
-processor time is stopped, and its mutant counts as noticed.
+The commands that .ci/run lists try it in a copy of what is committed, up to the first that fails: those alone that come
+by its place, and first those that take little for each mutant that they notice. A command is stopped at the first
+difference that it prints. Calls of programs that commands make are noted, and made alone with each mutant: a command
+that depends on nothing else isn't asked if all of them answer as without it (tests/replays.py). Of a mutant that none
+comes by this says so. A program that takes ten seconds of processor time more than twice as long as its command is
+stopped, and its mutant counts as noticed.
 
 What was tried is kept in a file, and what was built in a folder, so a run that was interrupted goes on. After another
 commit what survived is tried again. The survivors are printed, and those that no command comes by, each with its
@@ -26,6 +29,7 @@ import os
 import queue
 import random
 import re
+import shutil
 import subprocess
 import sys
 import tempfile
@@ -37,15 +41,20 @@ from pathlib import Path
 TOP = Path(__file__).resolve().parent.parent
 sys.path.insert(0, str(TOP))
 from maintain import module as own_module  # noqa: E402
-from tests import module_text  # noqa: E402
-from tests.rooms import CRATES, Kept, Room  # noqa: E402
+from tests import module_text, refusals, replays, streams, texts  # noqa: E402
+from tests.rooms import CRATES, Asking, Kept, Room, kept_file  # noqa: E402
 
 TABLE, SWITCHES = TOP / "tests/binary_mutants.table", TOP / "tests/mutants.c"
 # Commands that ask no built program, count its instructions, or look at its code or at memory that a changed one has.
 LEFT_OUT = re.compile(r"^(?!.*\$)|recursion|embed|maintain/recorded")
-QUICK = re.compile(r"tests/(check|players|words|texts|counts|trace_counts|outcomes|witness|json_reports)\b")
+PARTS = {"tests/texts.py": texts.PARTS, "tests/streams.py": streams.PARTS,
+         "tests/refusals.sh": (*refusals.PARTS, "by_bytes")}
+# Commands whose calls are noted: they ask a program by words, files and standard input, and look at what it answers.
+NOTED = re.compile(r"tests/(players|texts|words|outcomes|witness|explain|order|from_herd|cycles|advance|record|events"
+                   r"|seats|counts|trace_counts|json_reports|compare|sweep|fair|ends|explore|page)\b|maintain/pages")
+LIMITS = "ulimit -v 8000000; ulimit -f 8000000;"  # what a process takes of memory, and writes to a file
 AT_ONCE = 1000  # mutants in a build; a greater sample has more
-SECONDS = 10  # of processor time, after which a changed program is stopped
+SECONDS = 10  # of processor time, besides twice what the command takes, after which a changed program is stopped
 STATIC, GENERIC = re.compile(r"@static\.\d+"), re.compile(r"::<.*")
 PRESENT = re.compile(r"@mutants_on, i64 (\d+)\)")
 KINDS = (("exchanged", re.compile(r"(\S+ )?(\S+) (\S+) (\S+), (\S+) => (?:\S+ )?\2 \3 \5, \4$|=> \d: \S+, \d: ")),
@@ -119,21 +128,28 @@ def modules_in(kit, folder):
         yield crate, Module(text.read_text(encoding="utf-8"), crates)
 
 
+def linked(kit, folder, crate, module, numbers):
+    """Builds a program with these mutants where it isn't there; the numbers of those that have an effect."""
+    text, best, made = (folder / f"{crate}.{end}" for end in ("changed.ll", "best.ll", "o"))
+    if not (folder / crate).exists():
+        text.write_text("\n".join(module.written(numbers)) + "\n", encoding="utf-8")
+        own_module.compiled(kit, text, "-S", "-emit-llvm", "-o", best)
+        own_module.compiled(kit, best, "-Xclang", "-disable-llvm-passes", "-c", "-o", made)
+        own_module.linked(kit, folder / f"{crate}.new", made, folder / "mutants.o")
+        os.replace(folder / f"{crate}.new", folder / crate)
+    return {int(number) for number in PRESENT.findall(best.read_text(encoding="utf-8"))}
+
+
 def built(folder, options):
     """Builds the programs with the mutants of a sample; the mutants by their numbers, those without effect left out."""
-    kit, present = own_module.loaded(), set()
+    kit = own_module.loaded()
     modules = dict(modules_in(kit, folder.parent))
     keys = set().union(*(module.changes for module in modules.values()))
     numbers = drawn({key for key in keys if options.only in key[0]}, room_for(options), options.seed)
     subprocess.run(["gcc", "-c", "-O2", "-fPIE", f"-DCOUNT={len(numbers) + 1}", SWITCHES, "-o",
                     folder / "mutants.o"], check=True)
-    for crate, module in modules.items():
-        text, best, made = (folder / f"{crate}.{end}" for end in ("changed.ll", "best.ll", "o"))
-        text.write_text("\n".join(module.written(numbers)) + "\n", encoding="utf-8")
-        own_module.compiled(kit, text, "-S", "-emit-llvm", "-o", best)
-        present |= {int(number) for number in PRESENT.findall(best.read_text(encoding="utf-8"))}
-        own_module.compiled(kit, best, "-Xclang", "-disable-llvm-passes", "-c", "-o", made)
-        own_module.linked(kit, folder / crate, made, folder / "mutants.o")
+    with ThreadPoolExecutor(len(modules)) as pool:
+        present = set().union(*pool.map(lambda crate: linked(kit, folder, crate, modules[crate], numbers), modules))
     return {"of": len(keys), "mutants": {number: key for number, key in numbers.items() if number in present}}
 
 
@@ -164,37 +180,87 @@ class Changed(Room):
     """A room whose programs have the mutants, and a file that says which places were come by."""
 
     def __init__(self, folder, built_in):
+        self.programs = {crate: built_in / crate for crate in CRATES.values()}
         super().__init__(folder, {name: built_in / crate for name, crate in CRATES.items()})
         size = (built_in / "mutants.o").stat().st_size + 4096
-        self.met = self.folder / "mutants.met"
+        self.met, self.texts, self.notes = Path(f"{folder}.met"), built_in / "texts", Path(f"{folder}.notes")
+        for place in (self.texts, self.notes):
+            place.mkdir(exist_ok=True)
         self.met.write_bytes(bytes(size))
         with self.met.open("r+b") as file:
             self.bytes = mmap.mmap(file.fileno(), size)
 
     def commands(self):
-        """The gate's commands that ask a program; the examples by their parts."""
-        parts = (self.folder / "tests/check.sh").read_text(encoding="utf-8")
-        parts = re.search(r"^parts=\$\{PARTS:-(.*?)\}", parts, re.M | re.S)[1].replace("\\", "").split()
+        """The gate's commands that ask a program; those that have parts, by their parts."""
+        shell = (self.folder / "tests/check.sh").read_text(encoding="utf-8")
+        shell = re.search(r"^parts=\$\{PARTS:-(.*?)\}", shell, re.M | re.S)[1].replace("\\", "").split()
         for line in self.scripts(LEFT_OUT):
-            yield from [f"PARTS={part} {line}" for part in parts] if "check.sh" in line else [line]
+            script = line.partition(" ")[0]
+            if script == "tests/check.sh":
+                yield from (f"PARTS={part} {line}" for part in shell)
+            elif script in PARTS and len(line.split()) == 2:
+                yield from (f"{line} {part}" for part in PARTS[script])
+            elif script == "tests/refusals.sh":
+                yield from (f"{script} {line.split()[1]} {part}" for part in line.split()[2:])
+            else:
+                yield line
 
-    def told(self, command, seconds, number=0):
-        """Why the command fails with a mutant, and the places that it came by."""
+    def surroundings(self, number, seconds):
+        """What tells programs which mutant is on, and how many seconds of processor time they may take."""
         self.bytes[:] = bytes(len(self.bytes))
-        why = self.fails(command, seconds, lambda: self.bytes[0], MUTANT=str(number), MUTANT_MET=str(self.met),
-                         MUTANT_SECONDS=str(SECONDS))
-        met = [at for at, byte in enumerate(self.bytes[:]) if byte]
-        return ("its time" if self.bytes[0] else why), met
+        return {"MUTANT": str(number), "MUTANT_MET": str(self.met), "MUTANT_SECONDS": str(round(seconds))}
+
+    def come_by(self):
+        return [at for at, byte in enumerate(self.bytes[:]) if byte and at]
+
+    def told(self, command, seconds, most, number=0, **more):
+        """Why the command fails with a mutant. Each of its programs may take these seconds of processor time, and all
+        of it `most` by the clock where it is at rest."""
+        surroundings = self.surroundings(number, seconds) | more
+        why = self.fails(f"{LIMITS} {command}", most, lambda: self.bytes[0] & 1, **surroundings)
+        return "its time" if self.bytes[0] & 1 else why
+
+    def noted(self, command):
+        """Why the command fails where its calls are noted, these, and whether it depends on nothing else."""
+        limits = f"{sys.executable} -c 'from tests import replays; print(replays.limits(), end=str())' >limits"
+        usual = self.fails(f"{LIMITS} {limits}", 60) or (self.folder / "limits").read_text(encoding="utf-8")
+        why = self.told(command, 3600, 3600, MUTANT_NOTED=f"{self.notes}/", MUTANT_LIMITS=usual)
+        calls, is_all = replays.taken(self.notes, self.texts)
+        known = [call for call in calls if call[0] in self.programs]
+        return why, known, is_all and known == calls and not self.bytes[0] & 2
+
+    def answer(self, call, number=0, seconds=3600):
+        """What a noted call answers with a mutant."""
+        self.scratch.mkdir(exist_ok=True)
+        return replays.answer(call, self.programs[call[0]], self.texts, self.scratch,
+                              self.environment | self.surroundings(number, seconds))
 
 
 def timed(room, wanted, kept):
-    """Of each command how long it takes without a change, and which places it comes by."""
+    """Of each command what it takes of the processors without a change, what by the clock, which places it comes by,
+    its calls, and whether it depends on these alone."""
     for key in iter(lambda: taken(wanted), None):
-        began = os.times().elapsed
-        why, met = room.told(key[3], 1800)
-        kept.tell(key, None if why else [os.times().elapsed - began, met])
+        began, why, calls, is_all = os.times().elapsed, "isn't noted", [], False
+        if NOTED.search(key[3]):
+            why, calls, is_all = room.noted(key[3])
+        if why:
+            began, calls, is_all = os.times().elapsed, [], False
+            why = room.told(key[3], 3600, 3600)
+        kept.tell(key, None if why else [room.took, os.times().elapsed - began, room.come_by(), calls, is_all])
         if why:
             print(f"left out: {key[3]}: {why} without a change", file=sys.stderr)
+
+
+def answered(room, wanted, kept):
+    """Of each call what it takes, its answer, and which places it comes by; nothing of one that answers in several
+    ways."""
+    for key in iter(lambda: taken(wanted), None):
+        answers, took = set(), []
+        for _ in range(2):
+            began = os.times().elapsed
+            answers.add(room.answer(json.loads(key[2])))
+            took.append(os.times().elapsed - began)
+        kept.tell(key, [min(took), *answers, room.come_by()] if len(answers) == 1 else None)
 
 
 def taken(wanted):
@@ -204,32 +270,65 @@ def taken(wanted):
         return None
 
 
-def tried(room, wanted, kept, times):
-    """Asks commands for mutants until none is left: each that comes by."""
-    for key in iter(lambda: taken(wanted), None):
-        for command, (seconds, met) in sorted(times.items(), key=lambda it: it[1][0]):
-            why = room.told(command, 20 + 5 * seconds, key[2])[0] if key[2] in met else None
-            if why:
-                kept.tell(key, f"{command}: {why}")
-                break
+class Tried:
+    """Asks commands for mutants, each that comes by, up to the first that notices. First their calls are made alone: a
+    command isn't asked if it depends on nothing but calls, and these answer as without the mutant."""
+
+    def __init__(self, asking, commands, answers):
+        self.asking, self.commands, self.answers = asking, commands, answers
+        self.makes, self.alone = defaultdict(set), {}  # a call's commands; calls of those without more
+        for command, (*_, calls, is_all) in commands.items():
+            rows = set(map(json.dumps, calls))
+            for row in rows:
+                self.makes[row].add(command)
+            if is_all and rows and all(map(answers.get, rows)):
+                self.alone[command] = rows
+        self.rows = sorted((row for row in self.makes if answers[row]), key=lambda row: answers[row][0])
+
+    def others(self, room, number):
+        """The calls that answer otherwise with a mutant, as they come."""
+        for row in self.rows:
+            seconds, usual, met = self.answers[row]
+            if number in met and room.answer(json.loads(row), number, SECONDS + 2 * seconds) != usual:
+                yield row
+
+    def tried(self, room, key):
+        def fails(command):
+            took, clock, *_ = self.commands[command]
+            return room.told(command, SECONDS + 2 * took, 20 + 5 * clock, key[2])
+
+        def noticed(some):
+            return self.asking.first(key, {command: self.commands[command][0] for command in some}, fails)
+
+        others = []
+        for row in self.others(room, key[2]):
+            others.append(row)
+            if found := noticed(self.makes[row]):
+                return found
+        return noticed(command for command, (_, _, met, *_) in self.commands.items() if key[2] in met
+                       and not (command in self.alone and self.alone[command].isdisjoint(others)))
 
 
 def asked(rooms, name, mutants, kept):
-    """Has the gate's commands try the mutants, first the quick ones: what became of each, which ones
-    any comes by, and how many commands there are."""
-    times, left = {}, [("mutant", name, number) for number in mutants]
-    commands = list(rooms[0].commands())
-    for is_quick in (True, False):
-        keys = [("command", name, kept.tree, each) for each in commands if bool(QUICK.search(each)) == is_quick]
-        all_of(rooms, [key for key in keys if key not in kept.told], lambda room, new: timed(room, new, kept))
-        new = {key[3]: (kept.told[key][0], set(kept.told[key][1])) for key in keys if kept.told[key]}
-        times |= new
-        all_of(rooms, [key for key in left if key not in kept.told], lambda room, some: tried(room, some, kept, new))
-    met = set().union(*(met for _, met in times.values()))
-    for key in left:
-        if key not in kept.told:
-            kept.tell(key, None)
-    return {key[2]: kept.told[key] for key in left}, met, len(times)
+    """Has the gate's commands try the mutants: what became of each, which ones any comes by, and how many commands
+    there are."""
+    keys = [("command", name, kept.tree, each) for each in rooms[0].commands()]
+    all_of(rooms, [key for key in keys if key not in kept.told], lambda room, new: timed(room, new, kept))
+    commands = {key[3]: (*kept.told[key][:2], set(kept.told[key][2]), *kept.told[key][3:])
+                for key in keys if kept.told[key]}
+    calls = dict.fromkeys(("answer", name, json.dumps(row)) for *_, rows, _ in commands.values() for row in rows)
+    all_of(rooms, [key for key in calls if key not in kept.told], lambda room, new: answered(room, new, kept))
+    trying = Tried(Asking(kept), commands, {key[2]: kept.told[key] and (*kept.told[key][:2], set(kept.told[key][2]))
+                                            for key in calls})
+
+    def try_some(room, some):
+        for key in iter(lambda: taken(some), None):
+            kept.tell(key, trying.tried(room, key))
+
+    wanted = [("mutant", name, number) for number in mutants]
+    all_of(rooms, [key for key in wanted if key not in kept.told], try_some)
+    met = set().union(*(met for _, _, met, *_ in commands.values()))
+    return {key[2]: kept.told[key] for key in wanted}, met, len(commands)
 
 
 def all_of(rooms, keys, work):
@@ -261,8 +360,8 @@ def judged(mutants, told, met):
         kind = "excused" if label(key) in rows else "left" if number in met else "missed"
         if said:
             kind = "noticed"
-            first[said.rpartition(": ")[0]] += 1
-            counts["slow"] += said.endswith(("its time", " seconds"))
+            first[said[0]] += 1
+            counts["slow"] += said[1].endswith(("its time", " seconds"))
         elif kind != "excused":
             print(f"{'survives' if number in met else 'no command comes by'}: {row}")
         counts[kind] += 1
@@ -316,43 +415,90 @@ def self_test():
     with tempfile.TemporaryDirectory() as folder, contextlib.redirect_stdout(said), contextlib.redirect_stderr(said):
         wrong = list(self_test_of_asking(Path(folder, "kept")))
     yield from wrong
-    if "survives: a::f | 1: a => b\nno command comes by: a::f | 4: a => b\n1 noticed first by" not in said.getvalue():
+    if "survives: a::f | 1: a => b\nno command comes by: a::f | 4: a => b\nsurvives: a::f | 5" not in said.getvalue():
         yield f"what is printed: {said.getvalue()}"
+    with tempfile.TemporaryDirectory() as folder:
+        yield from self_test_of_calls(Path(folder))
     if excused("# a\na::f | 3: c | d => e | why\n") != {("a::f", "3: c | d => e")}:
         yield "the table is read in another way"
 
 
 class Pretended:
-    """A room whose commands come by given places, and notice given mutants."""
+    """A room whose commands take given seconds, come by given places, notice given mutants, and make given calls; and
+    whose calls come by given places, and answer otherwise with given mutants."""
 
-    def __init__(self, told):
-        self.known, self.asked = told, []
+    def __init__(self, told, calls):
+        self.known, self.calls, self.asked, self.took, self.met = told, calls, [], 0, []
 
     def commands(self):
         return list(self.known)
 
-    def told(self, command, seconds, number=0):
-        met, notices = self.known[command]
+    def come_by(self):
+        return self.met
+
+    def told(self, command, seconds, most, number=0):
+        self.took, self.met, notices, _ = self.known[command]
         self.asked.append((command, number))
-        return ("status 1" if number in notices else None), met
+        return "status 1" if number in notices else None
+
+    def noted(self, command):
+        return self.told(command, 0, 0), [[call] for call in self.known[command][3]], True
+
+    def answer(self, call, number=0, seconds=0):
+        self.met, others = self.calls[call[0]]
+        self.asked.append((call[0], number))
+        return "other" if number in others else "usual"
 
 
 def self_test_of_asking(path):
-    """The quick commands are asked first, each only for what it comes by; what was noticed isn't asked again, and a
-    command that fails without a change isn't asked at all."""
-    room = Pretended({"slow a": ([1, 2, 3], [2, 3]), "tests/check.sh b": ([1, 2], [2]), "slow c": ([1, 4], [0])})
-    mutants = {number: ("a::f", number, "a => b") for number in (1, 2, 3, 4)}
+    """Commands are asked only for what they come by, and of what is noted only those that make a call with another
+    answer; a mutant that was noticed, or passed them all, isn't asked for again, and a command that fails without a
+    change isn't asked at all."""
+    events = "tests/events.py"
+    room = Pretended({"slow": (9, [1, 2, 3], [2, 3], []), "quick": (1, [1, 2], [2], []), "wrong": (0, [1, 4], [0], []),
+                      events: (5, [1, 5, 6], [6], "xy")}, {"x": ([1, 5], [5]), "y": ([1, 6], [6])})
+    mutants = {number: ("a::f", number, "a => b") for number in range(1, 7)}
+    told = {1: None, 2: ["quick", "status 1"], 3: ["slow", "status 1"], 4: None, 5: None, 6: [events, "status 1"]}
     for again in range(2):
         came = asked([room], "built", mutants, Kept(path))
-        told = {1: None, 2: "tests/check.sh b: status 1", 3: "slow a: status 1", 4: None}
-        if came != (told, {1, 2, 3}, 2):
+        if came != (told, {1, 2, 3, 5, 6}, 3):
             yield f"what becomes of mutants: {came}"
-    wanted = [("slow a", 0), ("slow a", 1), ("slow a", 3), ("slow c", 0)]
-    if sorted(room.asked) != [*wanted, *(("tests/check.sh b", number) for number in (0, 1, 2))]:
-        yield f"what is asked: {sorted(room.asked)}"
-    counts = judged(mutants, told | {3: "slow a: its time"}, {1, 2, 3})
-    if counts != Counter(noticed=2, slow=1, left=1, missed=1):
+    calls = [(call, 0) for call in "xxyy"]
+    wanted = [("slow", 0), ("quick", 0), ("wrong", 0), (events, 0), *calls, ("x", 1), ("y", 1), ("quick", 1),
+              ("slow", 1), ("quick", 2), ("slow", 3), ("x", 5), (events, 5), ("y", 6), (events, 6)]
+    if sorted(room.asked) != sorted(wanted):
+        yield f"what is asked: {room.asked}"
+    counts = judged(mutants, told | {3: ["slow", "its time"]}, {1, 2, 3, 5, 6})
+    if counts != Counter(noticed=3, slow=1, left=2, missed=1):
         yield f"what is counted: {counts}"
+
+
+PROGRAM = "#include <stdio.h>\nint main(int count, char **words) { return putchar(getchar()) + count + **words; }\n"
+
+
+def self_test_of_calls(folder):
+    """A call is noted with its files and its input, and made again; one that writes to a device isn't, nor with other
+    limits."""
+    (folder / "main.c").write_text(PROGRAM, encoding="utf-8")
+    subprocess.run(["gcc", "-O2", "-DCOUNT=2", folder / "main.c", SWITCHES, "-o", folder / "play"], check=True)
+    for name in ("notes", "texts"):
+        (folder / name).mkdir()
+    (folder / "met").write_bytes(bytes(8192))
+    (folder / "text").write_bytes(b"text")
+    given = {"MUTANT": "0", "MUTANT_MET": f"{folder}/met", "MUTANT_NOTED": f"{folder}/notes/",
+             "MUTANT_LIMITS": replays.limits()}
+    words = [folder / "play", "a", folder / "text", f"--b={folder}/text", "--c"]
+    for odd, more, out in ((0, {}, "/dev/null"), (2, {}, "/dev/full"), (2, {"MUTANT_LIMITS": ""}, "/dev/null")):
+        with open(out, "wb") as file:
+            came = subprocess.run(words, input=b"xy", stdout=file, env=given | more, check=False).returncode
+        if (folder / "met").read_bytes()[0] != odd or out == "/dev/null" and came != (ord("x") + 5 + ord("/")) % 256:
+            yield f"a call is odd: {odd}, {more}, {out}, {came}"
+    text, on_input = (sha256(words).hexdigest()[:24] for words in (b"text", b"xy"))
+    wanted = [("play", ["a", ["", text], ["--b=", text], "--c"], on_input)], True
+    came = replays.taken(folder / "notes", folder / "texts")
+    said = [replays.answer(call, folder / "play", folder / "texts", folder, {}) for call in came[0]]
+    if came != wanted or said != [sha256(f"{(ord('x') + 5 + ord('/')) % 256} 1 x".encode()).hexdigest()[:16]]:
+        yield f"calls: {came}, {said}"
 
 
 def parsed(words):
@@ -362,17 +508,18 @@ def parsed(words):
     parser.add_argument("--seed", type=int, default=1, metavar="N", help="what draws them (1)")
     parser.add_argument("--only", default="", metavar="NAME", help="only of functions whose path has these letters")
     parser.add_argument("--jobs", type=int, default=os.cpu_count(), metavar="N", help="how many at a time")
-    parser.add_argument("--kept", type=Path, default=Path("binary_mutants.kept"), metavar="FILE",
-                        help="what was tried (binary_mutants.kept)")
-    parser.add_argument("--built", type=Path, default=Path("binary_mutants.built"), metavar="FOLDER",
-                        help="what was built (binary_mutants.built)")
+    parser.add_argument("--kept", type=Path, metavar="FILE",
+                        help="what was tried (/tmp/tardis_mutants/binary-COMMIT-SEED.kept)")
+    parser.add_argument("--built", type=Path, default=Path(tempfile.gettempdir(), "tardis_mutants/built"),
+                        metavar="FOLDER", help="what was built (/tmp/tardis_mutants/built)")
     return parser.parse_args(words)
 
 
 def main(words):
     options = parsed(words)
     name, folder, mutants, of = sample_of(options)
-    kept = Kept(options.kept)
+    kept = Kept(options.kept or kept_file("binary", options.seed))
+    print(f"what is tried is kept in {kept.path}", file=sys.stderr)
     with tempfile.TemporaryDirectory() as place:
         rooms = [Changed(f"{place}/{number}", folder) for number in range(options.jobs)]
         told, met, count = asked(rooms, name, mutants, kept)

@@ -8,9 +8,9 @@ A mutant is a file of tools/, reference/ or python/ with one change: a compariso
 operator, `and` for `or`, no `not`, a number one more, a test always true or always false, a statement or the bound of a
 slice left out, two arguments exchanged, None returned, a comprehension without its condition. The scripts that .ci/run
 lists try it in a copy of what is committed: those that come by its lines (tests/covered.py says which, by Debian's
-python3-coverage), the quickest first. It is refused where one fails. A process of a mutant that takes ten seconds more
-than three times as long as the script without it is stopped, and so is one that takes 8 GB. PROGRAM, EVENTS and SEATS
-are the built programs.
+python3-coverage), first those that take little for each mutant that they refuse. It is refused where one fails. A
+process of a mutant that takes ten seconds more than three times as long as the script without it is stopped, and so is
+one that takes 8 GB. PROGRAM, EVENTS and SEATS are the built programs.
 
 What was tried is kept in a file, so a run that was interrupted goes on. After another commit what survived is tried
 again, and what was refused only where its own file changed. The survivors are printed, and those that no script comes
@@ -35,7 +35,7 @@ TOP = Path(__file__).resolve().parent.parent
 sys.path.insert(0, str(TOP))
 from tests import binary_mutants, covered, source_mutants  # noqa: E402
 from tests.covered import FOLDERS, PROGRAMS  # noqa: E402
-from tests.rooms import Kept  # noqa: E402
+from tests.rooms import Asking, Kept, calm, kept_file  # noqa: E402
 
 TABLE = TOP / "tests/mutants.table"
 OTHERS = {ast.Lt: ast.LtE, ast.LtE: ast.Lt, ast.Gt: ast.GtE, ast.GtE: ast.Gt, ast.Eq: ast.NotEq, ast.NotEq: ast.Eq,
@@ -132,20 +132,17 @@ class Tools(covered.Watched):
             key = "mutant", file, sha256(text.encode()).hexdigest()
             yield from ((*key, index) for index, _ in enumerate(changes(ast.parse(text))))
 
-    def refused_by(self, file, text, times):
-        """The first script that doesn't pass with this text of the file, and why; None if all do."""
-        place = self.folder / file
+    def refused_by(self, key, text, times, asking):
+        """The first script that doesn't pass with this text of the mutant's file, and why; None if all do."""
+        place = self.folder / key[1]
         before, was = place.read_text(encoding="utf-8"), place.stat().st_mtime
         place.write_text(text, encoding="utf-8")
         self.written += 1
         os.utime(place, (self.written, self.written))  # Python takes what it compiled before for a file of equal time
         try:
-            for script in sorted(times, key=times.get):
-                why = self.fails(f"ulimit -t {max(1, round(10 + 3 * times[script]))}; {covered.LIMITS} {script}",
-                                 60 + 10 * times[script])
-                if why:
-                    return f"{script}: {why}"
-            return None
+            return asking.first(key, times, lambda script: self.fails(
+                f"ulimit -t {max(1, round(10 + 3 * times[script]))}; {covered.LIMITS} {script}",
+                60 + 10 * times[script]))
         finally:
             place.write_text(before, encoding="utf-8")
             os.utime(place, (was, was))
@@ -168,21 +165,23 @@ def comes_by(reached, file, text, line):
     return {script: seconds for script, seconds, met in reached if not met.get(file, set()).isdisjoint(lines)}
 
 
-def tried(room, file, index, reached):
+def tried(room, key, reached, asking):
     """What became of a mutant, by the scripts that come by its statement."""
-    before = (room.folder / file).read_text(encoding="utf-8")
-    text, line, _ = mutant(before, index)
-    return "the same" if text is None else room.refused_by(file, text, comes_by(reached, file, before, line))
+    before = (room.folder / key[1]).read_text(encoding="utf-8")
+    text, line, _ = mutant(before, key[3])
+    if text is None:
+        return "the same"
+    return room.refused_by(key, text, comes_by(reached, key[1], before, line), asking)
 
 
-def works(room, wanted, kept, reached):
+def works(room, wanted, asking, reached):
     """Tries mutants until none is left."""
     while True:
         try:
             key = wanted.get_nowait()
         except queue.Empty:
             return
-        kept.tell(key, tried(room, key[1], key[3], reached))
+        asking.kept.tell(key, tried(room, key, reached, asking))
 
 
 def judged(room, drawn, kept, reached):
@@ -197,7 +196,7 @@ def judged(room, drawn, kept, reached):
             kind = "left" if comes_by(reached, file, text, line) else "missed"
             print(f"{'survives' if kind == 'left' else 'no script comes by'}: {file}:{line}: {change}")
         told[kind] += 1
-        told["slow"] += kind == "refused" and said.endswith(" seconds")
+        told["slow"] += kind == "refused" and said[1].endswith(" seconds")
     return told
 
 
@@ -253,8 +252,11 @@ def self_test_of_lines():
 
 
 def self_test_of_rooms(folder):
-    room = Tools(folder, argparse.Namespace(PROGRAM=__file__, EVENTS=__file__, SEATS=__file__))
+    room = Tools(f"{folder}/room", argparse.Namespace(PROGRAM=__file__, EVENTS=__file__, SEATS=__file__))
     own, script = "reference/given.py", "tools/merge.py --self-test"
+    calm(os.getpid(), nothing := Path(f"{folder}/nothing"))  # as where there are no such groups
+    nothing.touch()
+    calm(os.getpid(), nothing)  # as in the session in which Linux began
     copies = [room.own(f"/a/tools/b/{name}") for name in (own, "tools/order.py", "tests/covered.py", "tools/none.py")]
     if copies != [own, "tools/order.py", None, None]:
         yield f"copies of files: {copies}"
@@ -264,19 +266,28 @@ def self_test_of_rooms(folder):
     for text, seconds, why in ((before, 100, None), (other, 100, "status 1"), (before, 100, None),
                                (time_of_file, 100, "status 4"), ("while True:\n    pass", -3, "status 137"),
                                ("import time\ntime.sleep(99)", -5.9, "1 seconds")):
-        came = room.refused_by(own, text, {script: seconds})
-        if came != (why and f"{script}: {why}") or (room.folder / own).read_text(encoding="utf-8") != before:
+        asking = Asking(Kept(Path(folder, f"kept {room.written}")))
+        came = room.refused_by(("mutant", own), text, {script: seconds}, asking)
+        if came != (why and [script, why]) or (room.folder / own).read_text(encoding="utf-8") != before:
             yield f"{own}, {text[:60]!r}: {came}"
 
 
 def self_test_of_files(path):
-    """A refused mutant of another commit is kept, a survivor of another isn't."""
-    for tree, index, said in (("other", 0, None), ("other", 1, "a: status 1"), (None, 2, None)):
+    """A refused mutant of another commit is kept, a survivor of another isn't. A script that takes less and refuses
+    more is asked first; what passed isn't asked again."""
+    for tree, index, said in (("other", 0, None), ("other", 1, ["a", "status 1"]), (None, 2, None)):
         kept = Kept(path)
         kept.tree = tree or kept.tree
         kept.tell(("mutant", "a.py", "sum", index), said)
     if [key[3] for key in Kept(path).told] != [1, 2]:
         yield f"what is kept: {Kept(path).told}"
+    asked, fails, asking = [], {("a", 3), ("b", 3), ("b", 4)}, Asking(Kept(path))
+    came = [asking.first(("mutant", number), {"a": 2, "b": 2.4, "c": 9}, lambda script: asked.append((script, number))
+                         or ((script, number) in fails and "status 1")) for number in (3, 4, 5, 5)]
+    if came != [["a", "status 1"], ["b", "status 1"], None, None]:
+        yield f"by what mutants are refused: {came}"
+    if asked != [("a", 3), ("a", 4), ("b", 4), *((script, 5) for script in "bac")]:
+        yield f"what is asked: {asked}"
 
 
 def parsed():
@@ -288,7 +299,8 @@ def parsed():
     parser.add_argument("--only", default="", metavar="FILE", help="only of files whose path has these letters")
     parser.add_argument("--by", default="", metavar="REGEX", help="only by scripts whose command has this (all)")
     parser.add_argument("--jobs", type=int, default=os.cpu_count(), metavar="N", help="how many at a time")
-    parser.add_argument("--kept", type=Path, default=Path("mutants.kept"), metavar="FILE", help="(mutants.kept)")
+    parser.add_argument("--kept", type=Path, metavar="FILE",
+                        help="what was tried (/tmp/tardis_mutants/tools-COMMIT-SEED.kept)")
     return parser.parse_args()
 
 
@@ -302,7 +314,9 @@ def main():
         print("\n".join([*wrong, f"{len(wrong)} wrong"]))
         return int(bool(wrong))
     options = covered.is_there() and parsed()
-    kept, wanted = Kept(options.kept), queue.Queue()
+    kept, wanted = Kept(options.kept or kept_file("tools", options.seed)), queue.Queue()
+    asking = Asking(kept)
+    print(f"what is tried is kept in {kept.path}", file=sys.stderr)
     with tempfile.TemporaryDirectory() as folder:
         rooms = [Tools(f"{folder}/{number}", options) for number in range(options.jobs)]
         reached = [(script, seconds, {file: {abs(line) for ends in arcs for line in ends} for file, arcs in of.items()})
@@ -313,7 +327,7 @@ def main():
             if key not in kept.told:
                 wanted.put(key)
         with ThreadPoolExecutor(options.jobs) as pool:
-            list(pool.map(lambda room: works(room, wanted, kept, reached), rooms))
+            list(pool.map(lambda room: works(room, wanted, asking, reached), rooms))
         told = judged(rooms[0], drawn, kept, reached)
     print(f"{len(drawn) - told['the same']} mutants of {len(places)}, seed {options.seed}, by {len(reached)} scripts: "
           f"{told['refused']} refused, {told['slow']} of them by their time, {told['excused']} in tests/mutants.table, "

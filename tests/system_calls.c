@@ -43,7 +43,8 @@ static struct tardis_message message;
 static struct tardis_record done;
 static struct tardis_open opened;
 static struct tardis_place place;
-static uint64_t number;
+static uint64_t number, lines[3];
+static size_t count;
 static const struct tardis_word five = {8, 5};
 static const struct tardis_operation load = {1, TARDIS_LOAD, 8, 7};
 
@@ -51,15 +52,16 @@ static const struct tardis_operation load = {1, TARDIS_LOAD, 8, 7};
 static void fill(void) {
     memset(&answer, 7, sizeof answer), memset(&totals, 7, sizeof totals), memset(&message, 7, sizeof message);
     memset(&done, 7, sizeof done), memset(&opened, 7, sizeof opened), memset(&place, 7, sizeof place);
-    memset(&number, 7, sizeof number);
+    memset(&number, 7, sizeof number), memset(lines, 7, sizeof lines), memset(&count, 7, sizeof count);
 }
 
 static int is_filled(void) {
     const uint64_t sevens = 0x0707070707070707;
     return answer.kind == sevens && answer.refusal == sevens && answer.completed.number == sevens &&
            totals.renewals == sevens && totals.is_stopped == sevens && message.number == sevens &&
-           message.rts == sevens && done.place == sevens && opened.state == sevens &&
-           opened.operation.value == sevens && place.is_there == sevens && place.line == sevens && number == sevens;
+           message.rts == sevens && message.words[7] == sevens && done.place == sevens && opened.state == sevens &&
+           opened.operation.value == sevens && place.is_there == sevens && place.line == sevens && number == sevens &&
+           lines[0] == sevens && count == sevens;
 }
 
 /* Each call but `open` and `close` of a machine that isn't open, or of none, answers this, and writes nothing. */
@@ -72,8 +74,8 @@ static void all_answer(struct tardis_system *of, int wanted) {
     MUST(tardis_system_message(of, 0, &message) == wanted && tardis_system_record(of, 0, &done) == wanted);
     MUST(tardis_system_open_operation(of, 0, &opened) == wanted && tardis_system_victim(of, 0, 0, &place) == wanted);
     MUST(tardis_system_make_room(of, 0, &place) == wanted && tardis_system_owners(of, 0, &number) == wanted);
-    MUST(tardis_system_value(of, 8, &number) == wanted && tardis_system_copy(of, 0, 0, &number) == wanted);
-    MUST(tardis_system_entry(of, 0, 0, &number) == wanted);
+    MUST(tardis_system_value(of, 8, &number) == wanted && tardis_system_copies(of, 0, lines, 3, &count) == wanted);
+    MUST(tardis_system_entries(of, 0, lines, 3, &count) == wanted);
     MUST(is_filled());
 }
 
@@ -99,8 +101,10 @@ static void nulls(void) {
     MUST(tardis_system_victim(&machine, 0, 0, NULL) == TARDIS_NULL);
     MUST(tardis_system_make_room(&machine, 0, NULL) == TARDIS_NULL);
     MUST(tardis_system_owners(&machine, 0, NULL) == TARDIS_NULL);
-    MUST(tardis_system_copy(&machine, 0, 0, NULL) == TARDIS_NULL);
-    MUST(tardis_system_entry(&machine, 0, 0, NULL) == TARDIS_NULL);
+    MUST(tardis_system_copies(&machine, 0, lines, 3, NULL) == TARDIS_NULL);
+    MUST(tardis_system_copies(&machine, 0, NULL, 1, &count) == TARDIS_NULL);
+    MUST(tardis_system_entries(&machine, 0, lines, 3, NULL) == TARDIS_NULL);
+    MUST(tardis_system_entries(&machine, 0, NULL, 1, &count) == TARDIS_NULL);
     MUST(tardis_system_value(&machine, 0, NULL) == TARDIS_NULL && is_filled());
     MUST(tardis_system_open_operation(&machine, 1, &opened) == TARDIS_DONE && opened.state == 0);
     tardis_system_close(&machine);
@@ -188,18 +192,19 @@ static void faults(void) {
     MUST(tardis_system_record(&machine, 1, &done) == TARDIS_NO_SUCH);
     MUST(tardis_system_open_operation(&machine, 2, &opened) == TARDIS_NO_SUCH);
     MUST(tardis_system_victim(&machine, 2, 0, &place) == TARDIS_NO_SUCH);
-    MUST(tardis_system_copy(&machine, 1, 1, &number) == TARDIS_NO_SUCH);
-    MUST(tardis_system_copy(&machine, 2, 0, &number) == TARDIS_NO_SUCH);
-    MUST(tardis_system_entry(&machine, 0, 1, &number) == TARDIS_NO_SUCH);
-    MUST(tardis_system_entry(&machine, 1, 0, &number) == TARDIS_NO_SUCH);
+    refused_at = growths + 1; /* a part that isn't there takes no memory */
+    MUST(tardis_system_copies(&machine, 2, lines, 3, &count) == TARDIS_NO_SUCH);
+    MUST(tardis_system_entries(&machine, 1, lines, 3, &count) == TARDIS_NO_SUCH);
+    MUST(tardis_system_copies(&machine, 1, lines, 3, &count) == TARDIS_NO_MEMORY);
     refused_at = growths + 1;
-    MUST(tardis_system_copy(&machine, 1, 0, &number) == TARDIS_NO_MEMORY);
-    refused_at = growths + 1;
-    MUST(tardis_system_entry(&machine, 0, 0, &number) == TARDIS_NO_MEMORY && is_filled());
+    MUST(tardis_system_entries(&machine, 0, lines, 3, &count) == TARDIS_NO_MEMORY && is_filled());
     refused_at = 0;
-    MUST(tardis_system_copy(&machine, 1, 0, &number) == TARDIS_DONE && number == 1);
+    MUST(tardis_system_copies(&machine, 1, NULL, 0, &count) == TARDIS_DONE && count == 1);
+    MUST(tardis_system_copies(&machine, 1, lines + 1, 2, &count) == TARDIS_DONE && count == 1);
+    MUST(lines[0] != 1 && lines[1] == 1 && lines[2] == lines[0]);
     fill();
-    MUST(tardis_system_entry(&machine, 0, 0, &number) == TARDIS_DONE && number == 1);
+    MUST(tardis_system_entries(&machine, 0, lines, 3, &count) == TARDIS_DONE && count == 1 && lines[0] == 1);
+    MUST(tardis_system_copies(&machine, 0, lines, 3, &count) == TARDIS_DONE && count == 0 && lines[0] == 1);
     wrong = load;
     wrong.core = 2;
     MUST(tardis_system_issue(&machine, &wrong, &answer) == TARDIS_DONE && answer.kind == TARDIS_REFUSED);

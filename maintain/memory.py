@@ -2,7 +2,7 @@
 """Lists each place of the production crates that answers a failed allocation by itself, and doesn't pass on what an
 allocation answered by `?` or by an arm such as `Err(AllocError) => Err(..)`. Each place that drops an error and goes
 on (`let Ok(..) =`, `Err(_)`, `.is_err()`, `.unwrap_or(..)`) is listed, too, each that counts a failed read or write
-(`.rise()`), and each that lets another thread run.
+(`.rise()`), and each that makes a thread sleep.
 
     maintain/memory.py            lists them: file, function, and the blocks around the answer
     maintain/memory.py --check    compares them with tests/memory.table, and fails if they differ
@@ -23,8 +23,8 @@ NOT_PRODUCTION = ("test_", "bench", "play_", "event_text", "guide_uses")
 WANT = (r"(?:\bAllocError\b|\bAllocFailed\b(?!<)|\b(?:ReadError::Memory|Stop::(?:NoPlace|Refused)|"
         r"[A-Z]\w*::NoMemory)\b|\bErr\(NoMemory\)|= NoMemory;|\.rise\(\))")
 PASSED_ON = re.compile(r"\s*(?:Err\()?(?:AllocError|(?:\w+::)+(?:NoMemory|Memory))\)?\s*")
-GOES_ON = re.compile(r"\s*Err\(AllocError\) => (?!(?:return )?Err\(|\w+\(Err\(|.*NoMemory)|.*(?:\bErr\(_\w*\)|"
-                     r"\.(?:ok|is_err|is_ok|unwrap_or\w*)\(|\blet Ok\(|\byield_now\()")
+GOES_ON = re.compile(r"\s*(?:Some\()?Err\(AllocError\)+ => (?!(?:return )?Err\(|\w+\(Err\(|.*NoMemory)|"
+                     r".*(?:\bErr\(_\w*\)|\.(?:ok|is_err|is_ok|unwrap_or\w*)\(|\blet Ok\(|\b(?:yield_now|sleep)\()")
 SKIPPED = re.compile(r"\s*(ghost |ensures\b|requires\b|impl\b|\) ->|[^=]*[≡≢])")
 CALL = re.compile(r"(?<!fn )\b(?:reserve|with_capacity|from_elem|new_results)\w*(?:::<.*?>)?(?=\()|\bvec!(?=\[in )|"
                   r"\b(?:(?:RankedLines|Blocks)::of|(?:Arena|Chains|Cells|Rows|LineSets|LanePlaces)::new)(?=\()")

@@ -44,7 +44,9 @@ def of_session(session):
 def calm(process, own=Path("/proc/self/autogroup")):
     """Gives a new session, which has the usual priority next to others, that of this one. Linux takes few such changes
     at once, other systems none; and the session in which Linux itself began has no priority."""
-    words = own.read_text(encoding="ascii").split() if own.exists() else []
+    words = []
+    with contextlib.suppress(OSError):
+        words = own.read_text(encoding="ascii").split()
     for _ in range(20 if words else 0):
         with contextlib.suppress(OSError):
             Path(f"/proc/{process}/autogroup").write_text(words[-1], encoding="ascii")
